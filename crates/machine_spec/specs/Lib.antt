@@ -1,0 +1,5 @@
+pub mod Image
+pub mod Words
+pub mod Machine
+pub mod Traps
+pub mod Meaning

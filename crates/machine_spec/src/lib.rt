@@ -1,13 +1,13 @@
-// A library with one function.
+//! The machine of RFC 9669 as klog profiles it: its instructions, its states and what a program
+//! means on a record.
+//!
+//! This crate has the types and the definitions that a reader must believe, and no function.
 #![tactic(auto)]
 
-ghost use Rattle.std.specs.Prelude.{◌≡◌};
-ghost use Rattle.machine_spec.specs.Echo.{echo_of};
+mod instruction;
+mod outcome;
 
-// The `ensures` clause is the contract: what `echo` returns is `echo_of` of its argument, a definition
-// in `specs/Echo.antt`, which a caller's clause can cite too.
-pub fn echo(x: usize) -> usize
-    ensures { result ≡ echo_of x }
-{
-    x
-}
+pub use instruction::{
+    Helper, Instruction, IsaFault, Operation, Placed, Region, Size, Source, Test, Trap, Width,
+};
+pub use outcome::{Emission, Emissions, Outcome, Place};

@@ -1,0 +1,136 @@
+use thiserror::Error;
+
+/// What an address lies in: the program's stack, the record's key or the record's value.
+#[derive(Clone, Copy, Debug, PartialEq, Eq)]
+pub enum Region {
+    Stack,
+    Key,
+    Value,
+}
+
+/// How many bytes a load or a store moves: 1, 2, 4 or 8 (RFC 9669, section 5.1).
+#[derive(Clone, Copy, Debug, PartialEq, Eq)]
+pub enum Size {
+    Byte,
+    Half,
+    Word,
+    Double,
+}
+
+/// How many low bits of its operands an operation or a test works on.
+#[derive(Clone, Copy, Debug, PartialEq, Eq)]
+pub enum Width {
+    Bits64,
+}
+
+/// An arithmetic operation (RFC 9669, section 4.1).
+#[derive(Clone, Copy, Debug, PartialEq, Eq)]
+pub enum Operation {
+    Add,
+}
+
+/// The test of a conditional jump; the orders are unsigned (RFC 9669, section 4.3).
+#[derive(Clone, Copy, Debug, PartialEq, Eq)]
+pub enum Test {
+    Equal,
+    NotEqual,
+    Greater,
+    GreaterOrEqual,
+    Less,
+    LessOrEqual,
+}
+
+/// The second operand: a register, or the immediate of the instruction.
+#[derive(Clone, Copy, Debug, PartialEq, Eq)]
+pub enum Source {
+    Register(u8),
+    Immediate(i32),
+}
+
+/// One instruction. Registers are r0 to r10.
+#[derive(Clone, Copy, Debug, PartialEq, Eq)]
+pub enum Instruction {
+    /// dst = source. Fields: width, dst, source.
+    Move(Width, u8, Source),
+    /// dst = dst OPERATION source. Fields: width, operation, dst, source.
+    Compute(Width, Operation, u8, Source),
+    /// dst = the bytes at base + offset, zero-extended. Fields: size, dst, base, offset in bytes.
+    Load(Size, u8, u8, i16),
+    /// Where dst TEST source holds, the slot after this one plus the offset is next. Fields:
+    /// width, test, dst, source, offset in slots.
+    JumpIf(Width, Test, u8, Source, i16),
+    /// Calls the helper with this number.
+    Call(i32),
+    Exit,
+}
+
+/// An instruction and the slot of the image that it begins at.
+#[derive(Clone, Copy, Debug, PartialEq, Eq)]
+pub struct Placed {
+    pub slot: usize,
+    pub instruction: Instruction,
+}
+
+/// A function of the host that a program may call.
+#[derive(Clone, Copy, Debug, PartialEq, Eq)]
+pub enum Helper {
+    /// Emits the record as it is. r1: the output partition.
+    EmitRecord,
+}
+
+/// Why the plain machine stops without an outcome.
+#[derive(Clone, Copy, Debug, PartialEq, Eq)]
+pub enum Trap {
+    /// K1: no instruction of the profile stands at the slot.
+    Form,
+    /// K2: a taken jump goes back, outside the image or into a second slot.
+    Jump,
+    /// K3: the slot is past the end of the image.
+    RanOff,
+    /// K4: a register that is read has no value.
+    Unset,
+    /// K5: an address stands where a number is needed, or the other way round.
+    WrongType,
+    /// K6: r10 is written.
+    Frame,
+    /// K7: bytes outside this record's key or value.
+    RecordBounds,
+    /// K8: bytes outside the stack.
+    StackBounds,
+    /// K9: a stack byte that is not set is read.
+    StackUnset,
+    /// K10: a key or a value is written.
+    ReadOnly,
+    /// K11: no helper has the number.
+    Helper,
+    /// K12: a helper's argument is not of its kind.
+    HelperArgument,
+    /// K13: r0 is an address at the exit.
+    Exit,
+}
+
+/// Why an image is refused. A slot is one of 8 bytes, from 0.
+#[derive(Clone, Copy, Debug, PartialEq, Eq, Drop, Error)]
+pub enum IsaFault {
+    /// The image is empty, has over 4,096 slots or ends within one.
+    #[error("I1 Size")]
+    Size,
+    /// No table has the opcode.
+    #[error("I2 Opcode slot {0}")]
+    Opcode(usize),
+    /// A register field that the form uses is above 10.
+    #[error("I3 Register slot {0}")]
+    Register(usize),
+    /// A field that the form does not use is not 0.
+    #[error("I4 Unused slot {0}")]
+    Unused(usize),
+    /// The second slot of a wide instruction is missing or malformed.
+    #[error("I5 Wide slot {0}")]
+    Wide(usize),
+    /// RFC 9669 has the instruction, and this profile does not.
+    #[error("I6 NotInProfile slot {0}")]
+    NotInProfile(usize),
+    /// Memory ran out.
+    #[error("I7 Memory")]
+    Memory,
+}

@@ -1,0 +1,47 @@
+use bytes::Bytes;
+use std::marker::Model;
+use wire_spec::Headers;
+
+/// Where a record stands, and how many output partitions there are.
+#[derive(Clone, Copy, Debug, PartialEq, Eq)]
+pub struct Place {
+    /// The input partition, below 64.
+    pub partition: usize,
+    /// The record's offset in its input partition, below 2^62.
+    pub offset: u64,
+    /// The record's timestamp in milliseconds, below 2^62.
+    pub timestamp: u64,
+    /// How many output partitions there are, 1 to 64.
+    pub outputs: usize,
+}
+
+/// What a program gives to an output partition.
+#[derive(Drop)]
+pub struct Emission {
+    pub out: usize,
+    pub key: Option<Bytes>,
+    pub value: Option<Bytes>,
+    pub headers: Headers,
+}
+
+/// The emissions of a run, in order. A clause sees them as the list of them.
+#[derive(Drop)]
+pub struct Emissions {
+    pub list: Vec<Emission>,
+}
+
+impl Model for Emissions {
+    ghost use Rattle.std.specs.Prelude.{List};
+    ghost use Rattle.machine_spec.specs.declared.outcome.Emission.{Emission};
+
+    ghost Value = { List Emission };
+
+    ghost view = { λ e. e.list.items };
+}
+
+/// What a run ends with: its emissions, or the code by which the program rejects the record.
+#[derive(Drop)]
+pub enum Outcome {
+    Kept(Emissions),
+    Rejected(u64),
+}

@@ -1,0 +1,91 @@
+-- Annotations: lists of abstract states that are closed under a program's edges and pass its checks.
+use Rattle.std.specs.Prelude.{◌≡◌, ℕ, zero, suc, ◌+◌, ℤ, Bool, true, false, ◌==◌, ◌&&◌, not, if◌then◌else◌, List, [], ◌∷◌, ◌++◌, length, slice_get, Option, Some, None}
+use Rattle.machine_spec.specs.declared.instruction.Placed.{Placed}
+use Rattle.machine_spec.specs.Image.{number_at}
+use Rattle.machine_spec.specs.Machine.{jump_target}
+use Rattle.machine_spec.specs.Traps.{first_of}
+use Rattle.verifier_spec.specs.declared.state.Abstract.{Abstract}
+use Rattle.verifier_spec.specs.declared.fault.Check.{Check}
+use Rattle.verifier_spec.specs.declared.fault.Check.TheVariants as check
+use Rattle.verifier_spec.specs.declared.fault.VerifyFault.{VerifyFault}
+use Rattle.verifier_spec.specs.States.{is_within, is_proper, entry_state}
+use Rattle.verifier_spec.specs.Checks.{checks, failed_check, shape_checks, jump_of}
+use Rattle.verifier_spec.specs.Transfer.{falls_to, jumps_to}
+
+-- a state for each instruction, or none for one that is not reached
+abbrev pub Notes : Type 0
+Notes = List (Option Abstract)
+
+-- the note of an instruction that is there and reached
+abbrev pub note_at : Notes → ℕ → Option Abstract
+note_at [] k = None
+note_at (first ∷ notes) zero = first
+note_at (first ∷ notes) (suc k) = note_at notes k
+
+-- a state is within the one that the note has, where it has one
+abbrev pub is_covered : Abstract → Option Abstract → Bool
+is_covered s (Some outer) = is_within s outer
+is_covered s None = false
+
+-- where an edge brings a state, the instruction that it leads to has one that covers it
+abbrev pub is_edge_covered : Option Abstract → Option Abstract → Bool
+is_edge_covered None outer = true
+is_edge_covered (Some s) outer = is_covered s outer
+
+-- the note at the instruction that begins at a slot
+abbrev pub note_of : Notes → Option ℕ → Option Abstract
+note_of notes (Some k) = note_at notes k
+note_of notes None = None
+
+abbrev pub target_note : List Placed → Notes → ℕ → Option ℤ → Option Abstract
+target_note code notes slot (Some offset) = note_of notes (number_at code (jump_target slot offset))
+target_note code notes slot None = None
+
+-- the edges of instruction number k from a state
+abbrev pub are_edges_covered : List Placed → Notes → ℕ → Placed → Abstract → Bool
+are_edges_covered code notes k placed s =
+    is_edge_covered (falls_to placed.instruction s) (note_at notes (k + 1))
+    && is_edge_covered (jumps_to placed.instruction s) (target_note code notes placed.slot (jump_of placed.instruction))
+
+-- A list of abstract states is an annotation of a code.
+pub record IsAnnotation (code : List Placed) (notes : Notes) : Type 0 where
+  -- it has a note for each instruction
+  pub long : length notes ≡ length code
+  -- the state that every run begins in is within the first
+  pub start : is_covered entry_state (note_at notes 0) ≡ true
+  -- jumps lead forward to instructions, and the last instruction is an EXIT
+  pub shape : (k : ℕ) (placed : Placed) → slice_get code k ≡ Some placed → first_of (shape_checks code k placed) ≡ None
+  -- each reached instruction passes its checks
+  pub checked : (k : ℕ) (placed : Placed) (s : Abstract) → slice_get code k ≡ Some placed → note_at notes k ≡ Some s → failed_check placed.instruction s ≡ None
+  -- what each of its edges brings is within the state where it leads
+  pub closed : (k : ℕ) (placed : Placed) (s : Abstract) → slice_get code k ≡ Some placed → note_at notes k ≡ Some s → are_edges_covered code notes k placed s ≡ true
+  -- each state is in its ranges
+  pub proper : (k : ℕ) (s : Abstract) → note_at notes k ≡ Some s → is_proper s ≡ true
+
+-- ---- which refusal is told
+
+-- of a reached instruction, after the checks of its shape: its checks, then its edges
+abbrev pub reached_checks : List Placed → Notes → ℕ → Placed → Option Abstract → List (Bool × Check)
+reached_checks code notes k placed None = []
+reached_checks code notes k placed (Some s) = checks placed.instruction s ++ (not (are_edges_covered code notes k placed s), check.Notes) ∷ []
+
+-- the first check that instruction number k fails
+unfoldable pub failed_at : List Placed → Notes → ℕ → Placed → Option Check
+failed_at code notes k placed = first_of (shape_checks code k placed ++ reached_checks code notes k placed (note_at notes k))
+
+abbrev pub fault_or : ℕ → Option Check → Option VerifyFault → Option VerifyFault
+fault_or k (Some kind) later = Some (record { pc = k; kind = kind })
+fault_or k None later = later
+
+-- the refusal of the lowest instruction from number k on that fails a check
+abbrev pub fault_from : List Placed → Notes → ℕ → List Placed → Option VerifyFault
+fault_from code notes k [] = None
+fault_from code notes k (placed ∷ rest) = fault_or k (failed_at code notes k placed) (fault_from code notes (k + 1) rest)
+
+-- The refusal that is told of a list: at 0, that it has another length than the code or that the entry is not within its
+-- first state; else the first failed check of the lowest instruction that fails one.
+unfoldable pub fault_of : List Placed → Notes → Option VerifyFault
+fault_of code notes =
+    if (length notes == length code) && is_covered entry_state (note_at notes 0)
+    then fault_from code notes 0 code
+    else Some (record { pc = 0; kind = check.Notes })

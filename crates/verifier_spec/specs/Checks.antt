@@ -1,0 +1,193 @@
+-- The checks of an instruction, in the order in which they are told.
+use Rattle.std.specs.Prelude.{ℕ, zero, suc, ◌+◌, ◌^◌, ℤ, pos, ◌+ℤ◌, neg_ℤ, Bool, true, false, ◌==◌, ◌&&◌, ◌||◌, not, nat_lt, nat_le, int_lt, int_le, if◌then◌else◌, List, [], ◌∷◌, length, Option, Some, None, is_none, unsigned_abs}
+use Rattle.std.specs.List.{list_any}
+use Rattle.std.specs.Int.{w64, cast_signed, cast_unsigned}
+use Rattle.machine_spec.specs.declared.instruction.Region.{Region}
+use Rattle.machine_spec.specs.declared.instruction.Size.{Size}
+use Rattle.machine_spec.specs.declared.instruction.Width.{Width}
+use Rattle.machine_spec.specs.declared.instruction.Width.TheVariants.{Bits64}
+use Rattle.machine_spec.specs.declared.instruction.Operation.{Operation}
+use Rattle.machine_spec.specs.declared.instruction.Operation.TheVariants.{Add}
+use Rattle.machine_spec.specs.declared.instruction.Source.{Source}
+use Rattle.machine_spec.specs.declared.instruction.Source.TheVariants.{Register, Immediate}
+use Rattle.machine_spec.specs.declared.instruction.Instruction.{Instruction}
+use Rattle.machine_spec.specs.declared.instruction.Instruction.TheVariants.{Move, Compute, Load, JumpIf, Call, Exit}
+use Rattle.machine_spec.specs.declared.instruction.Helper.{Helper}
+use Rattle.machine_spec.specs.declared.instruction.Helper.TheVariants.{EmitRecord}
+use Rattle.machine_spec.specs.declared.instruction.Placed.{Placed}
+use Rattle.machine_spec.specs.Image.{number_at}
+use Rattle.machine_spec.specs.Words.{byte_count}
+use Rattle.machine_spec.specs.Machine.{helper_of, jump_target, stack_size}
+use Rattle.machine_spec.specs.Traps.{writes_frame, calls_no_helper, read_registers, is_stack, first_of}
+use Rattle.verifier_spec.specs.declared.state.Abs.{Abs}
+use Rattle.verifier_spec.specs.declared.state.Abs.TheVariants as abs
+use Rattle.verifier_spec.specs.declared.state.StackSet.{StackSet}
+use Rattle.verifier_spec.specs.declared.state.Abstract.{Abstract}
+use Rattle.verifier_spec.specs.declared.fault.Check.{Check}
+use Rattle.verifier_spec.specs.declared.fault.Check.TheVariants as check
+use Rattle.verifier_spec.specs.Kinds.{is_set, kind_at, least, range_of, is_unknown, is_number_kind, is_address_kind, furthest}
+
+-- an immediate is the one number that it is
+abbrev pub source_kind : Abstract → Source → Abs
+source_kind s (Register r) = kind_at s r
+source_kind s (Immediate imm) = abs.Num (cast_unsigned w64 imm) (cast_unsigned w64 imm)
+
+abbrev pub reads_unknown : Instruction → Abstract → Bool
+reads_unknown i s = list_any (λ r. is_unknown (kind_at s r)) (read_registers i)
+
+-- ---- kinds
+
+-- Numbers that are all below 2^63, or none of them: so that read as signed they are in order.
+abbrev pub is_one_sign : ℕ → ℕ → Bool
+is_one_sign lo hi = nat_lt hi (2 ^ 63) || nat_le (2 ^ 63) lo
+
+-- a number from lo to hi can be added to an address from low to high
+abbrev pub can_move : ℤ → ℤ → Option (ℕ × ℕ) → Bool
+can_move low high (Some range) =
+    is_one_sign range.0 range.1
+    && (int_le (neg_ℤ (pos furthest)) (low +ℤ cast_signed w64 range.0) && int_le (high +ℤ cast_signed w64 range.1) (pos furthest))
+can_move low high None = false
+
+-- what an addition takes: numbers, or a number to an address that it can't take out of range
+abbrev pub can_compute_kinds : Abstract → Width → Operation → Abs → Abs → Bool
+can_compute_kinds s width operation abs.None b = false
+can_compute_kinds s width operation (abs.Num _ _) b = is_number_kind b
+can_compute_kinds s width operation (abs.Len _) b = is_number_kind b
+can_compute_kinds s Bits64 Add (abs.Addr _ low high) b = can_move low high (range_of s b)
+
+abbrev pub has_wrong_kind : Instruction → Abstract → Bool
+has_wrong_kind (Move _ _ _) s = false
+has_wrong_kind (Compute width operation dst source) s = not (can_compute_kinds s width operation (kind_at s dst) (source_kind s source))
+has_wrong_kind (Load _ _ base _) s = not (is_address_kind (kind_at s base))
+has_wrong_kind (JumpIf _ _ dst source _) s = not (is_number_kind (kind_at s dst) && is_number_kind (source_kind s source))
+has_wrong_kind (Call _) s = false
+has_wrong_kind Exit s = false
+
+-- ---- memory
+
+-- The bytes that an instruction may read: size bytes from some place from low to high.
+pub record Reach : Type 0 where
+  pub region : Region
+  pub low : ℤ
+  pub high : ℤ
+  pub size : ℕ
+
+abbrev pub reach_at : Abs → ℤ → Size → Option Reach
+reach_at (abs.Addr region lo hi) offset size = Some (record { region = region; low = lo +ℤ offset; high = hi +ℤ offset; size = byte_count size })
+reach_at abs.None offset size = None
+reach_at (abs.Num _ _) offset size = None
+reach_at (abs.Len _) offset size = None
+
+abbrev pub reach_of : Instruction → Abstract → Option Reach
+reach_of (Load size _ base offset) s = reach_at (kind_at s base) offset size
+reach_of (Move _ _ _) s = None
+reach_of (Compute _ _ _ _) s = None
+reach_of (JumpIf _ _ _ _ _) s = None
+reach_of (Call _) s = None
+reach_of Exit s = None
+
+-- all of them lie in the first so many bytes of the region
+abbrev pub is_reach_within : Reach → ℕ → Bool
+is_reach_within reach len = int_le (pos 0) reach.low && int_le (reach.high +ℤ pos reach.size) (pos len)
+
+-- not within the bytes that this record's key or value is known to have
+abbrev pub may_leave_record : Abstract → Option Reach → Bool
+may_leave_record s (Some reach) = if is_stack reach.region then false else not (is_reach_within reach (least s reach.region))
+may_leave_record s None = false
+
+abbrev pub may_leave_stack : Option Reach → Bool
+may_leave_stack (Some reach) = if is_stack reach.region then not (is_reach_within reach stack_size) else false
+may_leave_stack None = false
+
+-- so many places from one on are all in the set
+abbrev pub are_set : StackSet → ℕ → ℕ → Bool
+are_set set place zero = true
+are_set set place (suc count) = is_set set place && are_set set (place + 1) count
+
+-- the places from low up to high and size bytes more, where low is at least 0 and high at least low
+abbrev pub reach_length : Reach → ℕ
+reach_length reach = unsigned_abs (reach.high +ℤ neg_ℤ reach.low) + reach.size
+
+abbrev pub may_read_unset : Abstract → Option Reach → Bool
+may_read_unset s (Some reach) = if is_stack reach.region then not (are_set s.set (unsigned_abs reach.low) (reach_length reach)) else false
+may_read_unset s None = false
+
+-- ---- calls and the exit
+
+abbrev pub has_wrong_argument_kind : Option Helper → Abstract → Bool
+has_wrong_argument_kind (Some EmitRecord) s = not (is_number_kind (kind_at s 1))
+has_wrong_argument_kind None s = false
+
+abbrev pub may_call_wrongly : Instruction → Abstract → Bool
+may_call_wrongly (Call number) s = has_wrong_argument_kind (helper_of number) s
+may_call_wrongly (Move _ _ _) s = false
+may_call_wrongly (Compute _ _ _ _) s = false
+may_call_wrongly (Load _ _ _ _) s = false
+may_call_wrongly (JumpIf _ _ _ _ _) s = false
+may_call_wrongly Exit s = false
+
+abbrev pub may_exit_wrongly : Instruction → Abstract → Bool
+may_exit_wrongly Exit s = is_address_kind (kind_at s 0)
+may_exit_wrongly (Move _ _ _) s = false
+may_exit_wrongly (Compute _ _ _ _) s = false
+may_exit_wrongly (Load _ _ _ _) s = false
+may_exit_wrongly (JumpIf _ _ _ _ _) s = false
+may_exit_wrongly (Call _) s = false
+
+-- ---- the checks of an instruction in a state
+
+abbrev pub checks : Instruction → Abstract → List (Bool × Check)
+checks i s =
+    (writes_frame i, check.Frame)
+    ∷ (calls_no_helper i, check.Helper)
+    ∷ (reads_unknown i s, check.Unset)
+    ∷ (has_wrong_kind i s, check.WrongType)
+    ∷ (may_leave_record s (reach_of i s), check.RecordBounds)
+    ∷ (may_leave_stack (reach_of i s), check.StackBounds)
+    ∷ (may_read_unset s (reach_of i s), check.StackUnset)
+    ∷ (may_call_wrongly i s, check.HelperArg)
+    ∷ (may_exit_wrongly i s, check.Exit)
+    ∷ []
+
+-- the first check that fails, if one does
+unfoldable pub failed_check : Instruction → Abstract → Option Check
+failed_check i s = first_of (checks i s)
+
+-- ---- the checks of every instruction, reached or not
+
+abbrev pub jump_of : Instruction → Option ℤ
+jump_of (JumpIf _ _ _ _ offset) = Some offset
+jump_of (Move _ _ _) = None
+jump_of (Compute _ _ _ _) = None
+jump_of (Load _ _ _ _) = None
+jump_of (Call _) = None
+jump_of Exit = None
+
+-- a jump forward whose target is outside the image or the second slot of a wide instruction
+abbrev pub leads_nowhere : List Placed → ℕ → Option ℤ → Bool
+leads_nowhere code slot (Some offset) = if int_lt offset (pos 0) then false else is_none (number_at code (jump_target slot offset))
+leads_nowhere code slot None = false
+
+abbrev pub leads_back : Option ℤ → Bool
+leads_back (Some offset) = int_lt offset (pos 0)
+leads_back None = false
+
+abbrev pub is_exit : Instruction → Bool
+is_exit Exit = true
+is_exit (Move _ _ _) = false
+is_exit (Compute _ _ _ _) = false
+is_exit (Load _ _ _ _) = false
+is_exit (JumpIf _ _ _ _ _) = false
+is_exit (Call _) = false
+
+-- the last instruction is no EXIT
+abbrev pub runs_off : List Placed → ℕ → Instruction → Bool
+runs_off code k i = (k + 1 == length code) && not (is_exit i)
+
+-- of instruction number k
+abbrev pub shape_checks : List Placed → ℕ → Placed → List (Bool × Check)
+shape_checks code k placed =
+    (leads_nowhere code placed.slot (jump_of placed.instruction), check.JumpTarget)
+    ∷ (leads_back (jump_of placed.instruction), check.BackJump)
+    ∷ (runs_off code k placed.instruction, check.RunsOff)
+    ∷ []

@@ -1,0 +1,96 @@
+-- Kinds of registers, what they stand for, and their order.
+use Rattle.std.specs.Prelude.{ℕ, ◌/◌, ◌%◌, ◌^◌, pos, neg_ℤ, Bool, true, false, ◌==◌, ◌&&◌, nat_lt, nat_le, int_le, slice_index, slice_index_or, Option, Some, None}
+use Rattle.std.specs.Int.{bit_at}
+use Rattle.machine_spec.specs.declared.instruction.Region.{Region}
+use Rattle.machine_spec.specs.declared.instruction.Region.TheVariants as region
+use Rattle.verifier_spec.specs.declared.state.Abs.{Abs}
+use Rattle.verifier_spec.specs.declared.state.Abs.TheVariants as abs
+use Rattle.verifier_spec.specs.declared.state.StackSet.{StackSet}
+use Rattle.verifier_spec.specs.declared.state.Abstract.{Abstract}
+
+-- a place of the stack is in a set
+abbrev pub is_set : StackSet → ℕ → Bool
+is_set set place = bit_at (slice_index set.words (place / 64)) (place % 64) == 1
+
+-- what a state knows of a register; of one past r10, nothing
+abbrev pub kind_at : Abstract → ℕ → Abs
+kind_at s r = slice_index_or s.registers r abs.None
+
+-- how long a region is at least, and at most; the stack has 512 bytes
+abbrev pub least : Abstract → Region → ℕ
+least s region.Stack = 512
+least s region.Key = s.key_min
+least s region.Value = s.value_min
+
+abbrev pub greatest : Abstract → Region → ℕ
+greatest s region.Stack = 512
+greatest s region.Key = s.key_max
+greatest s region.Value = s.value_max
+
+-- the greatest key and value that a record has
+abbrev pub key_limit : ℕ
+key_limit = 4096
+
+abbrev pub value_limit : ℕ
+value_limit = 65536
+
+-- the numbers that a kind stands for, from the first to the second, if it stands for numbers
+abbrev pub range_of : Abstract → Abs → Option (ℕ × ℕ)
+range_of s abs.None = None
+range_of s (abs.Num lo hi) = Some (lo, hi)
+range_of s (abs.Len region) = Some (least s region, greatest s region)
+range_of s (abs.Addr _ _ _) = None
+
+abbrev pub is_unknown : Abs → Bool
+is_unknown abs.None = true
+is_unknown (abs.Num _ _) = false
+is_unknown (abs.Len _) = false
+is_unknown (abs.Addr _ _ _) = false
+
+abbrev pub is_number_kind : Abs → Bool
+is_number_kind abs.None = false
+is_number_kind (abs.Num _ _) = true
+is_number_kind (abs.Len _) = true
+is_number_kind (abs.Addr _ _ _) = false
+
+abbrev pub is_address_kind : Abs → Bool
+is_address_kind abs.None = false
+is_address_kind (abs.Num _ _) = false
+is_address_kind (abs.Len _) = false
+is_address_kind (abs.Addr _ _ _) = true
+
+-- ---- ranges of kinds
+
+-- the furthest that an address's offset may be from 0, either way
+abbrev pub furthest : ℕ
+furthest = 2 ^ 32
+
+abbrev pub is_record_region : Region → Bool
+is_record_region region.Stack = false
+is_record_region region.Key = true
+is_record_region region.Value = true
+
+-- an interval is not empty and in range; a length is the key's or the value's
+abbrev pub is_proper_kind : Abs → Bool
+is_proper_kind abs.None = true
+is_proper_kind (abs.Num lo hi) = nat_le lo hi && nat_lt hi (2 ^ 64)
+is_proper_kind (abs.Len region) = is_record_region region
+is_proper_kind (abs.Addr _ lo hi) = int_le (neg_ℤ (pos furthest)) lo && (int_le lo hi && int_le hi (pos furthest))
+
+-- ---- order
+
+abbrev pub same_region : Region → Region → Bool
+same_region region.Stack region.Stack = true
+same_region region.Key region.Key = true
+same_region region.Value region.Value = true
+same_region _ _ = false
+
+-- One kind is within another: whatever the first stands for in the inner state, the second does. A length is within
+-- the numbers that include all that it may be there.
+abbrev pub is_kind_within : Abstract → Abs → Abs → Bool
+is_kind_within inner _ abs.None = true
+is_kind_within inner (abs.Num lo hi) (abs.Num low high) = nat_le low lo && nat_le hi high
+is_kind_within inner (abs.Len a) (abs.Num low high) = nat_le low (least inner a) && nat_le (greatest inner a) high
+is_kind_within inner (abs.Len a) (abs.Len b) = same_region a b
+is_kind_within inner (abs.Addr a lo hi) (abs.Addr b low high) = same_region a b && (int_le low lo && int_le hi high)
+is_kind_within inner _ _ = false
