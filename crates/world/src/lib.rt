@@ -1,0 +1,6 @@
+//! The broker's pure core
+#![tactic(auto)]
+
+mod catalogue;
+mod program;
+mod share;
