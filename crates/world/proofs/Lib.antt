@@ -1,1 +1,3 @@
 pub mod TableLaws
+pub mod LogViews
+pub mod RowLaws

@@ -2,5 +2,7 @@
 #![tactic(auto)]
 
 mod catalogue;
+mod log;
 mod program;
+mod rows;
 mod share;
