@@ -1,3 +1,4 @@
 pub mod TableLaws
 pub mod LogViews
 pub mod RowLaws
+pub mod CoreLaws

@@ -2,7 +2,11 @@
 #![tactic(auto)]
 
 mod catalogue;
+mod events;
 mod log;
 mod program;
 mod rows;
 mod share;
+
+pub use crate::events::{World, run};
+pub use log_spec::{Event, LoadFault, Name, Refusal, Reply, Row};

@@ -1,6 +1,5 @@
-use Rattle.std.proofs.Common.{◌≡◌, ◌<◌, ◌≤◌, ◌+◌, ◌++◌, ◌∷◌, [], List, ℕ, length, ap, sym, ◌∙◌, refl, arith}
+use Rattle.std.proofs.Common.{◌<◌, ◌≤◌, ◌+◌, ◌++◌, ◌∷◌, [], List, ℕ, length, ap, sym, ◌∙◌, refl, arith}
 use Rattle.std.proofs.lemmas.List.{length-map}
-use Rattle.log_spec.specs.Catalogue.{images_of, Entry as Loaded}
 use Rattle.world.specs.Views.{table_view, entry_view}
 use Rattle.world.proofs.TableLaws.{images_of-absent, with_image-absent, refusal_new, refusal_full, no_refusal}
 use Rattle.world.proofs.catalogue.add_name.Goals as goal

@@ -1,8 +1,8 @@
-use Rattle.std.proofs.Common.{◌≡◌, ◌<◌, ◌≤◌, ◌-◌, ◌+◌, ◌^◌, ◌++◌, ◌∷◌, [], List, ℕ, map, length, get_or, ap, sym, subst, ◌∙◌, refl, arith}
+use Rattle.std.proofs.Common.{◌≡◌, ◌<◌, ◌≤◌, ◌-◌, ◌^◌, ◌++◌, ◌∷◌, [], List, ℕ, map, length, ap, sym, ◌∙◌, refl, arith}
 use Rattle.std.specs.Arc.{arc_value}
 use Rattle.log_spec.specs.Catalogue.{images_of}
 use Rattle.world.specs.Views.{table_view, entry_view}
-use Rattle.world.proofs.TableLaws.{versions_of-found, has_name-found, with_image-found, table-set_same, refusal_named, refusal_versions, told_through, map-push, no_refusal}
+use Rattle.world.proofs.TableLaws.{versions_of-found, has_name-found, with_image-found, table-set_same, refusal_named, refusal_versions, map-push, no_refusal}
 use Rattle.world.proofs.catalogue.add_version.Goals as goal
 
 pub returns-then-versions-ge-MOST_VERSIONS : goal.returns-then-versions-ge-MOST_VERSIONS

@@ -1,4 +1,4 @@
-use Rattle.std.proofs.Common.{◌≡◌, ◌-◌, List, ℕ, map, sym, ◌∙◌, arith}
+use Rattle.std.proofs.Common.{◌-◌, map, sym, ◌∙◌, arith}
 use Rattle.std.specs.Arc.{arc_value}
 use Rattle.world.proofs.TableLaws.{version_of-previous, image_at, no_image_at}
 use Rattle.world.proofs.catalogue.program_at.Goals as goal

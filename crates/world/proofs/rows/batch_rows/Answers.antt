@@ -1,7 +1,6 @@
-use Rattle.std.proofs.Common.{◌≡◌, ◌<◌, ◌+◌, List, ℕ, Some, length, get_or, ap, sym, subst, ◌∙◌, arith, take}
+use Rattle.std.proofs.Common.{◌≡◌, ◌<◌, List, ℕ, Some, length, get_or, ap, subst, ◌∙◌, arith}
 use Rattle.wire_spec.specs.declared.record.Record.{Record}
-use Rattle.machine_spec.specs.declared.outcome.Place.{Place}
-use Rattle.log_spec.specs.Logs.{FitsRecord, place_of, IsRecordRows}
+use Rattle.log_spec.specs.Logs.{FitsRecord, IsRecordRows}
 use Rattle.world.proofs.RowLaws.{each_at, records-pushed}
 use Rattle.world.proofs.rows.batch_rows.Goals as goal
 

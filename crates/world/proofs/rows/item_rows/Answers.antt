@@ -1,7 +1,7 @@
-use Rattle.std.proofs.Common.{◌≡◌, List, ℕ, Option, Some, None, sym, subst, ap, ◌∙◌, [], option_map}
+use Rattle.std.proofs.Common.{◌≡◌, List, ℕ, Option, None, sym, subst, ap, [], option_map}
 use Rattle.std.specs.Arc.{arc_value}
 use Rattle.log_spec.specs.declared.row.Row.{Row}
-use Rattle.log_spec.specs.Logs.{IsItemRows, IsRecordsRows, Item as Kept, Records}
+use Rattle.log_spec.specs.Logs.{IsItemRows, Item as Kept, Records}
 use Rattle.world.specs.Views.{item_view}
 use Rattle.world.proofs.RowLaws.{no_program_rows}
 use Rattle.world.proofs.rows.item_rows.Goals as goal

@@ -1,9 +1,8 @@
-use Rattle.std.proofs.Common.{◌≡◌, List, [], ℕ, Bool, true, false, map, take, get_or, ap, sym, subst, ◌∙◌, ◌<◌, length}
-use Rattle.std.specs.Str.{bytes_eq}
+use Rattle.std.proofs.Common.{◌≡◌, List, [], map, get_or, ap, sym, ◌∙◌}
 use Rattle.std.specs.Arc.{arc_value}
-use Rattle.log_spec.specs.Catalogue.{images_of, has_name}
+use Rattle.log_spec.specs.Catalogue.{images_of}
 use Rattle.world.specs.declared.catalogue.Entry.{Entry}
-use Rattle.world.specs.Views.{table_view, version_of}
+use Rattle.world.specs.Views.{table_view}
 use Rattle.world.proofs.TableLaws.{images_of-absent, images_of-found, image_of-version, version_of-none}
 use Rattle.world.proofs.catalogue.Catalogue.version.Goals as goal
 
