@@ -37,7 +37,8 @@ impl Code {
     /// The instruction with this number, from 0, and its slot.
     pub fn get(&self, k: usize) -> Placed
         requires { k < length self.now }
-        ensures { slice_get self.now k ≡ Some result }
+        ensures is_there { slice_get self.now k ≡ Some result }
+        ensures is_small { result.slot < 4096 }
     {
         self.placed[k]
     }
