@@ -1,10 +1,11 @@
-ghost use Rattle.std.specs.Prelude.{◌≡◌, true, if◌then◌else◌, Some, None};
+ghost use Rattle.std.specs.Prelude.{◌≡◌, true, if◌then◌else◌, Some, None, IfSome};
 ghost use Rattle.verifier_spec.specs.declared.state.Abstract.{Abstract};
 ghost use Rattle.verifier_spec.specs.Kinds.{kind_at};
 ghost use Rattle.verifier_spec.specs.States.{is_proper, entry_state};
 ghost use Rattle.verifier_spec.specs.Checks.{failed_check};
+ghost use Rattle.verifier_spec.specs.Transfer.{falls_to, jumps_to};
 
-use crate::{checks, kinds, ranges};
+use crate::{checks, kinds, ranges, transfer};
 use machine_spec::{Instruction, Region};
 use std::marker::Model;
 use verifier_spec::{Abs, Abstract, Check, StackSet};
@@ -111,5 +112,38 @@ impl State {
         ensures proper { is_proper self.now ≡ true }
     {
         checks::failed_check(instruction, &self.inner)
+    }
+
+    /// What an instruction whose checks pass makes of this state, along each of its edges.
+    pub fn transfer(&self, instruction: Instruction) -> Edges
+        requires { failed_check instruction self.now ≡ None }
+        ensures next { result.next ≡ falls_to instruction self.now }
+        ensures jump { result.jump ≡ jumps_to instruction self.now }
+        ensures proper { is_proper self.now ≡ true }
+        ensures next_proper { IfSome result.next (λ s. is_proper s ≡ true) }
+        ensures jump_proper { IfSome result.jump (λ s. is_proper s ≡ true) }
+    {
+        Edges {
+            next: whole(transfer::falls_to(instruction, &self.inner)),
+            jump: whole(transfer::jumps_to(instruction, &self.inner)),
+        }
+    }
+}
+
+/// What an instruction makes of a state: the state at the next instruction, and the one at the
+/// target of its jump. None where it can't come there.
+#[derive(Clone, Copy, Debug, Drop)]
+pub struct Edges {
+    pub next: Option<State>,
+    pub jump: Option<State>,
+}
+
+fn whole(inner: Option<Abstract>) -> Option<State>
+    requires { IfSome inner (λ s. is_proper s ≡ true) }
+    ensures { result ≡ inner }
+{
+    match inner {
+        Some(inner) => Some(State { inner }),
+        None => None,
     }
 }
