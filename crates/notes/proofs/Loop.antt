@@ -1,7 +1,7 @@
 -- One instruction after another: the refusal of a code from one of its instructions on.
-use Rattle.std.proofs.Common.{◌≡◌, ℕ, zero, suc, ◌+◌, ◌<◌, ◌≤◌, List, [], ◌∷◌, length, drop, refl, sym, ap, ◌∙◌, subst, below_more, arith, inl, inr}
-use Rattle.std.specs.Prelude.{Option, Some, None, slice_get}
-use Rattle.std.proofs.lemmas.Bool.{cases_lt}
+use Rattle.std.proofs.Common.{◌≡◌, ℕ, zero, suc, ◌+◌, ◌<◌, ◌≤◌, Bool, true, ◌==◌, ◌&&◌, List, [], ◌∷◌, length, drop, refl, sym, ap, ◌∙◌, subst, below_more, arith, inl, inr}
+use Rattle.std.specs.Prelude.{Option, Some, None, slice_get, IfNone}
+use Rattle.std.proofs.lemmas.Bool.{cases_lt, and_parts, eqb-true}
 use Rattle.machine_spec.specs.declared.instruction.Placed.{Placed}
 use Rattle.verifier_spec.specs.declared.fault.Check.{Check}
 use Rattle.verifier_spec.specs.declared.fault.VerifyFault.{VerifyFault}
@@ -46,3 +46,14 @@ proper_all notes n long below k s e =
         let none : note_at notes k ≡ None = note_at_past notes k (omega arith) in
         absurd (cc)
     ]
+
+-- what a clause says where there is no value gives what follows from it
+none_then : {T : Type 0} (r : Option T) {P Q : Type 0} → IfNone r P → (P → Q) → IfNone r Q
+none_then None h f = f h
+none_then (Some x) h f = tt
+
+pub proper_started : (notes : Notes) (n : ℕ) (covers : Bool) (told : Option VerifyFault) → ((length notes == n) && covers) ≡ true
+    → IfNone told (AreProperBelow notes n) → IfNone told (AreProper notes)
+proper_started notes n covers told started below =
+    let long : length notes ≡ n = eqb-true (length notes) n (and_parts (length notes == n) covers started).0 in
+    none_then told below (proper_all notes n long)
