@@ -4,3 +4,4 @@ pub mod Proper
 pub mod Moves
 pub mod Calls
 pub mod Passes
+pub mod Below

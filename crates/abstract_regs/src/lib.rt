@@ -5,6 +5,7 @@
 mod checks;
 mod kinds;
 mod narrowing;
+mod order;
 mod ranges;
 mod stack_set;
 mod state;

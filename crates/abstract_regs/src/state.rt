@@ -1,11 +1,11 @@
 ghost use Rattle.std.specs.Prelude.{◌≡◌, true, if◌then◌else◌, Some, None, IfSome};
 ghost use Rattle.verifier_spec.specs.declared.state.Abstract.{Abstract};
 ghost use Rattle.verifier_spec.specs.Kinds.{kind_at};
-ghost use Rattle.verifier_spec.specs.States.{is_proper, entry_state};
+ghost use Rattle.verifier_spec.specs.States.{is_proper, is_within, entry_state};
 ghost use Rattle.verifier_spec.specs.Checks.{failed_check};
 ghost use Rattle.verifier_spec.specs.Transfer.{falls_to, jumps_to};
 
-use crate::{checks, kinds, ranges, transfer};
+use crate::{checks, kinds, order, ranges, transfer};
 use machine_spec::{Instruction, Region};
 use std::marker::Model;
 use verifier_spec::{Abs, Abstract, Check, StackSet};
@@ -104,6 +104,16 @@ impl State {
         ensures proper { is_proper self.now ≡ true }
     {
         kinds::kind_of(&self.inner.registers, register)
+    }
+
+    /// Whether all that another state knows is known here too: each register's kind is within the
+    /// other's, the lengths lie no further apart, and no fewer stack bytes are set.
+    pub fn within(&self, outer: &State) -> bool
+        ensures within { result ≡ is_within self.now outer.now }
+        ensures proper { is_proper self.now ≡ true }
+        ensures outer_proper { is_proper outer.now ≡ true }
+    {
+        order::is_within(&self.inner, &outer.inner)
     }
 
     /// The first check of an instruction that fails here, if one does.
