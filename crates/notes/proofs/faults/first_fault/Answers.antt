@@ -10,7 +10,7 @@ returns-in-Some-clause-fault c =
 pub loop-k-preserved : goal.loop-k-preserved
 loop-k-preserved c = record {
   rest =
-    c.loop-k.invariant.rest
-    ∙ passed_here c.args.code.now c.args.notes.now c.loop-k.k c.get.result c.get.ensures.is_there (sym c.in_default.ensures.failed);
+      c.loop-k.invariant.rest
+      ∙ passed_here c.args.code.now c.args.notes.now c.loop-k.k c.get.result c.get.ensures.is_there (sym c.in_default.ensures.failed);
   proper = proper_more c.args.notes.now c.loop-k.k c.loop-k.invariant.proper c.in_default.ensures.proper;
 }
