@@ -213,3 +213,10 @@ kept image code numbers bytes size read table =
 pub if_ok_code : (image : List ℕ) (r : Reading) → has_size image ≡ true → Answers r (read_slots image (first_slots image)) → IfOk r (λ code. IsCodeOf image code)
 if_ok_code image (Ok code) size read = is_code_from image code size read
 if_ok_code image (Err e) size read = tt
+
+pub read_code : (image : List ℕ) (code : List Placed) → read_image image ≡ Ok code → IsCodeOf image code
+unfolding read_image
+read_code image code e =
+    on_choice (has_size image) (read_slots image (first_slots image)) (Err fault.Size) (read_all code) (IsCodeOf image code) e
+    (λ size. λ e. is_code_from image code size e)
+    (λ _. λ e. absurd cc)
