@@ -11,3 +11,6 @@ mod verified;
 
 pub use verified::{Verified, check};
 pub use verifier_spec::{Check, VerifyFault};
+
+#[cfg(test)]
+mod tests;
