@@ -1,0 +1,12 @@
+pub mod Edges
+pub mod Loads
+pub mod Narrowing
+pub mod Order
+pub mod Premises
+pub mod Proper
+pub mod Registers
+pub mod Safety
+pub mod Sound
+pub mod Sums
+pub mod Whole
+pub mod Words
