@@ -9,4 +9,5 @@ pub mod Safety
 pub mod Sound
 pub mod Sums
 pub mod Whole
+pub mod Wider
 pub mod Words

@@ -40,17 +40,17 @@ signed_le_low m n le low = omega (arith, ints)
 signed_le_high : (m n : ℕ) → m ≤ n → 2 ^ 63 ≤ m → cast_signed w64 m ≤ℤ cast_signed w64 n
 signed_le_high m n le high = grind (arith, ints)
 
-one_sign_le : (lo hi m n : ℕ) → is_one_sign lo hi ≡ true → lo ≤ m → m ≤ n → n ≤ hi → cast_signed w64 m ≤ℤ cast_signed w64 n
+pub one_sign_le : (lo hi m n : ℕ) → is_one_sign lo hi ≡ true → lo ≤ m → m ≤ n → n ≤ hi → cast_signed w64 m ≤ℤ cast_signed w64 n
 one_sign_le lo hi m n h lo_m m_n n_hi =
     ⊎_elim (λ e. let low = ltb-true hi (2 ^ 63) e in signed_le_low m n m_n (omega arith)) (λ e. let high = leb-true (2 ^ 63) lo e in signed_le_high m n m_n (omega arith)) (or_cases _ _ h)
 
 -- what an address moved by a number keeps
-record Moved (low high : ℤ) (lo hi : ℕ) : Type 0 where
-  sign : is_one_sign lo hi ≡ true
-  from : neg_ℤ (pos furthest) ≤ℤ (low +ℤ cast_signed w64 lo)
-  to : (high +ℤ cast_signed w64 hi) ≤ℤ pos furthest
+pub record Moved (low high : ℤ) (lo hi : ℕ) : Type 0 where
+  pub sign : is_one_sign lo hi ≡ true
+  pub from : neg_ℤ (pos furthest) ≤ℤ (low +ℤ cast_signed w64 lo)
+  pub to : (high +ℤ cast_signed w64 hi) ≤ℤ pos furthest
 
-moved_parts : (low high : ℤ) (lo hi : ℕ) → can_move low high (Some (lo, hi)) ≡ true → Moved low high lo hi
+pub moved_parts : (low high : ℤ) (lo hi : ℕ) → can_move low high (Some (lo, hi)) ≡ true → Moved low high lo hi
 moved_parts low high lo hi h =
     let p = and_parts _ _ h in
     let q = and_parts _ _ p.1 in
