@@ -8,6 +8,7 @@ pub mod Registers
 pub mod Safety
 pub mod Sound
 pub mod Sums
+pub mod Tighter
 pub mod Whole
 pub mod Wider
 pub mod Words
