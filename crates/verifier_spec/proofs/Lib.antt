@@ -1,5 +1,6 @@
 pub mod Edges
 pub mod Loads
+pub mod Monotone
 pub mod Narrowing
 pub mod Order
 pub mod Premises

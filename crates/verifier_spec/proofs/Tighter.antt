@@ -21,7 +21,7 @@ use Rattle.verifier_spec.specs.Transfer.{interval, equal_to, different_from, abo
 use Rattle.verifier_spec.specs.Annotation.{is_edge_covered}
 use Rattle.verifier_spec.proofs.Order.{IsWithin, within_from, region_is}
 use Rattle.verifier_spec.proofs.Proper.{proper_kind}
-use Rattle.verifier_spec.proofs.Wider.{IsNarrower, narrower, kind_within, kind_within_narrower, ranges_within, kinds_set, within_set}
+use Rattle.verifier_spec.proofs.Wider.{IsNarrower, narrower, kind_within, kind_within_narrower, ordered_kind, ranges_within, kinds_set, within_set}
 
 -- one interval is in another, or there is none
 abbrev pub RangeWithin : Option (ℕ × ℕ) → Option (ℕ × ℕ) → Type 0
@@ -279,7 +279,7 @@ module _ (a b : Abstract) (w : IsWithin a b) (pa : is_proper a ≡ true) (pb : i
       let j = kind_at a dst in
       let k = kind_at b dst in
       let jk = kind_within a b w pb dst in
-      let x = ranges_within a b j k (narrower a b w) pa (proper_kind a dst pa) jk number in
+      let x = ranges_within a b j k (narrower a b w) pa (ordered_kind a dst pa) jk number in
       rw (x.inner, x.outer)
         (range_edge dst (narrowed width test taken (x.lo, x.hi) c) (narrowed width test taken (x.low, x.high) c) j k x.lo x.hi h refl (proper_kind a dst pa) jk number x.inner
           (narrowed_inside x.lo x.hi width test taken c) (narrowed_within x.lo x.hi x.low x.high x.order x.from x.to width test taken c))

@@ -19,7 +19,7 @@ use Rattle.verifier_spec.specs.States.{is_proper, is_within}
 use Rattle.verifier_spec.specs.Checks.{source_kind, is_one_sign, can_move, can_compute_kinds}
 use Rattle.verifier_spec.specs.Transfer.{with_kind, any_number, computed_range, on_ranges, moved, computed_kind}
 use Rattle.verifier_spec.proofs.Order.{IsWithin, region_is}
-use Rattle.verifier_spec.proofs.Proper.{proper_parts, unknown_past, num_order, addr_order, lengths_order}
+use Rattle.verifier_spec.proofs.Proper.{proper_parts, proper_kind, unknown_past, num_order, addr_order, lengths_order}
 use Rattle.verifier_spec.proofs.Sums.{Moved, moved_parts, one_sign_le, number_if_moves}
 use Rattle.verifier_spec.proofs.Whole.{le_z-true, le-le_z, le_trans_z, add_le}
 
@@ -112,6 +112,26 @@ not_address_within a (abs.Num l m) (abs.Len q) h u n = refl
 not_address_within a (abs.Len r) (abs.Len q) h u n = refl
 not_address_within a (abs.Addr r l m) (abs.Len q) h u n = absurd (false≢true h)
 
+-- a kind's interval is in order
+abbrev pub IsOrdered : Abs → Type 0
+IsOrdered abs.None = Unit {0}
+IsOrdered (abs.Num lo hi) = lo ≤ hi
+IsOrdered (abs.Len at) = Unit {0}
+IsOrdered (abs.Addr at lo hi) = lo ≤ℤ hi
+
+proper_ordered : (k : Abs) → is_proper_kind k ≡ true → IsOrdered k
+proper_ordered abs.None p = tt
+proper_ordered (abs.Num lo hi) p = num_order lo hi p
+proper_ordered (abs.Len at) p = tt
+proper_ordered (abs.Addr at lo hi) p = addr_order at lo hi p
+
+pub ordered_kind : (a : Abstract) (r : ℕ) → is_proper a ≡ true → IsOrdered (kind_at a r)
+ordered_kind a r p = proper_ordered (kind_at a r) (proper_kind a r p)
+
+pub ordered_source : (a : Abstract) (source : Source) → is_proper a ≡ true → IsOrdered (source_kind a source)
+ordered_source a (Register r) p = ordered_kind a r p
+ordered_source a (Immediate imm) p = omega arith
+
 -- the numbers of two kinds, of which those of the first are among those of the second
 pub record AreRanges (a b : Abstract) (j k : Abs) : Type 0 where
   pub lo : ℕ
@@ -124,14 +144,14 @@ pub record AreRanges (a b : Abstract) (j k : Abs) : Type 0 where
   pub from : low ≤ lo
   pub to : hi ≤ high
 
-pub ranges_within : (a b : Abstract) (j k : Abs) → IsNarrower a b → is_proper a ≡ true → is_proper_kind j ≡ true → is_kind_within a j k ≡ true → is_number_kind k ≡ true → AreRanges a b j k
+pub ranges_within : (a b : Abstract) (j k : Abs) → IsNarrower a b → is_proper a ≡ true → IsOrdered j → is_kind_within a j k ≡ true → is_number_kind k ≡ true → AreRanges a b j k
 ranges_within a b j abs.None n p q h u = absurd (false≢true u)
 ranges_within a b j (abs.Addr r lo hi) n p q h u = absurd (false≢true u)
 ranges_within a b abs.None (abs.Num lo hi) n p q h u = absurd (false≢true h)
 ranges_within a b abs.None (abs.Len r) n p q h u = absurd (false≢true h)
 ranges_within a b (abs.Num l m) (abs.Num lo hi) n p q h u =
     let t = and_parts _ _ h in
-    record { lo = l; hi = m; low = lo; high = hi; inner = refl; outer = refl; order = num_order l m q; from = leb-true lo l t.0; to = leb-true m hi t.1 }
+    record { lo = l; hi = m; low = lo; high = hi; inner = refl; outer = refl; order = q; from = leb-true lo l t.0; to = leb-true m hi t.1 }
 ranges_within a b (abs.Num l m) (abs.Len r) n p q h u = absurd (false≢true h)
 ranges_within a b (abs.Len r) (abs.Num lo hi) n p q h u =
     let t = and_parts _ _ h in
@@ -154,7 +174,7 @@ pub record AreAddresses (j k : Abs) : Type 0 where
   pub from : low ≤ℤ lo
   pub to : hi ≤ℤ high
 
-pub addresses_within : (a : Abstract) (j k : Abs) → is_proper_kind j ≡ true → is_kind_within a j k ≡ true → is_address_kind k ≡ true → AreAddresses j k
+pub addresses_within : (a : Abstract) (j k : Abs) → IsOrdered j → is_kind_within a j k ≡ true → is_address_kind k ≡ true → AreAddresses j k
 addresses_within a j abs.None q h u = absurd (false≢true u)
 addresses_within a j (abs.Num lo hi) q h u = absurd (false≢true u)
 addresses_within a j (abs.Len r) q h u = absurd (false≢true u)
@@ -164,7 +184,7 @@ addresses_within a (abs.Len g) (abs.Addr r low high) q h u = absurd (false≢tru
 addresses_within a (abs.Addr g lo hi) (abs.Addr r low high) q h u =
     let s = and_parts _ _ h in
     let t = and_parts _ _ s.1 in
-    record { at = g; lo = lo; hi = hi; low = low; high = high; inner = refl; outer = ap (λ x. abs.Addr x low high) (sym (region_is g r s.0)); order = addr_order g lo hi q; from = le_z-true _ _ t.0; to = le_z-true _ _ t.1 }
+    record { at = g; lo = lo; hi = hi; low = low; high = high; inner = refl; outer = ap (λ x. abs.Addr x low high) (sym (region_is g r s.0)); order = q; from = le_z-true _ _ t.0; to = le_z-true _ _ t.1 }
 
 same_as_itself : (at : Region) → same_region at at ≡ true
 same_as_itself region.Stack = refl
@@ -221,7 +241,7 @@ numbers_computed a (abs.Num lo hi) k u = refl
 numbers_computed a (abs.Len r) k u = refl
 numbers_computed a (abs.Addr r lo hi) k u = absurd (false≢true u)
 
-module _ (a b : Abstract) (n : IsNarrower a b) (p : is_proper a ≡ true) (j k : Abs) (pj : is_proper_kind j ≡ true) (pk : is_proper_kind k ≡ true) where
+module _ (a b : Abstract) (n : IsNarrower a b) (p : is_proper a ≡ true) (j k : Abs) (pj : IsOrdered j) (pk : IsOrdered k) where
   sums_within : (j' k' : Abs) → AreRanges a b j j' → AreRanges a b k k' → is_kind_within a (on_ranges Bits64 Add (range_of a j) (range_of a k)) (on_ranges Bits64 Add (range_of b j') (range_of b k')) ≡ true
   sums_within j' k' x y = rw (x.inner, x.outer, y.inner, y.outer) (sum_within a x.lo x.hi y.lo y.hi x.low x.high y.low y.high x.from x.to y.from y.to)
 
@@ -271,18 +291,19 @@ source_within a b (Immediate imm) w p =
 
 -- ---- registers
 
-least_kept : (a : Abstract) (r : ℕ) (j : Abs) (at : Region) → least a at ≤ least (with_kind a r j) at
-least_kept a r j region.Stack = omega arith
-least_kept a r j region.Key = omega arith
-least_kept a r j region.Value = omega arith
+least_kept : (a : Abstract) (kinds : List Abs) (at : Region) → least a at ≤ least (record a { registers = kinds }) at
+least_kept a kinds region.Stack = omega arith
+least_kept a kinds region.Key = omega arith
+least_kept a kinds region.Value = omega arith
 
-greatest_kept : (a : Abstract) (r : ℕ) (j : Abs) (at : Region) → greatest (with_kind a r j) at ≤ greatest a at
-greatest_kept a r j region.Stack = omega arith
-greatest_kept a r j region.Key = omega arith
-greatest_kept a r j region.Value = omega arith
+greatest_kept : (a : Abstract) (kinds : List Abs) (at : Region) → greatest (record a { registers = kinds }) at ≤ greatest a at
+greatest_kept a kinds region.Stack = omega arith
+greatest_kept a kinds region.Key = omega arith
+greatest_kept a kinds region.Value = omega arith
 
-pub same_lengths : (a : Abstract) (r : ℕ) (j : Abs) → IsNarrower (with_kind a r j) a
-same_lengths a r j = record { low = least_kept a r j; high = greatest_kept a r j }
+-- a change of the registers' kinds keeps the lengths
+pub other_kinds : (a : Abstract) (kinds : List Abs) → IsNarrower (record a { registers = kinds }) a
+other_kinds a kinds = record { low = least_kept a kinds; high = greatest_kept a kinds }
 
 pairs_set : (P : Abs → Abs → Type 0) (js ks : List Abs) (r q : ℕ) (j k : Abs) → length js ≡ length ks → P (get_or js q abs.None) (get_or ks q abs.None) → P j k → P (get_or (set js r j) q abs.None) (get_or (set ks r k) q abs.None)
 pairs_set P [] [] r q j k e h p = h
@@ -305,7 +326,7 @@ module _ (a b : Abstract) (w : IsWithin a b) (pa : is_proper a ≡ true) (pb : i
 
   pub within_set : (r : ℕ) (j k : Abs) → is_kind_within a j k ≡ true → IsWithin (with_kind a r j) (with_kind b r k)
   within_set r j k h = record {
-    kinds = λ q low. kinds_set (with_kind a r j) r q j k low (same_lengths a r j) (kind_within_narrower a (with_kind a r j) j k (same_lengths a r j) h);
+    kinds = λ q low. kinds_set (with_kind a r j) r q j k low (other_kinds a (set a.registers r j)) (kind_within_narrower a (with_kind a r j) j k (other_kinds a (set a.registers r j)) h);
     key_min = w.key_min;
     key_max = w.key_max;
     value_min = w.value_min;
