@@ -1,8 +1,8 @@
 -- Checks and transfer keep the order of states: of two states, one within the other, the first passes each check that
 -- the second passes, and what an edge brings from the first is within what it brings from the second.
-use Rattle.std.proofs.Common.{◌≡◌, ℕ, zero, suc, ◌+◌, ◌-◌, ◌<◌, ◌≤◌, ℤ, pos, negsuc, ◌+ℤ◌, neg_ℤ, ◌≤ℤ◌, Bool, true, false, not, List, [], ◌∷◌, length, get_or, Option, Some, None, unsigned_abs, refl, sym, ap, ◌∙◌, subst, arith}
+use Rattle.std.proofs.Common.{◌≡◌, ℕ, zero, suc, ◌+◌, ◌-◌, ◌<◌, ◌≤◌, ℤ, pos, negsuc, ◌+ℤ◌, neg_ℤ, ◌≤ℤ◌, true, false, List, [], ◌∷◌, length, get_or, Option, Some, None, unsigned_abs, refl, arith}
 use Rattle.std.specs.List.{list_any}
-use Rattle.std.proofs.lemmas.Bool.{and_parts, and_from, or_parts, or_from, not-false, not_from_true, false≢true}
+use Rattle.std.proofs.lemmas.Bool.{and_parts, and_from, or_parts, or_from, not-false, not_from_true}
 use Rattle.std.proofs.lemmas.Int.{ints}
 use Rattle.machine_spec.specs.declared.instruction.Region.{Region}
 use Rattle.machine_spec.specs.declared.instruction.Region.TheVariants as region
@@ -19,7 +19,7 @@ use Rattle.verifier_spec.specs.declared.state.Abs.{Abs}
 use Rattle.verifier_spec.specs.declared.state.Abs.TheVariants as abs
 use Rattle.verifier_spec.specs.declared.state.StackSet.{StackSet}
 use Rattle.verifier_spec.specs.declared.state.Abstract.{Abstract}
-use Rattle.verifier_spec.specs.Kinds.{is_set, kind_at, least, is_unknown, is_number_kind, is_address_kind, is_proper_kind, is_kind_within}
+use Rattle.verifier_spec.specs.Kinds.{is_set, kind_at, is_unknown, is_address_kind, is_kind_within}
 use Rattle.verifier_spec.specs.States.{is_proper, is_within}
 use Rattle.verifier_spec.specs.Checks.{source_kind, reads_unknown, has_wrong_kind, reach_at, reach_of, is_reach_within, may_leave_record, may_leave_stack, are_set, may_read_unset, has_wrong_argument_kind, may_call_wrongly, may_exit_wrongly, failed_check}
 use Rattle.verifier_spec.specs.Transfer.{with_kind, loaded_kind, answer_kind, after_call_kinds, called_kinds, falls_to, jumps_to}
@@ -28,8 +28,8 @@ use Rattle.verifier_spec.proofs.Order.{IsWithin, within_parts, within_from}
 use Rattle.verifier_spec.proofs.Proper.{proper_parts}
 use Rattle.verifier_spec.proofs.Safety.{Passes, passes, failed_from, set_at}
 use Rattle.verifier_spec.proofs.Tighter.{tested_within}
-use Rattle.verifier_spec.proofs.Whole.{le_z-true, le-le_z, le_trans_z, add_le, negative, gap_is}
-use Rattle.verifier_spec.proofs.Wider.{IsNarrower, narrower, other_kinds, kind_within_narrower, ordered_kind, ordered_source, kind_within, known_within, number_within, address_within, not_address_within, AreAddresses, addresses_within, can_within, computed_within, source_within, within_set}
+use Rattle.verifier_spec.proofs.Whole.{le_z-true, le-le_z, le_trans_z, negative, gap_is}
+use Rattle.verifier_spec.proofs.Wider.{narrower, other_kinds, kind_within_narrower, ordered_kind, ordered_source, kind_within, known_within, number_within, address_within, not_address_within, AreAddresses, addresses_within, can_within, computed_within, source_within, within_set}
 
 -- ---- bytes of a region
 
@@ -118,7 +118,7 @@ module _ (a b : Abstract) (w : IsWithin a b) (pa : is_proper a ≡ true) (pb : i
   type_kept (Move width dst source) c = refl
   type_kept (Compute width operation dst source) c =
       not_from_true _ (can_within a b (narrower a b w) pa (kind_at a dst) (source_kind a source) (ordered_kind a dst pa) (ordered_source a source pa) (source_kind b source) (source_within a b source w pb)
-        width operation (kind_at b dst) (kind_within a b w pb dst) (not-false _ c))
+      width operation (kind_at b dst) (kind_within a b w pb dst) (not-false _ c))
   type_kept (Load size dst base offset) c = not_from_true _ (address_within a (kind_at a base) (kind_at b base) (kind_within a b w pb base) (not-false _ c))
   type_kept (JumpIf width test dst source offset) c =
       let p = and_parts _ _ (not-false _ c) in
@@ -227,8 +227,8 @@ module _ (a b : Abstract) (w : IsWithin a b) (pa : is_proper a ≡ true) (pb : i
   falls_kept (Move width dst source) h p = set_edge dst (source_kind a source) (source_kind b source) (source_within a b source w pb)
   falls_kept (Compute width operation dst source) h p =
       set_edge dst _ _
-        (computed_within a b (narrower a b w) pa (kind_at a dst) (source_kind a source) (ordered_kind a dst pa) (ordered_source a source pa) (source_kind b source) (source_within a b source w pb)
-          width operation (kind_at b dst) (kind_within a b w pb dst) (not-false _ p.type))
+      (computed_within a b (narrower a b w) pa (kind_at a dst) (source_kind a source) (ordered_kind a dst pa) (ordered_source a source pa) (source_kind b source) (source_within a b source w pb)
+      width operation (kind_at b dst) (kind_within a b w pb dst) (not-false _ p.type))
   falls_kept (Load size dst base offset) h p = set_edge dst (loaded_kind size) (loaded_kind size) (loaded_kept size)
   falls_kept (JumpIf width test dst source offset) h p = tested_within a b w pa pb width test false dst source h (and_parts _ _ (not-false _ p.type)).0
   falls_kept (Call number) h p = call_edge (helper_of number)

@@ -1,11 +1,10 @@
 -- The order of abstract states, part by part: a wider state holds of whatever a narrower one does.
-use Rattle.std.proofs.Common.{◌≡◌, ℕ, zero, suc, ◌+◌, ◌<◌, ◌≤◌, ℤ, ◌≤ℤ◌, Bool, true, false, ◌&&◌, ◌||◌, not, nat_le, IsSome, refl, sym, ◌∙◌, subst, ⊎_elim, arith}
-use Rattle.std.proofs.lemmas.Bool.{and_parts, and_from, or_cases, leb-true, le-leb, not-true, true≢false, false≢true, cases_lt, cases_eq}
-use Rattle.std.proofs.lemmas.Int.{ints}
+use Rattle.std.proofs.Common.{◌≡◌, ℕ, zero, suc, ◌<◌, ◌≤◌, Bool, true, false, ◌||◌, not, refl, sym, ◌∙◌, subst, ⊎_elim, arith}
+use Rattle.std.proofs.lemmas.Bool.{and_parts, and_from, leb-true, le-leb, false≢true, cases_lt, cases_eq}
 use Rattle.machine_spec.specs.declared.instruction.Region.{Region}
 use Rattle.machine_spec.specs.declared.instruction.Region.TheVariants as region
 use Rattle.machine_spec.specs.Words.{Word, Nothing, Number, Address}
-use Rattle.machine_spec.specs.Machine.{Input, State, length_of}
+use Rattle.machine_spec.specs.Machine.{Input, State}
 use Rattle.verifier_spec.specs.declared.state.Abs.{Abs}
 use Rattle.verifier_spec.specs.declared.state.Abs.TheVariants as abs
 use Rattle.verifier_spec.specs.declared.state.Abstract.{Abstract}
@@ -69,8 +68,8 @@ pub within_from : (a b : Abstract) → IsWithin a b → is_within a b ≡ true
 unfolding is_within
 within_from a b w =
     and_from _ _ (each_below_from 11 (λ k. is_kind_within a (kind_at a k) (kind_at b k)) w.kinds)
-      (and_from _ _ (le-leb _ _ w.key_min) (and_from _ _ (le-leb _ _ w.key_max) (and_from _ _ (le-leb _ _ w.value_min) (and_from _ _ (le-leb _ _ w.value_max)
-        (each_below_from 512 (λ place. not (is_set b.set place) || is_set a.set place) (λ place low. set_from (is_set b.set place) (is_set a.set place) (w.set place low)))))))
+    (and_from _ _ (le-leb _ _ w.key_min) (and_from _ _ (le-leb _ _ w.key_max) (and_from _ _ (le-leb _ _ w.value_min) (and_from _ _ (le-leb _ _ w.value_max)
+    (each_below_from 512 (λ place. not (is_set b.set place) || is_set a.set place) (λ place low. set_from (is_set b.set place) (is_set a.set place) (w.set place low)))))))
 
 -- ---- one kind within another
 
@@ -123,9 +122,9 @@ module _ (input : Input) (a b : Abstract) (s : State) (w : IsWithin a b) (p : is
   register_stands : (r : ℕ) → HasKind input (kind_at b r) (s.registers r)
   register_stands r =
       ⊎_elim
-        (λ low. kind_holds input a (kind_at a r) (kind_at b r) (s.registers r) (lengths input a s h) (w.kinds r low) (h.registers r))
-        (λ past. subst (λ kind. HasKind input kind (s.registers r)) (sym (unknown_past b r p past)) tt)
-        (cases_lt r 11)
+      (λ low. kind_holds input a (kind_at a r) (kind_at b r) (s.registers r) (lengths input a s h) (w.kinds r low) (h.registers r))
+      (λ past. subst (λ kind. HasKind input kind (s.registers r)) (sym (unknown_past b r p past)) tt)
+      (cases_lt r 11)
 
   pub within_stands : StandsFor input b s
   within_stands = record {

@@ -1,5 +1,5 @@
 -- What the laws of an instruction suppose: bytes are bytes, an immediate fits its field, and whether a jump is taken.
-use Rattle.std.proofs.Common.{◌≡◌, ℕ, ◌<◌, ◌^◌, Bool, false, Option, Some}
+use Rattle.std.proofs.Common.{◌≡◌, ℕ, ◌<◌, ◌^◌, Bool, false, Some}
 use Rattle.std.specs.Int.{w64, cast_unsigned}
 use Rattle.machine_spec.specs.declared.instruction.Source.{Source}
 use Rattle.machine_spec.specs.declared.instruction.Source.TheVariants.{Register, Immediate}

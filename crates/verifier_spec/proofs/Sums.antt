@@ -1,7 +1,7 @@
 -- Operations on words against operations on kinds.
-use Rattle.std.proofs.Common.{◌≡◌, ℕ, ◌+◌, ◌-◌, ◌%◌, ◌^◌, ◌<◌, ◌≤◌, ℤ, pos, ◌+ℤ◌, neg_ℤ, ◌≤ℤ◌, Bool, true, false, ◌&&◌, nat_lt, int_le, if◌then◌else◌, Option, Some, None, refl, sym, ap, ⊎_elim, arith, mod-lt}
-use Rattle.std.specs.Int.{w64, cast_signed, cast_unsigned}
-use Rattle.std.proofs.lemmas.Bool.{cond_both, ltb-true, ltb-false, leb-true, le-leb, lt-ltb, and_parts, and_from, or_cases, false≢true}
+use Rattle.std.proofs.Common.{◌≡◌, ℕ, ◌+◌, ◌^◌, ◌<◌, ◌≤◌, ℤ, pos, ◌+ℤ◌, neg_ℤ, ◌≤ℤ◌, true, nat_lt, Some, refl, ⊎_elim, arith}
+use Rattle.std.specs.Int.{w64, cast_signed}
+use Rattle.std.proofs.lemmas.Bool.{cond_both, ltb-true, leb-true, le-leb, lt-ltb, and_parts, and_from, or_cases, false≢true}
 use Rattle.std.proofs.lemmas.Int.{ints}
 use Rattle.verifier_spec.proofs.Whole.{le_z-true, le-le_z, add_le}
 use Rattle.machine_spec.specs.declared.instruction.Region.{Region}
@@ -20,7 +20,7 @@ use Rattle.verifier_spec.specs.Checks.{is_one_sign, can_move, can_compute_kinds}
 use Rattle.verifier_spec.specs.Transfer.{any_number, computed_range, on_ranges, moved, computed_kind}
 use Rattle.verifier_spec.specs.StandsFor.{HasKind}
 use Rattle.verifier_spec.proofs.Proper.{num_order, addr_order, lengths_order}
-use Rattle.verifier_spec.proofs.Words.{HasLengths, IsNumber, IsAddress, at_number, at_address}
+use Rattle.verifier_spec.proofs.Words.{HasLengths, IsNumber, at_number}
 
 -- ---- numbers
 
@@ -28,8 +28,8 @@ use Rattle.verifier_spec.proofs.Words.{HasLengths, IsNumber, IsAddress, at_numbe
 pub sum_in : (input : Input) (al ah bl bh m n : ℕ) → al ≤ m → m ≤ ah → bl ≤ n → n ≤ bh → HasKind input (computed_range Bits64 Add (al, ah) (bl, bh)) (Number (number_of Bits64 Add m n))
 sum_in input al ah bl bh m n al_m m_ah bl_n n_bh =
     cond_both (nat_lt (ah + bh) (2 ^ 64)) (abs.Num (al + bl) (ah + bh)) any_number (λ k. HasKind input k (Number (number_of Bits64 Add m n)))
-      (λ e. let small = ltb-true (ah + bh) (2 ^ 64) e in (omega arith, omega arith))
-      (λ e. (omega arith, omega arith))
+    (λ e. let small = ltb-true (ah + bh) (2 ^ 64) e in (omega arith, omega arith))
+    (λ e. (omega arith, omega arith))
 
 -- ---- addresses
 
@@ -69,8 +69,8 @@ moved_proper at low high lo hi can le lo_hi =
 pub sum_proper : (al ah bl bh : ℕ) → al ≤ ah → bl ≤ bh → is_proper_kind (computed_range Bits64 Add (al, ah) (bl, bh)) ≡ true
 sum_proper al ah bl bh a b =
     cond_both (nat_lt (ah + bh) (2 ^ 64)) (abs.Num (al + bl) (ah + bh)) any_number (λ k. is_proper_kind k ≡ true)
-      (λ e. and_from _ _ (le-leb _ _ (omega arith)) (lt-ltb _ _ (ltb-true (ah + bh) (2 ^ 64) e)))
-      (λ e. refl)
+    (λ e. and_from _ _ (le-leb _ _ (omega arith)) (lt-ltb _ _ (ltb-true (ah + bh) (2 ^ 64) e)))
+    (λ e. refl)
 
 -- ---- any operation that a kind allows
 

@@ -1,5 +1,5 @@
 -- A conditional jump narrows a part of an interval to a part of what it narrows the interval to.
-use Rattle.std.proofs.Common.{◌≡◌, ℕ, zero, suc, ◌+◌, ◌-◌, ◌^◌, ◌<◌, ◌≤◌, min, max, Bool, true, false, ◌==◌, nat_le, if◌then◌else◌, length, get_or, set, Option, Some, None, refl, sym, ap, ◌∙◌, subst, arith}
+use Rattle.std.proofs.Common.{◌≡◌, ℕ, zero, suc, ◌+◌, ◌-◌, ◌<◌, ◌≤◌, min, max, Bool, true, false, ◌==◌, nat_le, if◌then◌else◌, get_or, Option, Some, None, refl, sym, subst, arith}
 use Rattle.std.specs.Int.{w64, cast_unsigned}
 use Rattle.std.proofs.lemmas.Bool.{cond_both, cond-true, eqb-true, eqb-false, leb-true, le-leb, and_from, false≢true}
 use Rattle.std.proofs.lemmas.List.{set-get_or}
@@ -17,7 +17,7 @@ use Rattle.verifier_spec.specs.declared.state.Abs.TheVariants as abs
 use Rattle.verifier_spec.specs.declared.state.Abstract.{Abstract}
 use Rattle.verifier_spec.specs.Kinds.{kind_at, least, greatest, range_of, is_number_kind, is_proper_kind, is_kind_within}
 use Rattle.verifier_spec.specs.States.{is_proper, is_within}
-use Rattle.verifier_spec.specs.Transfer.{interval, equal_to, different_from, above, at_least, at_most, below, narrowed, narrowed_range, with_length, with_kind, with_range, tested}
+use Rattle.verifier_spec.specs.Transfer.{interval, equal_to, different_from, above, at_least, at_most, below, narrowed, with_length, with_kind, with_range, tested}
 use Rattle.verifier_spec.specs.Annotation.{is_edge_covered}
 use Rattle.verifier_spec.proofs.Order.{IsWithin, within_from, region_is}
 use Rattle.verifier_spec.proofs.Proper.{proper_kind}
@@ -52,10 +52,10 @@ module _ (lo hi : ℕ) where
   different_inside : (c : ℕ) → RangeWithin (different_from (lo, hi) c) (Some (lo, hi))
   different_inside c =
       cond_both (lo == c) (interval (lo + 1) hi) (if hi == c then interval lo (hi - 1) else Some (lo, hi)) (λ x. RangeWithin x (Some (lo, hi)))
-        (λ e. interval_inside (lo + 1) hi lo hi (omega arith) (omega arith))
-        (λ e. cond_both (hi == c) (interval lo (hi - 1)) (Some (lo, hi)) (λ x. RangeWithin x (Some (lo, hi)))
-          (λ f. interval_inside lo (hi - 1) lo hi (omega arith) (omega arith))
-          (λ f. (omega arith, omega arith)))
+      (λ e. interval_inside (lo + 1) hi lo hi (omega arith) (omega arith))
+      (λ e. cond_both (hi == c) (interval lo (hi - 1)) (Some (lo, hi)) (λ x. RangeWithin x (Some (lo, hi)))
+      (λ f. interval_inside lo (hi - 1) lo hi (omega arith) (omega arith))
+      (λ f. (omega arith, omega arith)))
 
   equal_inside : (c : ℕ) → RangeWithin (equal_to (lo, hi) c) (Some (lo, hi))
   equal_inside c = interval_inside (max lo c) (min hi c) lo hi (omega arith) (omega arith)
@@ -94,35 +94,35 @@ module _ (lo hi low high : ℕ) (order : lo ≤ hi) (p : low ≤ lo) (q : hi ≤
   without_low : (c : ℕ) → low ≡ c → RangeWithin (different_from (lo, hi) c) (interval (low + 1) high)
   without_low c is =
       cond_both (lo == c) (interval (lo + 1) hi) (if hi == c then interval lo (hi - 1) else Some (lo, hi)) (λ x. RangeWithin x (interval (low + 1) high))
-        (λ e. interval_within (lo + 1) hi (low + 1) high (omega arith) q)
-        (λ e. let other : lo ≡ c → ⊥ = eqb-false lo c e in
-          cond_both (hi == c) (interval lo (hi - 1)) (Some (lo, hi)) (λ x. RangeWithin x (interval (low + 1) high))
-            (λ f. let same = eqb-true hi c f in absurd (omega arith))
-            (λ f. into_interval lo hi (low + 1) high order (omega arith) q))
+      (λ e. interval_within (lo + 1) hi (low + 1) high (omega arith) q)
+      (λ e. let other : lo ≡ c → ⊥ = eqb-false lo c e in
+      cond_both (hi == c) (interval lo (hi - 1)) (Some (lo, hi)) (λ x. RangeWithin x (interval (low + 1) high))
+      (λ f. let same = eqb-true hi c f in absurd (omega arith))
+      (λ f. into_interval lo hi (low + 1) high order (omega arith) q))
 
   without_high : (c : ℕ) → high ≡ c → RangeWithin (different_from (lo, hi) c) (interval low (high - 1))
   without_high c is =
       cond_both (lo == c) (interval (lo + 1) hi) (if hi == c then interval lo (hi - 1) else Some (lo, hi)) (λ x. RangeWithin x (interval low (high - 1)))
-        (λ e. let same = eqb-true lo c e in empty_within (lo + 1) hi (interval low (high - 1)) (omega arith))
-        (λ e. cond_both (hi == c) (interval lo (hi - 1)) (Some (lo, hi)) (λ x. RangeWithin x (interval low (high - 1)))
-          (λ f. interval_within lo (hi - 1) low (high - 1) p (omega arith))
-          (λ f. let other : hi ≡ c → ⊥ = eqb-false hi c f in into_interval lo hi low (high - 1) order p (omega arith)))
+      (λ e. let same = eqb-true lo c e in empty_within (lo + 1) hi (interval low (high - 1)) (omega arith))
+      (λ e. cond_both (hi == c) (interval lo (hi - 1)) (Some (lo, hi)) (λ x. RangeWithin x (interval low (high - 1)))
+      (λ f. interval_within lo (hi - 1) low (high - 1) p (omega arith))
+      (λ f. let other : hi ≡ c → ⊥ = eqb-false hi c f in into_interval lo hi low (high - 1) order p (omega arith)))
 
   without_none : (c : ℕ) → RangeWithin (different_from (lo, hi) c) (Some (low, high))
   without_none c =
       cond_both (lo == c) (interval (lo + 1) hi) (if hi == c then interval lo (hi - 1) else Some (lo, hi)) (λ x. RangeWithin x (Some (low, high)))
-        (λ e. interval_inside (lo + 1) hi low high (omega arith) q)
-        (λ e. cond_both (hi == c) (interval lo (hi - 1)) (Some (lo, hi)) (λ x. RangeWithin x (Some (low, high)))
-          (λ f. interval_inside lo (hi - 1) low high p (omega arith))
-          (λ f. (p, q)))
+      (λ e. interval_inside (lo + 1) hi low high (omega arith) q)
+      (λ e. cond_both (hi == c) (interval lo (hi - 1)) (Some (lo, hi)) (λ x. RangeWithin x (Some (low, high)))
+      (λ f. interval_inside lo (hi - 1) low high p (omega arith))
+      (λ f. (p, q)))
 
   different_within : (c : ℕ) → RangeWithin (different_from (lo, hi) c) (different_from (low, high) c)
   different_within c =
       cond_both (low == c) (interval (low + 1) high) (if high == c then interval low (high - 1) else Some (low, high)) (RangeWithin (different_from (lo, hi) c))
-        (λ e. without_low c (eqb-true low c e))
-        (λ e. cond_both (high == c) (interval low (high - 1)) (Some (low, high)) (RangeWithin (different_from (lo, hi) c))
-          (λ f. without_high c (eqb-true high c f))
-          (λ f. without_none c))
+      (λ e. without_low c (eqb-true low c e))
+      (λ e. cond_both (high == c) (interval low (high - 1)) (Some (low, high)) (RangeWithin (different_from (lo, hi) c))
+      (λ f. without_high c (eqb-true high c f))
+      (λ f. without_none c))
 
   equal_within : (c : ℕ) → RangeWithin (equal_to (lo, hi) c) (equal_to (low, high) c)
   equal_within c = interval_within (max lo c) (min hi c) (max low c) (min high c) (omega arith) (omega arith)
@@ -267,7 +267,7 @@ module _ (a b : Abstract) (w : IsWithin a b) (pa : is_proper a ≡ true) (pb : i
   range_edge r (Some x) (Some y) (abs.Len at) (abs.Len q) lo hi h is pj jk number range inside part =
       let ends = some_pair_parts (least a at) lo (greatest a at) hi range in
       subst (λ g. is_within (with_length a at x) (with_length b g y) ≡ true) (region_is at q jk)
-        (lengths_edge x.0 x.1 y.0 y.1 at (omega (arith, ends.0, inside.0)) (omega (arith, ends.1, inside.1)) part.0 part.1 h)
+      (lengths_edge x.0 x.1 y.0 y.1 at (omega (arith, ends.0, inside.0)) (omega (arith, ends.1, inside.1)) part.0 part.1 h)
   range_edge r (Some x) (Some y) (abs.Addr q l' m') (abs.Num l m) lo hi h is pj jk number range inside part = absurd (false≢true jk)
   range_edge r (Some x) (Some y) (abs.Addr q l' m') (abs.Len g) lo hi h is pj jk number range inside part = absurd (false≢true jk)
 
@@ -281,5 +281,5 @@ module _ (a b : Abstract) (w : IsWithin a b) (pa : is_proper a ≡ true) (pb : i
       let jk = kind_within a b w pb dst in
       let x = ranges_within a b j k (narrower a b w) pa (ordered_kind a dst pa) jk number in
       rw (x.inner, x.outer)
-        (range_edge dst (narrowed width test taken (x.lo, x.hi) c) (narrowed width test taken (x.low, x.high) c) j k x.lo x.hi h refl (proper_kind a dst pa) jk number x.inner
-          (narrowed_inside x.lo x.hi width test taken c) (narrowed_within x.lo x.hi x.low x.high x.order x.from x.to width test taken c))
+      (range_edge dst (narrowed width test taken (x.lo, x.hi) c) (narrowed width test taken (x.low, x.high) c) j k x.lo x.hi h refl (proper_kind a dst pa) jk number x.inner
+      (narrowed_inside x.lo x.hi width test taken c) (narrowed_within x.lo x.hi x.low x.high x.order x.from x.to width test taken c))

@@ -1,8 +1,7 @@
 -- Kinds and ranges of a state that is within another.
-use Rattle.std.proofs.Common.{◌≡◌, ℕ, zero, suc, ◌+◌, ◌-◌, ◌^◌, ◌<◌, ◌≤◌, min, max, ℤ, pos, ◌+ℤ◌, neg_ℤ, ◌≤ℤ◌, Bool, true, false, ◌==◌, ◌&&◌, nat_le, nat_lt, if◌then◌else◌, List, [], ◌∷◌, length, get_or, set, Option, Some, None, refl, sym, ap, ◌∙◌, subst, ⊎_elim, arith}
+use Rattle.std.proofs.Common.{◌≡◌, ℕ, zero, suc, ◌+◌, ◌-◌, ◌^◌, ◌<◌, ◌≤◌, ℤ, ◌+ℤ◌, ◌≤ℤ◌, true, false, nat_lt, List, [], ◌∷◌, length, get_or, set, Some, refl, sym, ap, ◌∙◌, subst, ⊎_elim, arith}
 use Rattle.std.specs.Int.{w64, cast_signed, cast_unsigned}
-use Rattle.std.proofs.lemmas.Bool.{and_parts, and_from, cond_both, cond-true, leb-true, le-leb, leb-false, ltb-true, ltb-false, lt-ltb, eqb-true, eqb-false, or_cases, or_left, or_right, cases_lt, false≢true}
-use Rattle.std.proofs.lemmas.Int.{ints}
+use Rattle.std.proofs.lemmas.Bool.{and_parts, and_from, cond_both, cond-true, leb-true, le-leb, ltb-true, lt-ltb, or_cases, or_left, or_right, cases_lt, false≢true}
 use Rattle.machine_spec.specs.declared.instruction.Region.{Region}
 use Rattle.machine_spec.specs.declared.instruction.Region.TheVariants as region
 use Rattle.machine_spec.specs.declared.instruction.Width.{Width}
@@ -14,13 +13,13 @@ use Rattle.machine_spec.specs.declared.instruction.Source.TheVariants.{Register,
 use Rattle.verifier_spec.specs.declared.state.Abs.{Abs}
 use Rattle.verifier_spec.specs.declared.state.Abs.TheVariants as abs
 use Rattle.verifier_spec.specs.declared.state.Abstract.{Abstract}
-use Rattle.verifier_spec.specs.Kinds.{is_set, kind_at, least, greatest, range_of, is_unknown, is_number_kind, is_address_kind, is_proper_kind, is_kind_within, same_region, furthest}
-use Rattle.verifier_spec.specs.States.{is_proper, is_within}
+use Rattle.verifier_spec.specs.Kinds.{kind_at, least, greatest, range_of, is_unknown, is_number_kind, is_address_kind, is_proper_kind, is_kind_within, same_region}
+use Rattle.verifier_spec.specs.States.{is_proper}
 use Rattle.verifier_spec.specs.Checks.{source_kind, is_one_sign, can_move, can_compute_kinds}
 use Rattle.verifier_spec.specs.Transfer.{with_kind, any_number, computed_range, on_ranges, moved, computed_kind}
 use Rattle.verifier_spec.proofs.Order.{IsWithin, region_is}
 use Rattle.verifier_spec.proofs.Proper.{proper_parts, proper_kind, unknown_past, num_order, addr_order, lengths_order}
-use Rattle.verifier_spec.proofs.Sums.{Moved, moved_parts, one_sign_le, number_if_moves}
+use Rattle.verifier_spec.proofs.Sums.{moved_parts, one_sign_le, number_if_moves}
 use Rattle.verifier_spec.proofs.Whole.{le_z-true, le-le_z, le_trans_z, add_le}
 
 -- ---- lengths
@@ -199,20 +198,20 @@ any_within a lo hi h = and_from _ _ (le-leb 0 lo (omega arith)) (le-leb hi (2 ^ 
 sum_within : (a : Abstract) (al ah bl bh al' ah' bl' bh' : ℕ) → al' ≤ al → ah ≤ ah' → bl' ≤ bl → bh ≤ bh' → is_kind_within a (computed_range Bits64 Add (al, ah) (bl, bh)) (computed_range Bits64 Add (al', ah') (bl', bh')) ≡ true
 sum_within a al ah bl bh al' ah' bl' bh' p q r t =
     cond_both (nat_lt (ah' + bh') (2 ^ 64)) (abs.Num (al' + bl') (ah' + bh')) any_number (λ k. is_kind_within a (computed_range Bits64 Add (al, ah) (bl, bh)) k ≡ true)
-      (λ e. let small = ltb-true (ah' + bh') (2 ^ 64) e in
-        subst (λ k. is_kind_within a k (abs.Num (al' + bl') (ah' + bh')) ≡ true) (sym (cond-true (nat_lt (ah + bh) (2 ^ 64)) _ _ (lt-ltb (ah + bh) (2 ^ 64) (omega arith))))
-          (and_from _ _ (le-leb (al' + bl') (al + bl) (omega arith)) (le-leb (ah + bh) (ah' + bh') (omega arith))))
-      (λ e. cond_both (nat_lt (ah + bh) (2 ^ 64)) (abs.Num (al + bl) (ah + bh)) any_number (λ k. is_kind_within a k any_number ≡ true)
-        (λ f. any_within a (al + bl) (ah + bh) (ltb-true (ah + bh) (2 ^ 64) f))
-        (λ f. refl))
+    (λ e. let small = ltb-true (ah' + bh') (2 ^ 64) e in
+    subst (λ k. is_kind_within a k (abs.Num (al' + bl') (ah' + bh')) ≡ true) (sym (cond-true (nat_lt (ah + bh) (2 ^ 64)) _ _ (lt-ltb (ah + bh) (2 ^ 64) (omega arith))))
+    (and_from _ _ (le-leb (al' + bl') (al + bl) (omega arith)) (le-leb (ah + bh) (ah' + bh') (omega arith))))
+    (λ e. cond_both (nat_lt (ah + bh) (2 ^ 64)) (abs.Num (al + bl) (ah + bh)) any_number (λ k. is_kind_within a k any_number ≡ true)
+    (λ f. any_within a (al + bl) (ah + bh) (ltb-true (ah + bh) (2 ^ 64) f))
+    (λ f. refl))
 
 -- numbers on one side of 2^63 are so in a part of their interval
 one_sign_within : (lo hi low high : ℕ) → is_one_sign low high ≡ true → low ≤ lo → hi ≤ high → is_one_sign lo hi ≡ true
 one_sign_within lo hi low high h from to =
     ⊎_elim
-      (λ e. let small = ltb-true high (2 ^ 63) e in or_left _ _ (lt-ltb hi (2 ^ 63) (omega arith)))
-      (λ e. let large = leb-true (2 ^ 63) low e in or_right _ _ (le-leb (2 ^ 63) lo (omega arith)))
-      (or_cases _ _ h)
+    (λ e. let small = ltb-true high (2 ^ 63) e in or_left _ _ (lt-ltb hi (2 ^ 63) (omega arith)))
+    (λ e. let large = leb-true (2 ^ 63) low e in or_right _ _ (le-leb (2 ^ 63) lo (omega arith)))
+    (or_cases _ _ h)
 
 module _ (lo hi low high : ℤ) (l m l' m' : ℕ) (p : low ≤ℤ lo) (q : hi ≤ℤ high) (order : l ≤ m) (r : l' ≤ l) (t : m ≤ m') (can : can_move low high (Some (l', m')) ≡ true) where
   low_moves : (low +ℤ cast_signed w64 l') ≤ℤ (lo +ℤ cast_signed w64 l)
