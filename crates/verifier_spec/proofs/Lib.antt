@@ -1,0 +1,5 @@
+pub mod Premises
+pub mod Edges
+pub mod Immediates
+pub mod Turns
+pub mod Steps
