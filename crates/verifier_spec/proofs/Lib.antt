@@ -1,5 +1,5 @@
 pub mod Premises
-pub mod Edges
+pub mod Annotations
 pub mod Immediates
 pub mod Turns
 pub mod Steps
