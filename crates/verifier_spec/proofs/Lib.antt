@@ -1,4 +1,6 @@
+pub mod Annotations
 pub mod Edges
+pub mod Immediates
 pub mod Loads
 pub mod Monotone
 pub mod Narrowing
@@ -8,8 +10,10 @@ pub mod Proper
 pub mod Registers
 pub mod Safety
 pub mod Sound
+pub mod Steps
 pub mod Sums
 pub mod Tighter
+pub mod Turns
 pub mod Whole
 pub mod Wider
 pub mod Words
