@@ -24,6 +24,7 @@ use Rattle.verifier_spec.specs.States.{is_proper, is_within}
 use Rattle.verifier_spec.specs.Checks.{source_kind, reads_unknown, has_wrong_kind, reach_at, reach_of, is_reach_within, may_leave_record, may_leave_stack, are_set, may_read_unset, has_wrong_argument_kind, may_call_wrongly, may_exit_wrongly, failed_check}
 use Rattle.verifier_spec.specs.Transfer.{with_kind, loaded_kind, answer_kind, after_call_kinds, called_kinds, falls_to, jumps_to}
 use Rattle.verifier_spec.specs.Annotation.{is_edge_covered}
+use Rattle.verifier_spec.specs.Soundness.{KeepsOrder}
 use Rattle.verifier_spec.proofs.Order.{IsWithin, within_parts, within_from}
 use Rattle.verifier_spec.proofs.Proper.{proper_parts}
 use Rattle.verifier_spec.proofs.Safety.{Passes, passes, failed_from, set_at}
@@ -253,3 +254,11 @@ falls_monotone i a b h pa pb pass = falls_kept a b (within_parts a b h) pa pb i 
 
 pub jumps_monotone : (i : Instruction) (a b : Abstract) → is_within a b ≡ true → is_proper a ≡ true → is_proper b ≡ true → failed_check i b ≡ None → is_edge_covered (jumps_to i a) (jumps_to i b) ≡ true
 jumps_monotone i a b h pa pb pass = jumps_kept a b (within_parts a b h) pa pb i h (passes i b pass)
+
+-- Checks and transfer keep the order at each instruction whose checks pass in the outer state.
+pub order_kept : (i : Instruction) (a b : Abstract) → is_within a b ≡ true → is_proper a ≡ true → is_proper b ≡ true → failed_check i b ≡ None → KeepsOrder i a b
+order_kept i a b h pa pb pass = record {
+  checks = check_monotone i a b h pa pb pass;
+  falls = falls_monotone i a b h pa pb pass;
+  jumps = jumps_monotone i a b h pa pb pass;
+}
