@@ -1,18 +1,9 @@
-//! STUB
+//! The loader: one pass in code order finds a program's abstract states, which the checker of
+//! annotations then decides on.
 #![tactic(auto)]
 
-ghost use Rattle.std.specs.Prelude.{◌≡◌, IfOk, Ok};
-ghost use Rattle.annotate.specs.Loads.{Loads};
+mod forward;
+mod load;
 
-use log_spec::LoadFault;
-use machine_spec::IsaFault;
-use notes::Verified;
-use std::alloc::Global;
-
-pub fn load(alloc: Global, image: &[u8]) -> Result<Verified, LoadFault>
-    ensures { Loads image.now result }
-{
-    let _ = alloc;
-    let _ = image;
-    Err(LoadFault::Isa(IsaFault::Memory))
-}
+pub use load::load;
+pub use log_spec::LoadFault;
