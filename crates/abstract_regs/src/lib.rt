@@ -14,3 +14,6 @@ mod transfer;
 pub use machine_spec::{Instruction, Region};
 pub use state::{Edges, State};
 pub use verifier_spec::{Abs, Abstract, Check, StackSet};
+
+#[cfg(test)]
+mod tests;

@@ -1,4 +1,4 @@
-ghost use Rattle.std.specs.Prelude.{◌≡◌, ◌+◌, ◌/◌, ◌%◌, ◌==◌, ◌<◌, true, slice_index};
+ghost use Rattle.std.specs.Prelude.{◌≡◌, ◌/◌, ◌%◌, ◌==◌, ◌<◌, true, slice_index};
 ghost use Rattle.std.specs.Int.{bit_at};
 ghost use Rattle.verifier_spec.specs.Kinds.{is_set};
 ghost use Rattle.verifier_spec.specs.Checks.{are_set};

@@ -1,10 +1,9 @@
-ghost use Rattle.std.specs.Prelude.{◌≡◌, ℕ, ◌≤◌, ◌==◌, pos, neg_ℤ, ◌+ℤ◌, ◌≤ℤ◌, true, false, None, Some, IfSome, slice_set, length};
-ghost use Rattle.std.specs.List.{list_all};
+ghost use Rattle.std.specs.Prelude.{◌≡◌, ◌≤◌, pos, neg_ℤ, ◌+ℤ◌, ◌≤ℤ◌, true, None, Some, IfSome, slice_set};
 ghost use Rattle.std.specs.Int.{w64, cast_signed};
 ghost use Rattle.verifier_spec.specs.Kinds.{kind_at, greatest, range_of, is_proper_kind, furthest};
 ghost use Rattle.verifier_spec.specs.States.{is_proper};
 ghost use Rattle.verifier_spec.specs.Checks.{can_move, can_compute_kinds, source_kind, failed_check};
-ghost use Rattle.verifier_spec.specs.Transfer.{with_kind, any_number, computed_range, on_ranges, moved, computed_kind, loaded_kind, with_length, with_range, narrowed_range, tested, answer_kind, after_call_kinds, called_kinds, falls_to, jumps_to};
+ghost use Rattle.verifier_spec.specs.Transfer.{with_kind, computed_range, on_ranges, moved, computed_kind, loaded_kind, with_length, with_range, narrowed_range, tested, answer_kind, after_call_kinds, called_kinds, falls_to, jumps_to};
 
 use crate::{checks, kinds, narrowing};
 use machine_spec::{Helper, Instruction, Operation, Region, Size, Source, Test, Width};
