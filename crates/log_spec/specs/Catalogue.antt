@@ -1,0 +1,77 @@
+-- The catalogue: the images that were loaded, by name.
+use Rattle.std.specs.Prelude.{ℕ, zero, suc, ◌-◌, ◌^◌, Bool, ◌==◌, ◌&&◌, ◌||◌, not, nat_le, if◌then◌else◌, List, [], ◌∷◌, ◌++◌, length, slice_get, Option, Some, None, Result, Ok, Err}
+use Rattle.std.specs.List.{list_all, list_any}
+use Rattle.std.specs.Str.{bytes_eq}
+use Rattle.machine_spec.specs.declared.instruction.IsaFault.{IsaFault}
+use Rattle.machine_spec.specs.declared.instruction.Placed.{Placed}
+use Rattle.machine_spec.specs.Image.{read_image}
+use Rattle.verifier_spec.specs.declared.fault.VerifyFault.{VerifyFault}
+use Rattle.verifier_spec.specs.Annotation.{fault_of}
+use Rattle.verifier_spec.specs.Forward.{passed_on}
+use Rattle.log_spec.specs.declared.event.LoadFault.{LoadFault}
+use Rattle.log_spec.specs.declared.event.LoadFault.TheVariants.{Isa, Verify}
+use Rattle.log_spec.specs.declared.event.Refusal.{Refusal}
+use Rattle.log_spec.specs.declared.event.Refusal.TheVariants as refusal
+
+-- a name, and the images that were accepted under it, oldest first: version v is number v - 1
+pub record Entry : Type 0 where
+  pub name : List ℕ
+  pub images : List (List ℕ)
+
+abbrev pub Table : Type 0
+Table = List Entry
+
+-- the images of a name, none where it is not loaded
+abbrev pub images_of : Table → List ℕ → List (List ℕ)
+images_of [] name = []
+images_of (entry ∷ table) name = if bytes_eq entry.name name then entry.images else images_of table name
+
+abbrev pub has_name : Table → List ℕ → Bool
+has_name table name = list_any (λ entry. bytes_eq entry.name name) table
+
+-- a version of a name, from 1
+abbrev pub image_of : Table → List ℕ → ℕ → Option (List ℕ)
+image_of table name zero = None
+image_of table name (suc k) = slice_get (images_of table name) k
+
+-- the table with one more image of a name, and nothing else changed
+abbrev pub with_image : Table → List ℕ → List ℕ → Table
+with_image [] name image = record { name = name; images = image ∷ [] } ∷ []
+with_image (entry ∷ table) name image =
+    if bytes_eq entry.name name then record { name = entry.name; images = entry.images ++ image ∷ [] } ∷ table else entry ∷ with_image table name image
+
+-- ---- refusals of a load
+
+-- an ASCII letter, digit or hyphen
+abbrev pub is_name_byte : ℕ → Bool
+is_name_byte byte = (nat_le 97 byte && nat_le byte 122) || ((nat_le 65 byte && nat_le byte 90) || ((nat_le 48 byte && nat_le byte 57) || (byte == 45)))
+
+abbrev pub is_name : List ℕ → Bool
+is_name name = nat_le 1 (length name) && (nat_le (length name) 32 && list_all is_name_byte name)
+
+abbrev pub most_names : ℕ
+most_names = 64
+
+abbrev pub verify_fault : Option VerifyFault → Option LoadFault
+verify_fault (Some fault) = Some (Verify fault)
+verify_fault None = None
+
+abbrev pub code_fault : Result (List Placed) IsaFault → Option LoadFault
+code_fault (Ok code) = verify_fault (fault_of code (passed_on code))
+code_fault (Err fault) = Some (Isa fault)
+
+-- Why an image is no program that is accepted: it does not decode, or the notes that one pass finds are no annotation.
+unfoldable pub load_fault : List ℕ → Option LoadFault
+load_fault image = code_fault (read_image image)
+
+abbrev pub refused_load : Option LoadFault → Option Refusal
+refused_load (Some fault) = Some (refusal.Load fault)
+refused_load None = None
+
+-- the first refusal of a load: the name's form, 64 other names, its versions used up, the image
+abbrev pub load_refusal : Table → List ℕ → List ℕ → Option Refusal
+load_refusal table name image =
+    if not (is_name name) then Some refusal.Name else
+    if not (has_name table name) && nat_le most_names (length table) then Some refusal.Full else
+    if nat_le (2 ^ 32 - 1) (length (images_of table name)) then Some refusal.Versions else
+    refused_load (load_fault image)
