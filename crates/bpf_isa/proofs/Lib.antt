@@ -1,2 +1,7 @@
 pub mod Slots
+<<<<<<< HEAD
 pub mod SlotBound
+=======
+pub mod Cases
+pub mod Fields
+>>>>>>> isa

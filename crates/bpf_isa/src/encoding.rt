@@ -1,6 +1,7 @@
 ghost use Rattle.std.specs.Prelude.{◌≡◌, IfOk, List, ℕ};
 ghost use Rattle.machine_spec.specs.Image.{IsCodeOf};
 ghost use Rattle.bpf_isa.specs.Code.{AreBytes};
+ghost use Rattle.bpf_isa.specs.Spelling.{spelled};
 
 use crate::code::Code;
 use std::alloc::{AllocError, Global};

@@ -7,6 +7,9 @@
 mod code;
 mod decoding;
 mod encoding;
+mod form;
+mod opcode;
+mod slot;
 
 pub use code::Code;
 pub use decoding::decode;
