@@ -2,8 +2,10 @@
 //! and what an instruction makes of one.
 #![tactic(auto)]
 
+mod checks;
 mod kinds;
 mod ranges;
+mod stack_set;
 mod state;
 
 pub use machine_spec::{Instruction, Region};

@@ -2,11 +2,12 @@ ghost use Rattle.std.specs.Prelude.{◌≡◌, true, if◌then◌else◌, Some, 
 ghost use Rattle.verifier_spec.specs.declared.state.Abstract.{Abstract};
 ghost use Rattle.verifier_spec.specs.Kinds.{kind_at};
 ghost use Rattle.verifier_spec.specs.States.{is_proper, entry_state};
+ghost use Rattle.verifier_spec.specs.Checks.{failed_check};
 
-use crate::{kinds, ranges};
-use machine_spec::Region;
+use crate::{checks, kinds, ranges};
+use machine_spec::{Instruction, Region};
 use std::marker::Model;
-use verifier_spec::{Abs, Abstract, StackSet};
+use verifier_spec::{Abs, Abstract, Check, StackSet};
 
 /// What is known before an instruction: a kind for each register, how long at least and at most
 /// the key and the value are, and which stack bytes are certainly set. Its ranges hold: intervals
@@ -102,5 +103,13 @@ impl State {
         ensures proper { is_proper self.now ≡ true }
     {
         kinds::kind_of(&self.inner.registers, register)
+    }
+
+    /// The first check of an instruction that fails here, if one does.
+    pub fn check(&self, instruction: Instruction) -> Option<Check>
+        ensures failed { result ≡ failed_check instruction self.now }
+        ensures proper { is_proper self.now ≡ true }
+    {
+        checks::failed_check(instruction, &self.inner)
     }
 }
