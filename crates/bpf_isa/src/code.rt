@@ -1,5 +1,6 @@
 ghost use Rattle.std.specs.Prelude.{◌≡◌, ℕ, ◌<◌, ◌≤◌, length, slice_get, option_map, List};
 ghost use Rattle.machine_spec.specs.Image.{number_at};
+ghost use Rattle.bpf_isa.specs.Code.{HasImage};
 
 use machine_spec::{Instruction, Placed};
 use std::marker::Model;
@@ -30,6 +31,8 @@ impl Code {
         ensures is_length { result ≡ length self.now }
         ensures is_positive { 0 < result }
         ensures is_small { result ≤ 4096 }
+        // They are the code of some image.
+        ensures has_image { HasImage self.now }
     {
         self.placed.len()
     }
