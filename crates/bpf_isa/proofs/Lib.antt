@@ -1,4 +1,5 @@
 pub mod Slots
-pub mod SlotBound
 pub mod Cases
 pub mod Fields
+pub mod Bytes
+pub mod Walk

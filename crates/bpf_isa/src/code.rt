@@ -1,6 +1,7 @@
-ghost use Rattle.std.specs.Prelude.{◌≡◌, ℕ, ◌<◌, ◌≤◌, length, slice_get, option_map, List};
+ghost use Rattle.std.specs.Prelude.{◌≡◌, ◌<◌, ◌≤◌, length, slice_get, option_map, IfSome};
 ghost use Rattle.machine_spec.specs.Image.{number_at};
 ghost use Rattle.bpf_isa.specs.Code.{HasImage};
+ghost use Rattle.bpf_isa.specs.Spelling.{HasRegisters};
 
 use machine_spec::{Instruction, Placed};
 use std::marker::Model;
@@ -31,7 +32,6 @@ impl Code {
         ensures is_length { result ≡ length self.now }
         ensures is_positive { 0 < result }
         ensures is_small { result ≤ 4096 }
-        // They are the code of some image.
         ensures has_image { HasImage self.now }
     {
         self.placed.len()
@@ -40,8 +40,9 @@ impl Code {
     /// The instruction with this number, from 0, and its slot.
     pub fn get(&self, k: usize) -> Placed
         requires { k < length self.now }
-        ensures is_there { slice_get self.now k ≡ Some result }
+        ensures is_at { slice_get self.now k ≡ Some result }
         ensures is_small { result.slot < 4096 }
+        ensures has_registers { HasRegisters result.instruction }
     {
         self.placed[k]
     }
@@ -49,21 +50,31 @@ impl Code {
     /// The instruction with this number, from 0.
     pub fn instr(&self, k: usize) -> Instruction
         requires { k < length self.now }
-        ensures { option_map (λ p. p.instruction) (slice_get self.now k) ≡ Some result }
+        ensures is_at { option_map (λ p. p.instruction) (slice_get self.now k) ≡ Some result }
+        ensures has_registers { HasRegisters result }
     {
-        self.placed[k].instruction
+        self.get(k).instruction
     }
 
     /// The slot at which the instruction with this number begins.
     pub fn slot(&self, k: usize) -> usize
         requires { k < length self.now }
-        ensures { option_map (λ p. p.slot) (slice_get self.now k) ≡ Some result }
+        ensures is_at { option_map (λ p. p.slot) (slice_get self.now k) ≡ Some result }
+        ensures is_small { result < 4096 }
     {
-        self.placed[k].slot
+        self.get(k).slot
     }
 
     /// The number of the instruction that begins at a slot, if one does.
     pub fn at(&self, slot: usize) -> Option<usize>
+        ensures is_number { result ≡ number_at self.now slot }
+        ensures is_within { IfSome result (λ k. k < length self.now) }
+    {
+        self.entry(slot)
+    }
+
+    /// What the table of slots has at a slot.
+    fn entry(&self, slot: usize) -> Option<usize>
         ensures { result ≡ number_at self.now slot }
     {
         match self.numbers.get(slot) {
