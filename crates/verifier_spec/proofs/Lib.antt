@@ -1,1 +1,6 @@
 pub mod Faults
+pub mod Premises
+pub mod Edges
+pub mod Immediates
+pub mod Turns
+pub mod Steps
