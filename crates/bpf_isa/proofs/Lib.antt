@@ -3,3 +3,4 @@ pub mod Cases
 pub mod Fields
 pub mod Bytes
 pub mod Walk
+pub mod Reading

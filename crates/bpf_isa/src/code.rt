@@ -10,8 +10,9 @@ use std::marker::Model;
 /// the list of them.
 #[derive(Debug, Drop)]
 pub struct Code {
-    placed: Vec<Placed>,
-    numbers: Vec<Option<u16>>,
+    pub(crate) placed: Vec<Placed>,
+    /// For each slot the number of the instruction that begins there.
+    pub(crate) numbers: Vec<Option<u16>>,
 }
 
 impl Model for Code {
