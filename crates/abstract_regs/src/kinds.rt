@@ -1,6 +1,7 @@
-ghost use Rattle.std.specs.Prelude.{◌≡◌, slice_index_or};
+ghost use Rattle.std.specs.Prelude.{◌≡◌, ◌≤◌, true, IfSome, slice_index_or};
 ghost use Rattle.std.specs.Int.{w64, cast_unsigned};
-ghost use Rattle.verifier_spec.specs.Kinds.{kind_at, least, greatest, range_of, is_unknown, is_number_kind, is_address_kind};
+ghost use Rattle.verifier_spec.specs.Kinds.{kind_at, least, greatest, range_of, is_unknown, is_number_kind, is_address_kind, is_proper_kind};
+ghost use Rattle.verifier_spec.specs.States.{is_proper};
 ghost use Rattle.verifier_spec.specs.Checks.{source_kind};
 
 use machine_spec::{Region, Source};
@@ -18,8 +19,10 @@ pub fn kind_of(kinds: &[Abs; 11], register: usize) -> Abs
 }
 
 /// What a state knows of a register.
+#[tactic(auto, using(crate::proofs::Proper::kind_at_proper))]
 pub fn kind_at(state: &Abstract, register: u8) -> Abs
-    ensures { result ≡ kind_at state.now register }
+    ensures kind { result ≡ kind_at state.now register }
+    ensures proper { is_proper state.now ≡ true → is_proper_kind result ≡ true }
 {
     kind_of(&state.registers, register as usize)
 }
@@ -34,7 +37,8 @@ pub fn constant(immediate: i32) -> u64
 
 /// What a state knows of the second operand.
 pub fn source_kind(state: &Abstract, source: Source) -> Abs
-    ensures { result ≡ source_kind state.now source }
+    ensures kind { result ≡ source_kind state.now source }
+    ensures proper { is_proper state.now ≡ true → is_proper_kind result ≡ true }
 {
     match source {
         Source::Register(register) => kind_at(state, register),
@@ -68,8 +72,10 @@ pub fn greatest(state: &Abstract, region: Region) -> u32
 }
 
 /// The least and the greatest number that a kind stands for, if it stands for numbers.
+#[tactic(auto, using(crate::proofs::Proper::range_ordered))]
 pub fn range_of(state: &Abstract, kind: Abs) -> Option<(u64, u64)>
-    ensures { result ≡ range_of state.now kind }
+    ensures range { result ≡ range_of state.now kind }
+    ensures ordered { is_proper state.now ≡ true → is_proper_kind kind ≡ true → IfSome result (λ r. r.0 ≤ r.1) }
 {
     match kind {
         Abs::None => None,

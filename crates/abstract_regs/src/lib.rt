@@ -4,10 +4,13 @@
 
 mod checks;
 mod kinds;
+mod narrowing;
+mod order;
 mod ranges;
 mod stack_set;
 mod state;
+mod transfer;
 
 pub use machine_spec::{Instruction, Region};
-pub use state::State;
+pub use state::{Edges, State};
 pub use verifier_spec::{Abs, Abstract, Check, StackSet};

@@ -1,10 +1,11 @@
-ghost use Rattle.std.specs.Prelude.{◌≡◌, true, if◌then◌else◌, Some, None};
+ghost use Rattle.std.specs.Prelude.{◌≡◌, true, if◌then◌else◌, Some, None, IfSome};
 ghost use Rattle.verifier_spec.specs.declared.state.Abstract.{Abstract};
 ghost use Rattle.verifier_spec.specs.Kinds.{kind_at};
-ghost use Rattle.verifier_spec.specs.States.{is_proper, entry_state};
+ghost use Rattle.verifier_spec.specs.States.{is_proper, is_within, entry_state};
 ghost use Rattle.verifier_spec.specs.Checks.{failed_check};
+ghost use Rattle.verifier_spec.specs.Transfer.{falls_to, jumps_to};
 
-use crate::{checks, kinds, ranges};
+use crate::{checks, kinds, order, ranges, transfer};
 use machine_spec::{Instruction, Region};
 use std::marker::Model;
 use verifier_spec::{Abs, Abstract, Check, StackSet};
@@ -105,11 +106,54 @@ impl State {
         kinds::kind_of(&self.inner.registers, register)
     }
 
+    /// Whether all that another state knows is known here too: each register's kind is within the
+    /// other's, the lengths lie no further apart, and no fewer stack bytes are set.
+    pub fn within(&self, outer: &State) -> bool
+        ensures within { result ≡ is_within self.now outer.now }
+        ensures proper { is_proper self.now ≡ true }
+        ensures outer_proper { is_proper outer.now ≡ true }
+    {
+        order::is_within(&self.inner, &outer.inner)
+    }
+
     /// The first check of an instruction that fails here, if one does.
     pub fn check(&self, instruction: Instruction) -> Option<Check>
         ensures failed { result ≡ failed_check instruction self.now }
         ensures proper { is_proper self.now ≡ true }
     {
         checks::failed_check(instruction, &self.inner)
+    }
+
+    /// What an instruction whose checks pass makes of this state, along each of its edges.
+    pub fn transfer(&self, instruction: Instruction) -> Edges
+        requires { failed_check instruction self.now ≡ None }
+        ensures next { result.next ≡ falls_to instruction self.now }
+        ensures jump { result.jump ≡ jumps_to instruction self.now }
+        ensures proper { is_proper self.now ≡ true }
+        ensures next_proper { IfSome result.next (λ s. is_proper s ≡ true) }
+        ensures jump_proper { IfSome result.jump (λ s. is_proper s ≡ true) }
+    {
+        Edges {
+            next: whole(transfer::falls_to(instruction, &self.inner)),
+            jump: whole(transfer::jumps_to(instruction, &self.inner)),
+        }
+    }
+}
+
+/// What an instruction makes of a state: the state at the next instruction, and the one at the
+/// target of its jump. None where it can't come there.
+#[derive(Clone, Copy, Debug, Drop)]
+pub struct Edges {
+    pub next: Option<State>,
+    pub jump: Option<State>,
+}
+
+fn whole(inner: Option<Abstract>) -> Option<State>
+    requires { IfSome inner (λ s. is_proper s ≡ true) }
+    ensures { result ≡ inner }
+{
+    match inner {
+        Some(inner) => Some(State { inner }),
+        None => None,
     }
 }
