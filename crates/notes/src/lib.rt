@@ -2,7 +2,10 @@
 //! instruction, it makes a verified program or tells why the list is no annotation of the code.
 #![tactic(auto)]
 
+mod edges;
+mod faults;
 mod lookup;
+mod shape;
 mod verified;
 
 pub use verified::{Verified, check};

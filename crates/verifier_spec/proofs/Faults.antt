@@ -1,7 +1,7 @@
 -- No refusal is told of a list of abstract states exactly where it is an annotation.
-use Rattle.std.proofs.Common.{◌≡◌, ℕ, zero, suc, ◌+◌, Bool, true, false, cond, not, ◌==◌, ◌&&◌, List, [], ◌∷◌, ◌++◌, length, drop, refl, sym, ◌∙◌, subst, arith}
+use Rattle.std.proofs.Common.{◌≡◌, ℕ, zero, suc, ◌+◌, Bool, true, false, cond, not, ◌==◌, ◌&&◌, List, [], ◌∷◌, ◌++◌, length, drop, refl, sym, ◌∙◌, subst, inl, inr, arith}
 use Rattle.std.specs.Prelude.{Option, Some, None, slice_get}
-use Rattle.std.proofs.lemmas.Bool.{and_parts, and_from, eqb-true, eq-eqb, cond-true, cond-false, not_from_true, not-false}
+use Rattle.std.proofs.lemmas.Bool.{cases_Bool, and_parts, and_from, eqb-true, eq-eqb, cond-true, cond-false, not_from_true, not-false}
 use Rattle.machine_spec.specs.declared.instruction.Placed.{Placed}
 use Rattle.machine_spec.specs.Traps.{first_of}
 use Rattle.verifier_spec.specs.declared.state.Abstract.{Abstract}
@@ -31,6 +31,15 @@ first_of-append [] ys h = refl
 first_of-append (x ∷ xs) ys h =
     let parts : (x.0 ≡ false) × (first_of xs ≡ None) = if_none x.0 x.1 (first_of xs) h in
     cond-false x.0 (Some x.1) (first_of (xs ++ ys)) parts.0 ∙ first_of-append xs ys parts.1
+
+-- the first check that fails in a list is the first of it and any other after it
+pub first_of-told : {A : Type 0} (xs ys : List (Bool × A)) (x : A) → first_of xs ≡ Some x → first_of (xs ++ ys) ≡ Some x
+first_of-told [] ys x h = cc
+first_of-told {A} (row ∷ xs) ys x h =
+    elim (cases_Bool row.0) [
+      inl fails ↦ cond-true row.0 (Some row.1) (first_of (xs ++ ys)) fails ∙ (sym (cond-true row.0 (Some row.1) (first_of xs) fails) ∙ h)
+    | inr passes ↦ cond-false row.0 (Some row.1) (first_of (xs ++ ys)) passes ∙ first_of-told xs ys x (sym (cond-false row.0 (Some row.1) (first_of xs) passes) ∙ h)
+    ]
 
 -- ---- one instruction
 
@@ -131,17 +140,14 @@ none_from_each code notes k (first ∷ rest) h =
 
 -- ---- the law
 
--- each state of a list is in its ranges
-pub record AreProper (notes : Notes) : Type 0 where
-  pub proper : (k : ℕ) (s : Abstract) → note_at notes k ≡ Some s → is_proper s ≡ true
-
 -- the first test of a list, and then the instructions
 pub if_passed : (b : Bool) (later : Option VerifyFault) (fault : VerifyFault) → cond b later (Some fault) ≡ None → (b ≡ true) × (later ≡ None)
 if_passed true later fault h = (refl, h)
 if_passed false later fault h = cc
 
 -- a list of states in their ranges that has no refusal is an annotation
-pub annotation_from_none : (code : List Placed) (notes : Notes) → fault_of code notes ≡ None → AreProper notes → IsAnnotation code notes
+pub annotation_from_none : (code : List Placed) (notes : Notes) → fault_of code notes ≡ None
+    → ((k : ℕ) (s : Abstract) → note_at notes k ≡ Some s → is_proper s ≡ true) → IsAnnotation code notes
 unfolding fault_of
 annotation_from_none code notes h proper =
     let parts : (((length notes == length code) && is_covered entry_state (note_at notes 0)) ≡ true) × (fault_from code notes 0 code ≡ None) =
@@ -159,7 +165,7 @@ annotation_from_none code notes h proper =
       shape = λ k placed e. (each k placed e).shape;
       checked = λ k placed s e n. (each k placed e).checked s n;
       closed = λ k placed s e n. (each k placed e).closed s n;
-      proper = proper.proper;
+      proper = proper;
     }
 
 -- an annotation has no refusal
@@ -177,10 +183,6 @@ none_from_annotation code notes a =
     (record { shape = a.shape i placed e; checked = λ s n. a.checked i placed s e n; closed = λ s n. a.closed i placed s e n })) in
     cond-true ((length notes == length code) && is_covered entry_state (note_at notes 0)) (fault_from code notes 0 code) (Some (record { pc = 0; kind = check.Notes })) both
     ∙ none_from_each code notes 0 code each
-
--- an annotation's states are in their ranges
-pub proper_in_annotation : (code : List Placed) (notes : Notes) → IsAnnotation code notes → AreProper notes
-proper_in_annotation code notes a = record { proper = a.proper }
 
 -- ---- one instruction after another
 
