@@ -4,3 +4,4 @@ pub mod Fields
 pub mod Bytes
 pub mod Walk
 pub mod Reading
+pub mod Writing

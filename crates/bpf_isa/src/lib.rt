@@ -8,10 +8,15 @@ mod code;
 mod decoding;
 mod encoding;
 mod form;
+mod laws;
 mod opcode;
 mod slot;
 
 pub use code::Code;
 pub use decoding::decode;
 pub use encoding::encode;
+pub use laws::image_and_code;
 pub use machine_spec::{Instruction, IsaFault, Placed};
+
+#[cfg(test)]
+mod tests;

@@ -4,8 +4,7 @@ ghost use Rattle.std.specs.Prelude.{◌≡◌, ◌<◌};
 ghost use Rattle.machine_spec.specs.Image.{slot_count, fields_at, read_slot, checked};
 ghost use Rattle.bpf_isa.specs.Views.{view};
 
-use crate::form;
-use crate::opcode;
+use crate::{form, opcode};
 use machine_spec::{Instruction, IsaFault};
 
 /// The fields of a basic instruction (RFC 9669, section 3.1).
@@ -35,7 +34,11 @@ fn fields(image: &[u8], slot: usize) -> SlotFields
 }
 
 /// The instruction with these fields at a slot, or the first thing that is wrong with them.
-fn accepted(slot: usize, fields: SlotFields, instruction: Option<Instruction>) -> Result<Instruction, IsaFault>
+fn accepted(
+    slot: usize,
+    fields: SlotFields,
+    instruction: Option<Instruction>,
+) -> Result<Instruction, IsaFault>
     ensures { result ≡ checked slot (view fields) instruction }
 {
     let Some(instruction) = instruction else {

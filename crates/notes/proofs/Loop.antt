@@ -1,12 +1,10 @@
 -- One instruction after another: the refusal of a code from one of its instructions on.
-use Rattle.std.proofs.Common.{◌≡◌, ℕ, zero, suc, ◌+◌, ◌<◌, ◌≤◌, List, [], ◌∷◌, length, drop, refl, sym, ap, ◌∙◌, subst, below_more, arith, inl, inr}
-use Rattle.std.specs.Prelude.{Option, Some, None, slice_get}
-use Rattle.std.proofs.lemmas.Bool.{cases_lt}
+use Rattle.std.proofs.Common.{◌≡◌, ℕ, ◌+◌, Bool, true, ◌==◌, ◌&&◌, List, [], ◌∷◌, length, drop, refl, ap, ◌∙◌, below_more, arith, inl, inr}
+use Rattle.std.specs.Prelude.{Option, Some, None, slice_get, IfNone}
+use Rattle.std.proofs.lemmas.Bool.{cases_lt, and_parts, eqb-true}
 use Rattle.machine_spec.specs.declared.instruction.Placed.{Placed}
 use Rattle.verifier_spec.specs.declared.fault.Check.{Check}
 use Rattle.verifier_spec.specs.declared.fault.VerifyFault.{VerifyFault}
-use Rattle.verifier_spec.specs.declared.state.Abstract.{Abstract}
-use Rattle.verifier_spec.specs.States.{is_proper}
 use Rattle.verifier_spec.specs.Annotation.{Notes, note_at, failed_at, fault_or, fault_from}
 use Rattle.verifier_spec.proofs.Faults.{fault_from-drop, none_fault_or}
 use Rattle.notes.specs.Proper.{IsProperAt, AreProperBelow, AreProper}
@@ -41,8 +39,19 @@ proper_more notes k below here = below_more (IsProperAt notes) k below here
 pub proper_all : (notes : Notes) (n : ℕ) → length notes ≡ n → AreProperBelow notes n → AreProper notes
 proper_all notes n long below k s e =
     elim (cases_lt k n) [
-      inl inside ↦ below k inside s e
-    | inr past ↦
-        let none : note_at notes k ≡ None = note_at_past notes k (omega arith) in
-        absurd (cc)
+      | inl inside ↦ below k inside s e
+      | inr past ↦
+          let none : note_at notes k ≡ None = note_at_past notes k (omega arith) in
+          absurd (cc)
     ]
+
+-- what a clause says where there is no value gives what follows from it
+none_then : {T : Type 0} (r : Option T) {P Q : Type 0} → IfNone r P → (P → Q) → IfNone r Q
+none_then None h f = f h
+none_then (Some x) h f = tt
+
+pub proper_started : (notes : Notes) (n : ℕ) (covers : Bool) (told : Option VerifyFault) → ((length notes == n) && covers) ≡ true
+    → IfNone told (AreProperBelow notes n) → IfNone told (AreProper notes)
+proper_started notes n covers told started below =
+    let long : length notes ≡ n = eqb-true (length notes) n (and_parts (length notes == n) covers started).0 in
+    none_then told below (proper_all notes n long)

@@ -1,7 +1,7 @@
-ghost use Rattle.std.specs.Prelude.{◌≡◌, ◌<◌, true, length, Some, IfNone};
+ghost use Rattle.std.specs.Prelude.{◌≡◌, ◌<◌, true, ◌==◌, ◌&&◌, length, Some, IfNone};
 ghost use Rattle.machine_spec.specs.Traps.{first_of};
-ghost use Rattle.verifier_spec.specs.States.{is_proper};
-ghost use Rattle.verifier_spec.specs.Annotation.{reached_checks, failed_at, fault_from, fault_of};
+ghost use Rattle.verifier_spec.specs.States.{is_proper, entry_state};
+ghost use Rattle.verifier_spec.specs.Annotation.{note_at, is_covered, reached_checks, failed_at, fault_from, fault_of};
 ghost use Rattle.notes.specs.Proper.{IsProperAt, AreProper, AreProperBelow};
 
 use crate::edges::{are_edges_covered, is_covered};
@@ -67,12 +67,20 @@ fn first_fault(code: &Code, notes: &[Option<State>]) -> Option<VerifyFault>
     None
 }
 
+/// Whether a list has a state or none for each instruction, and its first covers the entry.
+fn has_start(code: &Code, notes: &[Option<State>]) -> bool
+    ensures { result ≡ ((length notes.now == length code.now) && is_covered entry_state (note_at notes.now 0)) }
+{
+    notes.len() == code.len() && is_covered(&State::entry(), note_at(notes, 0))
+}
+
 /// Why a list of states is no annotation of code, if it is none.
+#[tactic(auto, unfolding(verifier_spec::specs::Annotation::fault_of))]
 pub fn fault_of(code: &Code, notes: &[Option<State>]) -> Option<VerifyFault>
     ensures fault { result ≡ fault_of code.now notes.now }
     ensures proper { IfNone result (AreProper notes.now) }
 {
-    if notes.len() != code.len() || !is_covered(&State::entry(), note_at(notes, 0)) {
+    if !has_start(code, notes) {
         return Some(VerifyFault {
             pc: 0,
             kind: Check::Notes,

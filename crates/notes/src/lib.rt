@@ -5,6 +5,7 @@
 mod edges;
 mod faults;
 mod lookup;
+mod regions;
 mod shape;
 mod verified;
 

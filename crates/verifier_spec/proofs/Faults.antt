@@ -1,7 +1,8 @@
 -- No refusal is told of a list of abstract states exactly where it is an annotation.
-use Rattle.std.proofs.Common.{◌≡◌, ℕ, zero, suc, ◌+◌, Bool, true, false, cond, not, ◌==◌, ◌&&◌, List, [], ◌∷◌, ◌++◌, length, drop, refl, sym, ◌∙◌, subst, inl, inr, arith}
+use Rattle.std.proofs.Common.{◌≡◌, ◌≢◌, ℕ, zero, suc, ◌+◌, Bool, true, false, cond, not, ◌==◌, ◌&&◌, List, [], ◌∷◌, ◌++◌, length, drop, refl, sym, ◌∙◌, subst, inl, inr, arith}
 use Rattle.std.specs.Prelude.{Option, Some, None, slice_get}
-use Rattle.std.proofs.lemmas.Bool.{cases_Bool, and_parts, and_from, eqb-true, eq-eqb, cond-true, cond-false, not_from_true, not-false}
+use Rattle.std.specs.List.{list_any}
+use Rattle.std.proofs.lemmas.Bool.{cases_Bool, or_parts, and_parts, and_from, eqb-true, eq-eqb, cond-true, cond-false, not_from_true, not-false}
 use Rattle.machine_spec.specs.declared.instruction.Placed.{Placed}
 use Rattle.machine_spec.specs.Traps.{first_of}
 use Rattle.verifier_spec.specs.declared.state.Abstract.{Abstract}
@@ -201,3 +202,69 @@ pub fault_from-drop : (code : List Placed) (notes : Notes) (all : List Placed) (
 fault_from-drop code notes all k placed e =
     let P : List Placed → Type 0 = λ rest. fault_from code notes k rest ≡ fault_or k (failed_at code notes k placed) (fault_from code notes (k + 1) (drop (k + 1) all)) in
     subst P (sym (drop_at all k placed e)) refl
+
+-- ---- running out of memory is no refusal of a list
+
+is_memory : Check → Bool
+is_memory check.Memory = true
+is_memory _ = false
+
+no_memory_first : (rows : List (Bool × Check)) (kind : Check) → list_any (λ row. is_memory row.1) rows ≡ false → first_of rows ≡ Some kind
+    → is_memory kind ≡ false
+unfolding is_memory
+no_memory_first [] kind none e = cc
+no_memory_first (row ∷ rows) kind none e =
+    let parts : (is_memory row.1 ≡ false) × (list_any (λ r. is_memory r.1) rows ≡ false) = or_parts (is_memory row.1) (list_any (λ r. is_memory r.1) rows) none in
+    elim (cases_Bool row.0) [
+      inl fails ↦
+        let told : Some row.1 ≡ Some kind = sym (cond-true row.0 (Some row.1) (first_of rows) fails) ∙ e in
+        let same : row.1 ≡ kind = cc in
+        let P : Check → Type 0 = λ c. is_memory c ≡ false in
+        subst P same parts.0
+    | inr passes ↦ no_memory_first rows kind parts.1 (sym (cond-false row.0 (Some row.1) (first_of rows) passes) ∙ e)
+    ]
+
+no_memory_rows : (code : List Placed) (notes : Notes) (k : ℕ) (placed : Placed) (known : Option Abstract)
+    → list_any (λ row. is_memory row.1) (shape_checks code k placed ++ reached_checks code notes k placed known) ≡ false
+unfolding is_memory
+no_memory_rows code notes k placed None = refl
+no_memory_rows code notes k placed (Some s) = refl
+
+no_memory_at : (code : List Placed) (notes : Notes) (k : ℕ) (placed : Placed) (kind : Check) → failed_at code notes k placed ≡ Some kind → is_memory kind ≡ false
+unfolding failed_at
+no_memory_at code notes k placed kind e =
+    no_memory_first (shape_checks code k placed ++ reached_checks code notes k placed (note_at notes k)) kind (no_memory_rows code notes k placed (note_at notes k)) e
+
+no_memory_or : (k : ℕ) (failed : Option Check) (later : Option VerifyFault) (f : VerifyFault)
+    → ((kind : Check) → failed ≡ Some kind → is_memory kind ≡ false) → (later ≡ Some f → is_memory f.kind ≡ false)
+    → fault_or k failed later ≡ Some f → is_memory f.kind ≡ false
+no_memory_or k (Some kind) later f here there e =
+    let same : kind ≡ f.kind = cc in
+    let P : Check → Type 0 = λ c. is_memory c ≡ false in
+    subst P same (here kind refl)
+no_memory_or k None later f here there e = there e
+
+no_memory_from : (code : List Placed) (notes : Notes) (k : ℕ) (rest : List Placed) (f : VerifyFault) → fault_from code notes k rest ≡ Some f → is_memory f.kind ≡ false
+no_memory_from code notes k [] f e = cc
+no_memory_from code notes k (placed ∷ rest) f e =
+    no_memory_or k (failed_at code notes k placed) (fault_from code notes (k + 1) rest) f (no_memory_at code notes k placed)
+    (no_memory_from code notes (k + 1) rest f) e
+
+-- no refusal of a list is that memory ran out
+pub fault_of-kind : (code : List Placed) (notes : Notes) (f : VerifyFault) → fault_of code notes ≡ Some f → f.kind ≢ check.Memory
+unfolding fault_of is_memory
+fault_of-kind code notes f e is =
+    let start : Bool = (length notes == length code) && is_covered entry_state (note_at notes 0) in
+    let notes_fault : VerifyFault = record { pc = 0; kind = check.Notes } in
+    let none : is_memory f.kind ≡ false =
+        elim (cases_Bool start) [
+          inl passes ↦ no_memory_from code notes 0 code f (sym (cond-true start (fault_from code notes 0 code) (Some notes_fault) passes) ∙ e)
+        | inr fails ↦
+            let told : Some notes_fault ≡ Some f = sym (cond-false start (fault_from code notes 0 code) (Some notes_fault) fails) ∙ e in
+            let same : check.Notes ≡ f.kind = cc in
+            let P : Check → Type 0 = λ c. is_memory c ≡ false in
+            subst P same refl
+        ] in
+    let P : Check → Type 0 = λ c. is_memory c ≡ false in
+    let bad : true ≡ false = subst P is none in
+    cc
