@@ -1,5 +1,5 @@
 -- The bytes of a slot are the spelling of its instruction.
-use Rattle.std.proofs.Common.{◌≡◌, ℕ, zero, suc, ◌+◌, ◌*◌, ◌/◌, ◌%◌, ◌^◌, ◌<◌, ◌≤◌, Bool, true, false, eqb, List, [], ◌∷◌, ◌++◌, length, get_or, drop, Option, Some, None, Result, Ok, Err, refl, sym, ap, ◌∙◌, arith}
+use Rattle.std.proofs.Common.{◌≡◌, ℕ, zero, suc, ◌+◌, ◌*◌, ◌/◌, ◌%◌, ◌^◌, ◌<◌, ◌≤◌, Bool, true, false, cond, eqb, List, [], ◌∷◌, ◌++◌, length, get_or, drop, Option, Some, None, Result, Ok, Err, refl, sym, ap, ◌∙◌, arith}
 use Rattle.std.specs.Int.{w16, w32, from_le_bytes, to_le_bytes, cast_signed, cast_unsigned}
 use Rattle.std.proofs.Math.Seq.{drop-cons}
 use Rattle.std.proofs.lemmas.Nat.{le_bytes_2, le_bytes_4}
@@ -7,9 +7,10 @@ use Rattle.std.proofs.lemmas.Int.{of_z-to_z}
 use Rattle.std.proofs.lemmas.Bool.{eqb-true, ne_eqb}
 use Rattle.machine_spec.specs.declared.instruction.Instruction.{Instruction}
 use Rattle.machine_spec.specs.declared.instruction.IsaFault.{IsaFault}
+use Rattle.machine_spec.specs.declared.instruction.IsaFault.TheVariants as fault
 use Rattle.machine_spec.specs.Image.{Fields, byte_at, fields_at, class_of, is_known, instruction_of, uses_of, has_registers, has_zeros, checked, read_slot, form_at, if_read, slot_after}
 use Rattle.bpf_isa.specs.Code.{AreBytes}
-use Rattle.bpf_isa.specs.Spelling.{fields_bytes, spelling, HasRegisters}
+use Rattle.bpf_isa.specs.Spelling.{spelled_fields, fields_bytes, spelling, HasRegisters}
 use Rattle.bpf_isa.proofs.Cases.{on_choice, zeros, numbers}
 use Rattle.bpf_isa.proofs.Fields.{IsSpelled, instruction_spelled}
 
@@ -73,8 +74,8 @@ checked_read slot f None i is e =
 checked_read slot f (Some j) i is e =
     on_choice (has_registers (uses_of j) f) _ _ (done i) (IsRead f i) e
     (λ registers. λ e. on_choice (has_zeros (uses_of j) f) _ _ (done i) (IsRead f i) e
-    (λ unused. λ e. let same : j ≡ i = cc in rw (← same) (record { instruction = is; registers = registers; unused = unused }))
-    (λ _. λ e. absurd cc))
+        (λ unused. λ e. let same : j ≡ i = cc in rw (← same) (record { instruction = is; registers = registers; unused = unused }))
+        (λ _. λ e. absurd cc))
     (λ _. λ e. absurd cc)
 
 pub slot_read : (image : List ℕ) (slot : ℕ) (i : Instruction) → read_slot image slot ≡ done i → IsRead (fields_at image slot) i

@@ -1,5 +1,5 @@
 -- Choices, one test after the other.
-use Rattle.std.proofs.Common.{◌≡◌, ℕ, ◌≤◌, Bool, true, false, ◌&&◌, ◌||◌, cond, eqb, ℤ, pos, negsuc, zero, suc, refl}
+use Rattle.std.proofs.Common.{◌≡◌, ℕ, ◌≤◌, Bool, true, false, ◌&&◌, ◌||◌, cond, eqb, leb, Option, Some, None, ℤ, pos, negsuc, zero, suc, refl, sym, ◌∙◌}
 use Rattle.std.proofs.lemmas.Bool.{and_parts, eqb-true, leb-true}
 use Rattle.machine_spec.specs.Image.{Fields, Uses, is_zero, has_register, has_registers, has_zeros}
 

@@ -1,17 +1,20 @@
 -- The fields of a slot are those that its instruction is spelled with.
-use Rattle.std.proofs.Common.{◌≡◌, ℕ, ◌*◌, ◌/◌, ◌%◌, Bool, true, false, cond, eqb, Option, Some, None, refl, ap, ◌∙◌, subst, arith}
+use Rattle.std.proofs.Common.{◌≡◌, ℕ, ◌+◌, ◌*◌, ◌/◌, ◌%◌, ◌≤◌, Bool, true, false, cond, eqb, Option, Some, None, ℤ, pos, refl, sym, ap, ◌∙◌, subst, arith}
 use Rattle.std.proofs.lemmas.Bool.{eqb-true, eqb-false}
 use Rattle.std.proofs.lemmas.Option.{same_Some}
+use Rattle.machine_spec.specs.declared.instruction.Size.{Size}
 use Rattle.machine_spec.specs.declared.instruction.Size.TheVariants.{Byte, Half, Word, Double}
 use Rattle.machine_spec.specs.declared.instruction.Width.TheVariants.{Bits64}
+use Rattle.machine_spec.specs.declared.instruction.Operation.{Operation}
 use Rattle.machine_spec.specs.declared.instruction.Operation.TheVariants.{Add}
 use Rattle.machine_spec.specs.declared.instruction.Test.{Test}
 use Rattle.machine_spec.specs.declared.instruction.Test.TheVariants.{Equal, NotEqual, Greater, GreaterOrEqual, Less, LessOrEqual}
+use Rattle.machine_spec.specs.declared.instruction.Source.{Source}
 use Rattle.machine_spec.specs.declared.instruction.Source.TheVariants.{Register, Immediate}
 use Rattle.machine_spec.specs.declared.instruction.Instruction.{Instruction}
 use Rattle.machine_spec.specs.declared.instruction.Instruction.TheVariants.{Move, Compute, Load, JumpIf, Call, Exit}
-use Rattle.machine_spec.specs.Image.{Fields, class_of, code_of, has_register_source, source_of, load_of, test_of, jump_by, jump_of, arithmetic_of, instruction_of, uses_of}
-use Rattle.bpf_isa.specs.Spelling.{spelled_fields, test_code, opcode_of}
+use Rattle.machine_spec.specs.Image.{Fields, class_of, code_of, has_register_source, source_of, load_of, test_of, jump_by, jump_of, arithmetic_of, instruction_of, uses_of, has_zeros}
+use Rattle.bpf_isa.specs.Spelling.{spelled_fields, test_code, opcode_of, arithmetic_class, move_code, operation_code}
 use Rattle.bpf_isa.proofs.Cases.{on_choice, HasZeros}
 
 pub record IsSpelled (f : Fields) (i : Instruction) : Type 0 where
@@ -46,7 +49,7 @@ load_spelled f i e =
 test_is : (code : ℕ) (test : Test) → test_of code ≡ Some test → code ≡ test_code test
 test_is code test e =
     let hit : (t : Test) (n : ℕ) → n ≡ test_code t → eqb code n ≡ true → Some t ≡ Some test → code ≡ test_code test =
-    λ t. λ n. λ is. λ h. λ e. eqb-true _ _ h ∙ is ∙ ap test_code (same_Some t test e) in
+        λ t. λ n. λ is. λ h. λ e. eqb-true _ _ h ∙ is ∙ ap test_code (same_Some t test e) in
     on_choice (eqb code 1) _ _ (Some test) (code ≡ test_code test) e (hit Equal 1 refl)
     (λ _. λ e. on_choice (eqb code 2) _ _ (Some test) (code ≡ test_code test) e (hit Greater 2 refl)
     (λ _. λ e. on_choice (eqb code 3) _ _ (Some test) (code ≡ test_code test) e (hit GreaterOrEqual 3 refl)
@@ -63,15 +66,15 @@ jump_if_spelled : (f : Fields) (o : Option Test) (i : Instruction) → class_of 
 jump_if_spelled f None i class bit test e = none f i e
 jump_if_spelled f (Some t) i class bit test e =
     found f (JumpIf Bits64 t f.dst (Immediate f.imm) f.offset) i e (λ z.
-    let no_bit : f.opcode / 8 % 2 ≡ 0 = let not_one = eqb-false _ _ bit in omega arith in
-    record { opcode = opcode_is f.opcode (test_code t) 0 5 class no_bit (test_is _ t test); dst = refl; src = z.src refl; offset = refl; imm = refl })
+        let no_bit : f.opcode / 8 % 2 ≡ 0 = let not_one = eqb-false _ _ bit in omega arith in
+        record { opcode = opcode_is f.opcode (test_code t) 0 5 class no_bit (test_is _ t test); dst = refl; src = z.src refl; offset = refl; imm = refl })
 
 jump_spelled : (f : Fields) (i : Instruction) → class_of f.opcode ≡ 5 → jump_of f ≡ Some i → Spelled f i
 jump_spelled f i class e =
     on_choice (eqb f.opcode 0x85) _ _ (Some i) (Spelled f i) e
     (λ is. λ e. on_choice (eqb f.src 0) _ _ (Some i) (Spelled f i) e
-    (λ _. λ e. found f (Call f.imm) i e (λ z. record { opcode = eqb-true _ _ is; dst = z.dst refl; src = z.src refl; offset = z.offset refl; imm = refl }))
-    (λ _. λ e. none f i e))
+        (λ _. λ e. found f (Call f.imm) i e (λ z. record { opcode = eqb-true _ _ is; dst = z.dst refl; src = z.src refl; offset = z.offset refl; imm = refl }))
+        (λ _. λ e. none f i e))
     (λ _. λ e. on_choice (eqb f.opcode 0x95) _ _ (Some i) (Spelled f i) e
     (λ is. λ e. found f Exit i e (λ z. record { opcode = eqb-true _ _ is; dst = z.dst refl; src = z.src refl; offset = z.offset refl; imm = z.imm refl }))
     (λ _. λ e. on_choice (has_register_source f.opcode) _ _ (Some i) (Spelled f i) e

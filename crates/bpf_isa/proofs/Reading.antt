@@ -1,8 +1,8 @@
 -- Reading an image slot after slot, as a loop does, and that what is read is the image's code.
-use Rattle.std.proofs.Common.{◌≡◌, ◌≢◌, ℕ, zero, suc, ◌+◌, ◌-◌, ◌<◌, ◌≤◌, true, false, cond, eqb, List, [], ◌∷◌, ◌++◌, length, map, Option, Some, None, Result, Ok, Err, refl, sym, ap, inl, inr, subst, ◌∙◌, append_assoc, arith}
+use Rattle.std.proofs.Common.{◌≡◌, ◌≢◌, ℕ, zero, suc, ◌+◌, ◌-◌, ◌/◌, ◌<◌, ◌≤◌, Bool, true, false, cond, eqb, ltb, List, [], ◌∷◌, ◌++◌, length, map, Option, Some, None, Result, Ok, Err, refl, sym, ap, inl, inr, subst, ◌∙◌, append_assoc, arith}
 use Rattle.std.specs.Prelude.{slice_get, option_and_then, IfOk}
 use Rattle.std.proofs.lemmas.Bool.{lt-ltb, le-ltb, eq-eqb, ne_eqb, cases_eq}
-use Rattle.std.proofs.lemmas.List.{append-nil}
+use Rattle.std.proofs.lemmas.List.{append-nil, length-append}
 use Rattle.std.proofs.lemmas.Option.{same_Some, slice_get_past}
 use Rattle.machine_spec.specs.declared.instruction.Instruction.{Instruction}
 use Rattle.machine_spec.specs.declared.instruction.Placed.{Placed}
@@ -48,9 +48,9 @@ goes_on image front slot i total few lt read so_far =
     let left = slot_count image - (length front + 1) in
     let k : slot_count image - length front ≡ suc left = omega arith in
     let opened : rest_from image (slot_count image - length front) slot ≡ then_placed slot (Ok i) (rest_from image left (slot + 1)) =
-    ap (λ (n : ℕ). rest_from image n slot) k ∙ open_step image left slot lt
-    ∙ ap (λ (r : Result Instruction IsaFault). then_placed slot r (rest_from image left (slot_after image slot))) read
-    ∙ ap (λ (s : ℕ). then_placed slot (read_one i) (rest_from image left s)) (next_slot image slot i read) in
+        ap (λ (n : ℕ). rest_from image n slot) k ∙ open_step image left slot lt
+        ∙ ap (λ (r : Result Instruction IsaFault). then_placed slot r (rest_from image left (slot_after image slot))) read
+        ∙ ap (λ (s : ℕ). then_placed slot (read_one i) (rest_from image left s)) (next_slot image slot i read) in
     sym (ap (with_front front) opened ∙ regroup front p (rest_from image left (slot + 1))) ∙ so_far
 
 pub ends : (image : List ℕ) (front : List Placed) (slot : ℕ) (e : IsaFault) (total : Reading) → length front ≤ slot → slot < slot_count image → read_slot image slot ≡ Err e
@@ -59,8 +59,8 @@ ends image front slot e total few lt read so_far =
     let left = slot_count image - (length front + 1) in
     let k : slot_count image - length front ≡ suc left = omega arith in
     let opened : rest_from image (slot_count image - length front) slot ≡ Err e =
-    ap (λ (n : ℕ). rest_from image n slot) k ∙ open_step image left slot lt
-    ∙ ap (λ (r : Result Instruction IsaFault). then_placed slot r (rest_from image left (slot_after image slot))) read in
+        ap (λ (n : ℕ). rest_from image n slot) k ∙ open_step image left slot lt
+        ∙ ap (λ (r : Result Instruction IsaFault). then_placed slot r (rest_from image left (slot_after image slot))) read in
     sym so_far ∙ ap (with_front front) opened
 
 closed : (image : List ℕ) (steps slot : ℕ) → slot_count image ≤ slot → rest_from image steps slot ≡ Ok []
@@ -108,14 +108,12 @@ table_pushed code numbers i table =
     let p : Placed = record { slot = length numbers; instruction = i } in
     let more = numbers ++ Some (length code) ∷ [] in
     let here : entry more (length numbers) ≡ number_at (code ++ p ∷ []) (length numbers) =
-    let none : number_at code (length numbers) ≡ None = sym (table.entries (length numbers)) ∙ ap flat (slice_get_past numbers (length numbers) (omega arith)) in
-    ap flat (get_push_here numbers (Some (length code))) ∙ sym (number-push_here code p 0 none ∙ ap some_of (omega arith)) in
-    record {
-      entries = λ slot. elim (cases_eq (length numbers) slot) [
+        let none : number_at code (length numbers) ≡ None = sym (table.entries (length numbers)) ∙ ap flat (slice_get_past numbers (length numbers) (omega arith)) in
+        ap flat (get_push_here numbers (Some (length code))) ∙ sym (number-push_here code p 0 none ∙ ap some_of (omega arith)) in
+    record { entries = λ slot. elim (cases_eq (length numbers) slot) [
         | inl same ↦ subst (λ (s : ℕ). entry more s ≡ number_at (code ++ p ∷ []) s) same here
         | inr other ↦ ap flat (get_push_other numbers (Some (length code)) slot other) ∙ table.entries slot ∙ sym (number-push code p 0 slot other)
-      ];
-    }
+      ] }
 
 pub table_push : (code : List Placed) (numbers : List (Option ℕ)) (slot n : ℕ) (i : Instruction) → IsTable code numbers → slot ≡ length numbers → n ≡ length code → IsTable (code ++ record { slot = slot; instruction = i } ∷ []) (numbers ++ Some n ∷ [])
 table_push code numbers slot n i table e d = rw (e, d) (table_pushed code numbers i table)

@@ -1,12 +1,15 @@
 -- Code and image, from the first slot to the last.
-use Rattle.std.proofs.Common.{◌≡◌, ℕ, zero, suc, ◌+◌, ◌*◌, ◌<◌, ◌≤◌, Bool, true, false, cond, eqb, ltb, List, [], ◌∷◌, ◌++◌, length, map, drop, Option, Some, None, Ok, refl, sym, ap, ◌∙◌, arith}
+use Rattle.std.proofs.Common.{◌≡◌, ℕ, zero, suc, ◌+◌, ◌*◌, ◌/◌, ◌<◌, ◌≤◌, Bool, true, false, cond, eqb, ltb, List, [], ◌∷◌, ◌++◌, length, map, drop, Option, Some, None, Result, Ok, Err, refl, sym, ap, subst, ◌∙◌, arith}
 use Rattle.std.specs.Prelude.{slice_get, option_map, IfSome}
 use Rattle.std.proofs.lemmas.Bool.{ltb-true, ltb-false}
 use Rattle.std.proofs.lemmas.List.{drop_all}
 use Rattle.std.proofs.lemmas.List.Concat.{flat_map-cons}
 use Rattle.std.proofs.lemmas.Option.{same_Some, slice_get-map}
+use Rattle.machine_spec.specs.declared.instruction.Instruction.{Instruction}
 use Rattle.machine_spec.specs.declared.instruction.Placed.{Placed}
-use Rattle.machine_spec.specs.Image.{slot_count, slot_after, first_slots_from, first_slots, read_slot, form_at, number_from, number_at, IsCodeOf}
+use Rattle.machine_spec.specs.declared.instruction.IsaFault.{IsaFault}
+use Rattle.machine_spec.specs.declared.instruction.IsaFault.TheVariants as fault
+use Rattle.machine_spec.specs.Image.{slot_count, slot_after, first_slots_from, first_slots, has_size, read_slot, read_slots, then_placed, read_image, form_at, if_read, number_from, number_at, IsCodeOf}
 use Rattle.bpf_isa.specs.Code.{AreBytes}
 use Rattle.bpf_isa.specs.Spelling.{spelling, spelled, HasRegisters}
 use Rattle.bpf_isa.proofs.Cases.{on_choice}
@@ -46,12 +49,12 @@ goes image fits size (suc steps) slot [] enough e forms =
 goes image fits size (suc steps) slot (p ∷ code) enough e forms =
     on_choice (ltb slot (slot_count image)) (slot ∷ first_slots_from image steps (slot_after image slot)) [] (slots_of (p ∷ code)) (Goes image slot (p ∷ code)) (sym e)
     (λ within. λ e.
-    let here : slot ≡ p.slot = cc in
-    let later : first_slots_from image steps (slot_after image slot) ≡ slots_of code = cc in
-    let read : read_slot image slot ≡ Ok p.instruction = form_read image slot p.instruction (ap (form_at image) here ∙ forms 0 p refl) in
-    let next = next_slot image slot p.instruction read in
-    let rest = goes image fits size steps (slot + 1) code (omega arith) (sym later ∙ ap (first_slots_from image steps) next) (λ k. forms (suc k)) in
-    one_on image slot p code fits size (ltb-true _ _ within) read rest)
+        let here : slot ≡ p.slot = cc in
+        let later : first_slots_from image steps (slot_after image slot) ≡ slots_of code = cc in
+        let read : read_slot image slot ≡ Ok p.instruction = form_read image slot p.instruction (ap (form_at image) here ∙ forms 0 p refl) in
+        let next = next_slot image slot p.instruction read in
+        let rest = goes image fits size steps (slot + 1) code (omega arith) (sym later ∙ ap (first_slots_from image steps) next) (λ k. forms (suc k)) in
+        one_on image slot p code fits size (ltb-true _ _ within) read rest)
     (λ _. λ e. absurd cc)
 
 pub code_spelled : (image : List ℕ) (code : List Placed) → AreBytes image → IsCodeOf image code → image ≡ spelled code
@@ -67,13 +70,13 @@ slots_below : (image : List ℕ) (steps slot k s : ℕ) → slice_get (first_slo
 slots_below image zero slot k s e = absurd cc
 slots_below image (suc steps) slot k s e =
     let within : (b : Bool) → ltb slot (slot_count image) ≡ b → slice_get (cond b (slot ∷ first_slots_from image steps (slot_after image slot)) []) k ≡ Some s → s < slot_count image =
-    λ b. elim b as (λ b. ltb slot (slot_count image) ≡ b → slice_get (cond b (slot ∷ first_slots_from image steps (slot_after image slot)) []) k ≡ Some s → s < slot_count image) [
-      | true ↦ λ lt. elim k as (λ k. slice_get (slot ∷ first_slots_from image steps (slot_after image slot)) k ≡ Some s → s < slot_count image) [
-        | zero ↦ λ e. let same : slot ≡ s = same_Some slot s e in let below = ltb-true _ _ lt in omega arith
-        | suc k ↦ λ e. slots_below image steps (slot_after image slot) k s e
-      ]
-      | false ↦ λ _. λ e. absurd cc
-    ] in
+        λ b. elim b as (λ b. ltb slot (slot_count image) ≡ b → slice_get (cond b (slot ∷ first_slots_from image steps (slot_after image slot)) []) k ≡ Some s → s < slot_count image) [
+          | true ↦ λ lt. elim k as (λ k. slice_get (slot ∷ first_slots_from image steps (slot_after image slot)) k ≡ Some s → s < slot_count image) [
+              | zero ↦ λ e. let same : slot ≡ s = same_Some slot s e in let below = ltb-true _ _ lt in omega arith
+              | suc k ↦ λ e. slots_below image steps (slot_after image slot) k s e
+            ]
+          | false ↦ λ _. λ e. absurd cc
+        ] in
     within (ltb slot (slot_count image)) refl e
 
 pub placed_small : (image : List ℕ) (code : List Placed) (k : ℕ) (p : Placed) → IsCodeOf image code → slice_get code k ≡ Some p → p.slot < 4096

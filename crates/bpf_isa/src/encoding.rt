@@ -82,20 +82,8 @@ fn operand_fields(opcode: u8, dst: u8, source: Source, offset: i16) -> SlotField
     ensures { view result ≡ record { opcode = opcode; dst = dst; src = spells.source_register source; offset = offset; imm = spells.source_imm source } }
 {
     match source {
-        Source::Register(src) => SlotFields {
-            opcode,
-            dst,
-            src,
-            offset,
-            imm: 0,
-        },
-        Source::Immediate(imm) => SlotFields {
-            opcode,
-            dst,
-            src: 0,
-            offset,
-            imm,
-        },
+        Source::Register(src) => SlotFields { opcode, dst, src, offset, imm: 0 },
+        Source::Immediate(imm) => SlotFields { opcode, dst, src: 0, offset, imm },
     }
 }
 

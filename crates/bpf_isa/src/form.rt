@@ -20,18 +20,8 @@ fn source_uses(source: Source, offset: bool) -> UsedFields
     ensures { view_uses result ≡ image.uses_source source offset }
 {
     match source {
-        Source::Register(_) => UsedFields {
-            dst: true,
-            src: true,
-            offset,
-            imm: false,
-        },
-        Source::Immediate(_) => UsedFields {
-            dst: true,
-            src: false,
-            offset,
-            imm: true,
-        },
+        Source::Register(_) => UsedFields { dst: true, src: true, offset, imm: false },
+        Source::Immediate(_) => UsedFields { dst: true, src: false, offset, imm: true },
     }
 }
 
@@ -42,25 +32,10 @@ pub fn uses(instruction: Instruction) -> UsedFields
     match instruction {
         Instruction::Move(_, _, source) => source_uses(source, false),
         Instruction::Compute(_, _, _, source) => source_uses(source, false),
-        Instruction::Load(_, _, _, _) => UsedFields {
-            dst: true,
-            src: true,
-            offset: true,
-            imm: false,
-        },
+        Instruction::Load(_, _, _, _) => UsedFields { dst: true, src: true, offset: true, imm: false },
         Instruction::JumpIf(_, _, _, source, _) => source_uses(source, true),
-        Instruction::Call(_) => UsedFields {
-            dst: false,
-            src: false,
-            offset: false,
-            imm: true,
-        },
-        Instruction::Exit => UsedFields {
-            dst: false,
-            src: false,
-            offset: false,
-            imm: false,
-        },
+        Instruction::Call(_) => UsedFields { dst: false, src: false, offset: false, imm: true },
+        Instruction::Exit => UsedFields { dst: false, src: false, offset: false, imm: false },
     }
 }
 

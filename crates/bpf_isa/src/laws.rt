@@ -10,4 +10,5 @@ pub fn image_and_code()
     ensures one_image { (image other : List ℕ) (code : List Placed) → AreBytes image → AreBytes other → IsCodeOf image code → IsCodeOf other code → image ≡ other }
     ensures one_code { (image : List ℕ) (code other : List Placed) → IsCodeOf image code → IsCodeOf image other → code ≡ other }
     ensures reads { (image : List ℕ) (code : List Placed) → IsCodeOf image code ↔ (read_image image ≡ Ok code) }
-{}
+{
+}

@@ -65,11 +65,7 @@ fn jump(fields: SlotFields) -> Option<Instruction>
     ensures { result ≡ image.jump_of (view fields) }
 {
     if fields.opcode == 0x85 {
-        if fields.src == 0 {
-            Some(Instruction::Call(fields.imm))
-        } else {
-            None
-        }
+        if fields.src == 0 { Some(Instruction::Call(fields.imm)) } else { None }
     } else if fields.opcode == 0x95 {
         Some(Instruction::Exit)
     } else if has_register_source(fields.opcode) {

@@ -4,7 +4,8 @@ ghost use Rattle.std.specs.Prelude.{◌≡◌, ◌<◌};
 ghost use Rattle.machine_spec.specs.Image.{slot_count, fields_at, read_slot, checked};
 ghost use Rattle.bpf_isa.specs.Views.{view};
 
-use crate::{form, opcode};
+use crate::form;
+use crate::opcode;
 use machine_spec::{Instruction, IsaFault};
 
 /// The fields of a basic instruction (RFC 9669, section 3.1).
@@ -34,11 +35,7 @@ fn fields(image: &[u8], slot: usize) -> SlotFields
 }
 
 /// The instruction with these fields at a slot, or the first thing that is wrong with them.
-fn accepted(
-    slot: usize,
-    fields: SlotFields,
-    instruction: Option<Instruction>,
-) -> Result<Instruction, IsaFault>
+fn accepted(slot: usize, fields: SlotFields, instruction: Option<Instruction>) -> Result<Instruction, IsaFault>
     ensures { result ≡ checked slot (view fields) instruction }
 {
     let Some(instruction) = instruction else {

@@ -31,12 +31,7 @@ fn instructions() -> [Instruction; 16] {
     [
         Instruction::Move(Width::Bits64, 1, Source::Immediate(-1)),
         Instruction::Move(Width::Bits64, 6, Source::Register(2)),
-        Instruction::Compute(
-            Width::Bits64,
-            Operation::Add,
-            6,
-            Source::Immediate(-2147483135),
-        ),
+        Instruction::Compute(Width::Bits64, Operation::Add, 6, Source::Immediate(-2147483135)),
         Instruction::Compute(Width::Bits64, Operation::Add, 3, Source::Register(10)),
         Instruction::Load(Size::Byte, 0, 1, 0),
         Instruction::Load(Size::Half, 0, 1, 32767),

@@ -1,9 +1,9 @@
-use Rattle.std.proofs.Common.{◌≡◌, ◌<◌, ◌≤◌, ◌+◌, ℕ, [], ◌∷◌, ◌++◌, length-append, refl, sym, ap, ◌∙◌, length, arith, rules}
+use Rattle.std.proofs.Common.{◌≡◌, ◌<◌, ◌≤◌, ◌+◌, ◌-◌, ℕ, [], ◌∷◌, ◌++◌, length-append, Ok, Err, refl, sym, ap, ◌∙◌, length, arith, rules}
 use Rattle.std.proofs.lemmas.Result.{err_from_is_err_and}
-use Rattle.machine_spec.specs.Image.{slot_count}
+use Rattle.machine_spec.specs.Image.{slot_count, read_slot, read_slots, first_slots}
 use Rattle.machine_spec.specs.declared.instruction.Placed.{Placed}
 use Rattle.bpf_isa.specs.Code.{IsTable}
-use Rattle.bpf_isa.proofs.Reading.{starts, table_none, goes_on, ends, is_done, refuses, kept}
+use Rattle.bpf_isa.proofs.Reading.{with_front, rest_from, starts, table_none, goes_on, ends, is_done, refuses, kept}
 use Rattle.bpf_isa.proofs.decoding.read_code.Goals as goal
 
 pub loop-slot-init : goal.loop-slot-init

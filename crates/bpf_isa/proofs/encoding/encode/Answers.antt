@@ -1,5 +1,5 @@
 use Rattle.std.proofs.Common.{◌≡◌, ◌≤◌, ◌++◌, length, List, ℕ, ap, ◌∙◌, arith, rules}
-use Rattle.bpf_isa.specs.Spelling.{spelling}
+use Rattle.bpf_isa.specs.Spelling.{spelling, spelled}
 use Rattle.bpf_isa.proofs.Writing.{spelled_more, spelled_all, spelled_is, spelled_code}
 use Rattle.bpf_isa.proofs.encoding.encode.Goals as goal
 
