@@ -1,3 +1,5 @@
+pub mod Faults
+pub mod Premises
 pub mod Annotations
 pub mod Edges
 pub mod Faults
@@ -6,7 +8,6 @@ pub mod Loads
 pub mod Monotone
 pub mod Narrowing
 pub mod Order
-pub mod Premises
 pub mod Proper
 pub mod Registers
 pub mod Safety
