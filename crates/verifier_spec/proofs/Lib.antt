@@ -1,5 +1,3 @@
-pub mod Faults
-pub mod Premises
 pub mod Annotations
 pub mod Edges
 pub mod Faults
@@ -8,6 +6,7 @@ pub mod Loads
 pub mod Monotone
 pub mod Narrowing
 pub mod Order
+pub mod Premises
 pub mod Proper
 pub mod Registers
 pub mod Safety
