@@ -3,3 +3,4 @@ pub mod Words
 pub mod Machine
 pub mod Traps
 pub mod Meaning
+pub mod Laws

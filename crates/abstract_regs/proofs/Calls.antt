@@ -1,0 +1,49 @@
+-- The kinds of registers after a call.
+use Rattle.std.proofs.Common.{◌≡◌, true, List, [], ◌∷◌, length, slice_index_or, refl, arith}
+use Rattle.std.proofs.lemmas.Bool.{and_from, eqb-true}
+use Rattle.std.specs.List.{list_all}
+use Rattle.verifier_spec.specs.declared.state.Abs.{Abs}
+use Rattle.verifier_spec.specs.declared.state.Abs.TheVariants as abs
+use Rattle.verifier_spec.specs.declared.state.Abstract.{Abstract}
+use Rattle.verifier_spec.specs.Kinds.{is_proper_kind}
+use Rattle.verifier_spec.specs.States.{is_proper}
+use Rattle.verifier_spec.specs.Transfer.{after_call_kinds}
+use Rattle.abstract_regs.proofs.Proper.{proper_parts, proper_from, kind_from}
+
+-- of eleven registers the first six are set and the last five kept
+pub after_call_eleven : (kinds : List Abs) (answer : Abs) → length kinds ≡ 11 → after_call_kinds kinds answer ≡
+    answer ∷ abs.None ∷ abs.None ∷ abs.None ∷ abs.None ∷ abs.None
+    ∷ slice_index_or kinds 6 abs.None ∷ slice_index_or kinds 7 abs.None ∷ slice_index_or kinds 8 abs.None ∷ slice_index_or kinds 9 abs.None ∷ slice_index_or kinds 10 abs.None ∷ []
+after_call_eleven [] answer count = absurd (omega arith)
+after_call_eleven (k0 ∷ []) answer count = absurd (omega arith)
+after_call_eleven (k0 ∷ k1 ∷ []) answer count = absurd (omega arith)
+after_call_eleven (k0 ∷ k1 ∷ k2 ∷ []) answer count = absurd (omega arith)
+after_call_eleven (k0 ∷ k1 ∷ k2 ∷ k3 ∷ []) answer count = absurd (omega arith)
+after_call_eleven (k0 ∷ k1 ∷ k2 ∷ k3 ∷ k4 ∷ []) answer count = absurd (omega arith)
+after_call_eleven (k0 ∷ k1 ∷ k2 ∷ k3 ∷ k4 ∷ k5 ∷ []) answer count = absurd (omega arith)
+after_call_eleven (k0 ∷ k1 ∷ k2 ∷ k3 ∷ k4 ∷ k5 ∷ k6 ∷ []) answer count = absurd (omega arith)
+after_call_eleven (k0 ∷ k1 ∷ k2 ∷ k3 ∷ k4 ∷ k5 ∷ k6 ∷ k7 ∷ []) answer count = absurd (omega arith)
+after_call_eleven (k0 ∷ k1 ∷ k2 ∷ k3 ∷ k4 ∷ k5 ∷ k6 ∷ k7 ∷ k8 ∷ []) answer count = absurd (omega arith)
+after_call_eleven (k0 ∷ k1 ∷ k2 ∷ k3 ∷ k4 ∷ k5 ∷ k6 ∷ k7 ∷ k8 ∷ k9 ∷ []) answer count = absurd (omega arith)
+after_call_eleven (k0 ∷ k1 ∷ k2 ∷ k3 ∷ k4 ∷ k5 ∷ k6 ∷ k7 ∷ k8 ∷ k9 ∷ k10 ∷ []) answer count = refl
+after_call_eleven (k0 ∷ k1 ∷ k2 ∷ k3 ∷ k4 ∷ k5 ∷ k6 ∷ k7 ∷ k8 ∷ k9 ∷ k10 ∷ k11 ∷ rest) answer count = absurd (omega arith)
+
+pub after_call_all : (kinds : List Abs) (answer : Abs) → length kinds ≡ 11 → list_all is_proper_kind kinds ≡ true → is_proper_kind answer ≡ true → list_all is_proper_kind (after_call_kinds kinds answer) ≡ true
+after_call_all kinds answer count all one = rw (after_call_eleven kinds answer count)
+    (and_from _ _ one (and_from _ _ (kind_from kinds 6 all) (and_from _ _ (kind_from kinds 7 all) (and_from _ _ (kind_from kinds 8 all) (and_from _ _ (kind_from kinds 9 all) (and_from _ _ (kind_from kinds 10 all) refl))))))
+
+pub after_call_length : (kinds : List Abs) (answer : Abs) → length kinds ≡ 11 → length (after_call_kinds kinds answer) ≡ 11
+after_call_length kinds answer count = rw (after_call_eleven kinds answer count) refl
+
+pub called_proper : (s : Abstract) (answer : Abs) → is_proper s ≡ true → is_proper_kind answer ≡ true → is_proper (record s { registers = after_call_kinds s.registers answer }) ≡ true
+called_proper s answer proper one =
+    let p = proper_parts s proper in
+    let count : length s.registers ≡ 11 = eqb-true _ _ p.count in
+    proper_from _ (record {
+      count = rw (after_call_length s.registers answer count) refl;
+      kinds = after_call_all s.registers answer count p.kinds one;
+      key = p.key;
+      key_most = p.key_most;
+      value = p.value;
+      value_most = p.value_most;
+    })

@@ -1,0 +1,7 @@
+pub mod Sets
+pub mod Intervals
+pub mod Proper
+pub mod Moves
+pub mod Calls
+pub mod Passes
+pub mod Below

@@ -1,0 +1,119 @@
+ghost use Rattle.std.specs.Prelude.{◌≡◌, ◌≤◌, true, IfSome, slice_index_or};
+ghost use Rattle.std.specs.Int.{w64, cast_unsigned};
+ghost use Rattle.verifier_spec.specs.Kinds.{kind_at, least, greatest, range_of, is_unknown, is_number_kind, is_address_kind, is_proper_kind};
+ghost use Rattle.verifier_spec.specs.States.{is_proper};
+ghost use Rattle.verifier_spec.specs.Checks.{source_kind};
+
+use machine_spec::{Region, Source};
+use verifier_spec::{Abs, Abstract};
+
+/// The kind with a number; past r10, none.
+pub fn kind_of(kinds: &[Abs; 11], register: usize) -> Abs
+    ensures { result ≡ slice_index_or kinds.now register Abs.None }
+{
+    if register < 11 {
+        kinds[register]
+    } else {
+        Abs::None
+    }
+}
+
+/// What a state knows of a register.
+#[tactic(auto, using(crate::proofs::Proper::kind_at_proper))]
+pub fn kind_at(state: &Abstract, register: u8) -> Abs
+    ensures kind { result ≡ kind_at state.now register }
+    ensures proper { is_proper state.now ≡ true → is_proper_kind result ≡ true }
+{
+    kind_of(&state.registers, register as usize)
+}
+
+/// An immediate, sign-extended to 64 bits and read unsigned (RFC 9669, section 4.1).
+pub fn constant(immediate: i32) -> u64
+    ensures { result ≡ cast_unsigned w64 immediate }
+{
+    let wide = immediate as i64;
+    wide.cast_unsigned()
+}
+
+/// What a state knows of the second operand.
+pub fn source_kind(state: &Abstract, source: Source) -> Abs
+    ensures kind { result ≡ source_kind state.now source }
+    ensures proper { is_proper state.now ≡ true → is_proper_kind result ≡ true }
+{
+    match source {
+        Source::Register(register) => kind_at(state, register),
+        Source::Immediate(immediate) => {
+            let number = constant(immediate);
+            Abs::Num(number, number)
+        }
+    }
+}
+
+/// How many bytes a region has at least.
+pub fn least(state: &Abstract, region: Region) -> u32
+    ensures { result ≡ least state.now region }
+{
+    match region {
+        Region::Stack => 512,
+        Region::Key => state.key_min,
+        Region::Value => state.value_min,
+    }
+}
+
+/// How many bytes a region has at most.
+pub fn greatest(state: &Abstract, region: Region) -> u32
+    ensures { result ≡ greatest state.now region }
+{
+    match region {
+        Region::Stack => 512,
+        Region::Key => state.key_max,
+        Region::Value => state.value_max,
+    }
+}
+
+/// The least and the greatest number that a kind stands for, if it stands for numbers.
+#[tactic(auto, using(crate::proofs::Proper::range_ordered))]
+pub fn range_of(state: &Abstract, kind: Abs) -> Option<(u64, u64)>
+    ensures range { result ≡ range_of state.now kind }
+    ensures ordered { is_proper state.now ≡ true → is_proper_kind kind ≡ true → IfSome result (λ r. r.0 ≤ r.1) }
+{
+    match kind {
+        Abs::None => None,
+        Abs::Num(lo, hi) => Some((lo, hi)),
+        Abs::Len(region) => Some((least(state, region) as u64, greatest(state, region) as u64)),
+        Abs::Addr(_, _, _) => None,
+    }
+}
+
+pub fn is_unknown(kind: Abs) -> bool
+    ensures { result ≡ is_unknown kind }
+{
+    match kind {
+        Abs::None => true,
+        Abs::Num(_, _) => false,
+        Abs::Len(_) => false,
+        Abs::Addr(_, _, _) => false,
+    }
+}
+
+pub fn is_number(kind: Abs) -> bool
+    ensures { result ≡ is_number_kind kind }
+{
+    match kind {
+        Abs::None => false,
+        Abs::Num(_, _) => true,
+        Abs::Len(_) => true,
+        Abs::Addr(_, _, _) => false,
+    }
+}
+
+pub fn is_address(kind: Abs) -> bool
+    ensures { result ≡ is_address_kind kind }
+{
+    match kind {
+        Abs::None => false,
+        Abs::Num(_, _) => false,
+        Abs::Len(_) => false,
+        Abs::Addr(_, _, _) => true,
+    }
+}

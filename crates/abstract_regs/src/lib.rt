@@ -1,0 +1,19 @@
+//! Abstract states of the verifier: their ranges, their order, the checks of an instruction in one,
+//! and what an instruction makes of one.
+#![tactic(auto)]
+
+mod checks;
+mod kinds;
+mod narrowing;
+mod order;
+mod ranges;
+mod stack_set;
+mod state;
+mod transfer;
+
+pub use machine_spec::{Instruction, Region};
+pub use state::{Edges, State};
+pub use verifier_spec::{Abs, Abstract, Check, StackSet};
+
+#[cfg(test)]
+mod tests;

@@ -1,0 +1,159 @@
+ghost use Rattle.std.specs.Prelude.{◌≡◌, true, if◌then◌else◌, Some, None, IfSome};
+ghost use Rattle.verifier_spec.specs.declared.state.Abstract.{Abstract};
+ghost use Rattle.verifier_spec.specs.Kinds.{kind_at};
+ghost use Rattle.verifier_spec.specs.States.{is_proper, is_within, entry_state};
+ghost use Rattle.verifier_spec.specs.Checks.{failed_check};
+ghost use Rattle.verifier_spec.specs.Transfer.{falls_to, jumps_to};
+
+use crate::{checks, kinds, order, ranges, transfer};
+use machine_spec::{Instruction, Region};
+use std::marker::Model;
+use verifier_spec::{Abs, Abstract, Check, StackSet};
+
+/// What is known before an instruction: a kind for each register, how long at least and at most
+/// the key and the value are, and which stack bytes are certainly set. Its ranges hold: intervals
+/// are not empty, addresses lie within 2^32 bytes of their region's start, and lengths within the
+/// greatest key and value. A clause sees it as the `Abstract` inside.
+#[derive(Clone, Copy, Debug, Drop)]
+pub struct State {
+    inner: Abstract,
+}
+
+impl Model for State {
+    ghost use Rattle.std.specs.Prelude.{◌≡◌, true};
+    ghost use Rattle.verifier_spec.specs.declared.state.Abstract.{Abstract};
+    ghost use Rattle.verifier_spec.specs.States.{is_proper};
+
+    ghost Value = { Abstract };
+
+    ghost view = { λ s. s.inner };
+
+    ghost invariant = { λ s. is_proper s.inner ≡ true };
+
+    ghost inverse = { λ a. record { inner = a } };
+}
+
+impl State {
+    /// The state of these kinds, lengths in bytes and set stack bytes, if they are in their ranges.
+    pub fn new(
+        registers: [Abs; 11],
+        key_min: u32,
+        key_max: u32,
+        value_min: u32,
+        value_max: u32,
+        set: StackSet,
+    ) -> Option<State>
+        ensures { let whole : Abstract = record {
+          registers = registers;
+          key_min = key_min;
+          key_max = key_max;
+          value_min = value_min;
+          value_max = value_max;
+          set = set;
+        } in
+            result ≡ (if is_proper whole then Some whole else None) }
+    {
+        let inner = Abstract {
+            registers,
+            key_min,
+            key_max,
+            value_min,
+            value_max,
+            set,
+        };
+        if ranges::is_proper(&inner) {
+            Some(State { inner })
+        } else {
+            None
+        }
+    }
+
+    /// The state that every run begins in: r1 and r3 address the value and the key, r2 and r4 are
+    /// their lengths, r5 has the null flags, r10 is the stack's end, and no stack byte is set.
+    #[tactic(auto, unfolding(verifier_spec::specs::States::is_proper))]
+    pub fn entry() -> State
+        ensures { result ≡ entry_state }
+    {
+        State {
+            inner: Abstract {
+                registers: [
+                    Abs::None,
+                    Abs::Addr(Region::Value, 0, 0),
+                    Abs::Len(Region::Value),
+                    Abs::Addr(Region::Key, 0, 0),
+                    Abs::Len(Region::Key),
+                    Abs::Num(0, 3),
+                    Abs::None,
+                    Abs::None,
+                    Abs::None,
+                    Abs::None,
+                    Abs::Addr(Region::Stack, 512, 512),
+                ],
+                key_min: 0,
+                key_max: ranges::KEY_LIMIT,
+                value_min: 0,
+                value_max: ranges::VALUE_LIMIT,
+                set: StackSet { words: [0; 8] },
+            },
+        }
+    }
+
+    /// What is known of a register; of one past r10, nothing.
+    pub fn kind(&self, register: usize) -> Abs
+        ensures kind { result ≡ kind_at self.now register }
+        ensures proper { is_proper self.now ≡ true }
+    {
+        kinds::kind_of(&self.inner.registers, register)
+    }
+
+    /// Whether all that another state knows is known here too: each register's kind is within the
+    /// other's, the lengths lie no further apart, and no fewer stack bytes are set.
+    pub fn within(&self, outer: &State) -> bool
+        ensures within { result ≡ is_within self.now outer.now }
+        ensures proper { is_proper self.now ≡ true }
+        ensures outer_proper { is_proper outer.now ≡ true }
+    {
+        order::is_within(&self.inner, &outer.inner)
+    }
+
+    /// The first check of an instruction that fails here, if one does.
+    pub fn check(&self, instruction: Instruction) -> Option<Check>
+        ensures failed { result ≡ failed_check instruction self.now }
+        ensures proper { is_proper self.now ≡ true }
+    {
+        checks::failed_check(instruction, &self.inner)
+    }
+
+    /// What an instruction whose checks pass makes of this state, along each of its edges.
+    pub fn transfer(&self, instruction: Instruction) -> Edges
+        requires { failed_check instruction self.now ≡ None }
+        ensures next { result.next ≡ falls_to instruction self.now }
+        ensures jump { result.jump ≡ jumps_to instruction self.now }
+        ensures proper { is_proper self.now ≡ true }
+        ensures next_proper { IfSome result.next (λ s. is_proper s ≡ true) }
+        ensures jump_proper { IfSome result.jump (λ s. is_proper s ≡ true) }
+    {
+        Edges {
+            next: whole(transfer::falls_to(instruction, &self.inner)),
+            jump: whole(transfer::jumps_to(instruction, &self.inner)),
+        }
+    }
+}
+
+/// What an instruction makes of a state: the state at the next instruction, and the one at the
+/// target of its jump. None where it can't come there.
+#[derive(Clone, Copy, Debug, Drop)]
+pub struct Edges {
+    pub next: Option<State>,
+    pub jump: Option<State>,
+}
+
+fn whole(inner: Option<Abstract>) -> Option<State>
+    requires { IfSome inner (λ s. is_proper s ≡ true) }
+    ensures { result ≡ inner }
+{
+    match inner {
+        Some(inner) => Some(State { inner }),
+        None => None,
+    }
+}

@@ -1,0 +1,12 @@
+//! The loader: one pass in code order finds a program's abstract states, which the checker of
+//! annotations then decides on.
+#![tactic(auto)]
+
+mod forward;
+mod loader;
+
+pub use loader::load;
+pub use log_spec::LoadFault;
+
+#[cfg(test)]
+mod tests;

@@ -1,0 +1,28 @@
+ghost use Rattle.annotate.specs.Loads.{Loads};
+
+use crate::forward::passed_on;
+use bpf_isa::decode;
+use log_spec::LoadFault;
+use notes::{Check, Verified, VerifyFault};
+use std::alloc::Global;
+
+/// The verified program of an image: its instructions, each with the abstract state that the first
+/// edge in code order brings to it. Where a second edge brings more, the list of states is no
+/// annotation and is refused as such.
+pub fn load(alloc: Global, image: &[u8]) -> Result<Verified, LoadFault>
+    ensures { Loads image.now result }
+{
+    match decode(alloc, image) {
+        Err(fault) => Err(LoadFault::Isa(fault)),
+        Ok(code) => match passed_on(alloc, &code) {
+            Err(_) => Err(LoadFault::Verify(VerifyFault {
+                pc: 0,
+                kind: Check::Memory,
+            })),
+            Ok(states) => match notes::check(alloc, code, states) {
+                Err(fault) => Err(LoadFault::Verify(fault)),
+                Ok(verified) => Ok(verified),
+            },
+        },
+    }
+}

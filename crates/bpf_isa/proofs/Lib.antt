@@ -1,0 +1,7 @@
+pub mod Slots
+pub mod Cases
+pub mod Fields
+pub mod Bytes
+pub mod Walk
+pub mod Reading
+pub mod Writing

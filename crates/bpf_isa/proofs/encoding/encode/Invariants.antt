@@ -1,0 +1,6 @@
+use Rattle.std.proofs.Common.{◌≡◌, take}
+use Rattle.bpf_isa.specs.Spelling.{spelled}
+use Rattle.bpf_isa.proofs.encoding.encode.Given as goal
+
+abbrev pub invariant-loop-k : goal.invariant-loop-k
+invariant-loop-k l = l.out.items ≡ spelled (take l.k l.code)

@@ -1,0 +1,71 @@
+//! From an image to its code.
+
+ghost use Rattle.std.specs.Prelude.{◌≡◌, ◌+◌, ◌<◌, ◌≤◌, [], ◌∷◌, ◌++◌, length, IfOk, OnOk, IsTrue};
+ghost use Rattle.machine_spec.specs.Image as definitions;
+ghost use Rattle.machine_spec.specs.Image.{read_image, read_slots, first_slots, IsCodeOf};
+ghost use Rattle.bpf_isa.specs.Code.{Answers, IsTable};
+
+use crate::code::Code;
+use crate::slot;
+use machine_spec::{Instruction, IsaFault, Placed};
+use std::alloc::{AllocError, Global};
+
+/// Whether an image has 1 to 4,096 slots and nothing after them.
+fn has_size(image: &[u8]) -> bool
+    ensures { result ≡ definitions.has_size image.now }
+{
+    let slots = image.len() / 8;
+    image.len() % 8 == 0 && 1 <= slots && slots <= 4096
+}
+
+/// Appends the instruction of the next slot.
+fn push(
+    placed: &mut Vec<Placed>,
+    numbers: &mut Vec<Option<u16>>,
+    instruction: Instruction,
+) -> Result<(), AllocError>
+    requires table { IsTable placed.old.items numbers.old.items }
+    requires is_within { length placed.old.items < 4096 }
+    ensures code { OnOk result (placed.new.items ≡ placed.old.items ++ record { slot = length numbers.old.items; instruction = instruction } ∷ []) }
+    ensures slots { OnOk result (length numbers.new.items ≡ length numbers.old.items + 1) }
+    ensures table { OnOk result (IsTable placed.new.items numbers.new.items) }
+{
+    let number = placed.len() as u16;
+    let slot = numbers.len();
+    numbers.push(Some(number))?;
+    placed.push(Placed { slot, instruction })?;
+    Ok(())
+}
+
+/// The code of an image whose size is right.
+fn read_code(alloc: Global, image: &[u8]) -> Result<Code, IsaFault>
+    requires { IsTrue (definitions.has_size image.now) }
+    ensures { Answers result (read_slots image.now (first_slots image.now)) }
+{
+    let slots = image.len() / 8;
+    let mut placed = Vec::with_capacity(alloc, slots).map_err(|_| IsaFault::Memory)?;
+    let mut numbers = Vec::with_capacity(alloc, slots).map_err(|_| IsaFault::Memory)?;
+    let mut slot = 0;
+    while slot < slots {
+        let instruction = slot::read(image, slot)?;
+        push(&mut placed, &mut numbers, instruction).map_err(|_| IsaFault::Memory)?;
+        slot += 1;
+    }
+    Ok(Code { placed, numbers })
+}
+
+/// The code of an image, or why it has none: the size first, then the first slot that holds no
+/// instruction of the profile.
+#[tactic(auto, unfolding(machine_spec::specs::Image::read_image))]
+pub fn decode(alloc: Global, image: &[u8]) -> Result<Code, IsaFault>
+    // What it answers is what the image reads as, unless memory runs out.
+    ensures exact { Answers result (read_image image.now) }
+    // The code is the image's.
+    ensures is_code { IfOk result (λ code. IsCodeOf image.now code) }
+{
+    if has_size(image) {
+        read_code(alloc, image)
+    } else {
+        Err(IsaFault::Size)
+    }
+}

@@ -1,0 +1,22 @@
+//! Images of programs (RFC 9669, section 3) as instructions, and back.
+//!
+//! An image's instructions are its code: `decode` reads it or tells the first slot that it
+//! refuses, and `encode` gives the one image that has a code.
+#![tactic(auto)]
+
+mod code;
+mod decoding;
+mod encoding;
+mod form;
+mod laws;
+mod opcode;
+mod slot;
+
+pub use code::Code;
+pub use decoding::decode;
+pub use encoding::encode;
+pub use laws::image_and_code;
+pub use machine_spec::{Instruction, IsaFault, Placed};
+
+#[cfg(test)]
+mod tests;

@@ -1,0 +1,4 @@
+pub mod Lookups
+pub mod Order
+pub mod Loop
+pub mod Table

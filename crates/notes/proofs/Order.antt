@@ -1,0 +1,33 @@
+-- The order in which an instruction's checks are told: its shape's, its own in its state, and its edges.
+use Rattle.std.proofs.Common.{◌≡◌, ℕ, not, List, [], ◌∷◌, ap, ◌∙◌}
+use Rattle.std.specs.Prelude.{Option, Some, None}
+use Rattle.machine_spec.specs.declared.instruction.Placed.{Placed}
+use Rattle.machine_spec.specs.Traps.{first_of}
+use Rattle.verifier_spec.specs.declared.state.Abstract.{Abstract}
+use Rattle.verifier_spec.specs.declared.fault.Check.{Check}
+use Rattle.verifier_spec.specs.declared.fault.Check.TheVariants as check
+use Rattle.verifier_spec.specs.Checks.{checks, failed_check, shape_checks}
+use Rattle.verifier_spec.specs.Annotation.{Notes, note_at, are_edges_covered, reached_checks, failed_at}
+use Rattle.verifier_spec.proofs.Faults.{first_of-append, first_of-told}
+
+-- a failed check of the shape is told
+pub shape_told : (code : List Placed) (notes : Notes) (k : ℕ) (placed : Placed) (kind : Check)
+    → first_of (shape_checks code k placed) ≡ Some kind → failed_at code notes k placed ≡ Some kind
+unfolding failed_at
+shape_told code notes k placed kind e = first_of-told (shape_checks code k placed) (reached_checks code notes k placed (note_at notes k)) kind e
+
+-- else the first failed check in the instruction's state
+pub shape_passed : (code : List Placed) (notes : Notes) (k : ℕ) (placed : Placed) (known : Option Abstract)
+    → first_of (shape_checks code k placed) ≡ None → note_at notes k ≡ known
+    → failed_at code notes k placed ≡ first_of (reached_checks code notes k placed known)
+unfolding failed_at
+shape_passed code notes k placed known e n =
+    first_of-append (shape_checks code k placed) (reached_checks code notes k placed (note_at notes k)) e
+    ∙ ap (λ s. first_of (reached_checks code notes k placed s)) n
+
+-- of which its own are told before its edges
+pub check_told : (code : List Placed) (notes : Notes) (k : ℕ) (placed : Placed) (s : Abstract) (kind : Check)
+    → failed_check placed.instruction s ≡ Some kind → first_of (reached_checks code notes k placed (Some s)) ≡ Some kind
+unfolding failed_check
+check_told code notes k placed s kind e =
+    first_of-told (checks placed.instruction s) ((not (are_edges_covered code notes k placed s), check.Notes) ∷ []) kind e

@@ -1,0 +1,270 @@
+-- No refusal is told of a list of abstract states exactly where it is an annotation.
+use Rattle.std.proofs.Common.{◌≡◌, ◌≢◌, ℕ, zero, suc, ◌+◌, Bool, true, false, cond, not, ◌==◌, ◌&&◌, List, [], ◌∷◌, ◌++◌, length, drop, refl, sym, ◌∙◌, subst, inl, inr, arith}
+use Rattle.std.specs.Prelude.{Option, Some, None, slice_get}
+use Rattle.std.specs.List.{list_any}
+use Rattle.std.proofs.lemmas.Bool.{cases_Bool, or_parts, and_parts, and_from, eqb-true, eq-eqb, cond-true, cond-false, not_from_true, not-false}
+use Rattle.machine_spec.specs.declared.instruction.Placed.{Placed}
+use Rattle.machine_spec.specs.Traps.{first_of}
+use Rattle.verifier_spec.specs.declared.state.Abstract.{Abstract}
+use Rattle.verifier_spec.specs.declared.fault.Check.{Check}
+use Rattle.verifier_spec.specs.declared.fault.Check.TheVariants as check
+use Rattle.verifier_spec.specs.declared.fault.VerifyFault.{VerifyFault}
+use Rattle.verifier_spec.specs.States.{is_proper, entry_state}
+use Rattle.verifier_spec.specs.Checks.{checks, failed_check, shape_checks}
+use Rattle.verifier_spec.specs.Annotation.{Notes, note_at, is_covered, are_edges_covered, IsAnnotation, reached_checks, failed_at, fault_or, fault_from, fault_of}
+
+-- ---- lists of checks
+
+-- a check that fails is told, and one that doesn't leaves the word to the later ones
+pub if_none : {A : Type 0} (b : Bool) (x : A) (later : Option A) → cond b (Some x) later ≡ None → (b ≡ false) × (later ≡ None)
+if_none true x later h = cc
+if_none false x later h = (refl, h)
+
+-- of two lists of checks in a row none fails exactly where none of either fails
+pub first_of-front : {A : Type 0} (xs ys : List (Bool × A)) → first_of (xs ++ ys) ≡ None → first_of xs ≡ None
+first_of-front [] ys h = refl
+first_of-front (x ∷ xs) ys h =
+    let parts : (x.0 ≡ false) × (first_of (xs ++ ys) ≡ None) = if_none x.0 x.1 (first_of (xs ++ ys)) h in
+    cond-false x.0 (Some x.1) (first_of xs) parts.0 ∙ first_of-front xs ys parts.1
+
+pub first_of-append : {A : Type 0} (xs ys : List (Bool × A)) → first_of xs ≡ None → first_of (xs ++ ys) ≡ first_of ys
+first_of-append [] ys h = refl
+first_of-append (x ∷ xs) ys h =
+    let parts : (x.0 ≡ false) × (first_of xs ≡ None) = if_none x.0 x.1 (first_of xs) h in
+    cond-false x.0 (Some x.1) (first_of (xs ++ ys)) parts.0 ∙ first_of-append xs ys parts.1
+
+-- the first check that fails in a list is the first of it and any other after it
+pub first_of-told : {A : Type 0} (xs ys : List (Bool × A)) (x : A) → first_of xs ≡ Some x → first_of (xs ++ ys) ≡ Some x
+first_of-told [] ys x h = cc
+first_of-told {A} (row ∷ xs) ys x h =
+    elim (cases_Bool row.0) [
+      | inl fails ↦ cond-true row.0 (Some row.1) (first_of (xs ++ ys)) fails ∙ (sym (cond-true row.0 (Some row.1) (first_of xs) fails) ∙ h)
+      | inr passes ↦ cond-false row.0 (Some row.1) (first_of (xs ++ ys)) passes ∙ first_of-told xs ys x (sym (cond-false row.0 (Some row.1) (first_of xs) passes) ∙ h)
+    ]
+
+-- ---- one instruction
+
+-- checks and then one more test: none fails where none of the checks does and the test holds
+pub last_passes : (rows : List (Bool × Check)) (holds : Bool) (kind : Check) → first_of (rows ++ (not holds, kind) ∷ []) ≡ None
+    → (first_of rows ≡ None) × (holds ≡ true)
+last_passes rows holds kind h =
+    let front : first_of rows ≡ None = first_of-front rows ((not holds, kind) ∷ []) h in
+    let last : first_of ((not holds, kind) ∷ []) ≡ None = sym (first_of-append rows ((not holds, kind) ∷ []) front) ∙ h in
+    (front, not-false holds (if_none (not holds) kind None last).0)
+
+pub passes_last : (rows : List (Bool × Check)) (holds : Bool) (kind : Check) → first_of rows ≡ None → holds ≡ true
+    → first_of (rows ++ (not holds, kind) ∷ []) ≡ None
+passes_last rows holds kind front last =
+    first_of-append rows ((not holds, kind) ∷ []) front ∙ cond-false (not holds) (Some kind) None (not_from_true holds last)
+
+-- An instruction with a note passes: its checks and its edges hold from the state of the note, if it has one.
+pub record Passes (code : List Placed) (notes : Notes) (k : ℕ) (placed : Placed) (note : Option Abstract) : Type 0 where
+  pub shape : first_of (shape_checks code k placed) ≡ None
+  pub checked : (s : Abstract) → note ≡ Some s → failed_check placed.instruction s ≡ None
+  pub closed : (s : Abstract) → note ≡ Some s → are_edges_covered code notes k placed s ≡ true
+
+pub reached_pass : (code : List Placed) (notes : Notes) (k : ℕ) (placed : Placed) (note : Option Abstract)
+    → first_of (reached_checks code notes k placed note) ≡ None
+    → (s : Abstract) → note ≡ Some s → (first_of (checks placed.instruction s) ≡ None) × (are_edges_covered code notes k placed s ≡ true)
+reached_pass code notes k placed None h s e = cc
+reached_pass code notes k placed (Some t) h s e =
+    let same : t ≡ s = cc in
+    let P : Abstract → Type 0 = λ u. (first_of (checks placed.instruction u) ≡ None) × (are_edges_covered code notes k placed u ≡ true) in
+    subst P same (last_passes (checks placed.instruction t) (are_edges_covered code notes k placed t) check.Notes h)
+
+pub pass_reached : (code : List Placed) (notes : Notes) (k : ℕ) (placed : Placed) (note : Option Abstract)
+    → ((s : Abstract) → note ≡ Some s → (first_of (checks placed.instruction s) ≡ None) × (are_edges_covered code notes k placed s ≡ true))
+    → first_of (reached_checks code notes k placed note) ≡ None
+pass_reached code notes k placed None h = refl
+pass_reached code notes k placed (Some t) h =
+    passes_last (checks placed.instruction t) (are_edges_covered code notes k placed t) check.Notes (h t refl).0 (h t refl).1
+
+pub passes_at : (code : List Placed) (notes : Notes) (k : ℕ) (placed : Placed) → failed_at code notes k placed ≡ None → Passes code notes k placed (note_at notes k)
+unfolding failed_at failed_check
+passes_at code notes k placed h =
+    let shape : first_of (shape_checks code k placed) ≡ None = first_of-front (shape_checks code k placed) (reached_checks code notes k placed (note_at notes k)) h in
+    let reached : first_of (reached_checks code notes k placed (note_at notes k)) ≡ None =
+    sym (first_of-append (shape_checks code k placed) (reached_checks code notes k placed (note_at notes k)) shape) ∙ h in
+    record {
+      shape = shape;
+      checked = λ s e. (reached_pass code notes k placed (note_at notes k) reached s e).0;
+      closed = λ s e. (reached_pass code notes k placed (note_at notes k) reached s e).1;
+    }
+
+pub at_passes : (code : List Placed) (notes : Notes) (k : ℕ) (placed : Placed) → Passes code notes k placed (note_at notes k) → failed_at code notes k placed ≡ None
+unfolding failed_at failed_check
+at_passes code notes k placed passes =
+    first_of-append (shape_checks code k placed) (reached_checks code notes k placed (note_at notes k)) passes.shape
+    ∙ pass_reached code notes k placed (note_at notes k) (λ s e. (passes.checked s e, passes.closed s e))
+
+-- ---- all instructions
+
+pub fault_or_none : (k : ℕ) (failed : Option Check) (later : Option VerifyFault) → fault_or k failed later ≡ None → (failed ≡ None) × (later ≡ None)
+fault_or_none k (Some kind) later h = cc
+fault_or_none k None later h = (refl, h)
+
+pub none_fault_or : (k : ℕ) (failed : Option Check) (later : Option VerifyFault) → failed ≡ None → fault_or k failed later ≡ later
+none_fault_or k (Some kind) later h = cc
+none_fault_or k None later h = refl
+
+-- no refusal from number k on: each instruction from there on passes
+pub each_passes : (code : List Placed) (notes : Notes) (k : ℕ) (rest : List Placed) → fault_from code notes k rest ≡ None
+    → (i : ℕ) (placed : Placed) → slice_get rest i ≡ Some placed → failed_at code notes (k + i) placed ≡ None
+each_passes code notes k [] h i placed e = cc
+each_passes code notes k (first ∷ rest) h zero placed e =
+    let here : failed_at code notes k first ≡ None = (fault_or_none k (failed_at code notes k first) (fault_from code notes (k + 1) rest) h).0 in
+    let same : first ≡ placed = cc in
+    let at : k ≡ k + 0 = omega arith in
+    let P : Placed → Type 0 = λ p. failed_at code notes k p ≡ None in
+    let Q : ℕ → Type 0 = λ n. failed_at code notes n placed ≡ None in
+    subst Q at (subst P same here)
+each_passes code notes k (first ∷ rest) h (suc i) placed e =
+    let later : fault_from code notes (k + 1) rest ≡ None = (fault_or_none k (failed_at code notes k first) (fault_from code notes (k + 1) rest) h).1 in
+    let at : (k + 1) + i ≡ k + suc i = omega arith in
+    let Q : ℕ → Type 0 = λ n. failed_at code notes n placed ≡ None in
+    subst Q at (each_passes code notes (k + 1) rest later i placed e)
+
+pub none_from_each : (code : List Placed) (notes : Notes) (k : ℕ) (rest : List Placed)
+    → ((i : ℕ) (placed : Placed) → slice_get rest i ≡ Some placed → failed_at code notes (k + i) placed ≡ None)
+    → fault_from code notes k rest ≡ None
+none_from_each code notes k [] h = refl
+none_from_each code notes k (first ∷ rest) h =
+    let at : k + 0 ≡ k = omega arith in
+    let P : ℕ → Type 0 = λ n. failed_at code notes n first ≡ None in
+    let here : failed_at code notes k first ≡ None = subst P at (h 0 first refl) in
+    let later : (i : ℕ) (placed : Placed) → slice_get rest i ≡ Some placed → failed_at code notes ((k + 1) + i) placed ≡ None =
+    λ i placed e.
+    let then : k + suc i ≡ (k + 1) + i = omega arith in
+    let Q : ℕ → Type 0 = λ n. failed_at code notes n placed ≡ None in
+    subst Q then (h (suc i) placed e) in
+    none_fault_or k (failed_at code notes k first) (fault_from code notes (k + 1) rest) here ∙ none_from_each code notes (k + 1) rest later
+
+-- ---- the law
+
+-- the first test of a list, and then the instructions
+pub if_passed : (b : Bool) (later : Option VerifyFault) (fault : VerifyFault) → cond b later (Some fault) ≡ None → (b ≡ true) × (later ≡ None)
+if_passed true later fault h = (refl, h)
+if_passed false later fault h = cc
+
+-- a list of states in their ranges that has no refusal is an annotation
+pub annotation_from_none : (code : List Placed) (notes : Notes) → fault_of code notes ≡ None
+    → ((k : ℕ) (s : Abstract) → note_at notes k ≡ Some s → is_proper s ≡ true) → IsAnnotation code notes
+unfolding fault_of
+annotation_from_none code notes h proper =
+    let parts : (((length notes == length code) && is_covered entry_state (note_at notes 0)) ≡ true) × (fault_from code notes 0 code ≡ None) =
+    if_passed ((length notes == length code) && is_covered entry_state (note_at notes 0)) (fault_from code notes 0 code) (record { pc = 0; kind = check.Notes }) h in
+    let both : ((length notes == length code) ≡ true) × (is_covered entry_state (note_at notes 0) ≡ true) =
+    and_parts (length notes == length code) (is_covered entry_state (note_at notes 0)) parts.0 in
+    let each : (i : ℕ) (placed : Placed) → slice_get code i ≡ Some placed → Passes code notes i placed (note_at notes i) =
+    λ i placed e.
+    let at : 0 + i ≡ i = omega arith in
+    let Q : ℕ → Type 0 = λ n. failed_at code notes n placed ≡ None in
+    passes_at code notes i placed (subst Q at (each_passes code notes 0 code parts.1 i placed e)) in
+    record {
+      long = eqb-true (length notes) (length code) both.0;
+      start = both.1;
+      shape = λ k placed e. (each k placed e).shape;
+      checked = λ k placed s e n. (each k placed e).checked s n;
+      closed = λ k placed s e n. (each k placed e).closed s n;
+      proper = proper;
+    }
+
+-- an annotation has no refusal
+pub none_from_annotation : (code : List Placed) (notes : Notes) → IsAnnotation code notes → fault_of code notes ≡ None
+unfolding fault_of
+none_from_annotation code notes a =
+    let long : (length notes == length code) ≡ true = eq-eqb (length notes) (length code) a.long in
+    let both : ((length notes == length code) && is_covered entry_state (note_at notes 0)) ≡ true =
+    and_from (length notes == length code) (is_covered entry_state (note_at notes 0)) long a.start in
+    let each : (i : ℕ) (placed : Placed) → slice_get code i ≡ Some placed → failed_at code notes (0 + i) placed ≡ None =
+    λ i placed e.
+    let at : i ≡ 0 + i = omega arith in
+    let Q : ℕ → Type 0 = λ n. failed_at code notes n placed ≡ None in
+    subst Q at (at_passes code notes i placed
+    (record { shape = a.shape i placed e; checked = λ s n. a.checked i placed s e n; closed = λ s n. a.closed i placed s e n })) in
+    cond-true ((length notes == length code) && is_covered entry_state (note_at notes 0)) (fault_from code notes 0 code) (Some (record { pc = 0; kind = check.Notes })) both
+    ∙ none_from_each code notes 0 code each
+
+-- ---- one instruction after another
+
+-- a list from one of its elements on
+pub drop_at : {A : Type 0} (xs : List A) (k : ℕ) (x : A) → slice_get xs k ≡ Some x → drop k xs ≡ x ∷ drop (k + 1) xs
+drop_at [] k x e = cc
+drop_at (y ∷ xs) zero x e = cc
+drop_at {A} (y ∷ xs) (suc k) x e =
+    let next : suc (k + 1) ≡ suc k + 1 = omega arith in
+    let P : ℕ → Type 0 = λ n. drop (suc k) (y ∷ xs) ≡ x ∷ drop n (y ∷ xs) in
+    subst P next (drop_at xs k x e)
+
+-- the refusal from an instruction on is its own, or else the one from the next on
+pub fault_from-drop : (code : List Placed) (notes : Notes) (all : List Placed) (k : ℕ) (placed : Placed) → slice_get all k ≡ Some placed
+    → fault_from code notes k (drop k all) ≡ fault_or k (failed_at code notes k placed) (fault_from code notes (k + 1) (drop (k + 1) all))
+fault_from-drop code notes all k placed e =
+    let P : List Placed → Type 0 = λ rest. fault_from code notes k rest ≡ fault_or k (failed_at code notes k placed) (fault_from code notes (k + 1) (drop (k + 1) all)) in
+    subst P (sym (drop_at all k placed e)) refl
+
+-- ---- running out of memory is no refusal of a list
+
+is_memory : Check → Bool
+is_memory check.Memory = true
+is_memory _ = false
+
+no_memory_first : (rows : List (Bool × Check)) (kind : Check) → list_any (λ row. is_memory row.1) rows ≡ false → first_of rows ≡ Some kind
+    → is_memory kind ≡ false
+unfolding is_memory
+no_memory_first [] kind none e = cc
+no_memory_first (row ∷ rows) kind none e =
+    let parts : (is_memory row.1 ≡ false) × (list_any (λ r. is_memory r.1) rows ≡ false) = or_parts (is_memory row.1) (list_any (λ r. is_memory r.1) rows) none in
+    elim (cases_Bool row.0) [
+      | inl fails ↦
+          let told : Some row.1 ≡ Some kind = sym (cond-true row.0 (Some row.1) (first_of rows) fails) ∙ e in
+          let same : row.1 ≡ kind = cc in
+          let P : Check → Type 0 = λ c. is_memory c ≡ false in
+          subst P same parts.0
+      | inr passes ↦ no_memory_first rows kind parts.1 (sym (cond-false row.0 (Some row.1) (first_of rows) passes) ∙ e)
+    ]
+
+no_memory_rows : (code : List Placed) (notes : Notes) (k : ℕ) (placed : Placed) (known : Option Abstract)
+    → list_any (λ row. is_memory row.1) (shape_checks code k placed ++ reached_checks code notes k placed known) ≡ false
+unfolding is_memory
+no_memory_rows code notes k placed None = refl
+no_memory_rows code notes k placed (Some s) = refl
+
+no_memory_at : (code : List Placed) (notes : Notes) (k : ℕ) (placed : Placed) (kind : Check) → failed_at code notes k placed ≡ Some kind → is_memory kind ≡ false
+unfolding failed_at
+no_memory_at code notes k placed kind e =
+    no_memory_first (shape_checks code k placed ++ reached_checks code notes k placed (note_at notes k)) kind (no_memory_rows code notes k placed (note_at notes k)) e
+
+no_memory_or : (k : ℕ) (failed : Option Check) (later : Option VerifyFault) (f : VerifyFault)
+    → ((kind : Check) → failed ≡ Some kind → is_memory kind ≡ false) → (later ≡ Some f → is_memory f.kind ≡ false)
+    → fault_or k failed later ≡ Some f → is_memory f.kind ≡ false
+no_memory_or k (Some kind) later f here there e =
+    let same : kind ≡ f.kind = cc in
+    let P : Check → Type 0 = λ c. is_memory c ≡ false in
+    subst P same (here kind refl)
+no_memory_or k None later f here there e = there e
+
+no_memory_from : (code : List Placed) (notes : Notes) (k : ℕ) (rest : List Placed) (f : VerifyFault) → fault_from code notes k rest ≡ Some f → is_memory f.kind ≡ false
+no_memory_from code notes k [] f e = cc
+no_memory_from code notes k (placed ∷ rest) f e =
+    no_memory_or k (failed_at code notes k placed) (fault_from code notes (k + 1) rest) f (no_memory_at code notes k placed)
+    (no_memory_from code notes (k + 1) rest f) e
+
+-- no refusal of a list is that memory ran out
+pub fault_of-kind : (code : List Placed) (notes : Notes) (f : VerifyFault) → fault_of code notes ≡ Some f → f.kind ≢ check.Memory
+unfolding fault_of is_memory
+fault_of-kind code notes f e is =
+    let start : Bool = (length notes == length code) && is_covered entry_state (note_at notes 0) in
+    let notes_fault : VerifyFault = record { pc = 0; kind = check.Notes } in
+    let none : is_memory f.kind ≡ false =
+    elim (cases_Bool start) [
+      | inl passes ↦ no_memory_from code notes 0 code f (sym (cond-true start (fault_from code notes 0 code) (Some notes_fault) passes) ∙ e)
+      | inr fails ↦
+          let told : Some notes_fault ≡ Some f = sym (cond-false start (fault_from code notes 0 code) (Some notes_fault) fails) ∙ e in
+          let same : check.Notes ≡ f.kind = cc in
+          let P : Check → Type 0 = λ c. is_memory c ≡ false in
+          subst P same refl
+    ] in
+    let P : Check → Type 0 = λ c. is_memory c ≡ false in
+    let bad : true ≡ false = subst P is none in
+    cc

@@ -1,0 +1,268 @@
+-- Checks and transfer keep the order of states: of two states, one within the other, the first passes each check that
+-- the second passes, and what an edge brings from the first is within what it brings from the second.
+use Rattle.std.proofs.Common.{◌≡◌, ℕ, zero, suc, ◌+◌, ◌-◌, ◌<◌, ◌≤◌, ℤ, pos, negsuc, ◌+ℤ◌, neg_ℤ, ◌≤ℤ◌, true, false, List, [], ◌∷◌, length, get_or, Option, Some, None, unsigned_abs, refl, arith}
+use Rattle.std.specs.List.{list_any}
+use Rattle.std.proofs.lemmas.Bool.{and_parts, and_from, or_parts, or_from, not-false, not_from_true}
+use Rattle.std.proofs.lemmas.Int.{ints}
+use Rattle.machine_spec.specs.declared.instruction.Region.{Region}
+use Rattle.machine_spec.specs.declared.instruction.Region.TheVariants as region
+use Rattle.machine_spec.specs.declared.instruction.Size.{Size}
+use Rattle.machine_spec.specs.declared.instruction.Size.TheVariants as size
+use Rattle.machine_spec.specs.declared.instruction.Helper.{Helper}
+use Rattle.machine_spec.specs.declared.instruction.Helper.TheVariants.{EmitRecord}
+use Rattle.machine_spec.specs.declared.instruction.Instruction.{Instruction}
+use Rattle.machine_spec.specs.declared.instruction.Instruction.TheVariants.{Move, Compute, Load, JumpIf, Call, Exit}
+use Rattle.machine_spec.specs.Words.{byte_count}
+use Rattle.machine_spec.specs.Machine.{helper_of, stack_size}
+use Rattle.machine_spec.specs.Traps.{read_registers}
+use Rattle.verifier_spec.specs.declared.state.Abs.{Abs}
+use Rattle.verifier_spec.specs.declared.state.Abs.TheVariants as abs
+use Rattle.verifier_spec.specs.declared.state.StackSet.{StackSet}
+use Rattle.verifier_spec.specs.declared.state.Abstract.{Abstract}
+use Rattle.verifier_spec.specs.Kinds.{is_set, kind_at, is_unknown, is_address_kind, is_kind_within}
+use Rattle.verifier_spec.specs.States.{is_proper, is_within}
+use Rattle.verifier_spec.specs.Checks.{source_kind, reads_unknown, has_wrong_kind, reach_at, reach_of, is_reach_within, may_leave_record, may_leave_stack, are_set, may_read_unset, has_wrong_argument_kind, may_call_wrongly, may_exit_wrongly, failed_check}
+use Rattle.verifier_spec.specs.Transfer.{with_kind, loaded_kind, answer_kind, after_call_kinds, called_kinds, falls_to, jumps_to}
+use Rattle.verifier_spec.specs.Annotation.{is_edge_covered}
+use Rattle.verifier_spec.specs.Soundness.{KeepsOrder}
+use Rattle.verifier_spec.proofs.Order.{IsWithin, within_parts, within_from}
+use Rattle.verifier_spec.proofs.Proper.{proper_parts}
+use Rattle.verifier_spec.proofs.Safety.{Passes, passes, failed_from, set_at}
+use Rattle.verifier_spec.proofs.Tighter.{tested_within}
+use Rattle.verifier_spec.proofs.Whole.{le_z-true, le-le_z, le_trans_z, negative, gap_is}
+use Rattle.verifier_spec.proofs.Wider.{narrower, other_kinds, kind_within_narrower, ordered_kind, ordered_source, kind_within, known_within, number_within, address_within, not_address_within, AreAddresses, addresses_within, can_within, computed_within, source_within, within_set}
+
+-- ---- bytes of a region
+
+-- a part of what stays within a region does, and also within a longer one
+reach_within : (at : Region) (lo hi low high offset : ℤ) (size len longer : ℕ) → low ≤ℤ lo → hi ≤ℤ high → len ≤ longer
+    → is_reach_within (record { region = at; low = low +ℤ offset; high = high +ℤ offset; size = size }) len ≡ true → is_reach_within (record { region = at; low = lo +ℤ offset; high = hi +ℤ offset; size = size }) longer ≡ true
+reach_within at lo hi low high offset size len longer p q le h =
+    let t = and_parts _ _ h in
+    let from = le_z-true (pos 0) (low +ℤ offset) t.0 in
+    let to = le_z-true ((high +ℤ offset) +ℤ pos size) (pos len) t.1 in
+    and_from _ _ (le-le_z (pos 0) (lo +ℤ offset) (omega (arith, ints))) (le-le_z ((hi +ℤ offset) +ℤ pos size) (pos longer) (omega (arith, ints)))
+
+set_from : (set : StackSet) (place count : ℕ) → ((q : ℕ) → place ≤ q → q < place + count → is_set set q ≡ true) → are_set set place count ≡ true
+set_from set place zero h = refl
+set_from set place (suc count) h =
+    and_from _ _ (h place (omega arith) (omega arith)) (set_from set (place + 1) count (λ q low high. h q (omega arith) (omega arith)))
+
+natural_is : (z : ℤ) → pos 0 ≤ℤ z → (n : ℕ) × (z ≡ pos n)
+natural_is (pos n) h = (n, refl)
+natural_is (negsuc n) h = absurd (negative n h)
+
+-- the places that a narrower reach may read are among those of a wider one
+set_within : (inner outer : StackSet) (lo hi low high : ℤ) (size : ℕ) → ((q : ℕ) → q < 512 → is_set outer q ≡ true → is_set inner q ≡ true) → low ≤ℤ lo → lo ≤ℤ hi → hi ≤ℤ high → pos 0 ≤ℤ low
+    → (high +ℤ pos size) ≤ℤ pos stack_size
+    → are_set outer (unsigned_abs low) (unsigned_abs (high +ℤ neg_ℤ low) + size) ≡ true → are_set inner (unsigned_abs lo) (unsigned_abs (hi +ℤ neg_ℤ lo) + size) ≡ true
+set_within inner outer (negsuc m) hi low high size s p order q from to h = absurd (negative m (le_trans_z (pos 0) low (negsuc m) from p))
+set_within inner outer (pos m) (negsuc n) low high size s p order q from to h = absurd (negative n (le_trans_z (pos 0) (pos m) (negsuc n) (le_trans_z (pos 0) low (pos m) from p) order))
+set_within inner outer (pos m) (pos n) (negsuc k) high size s p order q from to h = absurd (negative k from)
+set_within inner outer (pos m) (pos n) (pos k) (negsuc l) size s p order q from to h = absurd (negative l (le_trans_z (pos 0) (pos n) (negsuc l) (omega (arith, ints)) q))
+set_within inner outer (pos m) (pos n) (pos k) (pos l) size s p order q from to h =
+    let k_m : k ≤ m = omega (arith, ints) in
+    let m_n : m ≤ n = omega (arith, ints) in
+    let n_l : n ≤ l = omega (arith, ints) in
+    let l_s : l + size ≤ 512 = omega (arith, ints) in
+    let all : are_set outer k ((l - k) + size) ≡ true = rw (gap_is k l (omega arith)) at h in
+    rw (gap_is m n m_n) (set_from inner m ((n - m) + size) (λ i low high. s i (omega arith) (set_at outer k ((l - k) + size) i all (omega arith) (omega arith))))
+
+-- a call changes both sides alike
+called_pairs : (P : Abs → Abs → Type 0) (js ks : List Abs) (answer : Abs) (q : ℕ) → length js ≡ 11 → length ks ≡ 11 → P (get_or js q abs.None) (get_or ks q abs.None) → P answer answer
+    → P abs.None abs.None → P (get_or (after_call_kinds js answer) q abs.None) (get_or (after_call_kinds ks answer) q abs.None)
+called_pairs P (j0 ∷ j1 ∷ j2 ∷ j3 ∷ j4 ∷ j5 ∷ js) (k0 ∷ k1 ∷ k2 ∷ k3 ∷ k4 ∷ k5 ∷ ks) answer zero d e h p n = p
+called_pairs P (j0 ∷ j1 ∷ j2 ∷ j3 ∷ j4 ∷ j5 ∷ js) (k0 ∷ k1 ∷ k2 ∷ k3 ∷ k4 ∷ k5 ∷ ks) answer (suc zero) d e h p n = n
+called_pairs P (j0 ∷ j1 ∷ j2 ∷ j3 ∷ j4 ∷ j5 ∷ js) (k0 ∷ k1 ∷ k2 ∷ k3 ∷ k4 ∷ k5 ∷ ks) answer (suc (suc zero)) d e h p n = n
+called_pairs P (j0 ∷ j1 ∷ j2 ∷ j3 ∷ j4 ∷ j5 ∷ js) (k0 ∷ k1 ∷ k2 ∷ k3 ∷ k4 ∷ k5 ∷ ks) answer (suc (suc (suc zero))) d e h p n = n
+called_pairs P (j0 ∷ j1 ∷ j2 ∷ j3 ∷ j4 ∷ j5 ∷ js) (k0 ∷ k1 ∷ k2 ∷ k3 ∷ k4 ∷ k5 ∷ ks) answer (suc (suc (suc (suc zero)))) d e h p n = n
+called_pairs P (j0 ∷ j1 ∷ j2 ∷ j3 ∷ j4 ∷ j5 ∷ js) (k0 ∷ k1 ∷ k2 ∷ k3 ∷ k4 ∷ k5 ∷ ks) answer (suc (suc (suc (suc (suc zero))))) d e h p n = n
+called_pairs P (j0 ∷ j1 ∷ j2 ∷ j3 ∷ j4 ∷ j5 ∷ js) (k0 ∷ k1 ∷ k2 ∷ k3 ∷ k4 ∷ k5 ∷ ks) answer (suc (suc (suc (suc (suc (suc q)))))) d e h p n = h
+called_pairs P (j0 ∷ j1 ∷ j2 ∷ j3 ∷ j4 ∷ j5 ∷ js) ks answer q d e h p n = absurd (omega arith)
+called_pairs P js ks answer q d e h p n = absurd (omega arith)
+
+answer_kept : (c : Abstract) (helper : Helper) → is_kind_within c (answer_kind helper) (answer_kind helper) ≡ true
+answer_kept c EmitRecord = refl
+
+module _ (a b : Abstract) (w : IsWithin a b) (pa : is_proper a ≡ true) (pb : is_proper b ≡ true) where
+  record_within : (at : Region) (lo hi low high offset : ℤ) (size : ℕ) → low ≤ℤ lo → hi ≤ℤ high
+      → may_leave_record b (Some (record { region = at; low = low +ℤ offset; high = high +ℤ offset; size = size })) ≡ false → may_leave_record a (Some (record { region = at; low = lo +ℤ offset; high = hi +ℤ offset; size = size })) ≡ false
+  record_within region.Stack lo hi low high offset size p q c = refl
+  record_within region.Key lo hi low high offset size p q c = not_from_true _ (reach_within region.Key lo hi low high offset size b.key_min a.key_min p q w.key_min (not-false _ c))
+  record_within region.Value lo hi low high offset size p q c = not_from_true _ (reach_within region.Value lo hi low high offset size b.value_min a.value_min p q w.value_min (not-false _ c))
+
+  stack_within : (at : Region) (lo hi low high offset : ℤ) (size : ℕ) → low ≤ℤ lo → hi ≤ℤ high
+      → may_leave_stack (Some (record { region = at; low = low +ℤ offset; high = high +ℤ offset; size = size })) ≡ false → may_leave_stack (Some (record { region = at; low = lo +ℤ offset; high = hi +ℤ offset; size = size })) ≡ false
+  stack_within region.Stack lo hi low high offset size p q c = not_from_true _ (reach_within region.Stack lo hi low high offset size stack_size stack_size p q (omega arith) (not-false _ c))
+  stack_within region.Key lo hi low high offset size p q c = refl
+  stack_within region.Value lo hi low high offset size p q c = refl
+
+  unset_within : (at : Region) (lo hi low high offset : ℤ) (size : ℕ) → low ≤ℤ lo → lo ≤ℤ hi → hi ≤ℤ high
+      → may_leave_stack (Some (record { region = at; low = low +ℤ offset; high = high +ℤ offset; size = size })) ≡ false
+      → may_read_unset b (Some (record { region = at; low = low +ℤ offset; high = high +ℤ offset; size = size })) ≡ false → may_read_unset a (Some (record { region = at; low = lo +ℤ offset; high = hi +ℤ offset; size = size })) ≡ false
+  unset_within region.Stack lo hi low high offset size p order q c u =
+      let t = and_parts _ _ (not-false _ c) in
+      not_from_true _ (set_within a.set b.set (lo +ℤ offset) (hi +ℤ offset) (low +ℤ offset) (high +ℤ offset) size w.set (omega (arith, ints)) (omega (arith, ints)) (omega (arith, ints)) (le_z-true (pos 0) (low +ℤ offset) t.0) (le_z-true ((high +ℤ offset) +ℤ pos size) (pos stack_size) t.1) (not-false _ u))
+  unset_within region.Key lo hi low high offset size p order q c u = refl
+  unset_within region.Value lo hi low high offset size p order q c u = refl
+
+  -- ---- the rows of the checks
+
+  known_list : (registers : List ℕ) → list_any (λ r. is_unknown (kind_at b r)) registers ≡ false → list_any (λ r. is_unknown (kind_at a r)) registers ≡ false
+  known_list [] c = refl
+  known_list (r ∷ rest) c =
+      let p = or_parts _ _ c in
+      or_from _ _ (known_within a (kind_at a r) (kind_at b r) (kind_within a b w pb r) p.0) (known_list rest p.1)
+
+  unset_kept : (i : Instruction) → reads_unknown i b ≡ false → reads_unknown i a ≡ false
+  unset_kept i c = known_list (read_registers i) c
+
+  type_kept : (i : Instruction) → has_wrong_kind i b ≡ false → has_wrong_kind i a ≡ false
+  type_kept (Move width dst source) c = refl
+  type_kept (Compute width operation dst source) c =
+      not_from_true _ (can_within a b (narrower a b w) pa (kind_at a dst) (source_kind a source) (ordered_kind a dst pa) (ordered_source a source pa) (source_kind b source) (source_within a b source w pb)
+      width operation (kind_at b dst) (kind_within a b w pb dst) (not-false _ c))
+  type_kept (Load size dst base offset) c = not_from_true _ (address_within a (kind_at a base) (kind_at b base) (kind_within a b w pb base) (not-false _ c))
+  type_kept (JumpIf width test dst source offset) c =
+      let p = and_parts _ _ (not-false _ c) in
+      not_from_true _ (and_from _ _ (number_within a (kind_at a dst) (kind_at b dst) (kind_within a b w pb dst) p.0) (number_within a (source_kind a source) (source_kind b source) (source_within a b source w pb) p.1))
+  type_kept (Call number) c = refl
+  type_kept Exit c = refl
+
+  bases : (base : ℕ) → is_address_kind (kind_at b base) ≡ true → AreAddresses (kind_at a base) (kind_at b base)
+  bases base is = addresses_within a (kind_at a base) (kind_at b base) (ordered_kind a base pa) (kind_within a b w pb base) is
+
+  record_bounds_kept : (i : Instruction) → has_wrong_kind i b ≡ false → may_leave_record b (reach_of i b) ≡ false → may_leave_record a (reach_of i a) ≡ false
+  record_bounds_kept (Move width dst source) k c = refl
+  record_bounds_kept (Compute width operation dst source) k c = refl
+  record_bounds_kept (Load size dst base offset) k c =
+      let x = bases base (not-false _ k) in
+      let c' : may_leave_record b (reach_at (abs.Addr x.at x.low x.high) offset size) ≡ false = rw x.outer at c in
+      rw x.inner (record_within x.at x.lo x.hi x.low x.high offset (byte_count size) x.from x.to c')
+  record_bounds_kept (JumpIf width test dst source offset) k c = refl
+  record_bounds_kept (Call number) k c = refl
+  record_bounds_kept Exit k c = refl
+
+  stack_bounds_kept : (i : Instruction) → has_wrong_kind i b ≡ false → may_leave_stack (reach_of i b) ≡ false → may_leave_stack (reach_of i a) ≡ false
+  stack_bounds_kept (Move width dst source) k c = refl
+  stack_bounds_kept (Compute width operation dst source) k c = refl
+  stack_bounds_kept (Load size dst base offset) k c =
+      let x = bases base (not-false _ k) in
+      let c' : may_leave_stack (reach_at (abs.Addr x.at x.low x.high) offset size) ≡ false = rw x.outer at c in
+      rw x.inner (stack_within x.at x.lo x.hi x.low x.high offset (byte_count size) x.from x.to c')
+  stack_bounds_kept (JumpIf width test dst source offset) k c = refl
+  stack_bounds_kept (Call number) k c = refl
+  stack_bounds_kept Exit k c = refl
+
+  stack_unset_kept : (i : Instruction) → has_wrong_kind i b ≡ false → may_leave_stack (reach_of i b) ≡ false → may_read_unset b (reach_of i b) ≡ false → may_read_unset a (reach_of i a) ≡ false
+  stack_unset_kept (Move width dst source) k c u = refl
+  stack_unset_kept (Compute width operation dst source) k c u = refl
+  stack_unset_kept (Load size dst base offset) k c u =
+      let x = bases base (not-false _ k) in
+      let c' : may_leave_stack (reach_at (abs.Addr x.at x.low x.high) offset size) ≡ false = rw x.outer at c in
+      let u' : may_read_unset b (reach_at (abs.Addr x.at x.low x.high) offset size) ≡ false = rw x.outer at u in
+      rw x.inner (unset_within x.at x.lo x.hi x.low x.high offset (byte_count size) x.from x.order x.to c' u')
+  stack_unset_kept (JumpIf width test dst source offset) k c u = refl
+  stack_unset_kept (Call number) k c u = refl
+  stack_unset_kept Exit k c u = refl
+
+  helper_kept : (helper : Option Helper) → has_wrong_argument_kind helper b ≡ false → has_wrong_argument_kind helper a ≡ false
+  helper_kept None c = refl
+  helper_kept (Some EmitRecord) c = not_from_true _ (number_within a (kind_at a 1) (kind_at b 1) (kind_within a b w pb 1) (not-false _ c))
+
+  argument_kept : (i : Instruction) → may_call_wrongly i b ≡ false → may_call_wrongly i a ≡ false
+  argument_kept (Move width dst source) c = refl
+  argument_kept (Compute width operation dst source) c = refl
+  argument_kept (Load size dst base offset) c = refl
+  argument_kept (JumpIf width test dst source offset) c = refl
+  argument_kept (Call number) c = helper_kept (helper_of number) c
+  argument_kept Exit c = refl
+
+  exit_kept : (i : Instruction) → reads_unknown i b ≡ false → may_exit_wrongly i b ≡ false → may_exit_wrongly i a ≡ false
+  exit_kept (Move width dst source) u c = refl
+  exit_kept (Compute width operation dst source) u c = refl
+  exit_kept (Load size dst base offset) u c = refl
+  exit_kept (JumpIf width test dst source offset) u c = refl
+  exit_kept (Call number) u c = refl
+  exit_kept Exit u c = not_address_within a (kind_at a 0) (kind_at b 0) (kind_within a b w pb 0) (or_parts _ _ u).0 c
+
+  passes_kept : (i : Instruction) → Passes i b → Passes i a
+  passes_kept i p = record {
+    frame = p.frame;
+    helper = p.helper;
+    unset = unset_kept i p.unset;
+    type = type_kept i p.type;
+    record_bounds = record_bounds_kept i p.type p.record_bounds;
+    stack_bounds = stack_bounds_kept i p.type p.stack_bounds;
+    stack_unset = stack_unset_kept i p.type p.stack_bounds p.stack_unset;
+    argument = argument_kept i p.argument;
+    exit = exit_kept i p.unset p.exit;
+  }
+
+  -- ---- the edges
+
+  set_edge : (r : ℕ) (j k : Abs) → is_kind_within a j k ≡ true → is_within (with_kind a r j) (with_kind b r k) ≡ true
+  set_edge r j k h = within_from _ _ (within_set a b w pa pb r j k h)
+
+  loaded_kept : (size : Size) → is_kind_within a (loaded_kind size) (loaded_kind size) ≡ true
+  loaded_kept size.Byte = refl
+  loaded_kept size.Half = refl
+  loaded_kept size.Word = refl
+  loaded_kept size.Double = refl
+
+  call_edge : (helper : Option Helper) → is_edge_covered (called_kinds helper a) (called_kinds helper b) ≡ true
+  call_edge None = refl
+  call_edge (Some helper) =
+      let c : Abstract = record a { registers = after_call_kinds a.registers (answer_kind helper) } in
+      let n = other_kinds a (after_call_kinds a.registers (answer_kind helper)) in
+      within_from _ _ (record {
+        kinds = λ q low. called_pairs (λ j k. is_kind_within c j k ≡ true) a.registers b.registers (answer_kind helper) q (proper_parts a pa).eleven (proper_parts b pb).eleven
+            (kind_within_narrower a c (kind_at a q) (kind_at b q) n (w.kinds q low)) (answer_kept c helper) refl;
+        key_min = w.key_min;
+        key_max = w.key_max;
+        value_min = w.value_min;
+        value_max = w.value_max;
+        set = w.set;
+      })
+
+  falls_kept : (i : Instruction) → is_within a b ≡ true → Passes i b → is_edge_covered (falls_to i a) (falls_to i b) ≡ true
+  unfolding falls_to
+  falls_kept (Move width dst source) h p = set_edge dst (source_kind a source) (source_kind b source) (source_within a b source w pb)
+  falls_kept (Compute width operation dst source) h p =
+      set_edge dst _ _
+      (computed_within a b (narrower a b w) pa (kind_at a dst) (source_kind a source) (ordered_kind a dst pa) (ordered_source a source pa) (source_kind b source) (source_within a b source w pb)
+      width operation (kind_at b dst) (kind_within a b w pb dst) (not-false _ p.type))
+  falls_kept (Load size dst base offset) h p = set_edge dst (loaded_kind size) (loaded_kind size) (loaded_kept size)
+  falls_kept (JumpIf width test dst source offset) h p = tested_within a b w pa pb width test false dst source h (and_parts _ _ (not-false _ p.type)).0
+  falls_kept (Call number) h p = call_edge (helper_of number)
+  falls_kept Exit h p = refl
+
+  jumps_kept : (i : Instruction) → is_within a b ≡ true → Passes i b → is_edge_covered (jumps_to i a) (jumps_to i b) ≡ true
+  unfolding jumps_to
+  jumps_kept (Move width dst source) h p = refl
+  jumps_kept (Compute width operation dst source) h p = refl
+  jumps_kept (Load size dst base offset) h p = refl
+  jumps_kept (JumpIf width test dst source offset) h p = tested_within a b w pa pb width test true dst source h (and_parts _ _ (not-false _ p.type)).0
+  jumps_kept (Call number) h p = refl
+  jumps_kept Exit h p = refl
+
+-- ---- the order is kept
+
+pub check_monotone : (i : Instruction) (a b : Abstract) → is_within a b ≡ true → is_proper a ≡ true → is_proper b ≡ true → failed_check i b ≡ None → failed_check i a ≡ None
+check_monotone i a b h pa pb pass = failed_from i a (passes_kept a b (within_parts a b h) pa pb i (passes i b pass))
+
+pub falls_monotone : (i : Instruction) (a b : Abstract) → is_within a b ≡ true → is_proper a ≡ true → is_proper b ≡ true → failed_check i b ≡ None
+    → is_edge_covered (falls_to i a) (falls_to i b) ≡ true
+falls_monotone i a b h pa pb pass = falls_kept a b (within_parts a b h) pa pb i h (passes i b pass)
+
+pub jumps_monotone : (i : Instruction) (a b : Abstract) → is_within a b ≡ true → is_proper a ≡ true → is_proper b ≡ true → failed_check i b ≡ None
+    → is_edge_covered (jumps_to i a) (jumps_to i b) ≡ true
+jumps_monotone i a b h pa pb pass = jumps_kept a b (within_parts a b h) pa pb i h (passes i b pass)
+
+-- Checks and transfer keep the order at each instruction whose checks pass in the outer state.
+pub order_kept : (i : Instruction) (a b : Abstract) → is_within a b ≡ true → is_proper a ≡ true → is_proper b ≡ true → failed_check i b ≡ None → KeepsOrder i a b
+order_kept i a b h pa pb pass = record {
+  checks = check_monotone i a b h pa pb pass;
+  falls = falls_monotone i a b h pa pb pass;
+  jumps = jumps_monotone i a b h pa pb pass;
+}

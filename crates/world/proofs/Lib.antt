@@ -1,0 +1,4 @@
+pub mod TableLaws
+pub mod LogViews
+pub mod RowLaws
+pub mod CoreLaws

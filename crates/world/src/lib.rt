@@ -1,0 +1,18 @@
+//! The broker's pure core
+#![tactic(auto)]
+
+mod catalogue;
+mod events;
+mod limits;
+mod log;
+mod program;
+mod readings;
+mod rows;
+mod share;
+
+pub use crate::events::{World, run};
+pub use crate::limits::fits;
+pub use log_spec::{Event, LoadFault, Name, Refusal, Reply, Row};
+
+#[cfg(test)]
+mod tests;
