@@ -1,0 +1,13 @@
+//! Records of Kafka's message format (magic 2): one record and its bytes.
+#![tactic(auto)]
+
+mod fault;
+mod limits;
+mod reading;
+mod writing;
+
+pub use fault::RecordFault;
+pub use limits::fits;
+pub use reading::read;
+pub use wire_spec::{Header, Headers, Record};
+pub use writing::write;

@@ -1,0 +1,1 @@
+-- Steps of the loops over groups of seven bits.

@@ -1,0 +1,54 @@
+ghost use Rattle.std.specs.Prelude.{◌≡◌, ◌++◌, OnOk, OnErr};
+ghost use Rattle.wire_spec.specs.Varint.{zigzag, groups, varint, varlong};
+
+use std::alloc::AllocError;
+
+/// Writes a number's groups of seven bits at the end.
+#[inline(always)]
+fn write_groups(number: u64, out: &mut Vec<u8>) -> Result<(), AllocError>
+    ensures ok { OnOk result (out.new.items ≡ out.old.items ++ groups 10 number) }
+    ensures err { OnErr result (out.new.items ≡ out.old.items) }
+{
+    let mut bytes = [0u8; 10];
+    let mut rest = number;
+    for at in 0..9 {
+        if rest < 128 {
+            bytes[at] = rest as u8;
+            return out.extend_from_slice(&bytes[..at + 1]);
+        }
+        bytes[at] = (128 + rest % 128) as u8;
+        rest /= 128;
+    }
+    bytes[9] = rest as u8;
+    out.extend_from_slice(&bytes)
+}
+
+/// The zigzag number.
+#[inline(always)]
+fn zigzag_of(value: i64) -> u64
+    ensures { result ≡ zigzag value }
+{
+    if value >= 0 {
+        2 * value as u64
+    } else {
+        2 * (-1 - value) as u64 + 1
+    }
+}
+
+/// Writes the varint of a number at the end, in 1 to 5 bytes. An `Err` leaves the bytes as they were.
+#[tactic(auto, unfolding(wire_spec::specs::Varint::varint))]
+pub fn write32(value: i32, out: &mut Vec<u8>) -> Result<(), AllocError>
+    ensures ok { OnOk result (out.new.items ≡ out.old.items ++ varint value) }
+    ensures err { OnErr result (out.new.items ≡ out.old.items) }
+{
+    write_groups(zigzag_of(value as i64), out)
+}
+
+/// Writes the varlong of a number at the end, in 1 to 10 bytes. An `Err` leaves the bytes as they were.
+#[tactic(auto, unfolding(wire_spec::specs::Varint::varlong))]
+pub fn write64(value: i64, out: &mut Vec<u8>) -> Result<(), AllocError>
+    ensures ok { OnOk result (out.new.items ≡ out.old.items ++ varlong value) }
+    ensures err { OnErr result (out.new.items ≡ out.old.items) }
+{
+    write_groups(zigzag_of(value), out)
+}
