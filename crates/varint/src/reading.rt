@@ -46,8 +46,25 @@ fn signed_of(number: u64) -> i64
     if number % 2 == 0 { half } else { -1 - half }
 }
 
-/// The varint at the front of the bytes, and how many of them it takes, 1 to 5.
 #[tactic(auto, unfolding(wire_spec::specs::Varint::read_varint))]
+#[inline(always)]
+fn varint_of(bytes: &[u8]) -> Result<(i32, usize), VarintFault>
+    ensures { result ≡ read_varint bytes.now }
+{
+    let (number, used) = read_groups(bytes, 5, 0x0f)?;
+    Ok((signed_of(number) as i32, used))
+}
+
+#[tactic(auto, unfolding(wire_spec::specs::Varint::read_varlong))]
+#[inline(always)]
+fn varlong_of(bytes: &[u8]) -> Result<(i64, usize), VarintFault>
+    ensures { result ≡ read_varlong bytes.now }
+{
+    let (number, used) = read_groups(bytes, 10, 0x01)?;
+    Ok((signed_of(number), used))
+}
+
+/// The varint at the front of the bytes, and how many of them it takes, 1 to 5.
 pub fn read32(bytes: &[u8]) -> Result<(i32, usize), VarintFault>
     // What is read is spelled so.
     ensures found { IfOk result (λ x. (x.1 ≤ length bytes.now) × IsVarint (take x.1 bytes.now) x.0) }
@@ -56,12 +73,10 @@ pub fn read32(bytes: &[u8]) -> Result<(i32, usize), VarintFault>
     // Which fault it is.
     ensures exact { result ≡ read_varint bytes.now }
 {
-    let (number, used) = read_groups(bytes, 5, 0x0f)?;
-    Ok((signed_of(number) as i32, used))
+    varint_of(bytes)
 }
 
 /// The varlong at the front of the bytes, and how many of them it takes, 1 to 10.
-#[tactic(auto, unfolding(wire_spec::specs::Varint::read_varlong))]
 pub fn read64(bytes: &[u8]) -> Result<(i64, usize), VarintFault>
     // What is read is spelled so.
     ensures found { IfOk result (λ x. (x.1 ≤ length bytes.now) × IsVarlong (take x.1 bytes.now) x.0) }
@@ -70,8 +85,7 @@ pub fn read64(bytes: &[u8]) -> Result<(i64, usize), VarintFault>
     // Which fault it is.
     ensures exact { result ≡ read_varlong bytes.now }
 {
-    let (number, used) = read_groups(bytes, 10, 0x01)?;
-    Ok((signed_of(number), used))
+    varlong_of(bytes)
 }
 
 /// A number has one spelling, and no spelling begins another.

@@ -1,7 +1,26 @@
-ghost use Rattle.std.specs.Prelude.{◌≡◌, ◌++◌, OnOk, OnErr};
+ghost use Rattle.std.specs.Prelude.{◌≡◌, ◌≤◌, take, ◌++◌, OnOk, OnErr};
 ghost use Rattle.wire_spec.specs.Varint.{zigzag, groups, varint, varlong};
 
 use std::alloc::AllocError;
+
+/// Writes a number's groups of seven bits at the front, and tells how many bytes they take.
+#[inline(always)]
+fn put_groups(number: u64, bytes: &mut [u8; 10]) -> usize
+    ensures within { result ≤ 10 }
+    ensures groups { take result bytes.new ≡ groups 10 number }
+{
+    let mut rest = number;
+    for at in 0..9 {
+        if rest < 128 {
+            bytes[at] = rest as u8;
+            return at + 1;
+        }
+        bytes[at] = (128 + rest % 128) as u8;
+        rest /= 128;
+    }
+    bytes[9] = rest as u8;
+    10
+}
 
 /// Writes a number's groups of seven bits at the end.
 #[inline(always)]
@@ -10,17 +29,8 @@ fn write_groups(number: u64, out: &mut Vec<u8>) -> Result<(), AllocError>
     ensures err { OnErr result (out.new.items ≡ out.old.items) }
 {
     let mut bytes = [0u8; 10];
-    let mut rest = number;
-    for at in 0..9 {
-        if rest < 128 {
-            bytes[at] = rest as u8;
-            return out.extend_from_slice(&bytes[..at + 1]);
-        }
-        bytes[at] = (128 + rest % 128) as u8;
-        rest /= 128;
-    }
-    bytes[9] = rest as u8;
-    out.extend_from_slice(&bytes)
+    let len = put_groups(number, &mut bytes);
+    out.extend_from_slice(&bytes[..len])
 }
 
 /// The zigzag number.

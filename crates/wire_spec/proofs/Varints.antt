@@ -6,7 +6,7 @@ use Rattle.std.proofs.lemmas.List.{length-append, length-take, get_or-drop, get_
 use Rattle.std.proofs.lemmas.List.Sums.{position_or_len_is}
 use Rattle.std.proofs.lemmas.List.Quantifiers.{position-Some}
 use Rattle.std.proofs.lemmas.Bool.Decides.{nat_tests}
-use Rattle.std.specs.Prelude.{FitsSigned}
+use Rattle.std.specs.Prelude.{IfOk, FitsSigned}
 use Rattle.std.specs.Int.{w32, w64}
 use Rattle.wire_spec.specs.declared.fault.VarintFault.{VarintFault}
 use Rattle.wire_spec.specs.declared.fault.VarintFault.TheVariants.{Short, Long, NotShortest}
@@ -146,6 +146,7 @@ one_form_of (i ∷ k ∷ a) (j ∷ l ∷ b) n p q =
 
 -- the groups of a number are a form of it
 pub IsBase128-groups : (k n : ℕ) → n < worth k 1 → 0 < k → IsBase128 (groups k n) n
+unfolding groups
 IsBase128-groups zero n lt some = absurd (omega arith)
 IsBase128-groups (suc zero) n lt some = rw (lt-ltb n 128 (omega arith)) (omega arith, refl)
 IsBase128-groups (suc (suc k)) n lt some =
@@ -158,6 +159,7 @@ pub groups_is : (k : ℕ) (form : List ℕ) (n : ℕ) → n < worth k 1 → 0 < 
 groups_is k form n lt some h = one_form_of form (groups k n) n h (IsBase128-groups k n lt some)
 
 pub length-groups : (k n : ℕ) → length (groups k n) ≤ k
+unfolding groups
 length-groups zero n = omega arith
 length-groups (suc k) n =
     elim (cases_lt n 128) [
@@ -192,7 +194,7 @@ worth-le zero k x le h = omega (arith, worth-pos k x h)
 worth-le (suc j) zero x le h = absurd (omega arith)
 worth-le (suc j) (suc k) x le h = omega (arith, worth-le j k x (omega arith) h)
 
-worth-mono : (j x y : ℕ) → x ≤ y → worth j x ≤ worth j y
+pub worth-mono : (j x y : ℕ) → x ≤ y → worth j x ≤ worth j y
 worth-mono zero x y h = h
 worth-mono (suc j) x y h = omega (arith, worth-mono j x y h)
 
@@ -260,7 +262,7 @@ pub guard_ok : {A E : Type 0} (b : Bool) (d : E) (r : Result A E) (y : A) → co
 guard_ok true d r y e = absurd cc
 guard_ok false d r y e = (refl, e)
 
-read_to_ok : (most top : ℕ) (bytes : List ℕ) (last : ℕ) → (last ≡ most - 1 → get_or bytes last 0 ≤ top) → (0 < last → 0 < get_or bytes last 0)
+pub read_to_ok : (most top : ℕ) (bytes : List ℕ) (last : ℕ) → (last ≡ most - 1 → get_or bytes last 0 ≤ top) → (0 < last → 0 < get_or bytes last 0)
     → read_to most top bytes (Some last) ≡ Ok (number_of (take (last + 1) bytes), last + 1)
 read_to_ok most top bytes last narrow some =
     let first : (eqb last (most - 1) && ltb top (get_or bytes last 0)) ≡ false = and_no (eqb last (most - 1)) (ltb top (get_or bytes last 0)) (λ e. le-ltb top (get_or bytes last 0) (narrow (eqb-true last (most - 1) e))) in
@@ -467,3 +469,57 @@ pub one_varlong : (a b x y : List ℕ) (z w : ℤ) → IsVarlong a z → IsVarlo
 one_varlong a b x y z w p q e =
     let one = one_form a b x y (zigzag z) (zigzag w) p.spelled q.spelled e in
     (one.0, sym (unzigzag-zigzag z) ∙ ap unzigzag one.1 ∙ unzigzag-zigzag w)
+
+-- ---- One group more
+
+pub worth-add : (j x y : ℕ) → worth j (x + y) ≡ worth j x + worth j y
+worth-add zero x y = refl
+worth-add (suc j) x y = omega (arith, worth-add j x y)
+
+pub worth-128 : (j x : ℕ) → worth j (128 * x) ≡ 128 * worth j x
+worth-128 zero x = refl
+worth-128 (suc j) x = omega (arith, worth-128 j x)
+
+pub number_of-take : (at : ℕ) (bytes : List ℕ) → at < length bytes → number_of (take (suc at) bytes) ≡ number_of (take at bytes) + worth at (get_or bytes at 0 % 128)
+number_of-take at [] lt = absurd (omega arith)
+number_of-take zero (b ∷ bs) lt = omega arith
+number_of-take (suc at) (b ∷ bs) lt = omega (arith, number_of-take at bs (omega arith))
+
+-- the number of the bytes up to a place, when the byte there was added
+pub record Adds (bytes : List ℕ) (at number : ℕ) : Type 0 where
+  pub number_is : number ≡ number_of (take (at + 1) bytes)
+  pub below : number < worth (at + 1) 1
+
+pub adds : (bytes : List ℕ) (at number digit : ℕ) → at < length bytes → number ≡ number_of (take at bytes) → number < worth at 1 → digit ≡ get_or bytes at 0 % 128 → Adds bytes at (number + worth at digit)
+adds bytes at number digit lt is below e =
+    let plus : suc at ≡ at + 1 = omega arith in
+    let more : number + worth at digit ≡ number_of (take (suc at) bytes) = rw e (omega (arith, number_of-take at bytes lt)) in
+    let top : worth at digit + worth at 1 ≤ 128 * worth at 1 = omega (arith, worth-mono at (digit + 1) 128 (omega arith), worth-128 at 1, worth-add at digit 1) in
+    let small : number + worth at digit < worth (suc at) 1 = omega arith in
+    record {
+      number_is = subst (λ (k : ℕ). number + worth at digit ≡ number_of (take k bytes)) plus more;
+      below = subst (λ (k : ℕ). number + worth at digit < worth k 1) plus small;
+    }
+
+-- at most nine groups fit 63 bits
+pub nine_groups : (k n : ℕ) → k ≤ 9 → n < worth k 1 → n < 2 ^ 63
+nine_groups k n le lt = omega (arith, worth-le k 9 1 le (omega arith))
+
+pub reads_at : (most top : ℕ) (bytes : List ℕ) (at number : ℕ) → EndsAt bytes at → at < most → (at ≡ most - 1 → get_or bytes at 0 ≤ top) → (0 < at → 0 < get_or bytes at 0)
+    → number ≡ number_of (take (at + 1) bytes) → Ok (number, at + 1) ≡ read_base128 most top bytes
+reads_at most top bytes at number ends lt narrow some is =
+    sym (ap (read_to most top bytes) (last_place_is most bytes at ends lt) ∙ read_to_ok most top bytes at narrow some ∙ rw (← is) refl)
+
+pub refuses_zero : (most top : ℕ) (bytes : List ℕ) (at : ℕ) → EndsAt bytes at → at < most → 0 < at → get_or bytes at 0 ≡ 0 → Err NotShortest ≡ read_base128 most top bytes
+refuses_zero most top bytes at ends lt some zero_there =
+    let first : (eqb at (most - 1) && ltb top (get_or bytes at 0)) ≡ false = and_no (eqb at (most - 1)) (ltb top (get_or bytes at 0)) (λ e. le-ltb top (get_or bytes at 0) (omega (arith, zero_there))) in
+    sym (ap (read_to most top bytes) (last_place_is most bytes at ends lt) ∙ rw (first, lt-ltb 0 at some, eq-eqb (get_or bytes at 0) 0 zero_there) refl)
+
+-- what is read is spelled so, of an answer
+pub varint_found : (bytes : List ℕ) (r : Result (ℤ × ℕ) VarintFault) → IsBytes bytes → r ≡ read_varint bytes → IfOk r (λ x. (x.1 ≤ length bytes) × IsVarint (take x.1 bytes) x.0)
+varint_found bytes (Ok x) fits e = let t = read_varint-taken bytes x.0 x.1 fits (sym e) in (t.within, t.form)
+varint_found bytes (Err f) fits e = tt
+
+pub varlong_found : (bytes : List ℕ) (r : Result (ℤ × ℕ) VarintFault) → IsBytes bytes → r ≡ read_varlong bytes → IfOk r (λ x. (x.1 ≤ length bytes) × IsVarlong (take x.1 bytes) x.0)
+varlong_found bytes (Ok x) fits e = let t = read_varlong-taken bytes x.0 x.1 fits (sym e) in (t.within, t.form)
+varlong_found bytes (Err f) fits e = tt

@@ -37,7 +37,7 @@ pub record IsVarlong (bytes : List ℕ) (z : ℤ) : Type 0 where
 -- ---- The spelling as a function
 
 -- the groups of seven bits of n, of which it has at most that many; each but the last with the top bit
-abbrev pub groups : ℕ → ℕ → List ℕ
+unfoldable pub groups : ℕ → ℕ → List ℕ
 groups zero n = []
 groups (suc most) n = if nat_lt n 128 then n ∷ [] else (128 + n % 128) ∷ groups most (n / 128)
 
