@@ -1,6 +1,7 @@
-ghost use Rattle.std.specs.Prelude.{◌≡◌, ◌↔◌, IsTrue};
+ghost use Rattle.std.specs.Prelude.{◌≤◌, ◌↔◌, All, IfSome, IsTrue, length};
 ghost use Rattle.wire_spec.specs.RecordSpelling.{RecordFits, HeaderFits};
 
+use bytes::Bytes;
 use wire_spec::{Header, Record};
 
 const MAX_KEY: usize = 4096;
@@ -13,15 +14,32 @@ const MAX_HEADER_KEY: usize = 255;
 
 const MAX_HEADER_VALUE: usize = 4096;
 
+fn is_within(part: &Option<Bytes>, limit: usize) -> bool
+    ensures { IsTrue result ↔ IfSome part.now (λ b. length b ≤ limit) }
+{
+    match part {
+        Some(bytes) => bytes.len() <= limit,
+        None => true,
+    }
+}
+
 fn header_fits(header: &Header) -> bool
     ensures { IsTrue result ↔ HeaderFits header.now }
 {
     header.key.len() <= MAX_HEADER_KEY
         && std::str::from_utf8(&header.key).is_ok()
-        && header
-            .value
-            .as_ref()
-            .is_none_or(|v| v.len() <= MAX_HEADER_VALUE)
+        && is_within(&header.value, MAX_HEADER_VALUE)
+}
+
+fn headers_fit(headers: &[Header]) -> bool
+    ensures { IsTrue result ↔ All HeaderFits headers.now }
+{
+    for header in headers {
+        if !header_fits(header) {
+            return false;
+        }
+    }
+    true
 }
 
 /// Whether the record is within the limits: a key of at most 4,096 bytes, a value of at most 65,536, at
@@ -29,8 +47,12 @@ fn header_fits(header: &Header) -> bool
 pub fn fits(record: &Record) -> bool
     ensures { IsTrue result ↔ RecordFits «record».now }
 {
-    record.key.as_ref().is_none_or(|k| k.len() <= MAX_KEY)
-        && record.value.as_ref().is_none_or(|v| v.len() <= MAX_VALUE)
-        && record.headers.list.len() <= MAX_HEADERS
-        && record.headers.list.iter().all(|h| header_fits(h))
+    let _delta = record.timestamp_delta;
+    if !is_within(&record.key, MAX_KEY) {
+        return false;
+    }
+    if !is_within(&record.value, MAX_VALUE) {
+        return false;
+    }
+    record.headers.list.len() <= MAX_HEADERS && headers_fit(&record.headers.list)
 }
