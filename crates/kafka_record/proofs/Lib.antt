@@ -1,1 +1,3 @@
+pub mod Answered
+pub mod Loop
 pub mod Within

@@ -8,6 +8,6 @@ mod writing;
 
 pub use fault::RecordFault;
 pub use limits::fits;
-pub use reading::read;
+pub use reading::{one_spelling, read};
 pub use wire_spec::{Header, Headers, Record};
 pub use writing::write;
