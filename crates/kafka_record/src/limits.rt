@@ -3,7 +3,7 @@ ghost use Rattle.std.specs.Str.{is_utf8};
 ghost use Rattle.wire_spec.specs.RecordSpelling.{RecordFits, HeaderFits};
 
 use bytes::Bytes;
-use wire_spec::{Header, Record};
+use wire_spec::{Header, Headers, Record};
 
 pub const MAX_KEY: usize = 4096;
 
@@ -51,6 +51,13 @@ fn headers_fit(headers: &[Header]) -> bool
     true
 }
 
+/// The headers as a slice.
+pub fn slice_of(headers: &Headers) -> &[Header]
+    ensures { result.now ≡ headers.now }
+{
+    &headers.list
+}
+
 /// Whether the record is within the limits: a key of at most 4,096 bytes, a value of at most 65,536, at
 /// most 16 headers, each with a key of at most 255 bytes of UTF-8 and a value of at most 4,096 bytes.
 pub fn fits(record: &Record) -> bool
@@ -63,5 +70,6 @@ pub fn fits(record: &Record) -> bool
     if !is_within(&record.value, MAX_VALUE) {
         return false;
     }
-    record.headers.list.len() <= MAX_HEADERS && headers_fit(&record.headers.list)
+    let headers = slice_of(&record.headers);
+    headers.len() <= MAX_HEADERS && headers_fit(headers)
 }

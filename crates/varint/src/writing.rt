@@ -86,7 +86,8 @@ pub fn write64(value: i64, out: &mut Vec<u8>) -> Result<(), AllocError>
 /// How many bytes the varint of a number has, 1 to 5.
 #[tactic(auto, unfolding(wire_spec::specs::Varint::varint))]
 pub fn len32(value: i32) -> usize
-    ensures { result ≡ length (varint value) }
+    ensures size { result ≡ length (varint value) }
+    ensures small { result ≤ 5 }
 {
     groups_len(zigzag_of(value as i64))
 }
@@ -94,7 +95,8 @@ pub fn len32(value: i32) -> usize
 /// How many bytes the varlong of a number has, 1 to 10.
 #[tactic(auto, unfolding(wire_spec::specs::Varint::varlong))]
 pub fn len64(value: i64) -> usize
-    ensures { result ≡ length (varlong value) }
+    ensures size { result ≡ length (varlong value) }
+    ensures small { result ≤ 10 }
 {
     groups_len(zigzag_of(value))
 }
