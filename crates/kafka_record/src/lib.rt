@@ -14,3 +14,6 @@ pub use reading::{one_spelling, read};
 pub use sizes::size;
 pub use wire_spec::{Header, Headers, Record};
 pub use writing::write;
+
+#[cfg(test)]
+mod tests;

@@ -202,13 +202,13 @@ fn body_from(
     let (value, at) = nullable_from(bytes, at, MAX_VALUE)?;
     let (count, at) = varint_from(bytes, at)?;
     let (headers, at) = counted_from(alloc, bytes, at, count)?;
-    let read = Record {
+    let record = Record {
         timestamp_delta,
         key,
         value,
         headers,
     };
-    Ok((read, at))
+    Ok((record, at))
 }
 
 /// Whether a record's length is the number of bytes that its fields take.
@@ -233,11 +233,11 @@ fn record_from(
     ensures within { IfOk result (λ x. at + x.1 ≤ length bytes.now) }
 {
     let (len, start) = varint_from(slice, at)?;
-    let (read, end) = body_from(alloc, bytes, start, delta)?;
+    let (record, end) = body_from(alloc, bytes, start, delta)?;
     if !is_filled(len, end - start) {
         return Err(RecordFault::Bad);
     }
-    Ok((read, end - at))
+    Ok((record, end - at))
 }
 
 /// The same, with what it says of the spelling.

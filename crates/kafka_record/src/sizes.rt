@@ -49,26 +49,26 @@ fn headers_len(headers: &[Header]) -> usize
 }
 
 /// How many bytes follow a record's length.
-pub fn body_len(read: &Record, delta: i32) -> usize
-    requires { RecordFits read.now }
-    ensures size { result ≡ length (record_body delta read.now) }
+pub fn body_len(record: &Record, delta: i32) -> usize
+    requires { RecordFits «record».now }
+    ensures size { result ≡ length (record_body delta «record».now) }
     ensures small { result ≤ 139439 }
 {
-    let timestamp = len64(read.timestamp_delta);
+    let timestamp = len64(record.timestamp_delta);
     let offset = len32(delta);
-    let key = nullable_len(&read.key);
-    let value = nullable_len(&read.value);
-    let list = slice_of(&read.headers);
+    let key = nullable_len(&record.key);
+    let value = nullable_len(&record.value);
+    let list = slice_of(&record.headers);
     let count = len32(list.len() as i32);
     let headers = headers_len(list);
     1 + timestamp + offset + (key + value) + count + headers
 }
 
 /// How many bytes the record with this offset delta takes.
-pub fn size(read: &Record, delta: i32) -> usize
-    requires { RecordFits read.now }
-    ensures size { result ≡ length (record_spelling delta read.now) }
+pub fn size(record: &Record, delta: i32) -> usize
+    requires { RecordFits «record».now }
+    ensures size { result ≡ length (record_spelling delta «record».now) }
     ensures small { result ≤ 139444 }
 {
-    string_len(body_len(read, delta))
+    string_len(body_len(record, delta))
 }

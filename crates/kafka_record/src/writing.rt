@@ -84,34 +84,34 @@ fn put_deltas(timestamp_delta: i64, delta: i32, out: &mut Vec<u8>) -> Result<(),
 }
 
 /// Writes what follows a record's length.
-fn put_body(read: &Record, delta: i32, out: &mut Vec<u8>) -> Result<(), AllocError>
-    requires { RecordFits read.now }
-    ensures ok { OnOk result (out.new.items ≡ out.old.items ++ record_body delta read.now) }
+fn put_body(record: &Record, delta: i32, out: &mut Vec<u8>) -> Result<(), AllocError>
+    requires { RecordFits «record».now }
+    ensures ok { OnOk result (out.new.items ≡ out.old.items ++ record_body delta «record».now) }
     ensures kept { Keeps out.old.items out.new.items }
 {
-    put_deltas(read.timestamp_delta, delta, out)?;
-    put_nullable(&read.key, out)?;
-    put_nullable(&read.value, out)?;
-    put_counted(slice_of(&read.headers), out)
+    put_deltas(record.timestamp_delta, delta, out)?;
+    put_nullable(&record.key, out)?;
+    put_nullable(&record.value, out)?;
+    put_counted(slice_of(&record.headers), out)
 }
 
-fn put_record(read: &Record, delta: i32, out: &mut Vec<u8>) -> Result<(), AllocError>
-    requires { RecordFits read.now }
-    ensures ok { OnOk result (out.new.items ≡ out.old.items ++ record_spelling delta read.now) }
+fn put_record(record: &Record, delta: i32, out: &mut Vec<u8>) -> Result<(), AllocError>
+    requires { RecordFits «record».now }
+    ensures ok { OnOk result (out.new.items ≡ out.old.items ++ record_spelling delta «record».now) }
     ensures kept { Keeps out.old.items out.new.items }
 {
-    put_len(body_len(read, delta), out)?;
-    put_body(read, delta, out)
+    put_len(body_len(record, delta), out)?;
+    put_body(record, delta, out)
 }
 
 /// Writes the record with this offset delta at the end. An `Err` leaves the bytes as they were.
-pub fn write(read: &Record, delta: i32, out: &mut Vec<u8>) -> Result<(), AllocError>
-    requires { RecordFits read.now }
-    ensures ok { OnOk result (out.new.items ≡ out.old.items ++ record_spelling delta read.now) }
+pub fn write(record: &Record, delta: i32, out: &mut Vec<u8>) -> Result<(), AllocError>
+    requires { RecordFits «record».now }
+    ensures ok { OnOk result (out.new.items ≡ out.old.items ++ record_spelling delta «record».now) }
     ensures err { OnErr result (out.new.items ≡ out.old.items) }
 {
     let start = out.len();
-    match put_record(read, delta, out) {
+    match put_record(record, delta, out) {
         Ok(()) => Ok(()),
         Err(error) => {
             out.truncate(start);
