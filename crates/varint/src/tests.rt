@@ -16,6 +16,7 @@ fn varints_are_read_and_written(rt: HostRuntime) -> Result<(), Fail> {
         write32(number, &mut out)?;
         assert_eq!(rt; out.as_slice(), bytes);
         assert_eq!(rt; read32(bytes), Ok((number, bytes.len())));
+        assert_eq!(rt; len32(number), bytes.len());
     }
     Ok(())
 }
@@ -27,6 +28,7 @@ fn the_least_varlong(rt: HostRuntime) -> Result<(), Fail> {
     let bytes = [0xff, 0xff, 0xff, 0xff, 0xff, 0xff, 0xff, 0xff, 0xff, 0x01];
     assert_eq!(rt; out.as_slice(), bytes.as_slice());
     assert_eq!(rt; read64(&bytes), Ok((i64::MIN, 10)));
+    assert_eq!(rt; len64(i64::MIN), 10);
     Ok(())
 }
 
