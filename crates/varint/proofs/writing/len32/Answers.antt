@@ -1,4 +1,4 @@
-use Rattle.std.proofs.Common.{◌≡◌, ◌∙◌, ◌≤◌, ap, arith, length}
+use Rattle.std.proofs.Common.{◌≡◌, ◌∙◌, ap, arith, length}
 use Rattle.wire_spec.specs.Varint.{zigzag, groups, varint}
 use Rattle.wire_spec.proofs.Varints.{length-varint}
 use Rattle.varint.proofs.Steps.{cast_from_32, groups_5}
