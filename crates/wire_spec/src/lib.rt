@@ -1,8 +1,11 @@
 //! Records and batches as data, and what their bytes mean.
 //!
-//! This crate has the types and the definitions that a reader must believe, and no function.
+//! This crate has the types and the definitions that a reader must believe, and no function but the
+//! texts of the faults.
 #![tactic(auto)]
 
+mod fault;
 mod record;
 
+pub use fault::{BatchFault, VarintFault};
 pub use record::{Batch, Header, Headers, Record, Records};

@@ -1,0 +1,19 @@
+//! Records of Kafka's message format (magic 2): one record and its bytes.
+#![tactic(auto)]
+
+mod fault;
+mod limits;
+mod reading;
+mod sizes;
+#[tactic(auto, using(crate::proofs::Written::keeping))]
+mod writing;
+
+pub use fault::RecordFault;
+pub use limits::fits;
+pub use reading::{one_spelling, read};
+pub use sizes::size;
+pub use wire_spec::{Header, Headers, Record};
+pub use writing::write;
+
+#[cfg(test)]
+mod tests;

@@ -1,0 +1,13 @@
+//! Varints and varlongs as Kafka's records have them: signed numbers of 32 and 64 bits, in zigzag, in 1 to
+//! 5 and 1 to 10 bytes of seven bits each, the lowest first. Only the shortest spelling is read.
+#![tactic(auto)]
+
+mod reading;
+mod writing;
+
+pub use reading::{one_spelling, read32, read64};
+pub use wire_spec::VarintFault;
+pub use writing::{len32, len64, write32, write64};
+
+#[cfg(test)]
+mod tests;

@@ -1,0 +1,137 @@
+-- Reading a record batch (Apache Kafka documentation, "Message Format": "Record Batch"): the batch at the
+-- front of the bytes, and how many of them it takes, or the first refusal. A number is big-endian.
+use Rattle.std.specs.Prelude.{ℕ, zero, suc, ◌+◌, ◌^◌, ℤ, pos, negsuc, int_lt, int_le, List, [], ◌∷◌, length, take, drop, slice_index, Option, Some, None, Result, Ok, Err, Bool, nat_lt, ◌==◌, ◌&&◌, ◌||◌, not, if◌then◌else◌}
+use Rattle.std.specs.List.{list_all}
+use Rattle.std.specs.Int.{Width, w16, w32, w64, from_be_bytes, cast_signed}
+use Rattle.std.specs.Ordering.{int_eq}
+use Rattle.wire_spec.specs.declared.fault.BatchFault.{BatchFault}
+use Rattle.wire_spec.specs.declared.fault.BatchFault.TheVariants as faults
+use Rattle.wire_spec.specs.declared.record.Record.{Record}
+use Rattle.wire_spec.specs.declared.record.Batch.{Batch}
+use Rattle.wire_spec.specs.Checksum.{crc32c}
+use Rattle.wire_spec.specs.RecordReading.{record_at}
+use Rattle.wire_spec.specs.BatchSpelling.{max_batch, max_records, timestamps, greatest}
+
+-- the number at a place, without and with a sign
+abbrev pub number_at : Width → ℕ → List ℕ → ℕ
+number_at w at bytes = from_be_bytes w (drop at bytes)
+
+abbrev pub signed_at : Width → ℕ → List ℕ → ℤ
+signed_at w at bytes = cast_signed w (number_at w at bytes)
+
+-- ---- The fields of the header, by their places
+
+abbrev pub base_offset : List ℕ → ℤ
+base_offset bytes = signed_at w64 0 bytes
+
+abbrev pub batch_length : List ℕ → ℤ
+batch_length bytes = signed_at w32 8 bytes
+
+abbrev pub leader_epoch : List ℕ → ℤ
+leader_epoch bytes = signed_at w32 12 bytes
+
+abbrev pub magic : List ℕ → ℕ
+magic bytes = slice_index bytes 16
+
+abbrev pub crc : List ℕ → ℕ
+crc bytes = number_at w32 17 bytes
+
+abbrev pub attributes : List ℕ → ℕ
+attributes bytes = number_at w16 21 bytes
+
+abbrev pub last_offset_delta : List ℕ → ℕ
+last_offset_delta bytes = number_at w32 23 bytes
+
+abbrev pub base_timestamp : List ℕ → ℤ
+base_timestamp bytes = signed_at w64 27 bytes
+
+abbrev pub max_timestamp : List ℕ → ℤ
+max_timestamp bytes = signed_at w64 35 bytes
+
+abbrev pub producer_id : List ℕ → ℤ
+producer_id bytes = signed_at w64 43 bytes
+
+abbrev pub producer_epoch : List ℕ → ℤ
+producer_epoch bytes = signed_at w16 51 bytes
+
+abbrev pub base_sequence : List ℕ → ℤ
+base_sequence bytes = signed_at w32 53 bytes
+
+abbrev pub record_count : List ℕ → ℕ
+record_count bytes = number_at w32 57 bytes
+
+-- how many bytes the batch has: batchLength, and the 12 up to its end
+abbrev pub size_of : List ℕ → ℕ
+size_of bytes = length_from (batch_length bytes)
+  where
+    length_from : ℤ → ℕ
+    length_from (pos n) = n + 12
+    length_from (negsuc n) = 0
+
+-- ---- What is wrong with the bytes
+
+-- the number of records is not 1 to 10,000, or lastOffsetDelta is not one less (as 32 bits without a
+-- sign: one below 0 is above 10,000)
+abbrev pub is_miscounted : List ℕ → Bool
+is_miscounted bytes =
+    record_count bytes == 0 || (nat_lt max_records (record_count bytes) || not (last_offset_delta bytes + 1 == record_count bytes))
+
+-- a whole number of milliseconds from 0 to 2 ^ 62 - 1
+abbrev pub is_timestamp : ℤ → Bool
+is_timestamp t = int_le (pos 0) t && int_lt t (pos (2 ^ 62))
+
+-- the base timestamp or a record's is out of range, or the greatest one is another
+abbrev pub is_mistimed : List ℕ → List Record → Bool
+is_mistimed bytes rs =
+    not (is_timestamp (base_timestamp bytes))
+    || (not (list_all is_timestamp (timestamps (base_timestamp bytes) rs))
+    || not (int_eq (max_timestamp bytes) (greatest (timestamps (base_timestamp bytes) rs))))
+
+-- ---- Reading
+
+infixl 10 ◌>>=◌
+abbrev pub ◌>>=◌ : {A B : Type 0} → Result A BatchFault → (A → Result B BatchFault) → Result B BatchFault
+(Ok x) >>= f = f x
+(Err e) >>= f = Err e
+
+-- a record, or the refusal that names its place
+abbrev pub record_or : ℕ → Option (Record × List ℕ) → Result (Record × List ℕ) BatchFault
+record_or place None = Err (faults.Record place)
+record_or place (Some x) = Ok x
+
+-- that many records, the first of which has this place and offset delta, and which fill the bytes
+unfoldable pub records_at : ℕ → ℕ → List ℕ → Result (List Record) BatchFault
+records_at zero place [] = Ok []
+records_at zero place (b ∷ bytes) = Err (faults.Record place)
+records_at (suc n) place bytes = do
+  first ← record_or place (record_at (pos place) bytes)
+  others ← records_at n (suc place) first.1
+  Ok (first.0 ∷ others)
+
+-- the batch that has these bytes, as many as its batchLength says
+unfoldable pub whole_at : List ℕ → Result Batch BatchFault
+whole_at bytes =
+    if not (magic bytes == 2) then Err faults.Magic
+    else if not (crc bytes == crc32c (drop 21 bytes)) then Err faults.Crc
+    else if not (attributes bytes == 0) then Err faults.Attributes
+    else if is_miscounted bytes then Err faults.Count
+    else records_at (record_count bytes) 0 (drop 61 bytes) >>= λ rs.
+    if is_mistimed bytes rs then Err faults.Timestamp
+    else Ok (record {
+      base_offset = base_offset bytes;
+      leader_epoch = leader_epoch bytes;
+      base_timestamp = base_timestamp bytes;
+      producer_id = producer_id bytes;
+      producer_epoch = producer_epoch bytes;
+      base_sequence = base_sequence bytes;
+      records = rs;
+    })
+
+-- the batch at the front of the bytes, and how many of them it takes
+unfoldable pub batch_at : List ℕ → Result (Batch × ℕ) BatchFault
+batch_at bytes =
+    if nat_lt (length bytes) 12 then Err faults.Short
+    else if int_lt (batch_length bytes) (pos 49) then Err faults.Length
+    else if nat_lt max_batch (size_of bytes) then Err faults.TooLarge
+    else if nat_lt (length bytes) (size_of bytes) then Err faults.Short
+    else whole_at (take (size_of bytes) bytes) >>= λ b. Ok (b, size_of bytes)

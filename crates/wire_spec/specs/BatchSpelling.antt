@@ -1,0 +1,74 @@
+-- The one spelling of a record batch (Apache Kafka documentation, "Message Format": "Record Batch",
+-- magic 2, without compression, transactions or control records).
+use Rattle.std.specs.Prelude.{ℕ, suc, ◌+◌, ◌-◌, ◌^◌, ◌<◌, ◌≤◌, ℤ, pos, ◌+ℤ◌, ◌≤ℤ◌, ◌<ℤ◌, List, [], ◌∷◌, ◌++◌, length, map, fold, FitsSigned}
+use Rattle.std.specs.List.{AllByRecursion}
+use Rattle.std.specs.Int.{Width, w16, w32, w64, to_be_bytes, cast_unsigned, int_max}
+use Rattle.wire_spec.specs.declared.record.Record.{Record}
+use Rattle.wire_spec.specs.declared.record.Batch.{Batch}
+use Rattle.wire_spec.specs.Checksum.{crc32c}
+use Rattle.wire_spec.specs.RecordSpelling.{RecordFits, record_spelling}
+
+-- the most bytes of a batch, and the most records
+abbrev pub max_batch : ℕ
+max_batch = 1048576
+
+abbrev pub max_records : ℕ
+max_records = 10000
+
+-- ---- Timestamps
+
+-- the timestamps of records, in milliseconds: the batch's base timestamp and the record's delta, as
+-- whole numbers
+abbrev pub timestamps : ℤ → List Record → List ℤ
+timestamps base rs = map (λ r. base +ℤ r.timestamp_delta) rs
+
+-- the greatest of timestamps, none of which is negative
+abbrev pub greatest : List ℤ → ℤ
+greatest ts = fold int_max (pos 0) ts
+
+abbrev pub IsTimestamp : ℤ → Type 0
+IsTimestamp t = (pos 0 ≤ℤ t) × (t <ℤ pos (2 ^ 62))
+
+-- ---- The bytes
+
+-- a signed number, its highest byte first
+abbrev pub signed : Width → ℤ → List ℕ
+signed w z = to_be_bytes w (cast_unsigned w z)
+
+-- records one after the other, the first with this offset delta
+abbrev pub records_spelling : ℕ → List Record → List ℕ
+records_spelling delta [] = []
+records_spelling delta (r ∷ rs) = record_spelling (pos delta) r ++ records_spelling (suc delta) rs
+
+-- what the checksum covers: attributes, lastOffsetDelta, baseTimestamp, maxTimestamp, producerId,
+-- producerEpoch, baseSequence, the number of records, and the records
+abbrev pub covered : Batch → List ℕ
+covered b =
+    to_be_bytes w16 0 ++ (to_be_bytes w32 (length b.records - 1)
+    ++ (signed w64 b.base_timestamp ++ (signed w64 (greatest (timestamps b.base_timestamp b.records))
+    ++ (signed w64 b.producer_id ++ (signed w16 b.producer_epoch ++ (signed w32 b.base_sequence
+    ++ (to_be_bytes w32 (length b.records) ++ records_spelling 0 b.records)))))))
+
+-- what stands before that, and it: baseOffset, batchLength, which counts what follows it,
+-- partitionLeaderEpoch, magic, crc
+abbrev pub enclosed : Batch → List ℕ → List ℕ
+enclosed b rest =
+    signed w64 b.base_offset ++ (to_be_bytes w32 (9 + length rest) ++ (signed w32 b.leader_epoch ++ (2 ∷ (to_be_bytes w32 (crc32c rest) ++ rest))))
+
+-- a batch
+unfoldable pub batch_spelling : Batch → List ℕ
+batch_spelling b = enclosed b (covered b)
+
+-- a batch that has a spelling
+pub record BatchFits (b : Batch) : Type 0 where
+  pub base_offset : FitsSigned w64 b.base_offset
+  pub leader_epoch : FitsSigned w32 b.leader_epoch
+  pub producer_id : FitsSigned w64 b.producer_id
+  pub producer_epoch : FitsSigned w16 b.producer_epoch
+  pub base_sequence : FitsSigned w32 b.base_sequence
+  pub some_records : 0 < length b.records
+  pub few_records : length b.records ≤ max_records
+  pub records : AllByRecursion RecordFits b.records
+  pub base_timestamp : IsTimestamp b.base_timestamp
+  pub each_timestamp : AllByRecursion IsTimestamp (timestamps b.base_timestamp b.records)
+  pub few_bytes : length (batch_spelling b) ≤ max_batch

@@ -1,0 +1,62 @@
+-- The one spelling of a record (Apache Kafka documentation, "Message Format": "Record" and "Record Header").
+use Rattle.std.specs.Prelude.{ℕ, ◌≤◌, ℤ, pos, negsuc, List, ◌∷◌, ◌++◌, length, Option, Some, None, IfSome, FitsSigned, IsUtf8}
+use Rattle.std.specs.List.{flat_map, AllByRecursion}
+use Rattle.std.specs.Int.{w64}
+use Rattle.wire_spec.specs.declared.record.Header.{Header}
+use Rattle.wire_spec.specs.declared.record.Record.{Record}
+use Rattle.wire_spec.specs.Varint.{varint, varlong}
+
+-- ---- The limits, in bytes (and headers)
+
+abbrev pub max_key : ℕ
+max_key = 4096
+
+abbrev pub max_value : ℕ
+max_value = 65536
+
+abbrev pub max_headers : ℕ
+max_headers = 16
+
+abbrev pub max_header_key : ℕ
+max_header_key = 255
+
+abbrev pub max_header_value : ℕ
+max_header_value = 4096
+
+-- a header that has a spelling
+pub record HeaderFits (h : Header) : Type 0 where
+  pub key : length h.key ≤ max_header_key
+  pub text : IsUtf8 h.key
+  pub value : IfSome h.value (λ v. length v ≤ max_header_value)
+
+-- a record that has a spelling
+pub record RecordFits (r : Record) : Type 0 where
+  pub timestamp : FitsSigned w64 r.timestamp_delta
+  pub key : IfSome r.key (λ k. length k ≤ max_key)
+  pub value : IfSome r.value (λ v. length v ≤ max_value)
+  pub count : length r.headers ≤ max_headers
+  pub headers : AllByRecursion HeaderFits r.headers
+
+-- ---- The bytes
+
+-- a length, and that many bytes
+abbrev pub string : List ℕ → List ℕ
+string bytes = varint (pos (length bytes)) ++ bytes
+
+-- the same, or the length -1 for null
+abbrev pub nullable : Option (List ℕ) → List ℕ
+nullable None = varint (negsuc 0)
+nullable (Some bytes) = string bytes
+
+abbrev pub header : Header → List ℕ
+header h = string h.key ++ nullable h.value
+
+-- what follows a record's length: attributes, timestampDelta, offsetDelta, key, value, and the headers
+-- after their number
+abbrev pub record_body : ℤ → Record → List ℕ
+record_body delta r =
+    0 ∷ (varlong r.timestamp_delta ++ (varint delta ++ (nullable r.key ++ (nullable r.value ++ (varint (pos (length r.headers)) ++ flat_map header r.headers)))))
+
+-- a record at this offset delta
+abbrev pub record_spelling : ℤ → Record → List ℕ
+record_spelling delta r = string (record_body delta r)
