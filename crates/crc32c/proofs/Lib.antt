@@ -1,3 +1,4 @@
 pub mod Linear
 pub mod Steps
 pub mod Table
+pub mod Words

@@ -4,9 +4,10 @@
 //! 32, with the coefficient of x^31 in its lowest bit.
 #![tactic(auto)]
 
-ghost use Rattle.std.specs.Prelude.{◌≡◌, bit_xor};
+ghost use Rattle.std.specs.Prelude.{◌≡◌, ◌+◌, ◌*◌, ◌≤◌, bit_xor, length};
+ghost use Rattle.std.specs.List.{concat};
 ghost use Rattle.wire_spec.specs.Checksum.{remainder, coefficients, checksum};
-ghost use Rattle.crc32c.specs.Powers.{times_power};
+ghost use Rattle.crc32c.specs.Powers.{times_power, word_at};
 
 mod tables;
 #[cfg(test)]
@@ -30,6 +31,56 @@ fn after_bytes(mut r: u32, bytes: &[u8]) -> u32
         r = after_byte(r, *byte);
     }
     r
+}
+
+// The word of four bytes, the first of them lowest.
+#[inline(always)]
+fn word_at(block: &[u8; 16], i: usize) -> u32
+    requires { i + 4 ≤ 16 }
+    ensures { result ≡ word_at block.now i }
+{
+    u32::from_le_bytes([block[i], block[i + 1], block[i + 2], block[i + 3]])
+}
+
+// The word times x^(8 `row` + 32), divided by the generator: a look at a table for each byte.
+#[inline(always)]
+fn fold_word(word: u32, row: usize) -> u32
+    requires { row + 4 ≤ 16 }
+    ensures { result ≡ times_power (8 * row + 32) word }
+{
+    entry(row + 3, word & 0xff)
+        ^ entry(row + 2, (word >> 8) & 0xff)
+        ^ entry(row + 1, (word >> 16) & 0xff)
+        ^ entry(row, word >> 24)
+}
+
+// The remainder after one more block, whose words each count by what stands behind them.
+#[inline(always)]
+fn after_block(r: u32, block: &[u8; 16]) -> u32
+    ensures { result ≡ remainder r (coefficients block.now) }
+{
+    fold_word(word_at(block, 12), 0)
+        ^ fold_word(word_at(block, 8), 4)
+        ^ fold_word(word_at(block, 4), 8)
+        ^ fold_word(word_at(block, 0) ^ r, 12)
+}
+
+// The remainder after the blocks.
+fn after_blocks(mut r: u32, blocks: &[[u8; 16]]) -> u32
+    ensures { result ≡ remainder r (coefficients (concat blocks.now)) }
+{
+    for block in blocks {
+        r = after_block(r, block);
+    }
+    r
+}
+
+/// The checksum of the bytes.
+pub fn sum(bytes: &[u8]) -> u32
+    ensures { result ≡ checksum bytes.now }
+{
+    let (blocks, rest) = bytes.as_chunks::<16>();
+    after_bytes(after_blocks(u32::MAX, blocks), rest) ^ u32::MAX
 }
 
 /// The checksum of the bytes, as [`sum`] gives it, one byte at a time.
