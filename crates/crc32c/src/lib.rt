@@ -4,8 +4,9 @@
 //! 32, with the coefficient of x^31 in its lowest bit.
 #![tactic(auto)]
 
-ghost use Rattle.std.specs.Prelude.{◌≡◌, ◌+◌, ◌*◌, ◌≤◌, bit_xor, length};
+ghost use Rattle.std.specs.Prelude.{◌≡◌, ℕ, ◌+◌, ◌*◌, ◌<◌, ◌≤◌, bit_xor, slice_index};
 ghost use Rattle.std.specs.List.{concat};
+ghost use Rattle.std.specs.Simd.Lanes.{Each1};
 ghost use Rattle.wire_spec.specs.Checksum.{remainder, coefficients, checksum};
 ghost use Rattle.crc32c.specs.Powers.{times_power, word_at};
 
@@ -13,6 +14,7 @@ mod tables;
 #[cfg(test)]
 mod tests;
 
+use std::simd::prelude::*;
 use tables::entry;
 
 // The remainder after one more byte.
@@ -33,13 +35,14 @@ fn after_bytes(mut r: u32, bytes: &[u8]) -> u32
     r
 }
 
-// The word of four bytes, the first of them lowest.
+// The four words of a block, the first byte of each lowest. A vector's load keeps them words, where
+// one made byte by byte is taken apart into loads of bytes.
 #[inline(always)]
-fn word_at(block: &[u8; 16], i: usize) -> u32
-    requires { i + 4 ≤ 16 }
-    ensures { result ≡ word_at block.now i }
+fn words(block: [u8; 16]) -> [u32; 4]
+    requires { Each1 (λ b. b < 256) block }
+    ensures { (j : ℕ) → j < 4 → slice_index result j ≡ word_at block (4 * j) }
 {
-    u32::from_le_bytes([block[i], block[i + 1], block[i + 2], block[i + 3]])
+    u32x4::from_le_bytes(u8x16::from_array(block)).to_array()
 }
 
 // The word times x^(8 `row` + 32), divided by the generator: a look at a table for each byte.
@@ -59,10 +62,11 @@ fn fold_word(word: u32, row: usize) -> u32
 fn after_block(r: u32, block: &[u8; 16]) -> u32
     ensures { result ≡ remainder r (coefficients block.now) }
 {
-    fold_word(word_at(block, 12), 0)
-        ^ fold_word(word_at(block, 8), 4)
-        ^ fold_word(word_at(block, 4), 8)
-        ^ fold_word(word_at(block, 0) ^ r, 12)
+    let words = words(*block);
+    fold_word(words[3], 0)
+        ^ fold_word(words[2], 4)
+        ^ fold_word(words[1], 8)
+        ^ fold_word(words[0] ^ r, 12)
 }
 
 // The remainder after the blocks.

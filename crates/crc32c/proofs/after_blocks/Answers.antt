@@ -1,6 +1,6 @@
 use Rattle.std.proofs.Common.{refl, sym, ◌∙◌, ap, get_or, []}
 use Rattle.wire_spec.specs.Checksum.{remainder, coefficients}
-use Rattle.crc32c.proofs.Words.{remainder-next_block}
+use Rattle.crc32c.proofs.Blocks.{remainder-next_block}
 use Rattle.crc32c.proofs.after_blocks.Goals as goal
 
 pub loop-block-init : goal.loop-block-init

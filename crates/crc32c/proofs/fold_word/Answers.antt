@@ -1,4 +1,4 @@
-use Rattle.crc32c.proofs.Words.{from_entries}
+use Rattle.crc32c.proofs.Blocks.{from_entries}
 use Rattle.crc32c.proofs.fold_word.Goals as goal
 
 pub returns : goal.returns

@@ -1,6 +1,6 @@
 use Rattle.std.proofs.Common.{ap, ◌∙◌, bit_xor, length, ◌/◌}
 use Rattle.wire_spec.specs.Checksum.{remainder, coefficients, checksum}
-use Rattle.crc32c.proofs.Words.{remainder-blocks}
+use Rattle.crc32c.proofs.Blocks.{remainder-blocks}
 use Rattle.crc32c.proofs.sum.Goals as goal
 
 pub returns : goal.returns

@@ -1,15 +1,16 @@
 -- Four bytes, and blocks of sixteen, at a time.
 use Rattle.std.proofs.Common.{◌≡◌, ℕ, zero, suc, ◌+◌, ◌*◌, ◌/◌, ◌^◌, ◌<◌, ◌≤◌, List, [], ◌∷◌, ◌++◌, length, get_or, take, drop, refl, sym, ◌∙◌, ap, arith, append_assoc, append-nil}
-use Rattle.std.specs.Int.Bits.{bit_and, bit_xor, xor_assoc, and_mask}
+use Rattle.std.specs.Int.Bits.{bit_and, bit_xor, xor_assoc, xor_zero_r, and_mask}
 use Rattle.std.specs.List.{concat}
 use Rattle.std.specs.Simd.{first_chunks}
+use Rattle.std.specs.Simd.Lanes.{Each1, chunk, number_l}
 use Rattle.std.proofs.Math.Seq.{take-length, take-add}
 use Rattle.std.proofs.lemmas.List.{take_more, take-append-drop}
 use Rattle.std.proofs.lemmas.Nat.{xor_comm, shr-shr}
+use Rattle.std.proofs.lemmas.Simd.{Each1-chunk, length-chunk}
 use Rattle.wire_spec.specs.Checksum.{remainder, coefficients}
 use Rattle.crc32c.specs.Powers.{times_power, word_at}
-use Rattle.crc32c.proofs.Linear.{remainder-append, coefficients-append, times_power-xor, times_power-add, times_power-joined, times_power-split}
-use Rattle.crc32c.proofs.Steps.{remainder-take_more}
+use Rattle.crc32c.proofs.Linear.{remainder-bits_of, remainder-append, coefficients-append, times_power-xor, times_power-add, times_power-joined, times_power-split}
 
 -- ---- the looks at the tables for a word
 
@@ -37,40 +38,40 @@ from_entries k v =
     split_at _ (8 * (k + 3) + 8) (8 * (k + 2) + 8) v (omega arith) (omega arith) ∙ ap (bit_xor a) second in
     xor_assoc (bit_xor a b) c d ∙ xor_assoc a b (bit_xor c d) ∙ sym first
 
+-- ---- lists
+
+pub remainder-append_lists : (r : ℕ) (xs ys : List ℕ)
+    → remainder r (coefficients (xs ++ ys)) ≡ remainder (remainder r (coefficients xs)) (coefficients ys)
+remainder-append_lists r xs ys =
+    ap (remainder r) (coefficients-append xs ys) ∙ remainder-append r (coefficients xs) (coefficients ys)
+
 -- ---- a word of a list
 
--- eight more coefficients b above the n of a
-grow : (n s a b : ℕ) → a < 2 ^ n
-    → times_power 8 (bit_xor (times_power n (bit_xor s a)) b) ≡ times_power (n + 8) (bit_xor s (b * 2 ^ n + a))
-grow n s a b h =
-    ap (times_power 8) (times_power-joined n s a b h) ∙ sym (times_power-add n 8 (bit_xor s (b * 2 ^ n + a)))
+-- the bytes of a list, each below 256, as one number of coefficients
+remainder-number : (r : ℕ) (ys : List ℕ) → Each1 (λ b. b < 256) ys
+    → remainder r (coefficients ys) ≡ times_power (8 * length ys) (bit_xor r (number_l 256 ys))
+unfolding remainder coefficients times_power
+remainder-number r [] fits = sym (xor_zero_r r)
+remainder-number r (b ∷ bs) fits =
+    let n = 8 * length bs in
+    let more : 8 + n ≡ 8 * suc (length bs) = omega arith in
+    let place : number_l 256 bs * 2 ^ 8 + b ≡ b + 256 * number_l 256 bs = omega arith in
+    remainder-bits_of 8 r b (coefficients bs) fits.0
+    ∙ remainder-number (times_power 8 (bit_xor r b)) bs fits.1
+    ∙ ap (times_power n) (times_power-joined 8 r b (number_l 256 bs) fits.0 ∙ ap (λ w. times_power 8 (bit_xor r w)) place)
+    ∙ sym (times_power-add 8 n (bit_xor r (b + 256 * number_l 256 bs)))
+    ∙ ap (λ m. times_power m (bit_xor r (b + 256 * number_l 256 bs))) more
 
--- the remainder after one more byte, which stands above the n coefficients of a
-next_byte : (r i j n s a : ℕ) (xs : List ℕ) → i < length xs → get_or xs i 0 < 2 ^ 8 → j ≡ i + 1 → a < 2 ^ n
-    → remainder r (coefficients (take i xs)) ≡ times_power n (bit_xor s a)
-    → remainder r (coefficients (take j xs)) ≡ times_power (n + 8) (bit_xor s (get_or xs i 0 * 2 ^ n + a))
-next_byte r i j n s a xs h fits e small so_far =
-    rw e (remainder-take_more r i xs h fits
-    ∙ ap (λ q. times_power 8 (bit_xor q (get_or xs i 0))) so_far ∙ grow n s a (get_or xs i 0) small)
-
-pub remainder-word : (r i j : ℕ) (xs : List ℕ) → i + 4 ≤ length xs → ((k : ℕ) → get_or xs k 0 < 2 ^ 8) → j ≡ i + 4
-    → remainder r (coefficients (take j xs)) ≡ times_power 32 (bit_xor (remainder r (coefficients (take i xs))) (word_at xs i))
-remainder-word r i j xs h fits e =
+-- the remainder after one more word of a list
+remainder-word : (r i : ℕ) (xs : List ℕ) → i + 4 ≤ length xs → Each1 (λ b. b < 256) xs
+    → remainder r (coefficients (take (i + 4) xs)) ≡ times_power 32 (bit_xor (remainder r (coefficients (take i xs))) (word_at xs i))
+remainder-word r i xs h fits =
     let s = remainder r (coefficients (take i xs)) in
-    let b0 = get_or xs i 0 in
-    let b1 = get_or xs (i + 1) 0 in
-    let b2 = get_or xs (i + 2) 0 in
-    let b3 = get_or xs (i + 3) 0 in
-    let f0 : b0 < 2 ^ 8 = fits i in
-    let f1 : b1 < 2 ^ 8 = fits (i + 1) in
-    let f2 : b2 < 2 ^ 8 = fits (i + 2) in
-    let f3 : b3 < 2 ^ 8 = fits (i + 3) in
-    let t1 : remainder r (coefficients (take (i + 1) xs)) ≡ times_power 8 (bit_xor s b0) = remainder-take_more r i xs (omega arith) f0 in
-    let t2 = next_byte r (i + 1) (i + 2) 8 s b0 xs (omega arith) f1 (omega arith) f0 t1 in
-    let t3 = next_byte r (i + 2) (i + 3) 16 s (b1 * 2 ^ 8 + b0) xs (omega arith) f2 (omega arith) (omega arith) t2 in
-    let t4 = next_byte r (i + 3) j 24 s (b2 * 2 ^ 16 + (b1 * 2 ^ 8 + b0)) xs (omega arith) f3 (omega arith) (omega arith) t3 in
-    let same : b3 * 2 ^ 24 + (b2 * 2 ^ 16 + (b1 * 2 ^ 8 + b0)) ≡ word_at xs i = omega arith in
-    t4 ∙ ap (λ w. times_power 32 (bit_xor s w)) same
+    let long : 8 * length (chunk i 4 xs) ≡ 32 = omega (arith, length-chunk i 4 xs h) in
+    ap (λ ys. remainder r (coefficients ys)) (take-add i 4 xs)
+    ∙ remainder-append_lists r (take i xs) (chunk i 4 xs)
+    ∙ remainder-number s (chunk i 4 xs) (Each1-chunk (λ b. b < 256) i 4 xs fits)
+    ∙ ap (λ n. times_power n (bit_xor s (word_at xs i))) long
 
 -- ---- a block
 
@@ -108,17 +109,17 @@ four_words r w0 w1 w2 w3 r1 r2 r3 r4 e1 e2 e3 e4 =
     ∙ ap (λ q. bit_xor (bit_xor (bit_xor (times_power 128 q) (times_power 96 w1)) (times_power 64 w2)) (times_power 32 w3)) (xor_comm w0 r)
     ∙ sym f4
 
-pub remainder-block : (r : ℕ) (xs : List ℕ) → length xs ≡ 16 → ((k : ℕ) → get_or xs k 0 < 2 ^ 8)
+pub remainder-block : (r : ℕ) (xs : List ℕ) → length xs ≡ 16 → Each1 (λ b. b < 256) xs
     → bit_xor (bit_xor (bit_xor (times_power 32 (word_at xs 12)) (times_power 64 (word_at xs 8))) (times_power 96 (word_at xs 4)))
     (times_power 128 (bit_xor (word_at xs 0) r)) ≡ remainder r (coefficients xs)
 unfolding remainder coefficients
 remainder-block r xs long fits =
     let all : take 16 xs ≡ xs = ap (λ n. take n xs) (sym long) ∙ take-length xs in
     four_words r (word_at xs 0) (word_at xs 4) (word_at xs 8) (word_at xs 12) _ _ _ _
-    (remainder-word r 0 4 xs (omega arith) fits (omega arith))
-    (remainder-word r 4 8 xs (omega arith) fits (omega arith))
-    (remainder-word r 8 12 xs (omega arith) fits (omega arith))
-    (remainder-word r 12 16 xs (omega arith) fits (omega arith))
+    (remainder-word r 0 xs (omega arith) fits)
+    (remainder-word r 4 xs (omega arith) fits)
+    (remainder-word r 8 xs (omega arith) fits)
+    (remainder-word r 12 xs (omega arith) fits)
     ∙ ap (λ ys. remainder r (coefficients ys)) all
 
 -- ---- the blocks of a list
@@ -126,11 +127,6 @@ remainder-block r xs long fits =
 concat-append : (xss yss : List (List ℕ)) → concat (xss ++ yss) ≡ concat xss ++ concat yss
 concat-append [] yss = refl
 concat-append (xs ∷ xss) yss = ap (λ ys. xs ++ ys) (concat-append xss yss) ∙ sym (append_assoc xs (concat xss) (concat yss))
-
-pub remainder-append_lists : (r : ℕ) (xs ys : List ℕ)
-    → remainder r (coefficients (xs ++ ys)) ≡ remainder (remainder r (coefficients xs)) (coefficients ys)
-remainder-append_lists r xs ys =
-    ap (remainder r) (coefficients-append xs ys) ∙ remainder-append r (coefficients xs) (coefficients ys)
 
 -- the remainder after one more block
 pub remainder-next_block : (r i : ℕ) (xss : List (List ℕ)) → i < length xss
