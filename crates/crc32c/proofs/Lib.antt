@@ -1,4 +1,5 @@
 pub mod Blocks
+pub mod Bounds
 pub mod Linear
 pub mod Steps
 pub mod Table

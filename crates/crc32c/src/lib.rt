@@ -7,8 +7,8 @@
 ghost use Rattle.std.specs.Prelude.{◌≡◌, ℕ, ◌+◌, ◌*◌, ◌<◌, ◌≤◌, bit_xor, slice_index};
 ghost use Rattle.std.specs.List.{concat};
 ghost use Rattle.std.specs.Simd.Lanes.{Each1};
-ghost use Rattle.wire_spec.specs.Checksum.{remainder, coefficients, checksum};
-ghost use Rattle.crc32c.specs.Powers.{times_power, word_at};
+ghost use Rattle.wire_spec.specs.Checksum.{remainder, checksum};
+ghost use Rattle.crc32c.specs.Register.{after, word_at};
 
 mod tables;
 #[cfg(test)]
@@ -20,14 +20,14 @@ use tables::entry;
 // The remainder after one more byte.
 #[inline(always)]
 fn after_byte(r: u32, byte: u8) -> u32
-    ensures { result ≡ times_power 8 (bit_xor r byte) }
+    ensures { result ≡ remainder 8 (bit_xor r byte) }
 {
     (r >> 8) ^ entry(0, (r ^ u32::from(byte)) & 0xff)
 }
 
 // The remainder after the bytes, one at a time.
 fn after_bytes(mut r: u32, bytes: &[u8]) -> u32
-    ensures { result ≡ remainder r (coefficients bytes.now) }
+    ensures { result ≡ after r bytes.now }
 {
     for byte in bytes {
         r = after_byte(r, *byte);
@@ -49,7 +49,7 @@ fn words(block: [u8; 16]) -> [u32; 4]
 #[inline(always)]
 fn fold_word(word: u32, row: usize) -> u32
     requires { row + 4 ≤ 16 }
-    ensures { result ≡ times_power (8 * row + 32) word }
+    ensures { result ≡ remainder (8 * row + 32) word }
 {
     entry(row + 3, word & 0xff)
         ^ entry(row + 2, (word >> 8) & 0xff)
@@ -60,7 +60,7 @@ fn fold_word(word: u32, row: usize) -> u32
 // The remainder after one more block, whose words each count by what stands behind them.
 #[inline(always)]
 fn after_block(r: u32, block: &[u8; 16]) -> u32
-    ensures { result ≡ remainder r (coefficients block.now) }
+    ensures { result ≡ after r block.now }
 {
     let words = words(*block);
     fold_word(words[3], 0)
@@ -71,7 +71,7 @@ fn after_block(r: u32, block: &[u8; 16]) -> u32
 
 // The remainder after the blocks.
 fn after_blocks(mut r: u32, blocks: &[[u8; 16]]) -> u32
-    ensures { result ≡ remainder r (coefficients (concat blocks.now)) }
+    ensures { result ≡ after r (concat blocks.now) }
 {
     for block in blocks {
         r = after_block(r, block);

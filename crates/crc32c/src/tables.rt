@@ -1,6 +1,6 @@
 //! The products of each byte and the powers of x from x^8 to x^128, divided by the generator.
 ghost use Rattle.std.specs.Prelude.{◌≡◌, ◌+◌, ◌*◌, ◌<◌};
-ghost use Rattle.crc32c.specs.Powers.{times_power};
+ghost use Rattle.wire_spec.specs.Checksum.{remainder};
 
 // Row k has x^(8 k + 8) times each byte.
 #[rattlefmt::skip]
@@ -636,7 +636,7 @@ static TABLES: [[u32; 256]; 16] = [
 pub fn entry(row: usize, byte: u32) -> u32
     requires in_rows { row < 16 }
     requires in_row { byte < 256 }
-    ensures { result ≡ times_power (8 * row + 8) byte }
+    ensures { result ≡ remainder (8 * row + 8) byte }
 {
     TABLES[row][byte as usize]
 }
