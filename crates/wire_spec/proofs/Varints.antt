@@ -74,15 +74,18 @@ first_or P n base step (suc k) h = step k (omega arith)
 
 pub Parts-of : (form : List ℕ) (n : ℕ) → IsBase128 form n → (last : ℕ) × Parts form n last
 Parts-of [] n h = absurd h
-Parts-of (b ∷ []) n h = (0, record {
-  size = refl;
-  ends = record { within = omega arith; before = λ k lt. absurd (omega arith); ends = h.0 };
-  number = omega arith;
-  low = omega arith;
-  high = omega arith;
-  nonzero = λ p. omega arith;
-  some = λ p. absurd (omega arith);
-})
+Parts-of (b ∷ []) n h = (
+  0,
+  record {
+    size = refl;
+    ends = record { within = omega arith; before = λ k lt. absurd (omega arith); ends = h.0 };
+    number = omega arith;
+    low = omega arith;
+    high = omega arith;
+    nonzero = λ p. omega arith;
+    some = λ p. absurd (omega arith);
+  },
+)
 Parts-of (b ∷ c ∷ bs) n h =
     let inner = Parts-of (c ∷ bs) h.2 h.5 in
     let last = inner.0 in
@@ -90,16 +93,18 @@ Parts-of (b ∷ c ∷ bs) n h =
     let low : worth last (get_or (c ∷ bs) last 0) ≤ h.2 = p.low in
     let high : h.2 < worth last (get_or (c ∷ bs) last 0 + 1) = p.high in
     let positive : 0 < get_or (c ∷ bs) last 0 = p.nonzero h.3 in
-    let number : number_of (c ∷ bs) ≡ h.2 = p.number in
-    (suc last, record {
-      size = ap suc p.size;
-      ends = record { within = omega (arith, p.ends.within); before = first_or (λ k. 128 ≤ get_or (b ∷ c ∷ bs) k 0) last h.0 p.ends.before; ends = p.ends.ends };
-      number = omega (arith, number, h.0, h.1, h.4);
-      low = omega arith;
-      high = omega arith;
-      nonzero = λ q. positive;
-      some = λ q. positive;
-    })
+    let number : number_of (c ∷ bs) ≡ h.2 = p.number in (
+      suc last,
+      record {
+        size = ap suc p.size;
+        ends = record { within = omega (arith, p.ends.within); before = first_or (λ k. 128 ≤ get_or (b ∷ c ∷ bs) k 0) last h.0 p.ends.before; ends = p.ends.ends };
+        number = omega (arith, number, h.0, h.1, h.4);
+        low = omega arith;
+        high = omega arith;
+        nonzero = λ q. positive;
+        some = λ q. positive;
+      },
+    )
 
 -- a byte from 128 on before the form of what is left
 pub IsBase128-more : (b : ℕ) (form : List ℕ) (n high : ℕ) → 128 ≤ b → b < 256 → 0 < high → n + 128 ≡ b + 128 * high → IsBase128 form high → IsBase128 (b ∷ form) n
@@ -226,27 +231,29 @@ pub last_place_is : (most : ℕ) (bytes : List ℕ) (last : ℕ) → EndsAt byte
 last_place_is most bytes last e lt =
     let len : last < length (take most bytes) = omega (arith, length-take most bytes, e.within) in
     let place = position_or_len_is below_128 (take most bytes) last 0 (omega arith)
-      (λ k h. let g = get_or-take most bytes k 0 (omega arith) in rw g (le-ltb (get_or bytes k 0) 128 (e.before k h)))
-      (λ h. let g = get_or-take most bytes last 0 lt in rw g (lt-ltb (get_or bytes last 0) 128 e.ends)) in
+    (λ k h. let g = get_or-take most bytes k 0 (omega arith) in rw g (le-ltb (get_or bytes k 0) 128 (e.before k h)))
+    (λ h. let g = get_or-take most bytes last 0 lt in rw g (lt-ltb (get_or bytes last 0) 128 e.ends)) in
     rw (place, lt-ltb last (length (take most bytes)) len) refl
 
 pub last_place_none : (most : ℕ) (bytes : List ℕ) → ((k : ℕ) → k < most → k < length bytes → 128 ≤ get_or bytes k 0) → last_place most bytes ≡ None
 last_place_none most bytes h =
     let place = position_or_len_is below_128 (take most bytes) (length (take most bytes)) 0 (omega arith)
-      (λ k lt. let g = get_or-take most bytes k 0 (omega (arith, length-take most bytes)) in rw g (le-ltb (get_or bytes k 0) 128 (h k (omega (arith, length-take most bytes)) (omega (arith, length-take most bytes)))))
-      (λ h. absurd (omega arith)) in
+    (λ k lt. let g = get_or-take most bytes k 0 (omega (arith, length-take most bytes)) in rw g (le-ltb (get_or bytes k 0) 128 (h k (omega (arith, length-take most bytes)) (omega (arith, length-take most bytes)))))
+    (λ h. absurd (omega arith)) in
     rw (place, le-ltb (length (take most bytes)) (length (take most bytes)) (omega arith)) refl
 
 pub EndsAt-from : (most : ℕ) (bytes : List ℕ) (last : ℕ) → last_place most bytes ≡ Some last → EndsAt bytes last × (last < most)
 EndsAt-from most bytes last e =
     let p = position-Some below_128 (take most bytes) last 0 e in
     let len : last < length bytes = omega (arith, p.0, length-take most bytes) in
-    let lt : last < most = omega (arith, p.0, length-take most bytes) in
-    (record {
-      within = len;
-      before = λ k h. let g = get_or-take most bytes k 0 (omega arith) in ltb-false (get_or bytes k 0) 128 (rw g at (p.2 k h));
-      ends = let g = get_or-take most bytes last 0 lt in ltb-true (get_or bytes last 0) 128 (rw g at (p.1));
-    }, lt)
+    let lt : last < most = omega (arith, p.0, length-take most bytes) in (
+      record {
+        within = len;
+        before = λ k h. let g = get_or-take most bytes k 0 (omega arith) in ltb-false (get_or bytes k 0) 128 (rw g at (p.2 k h));
+        ends = let g = get_or-take most bytes last 0 lt in ltb-true (get_or bytes last 0) 128 (rw g at (p.1));
+      },
+      lt,
+    )
 
 -- ---- What is read is spelled so, and what is spelled so is read
 
