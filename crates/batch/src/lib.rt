@@ -1,9 +1,10 @@
 //! Record batches of Kafka's message format (magic 2, uncompressed): a batch and its bytes.
 #![tactic(auto)]
 
+mod fields;
+mod limits;
 mod reading;
-mod writing;
+mod times;
 
-pub use reading::decode;
+pub use reading::{decode, one_spelling};
 pub use wire_spec::{Batch, BatchFault, Records};
-pub use writing::encode;

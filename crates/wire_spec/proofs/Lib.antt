@@ -1,2 +1,4 @@
+pub mod BatchLaws
+pub mod Checksums
 pub mod RecordLaws
 pub mod Varints

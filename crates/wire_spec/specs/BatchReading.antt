@@ -8,7 +8,7 @@ use Rattle.wire_spec.specs.declared.fault.BatchFault.{BatchFault}
 use Rattle.wire_spec.specs.declared.fault.BatchFault.TheVariants as faults
 use Rattle.wire_spec.specs.declared.record.Record.{Record}
 use Rattle.wire_spec.specs.declared.record.Batch.{Batch}
-use Rattle.wire_spec.specs.Checksum.{crc32c}
+use Rattle.wire_spec.specs.Checksum.{checksum}
 use Rattle.wire_spec.specs.RecordReading.{record_at}
 use Rattle.wire_spec.specs.BatchSpelling.{max_batch, max_records, timestamps, greatest}
 
@@ -60,13 +60,13 @@ base_sequence bytes = signed_at w32 53 bytes
 abbrev pub record_count : List ℕ → ℕ
 record_count bytes = number_at w32 57 bytes
 
--- how many bytes the batch has: batchLength, and the 12 up to its end
+-- how many bytes a batch of this batchLength has: 12 stand before what it counts
+abbrev pub with_front : ℤ → ℕ
+with_front (pos n) = n + 12
+with_front (negsuc n) = 0
+
 abbrev pub size_of : List ℕ → ℕ
-size_of bytes = length_from (batch_length bytes)
-  where
-    length_from : ℤ → ℕ
-    length_from (pos n) = n + 12
-    length_from (negsuc n) = 0
+size_of bytes = with_front (batch_length bytes)
 
 -- ---- What is wrong with the bytes
 
@@ -108,14 +108,18 @@ records_at (suc n) place bytes = do
   others ← records_at n (suc place) first.1
   Ok (first.0 ∷ others)
 
--- the batch that has these bytes, as many as its batchLength says
-unfoldable pub whole_at : List ℕ → Result Batch BatchFault
-whole_at bytes =
+-- how many records a batch of these bytes has, as its header says, or the refusal of the header
+unfoldable pub count_at : List ℕ → Result ℕ BatchFault
+count_at bytes =
     if not (magic bytes == 2) then Err faults.Magic
-    else if not (crc bytes == crc32c (drop 21 bytes)) then Err faults.Crc
+    else if not (crc bytes == checksum (drop 21 bytes)) then Err faults.Crc
     else if not (attributes bytes == 0) then Err faults.Attributes
     else if is_miscounted bytes then Err faults.Count
-    else records_at (record_count bytes) 0 (drop 61 bytes) >>= λ rs.
+    else Ok (record_count bytes)
+
+-- the batch of this header and these records, or the refusal of its timestamps
+unfoldable pub timed_at : List ℕ → List Record → Result Batch BatchFault
+timed_at bytes rs =
     if is_mistimed bytes rs then Err faults.Timestamp
     else Ok (record {
       base_offset = base_offset bytes;
@@ -127,11 +131,26 @@ whole_at bytes =
       records = rs;
     })
 
--- the batch at the front of the bytes, and how many of them it takes
-unfoldable pub batch_at : List ℕ → Result (Batch × ℕ) BatchFault
-batch_at bytes =
+-- the batch that has these bytes, as many as its batchLength says: the header, then the records, which
+-- follow its 61 bytes, then the timestamps
+unfoldable pub whole_at : List ℕ → Result Batch BatchFault
+whole_at bytes = do
+  count ← count_at bytes
+  rs ← records_at count 0 (drop 61 bytes)
+  timed_at bytes rs
+
+-- how many bytes the batch at the front takes, or the refusal of its length
+unfoldable pub size_at : List ℕ → Result ℕ BatchFault
+size_at bytes =
     if nat_lt (length bytes) 12 then Err faults.Short
     else if int_lt (batch_length bytes) (pos 49) then Err faults.Length
     else if nat_lt max_batch (size_of bytes) then Err faults.TooLarge
     else if nat_lt (length bytes) (size_of bytes) then Err faults.Short
-    else whole_at (take (size_of bytes) bytes) >>= λ b. Ok (b, size_of bytes)
+    else Ok (size_of bytes)
+
+-- the batch at the front of the bytes, and how many of them it takes
+unfoldable pub batch_at : List ℕ → Result (Batch × ℕ) BatchFault
+batch_at bytes = do
+  size ← size_at bytes
+  b ← whole_at (take size bytes)
+  Ok (b, size)

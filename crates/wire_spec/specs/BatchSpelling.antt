@@ -5,7 +5,7 @@ use Rattle.std.specs.List.{AllByRecursion}
 use Rattle.std.specs.Int.{Width, w16, w32, w64, to_be_bytes, cast_unsigned, int_max}
 use Rattle.wire_spec.specs.declared.record.Record.{Record}
 use Rattle.wire_spec.specs.declared.record.Batch.{Batch}
-use Rattle.wire_spec.specs.Checksum.{crc32c}
+use Rattle.wire_spec.specs.Checksum.{checksum}
 use Rattle.wire_spec.specs.RecordSpelling.{RecordFits, record_spelling}
 
 -- the most bytes of a batch, and the most records
@@ -53,7 +53,7 @@ covered b =
 -- partitionLeaderEpoch, magic, crc
 abbrev pub enclosed : Batch → List ℕ → List ℕ
 enclosed b rest =
-    signed w64 b.base_offset ++ (to_be_bytes w32 (9 + length rest) ++ (signed w32 b.leader_epoch ++ (2 ∷ (to_be_bytes w32 (crc32c rest) ++ rest))))
+    signed w64 b.base_offset ++ (to_be_bytes w32 (9 + length rest) ++ (signed w32 b.leader_epoch ++ (2 ∷ (to_be_bytes w32 (checksum rest) ++ rest))))
 
 -- a batch
 unfoldable pub batch_spelling : Batch → List ℕ

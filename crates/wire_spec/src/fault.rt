@@ -1,3 +1,7 @@
+ghost use Rattle.std.specs.Prelude.{◌≡◌};
+ghost use Rattle.wire_spec.specs.declared.fault.BatchFault.TheVariants.{Memory};
+
+use std::alloc::{AllocError, AllocFailed};
 use thiserror::Error;
 
 /// Why bytes begin with no varint (or varlong), the first reason in this order.
@@ -51,4 +55,20 @@ pub enum BatchFault {
     /// Memory ran out.
     #[error("B10 Memory")]
     Memory,
+}
+
+impl From<AllocError> for BatchFault {
+    ghost from_gives = { λ _ e. e ≡ Memory };
+
+    fn from(_e: AllocError) -> BatchFault {
+        BatchFault::Memory
+    }
+}
+
+impl<T: Drop> From<AllocFailed<T>> for BatchFault {
+    ghost from_gives = { λ _ e. e ≡ Memory };
+
+    fn from(_e: AllocFailed<T>) -> BatchFault {
+        BatchFault::Memory
+    }
 }

@@ -1,0 +1,14 @@
+-- The greatest timestamp of records, where each is in range.
+use Rattle.std.specs.Prelude.{ℤ, List, Option, Some, None, if◌then◌else◌}
+use Rattle.std.specs.List.{list_all}
+use Rattle.wire_spec.specs.declared.record.Record.{Record}
+use Rattle.wire_spec.specs.BatchSpelling.{timestamps, greatest}
+use Rattle.wire_spec.specs.BatchReading.{is_timestamp}
+
+-- a number of milliseconds, where it is a timestamp
+abbrev pub when_timestamp : ℤ → Option ℤ
+when_timestamp t = if is_timestamp t then Some t else None
+
+-- the greatest of the timestamps, where each is one
+unfoldable pub latest_of : ℤ → List Record → Option ℤ
+latest_of base rs = if list_all is_timestamp (timestamps base rs) then Some (greatest (timestamps base rs)) else None

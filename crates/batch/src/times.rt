@@ -1,0 +1,42 @@
+ghost use Rattle.std.specs.Prelude.{◌≡◌, ◌+ℤ◌};
+ghost use Rattle.std.specs.Ordering.{int_eq};
+ghost use Rattle.wire_spec.specs.BatchReading.{is_timestamp as timestamp_test};
+ghost use Rattle.batch.specs.Latest.{when_timestamp, latest_of};
+
+use wire_spec::Record;
+
+const END_OF_TIME: i64 = 1 << 62;
+
+/// Whether this is a timestamp: 0 to 2^62 - 1 milliseconds.
+pub fn is_timestamp(time: i64) -> bool
+    ensures { result ≡ timestamp_test time }
+{
+    0 <= time && time < END_OF_TIME
+}
+
+/// Whether two timestamps are the same.
+pub fn is_same(time: i64, other: i64) -> bool
+    ensures { result ≡ int_eq time other }
+{
+    time == other
+}
+
+/// The timestamp of a record with this delta, where it is one.
+fn timestamp_of(base: i64, delta: i64) -> Option<i64>
+    ensures { result ≡ when_timestamp (base +ℤ delta) }
+{
+    let time = base.checked_add(delta)?;
+    if is_timestamp(time) { Some(time) } else { None }
+}
+
+/// The greatest timestamp of the records, or `None` where one of them is out of range.
+pub fn latest(base: i64, records: &[Record]) -> Option<i64>
+    ensures { result ≡ latest_of base records.now }
+{
+    let mut greatest = 0;
+    for record in records {
+        let time = timestamp_of(base, record.timestamp_delta)?;
+        greatest = greatest.max(time);
+    }
+    Some(greatest)
+}

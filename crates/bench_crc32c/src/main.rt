@@ -1,0 +1,82 @@
+//! Measures the two functions of `crc32c` side by side on 64 KiB. Given how many times to sum the
+//! bytes in a turn, it takes ten turns with each and prints the bytes a second of the best; given
+//! nothing, it prints nothing.
+#![tactic(auto)]
+
+ghost use Rattle.std.specs.Prelude.{◌<◌, length};
+
+use crc32c::{sum, sum_by_bytes};
+use std::rt::Runtime;
+use std::time::{Duration, Instant};
+use std::{env, io};
+
+const LEN: usize = 65_536;
+
+const TURNS: u32 = 10;
+
+// Each time changes a byte, so that no sum can stand for another.
+fn turn_by_tables(bytes: &mut [u8], times: u32) -> u32
+    requires { 0 < length bytes.old }
+{
+    let mut mixed = 0;
+    for time in 0..times {
+        mixed ^= sum(bytes);
+        bytes[time as usize % bytes.len()] = (mixed & 0xff) as u8;
+    }
+    mixed
+}
+
+fn turn_by_bytes(bytes: &mut [u8], times: u32) -> u32
+    requires { 0 < length bytes.old }
+{
+    let mut mixed = 0;
+    for time in 0..times {
+        mixed ^= sum_by_bytes(bytes);
+        bytes[time as usize % bytes.len()] = (mixed & 0xff) as u8;
+    }
+    mixed
+}
+
+// The shortest turn with each function, and what the sums came to, which shows that all were made.
+fn shortest<R: Runtime>(
+    rt: &R,
+    bytes: &mut [u8],
+    times: u32,
+) -> io::Result<(Duration, Duration, u32)>
+    requires { 0 < length bytes.old }
+{
+    let mut tables = Duration::MAX;
+    let mut one = Duration::MAX;
+    let mut mixed = 0;
+    for _ in 0..TURNS {
+        let start = Instant::now(rt)?;
+        mixed ^= turn_by_tables(bytes, times);
+        tables = tables.min(start.elapsed(rt)?);
+        let start = Instant::now(rt)?;
+        mixed ^= turn_by_bytes(bytes, times);
+        one = one.min(start.elapsed(rt)?);
+    }
+    Ok((tables, one, mixed))
+}
+
+fn compare<R: Runtime>(rt: &R, times: u32) -> io::Result<()> {
+    let mut bytes = vec![in rt.alloc(); 0x5a; LEN]?;
+    let (tables, one, mixed) = shortest(rt, &mut bytes, times)?;
+    let megabytes = f64::from(times) * 0.065_536;
+    println!(rt;
+        "sum           {:6.0} MB/s",
+        megabytes / tables.as_secs_f64()
+    )?;
+    println!(rt; "sum_by_bytes  {:6.0} MB/s", megabytes / one.as_secs_f64())?;
+    println!(rt;
+        "ratio         {:6.1}   (sums {mixed:08x})",
+        one.as_secs_f64() / tables.as_secs_f64()
+    )
+}
+
+fn main(rt: HostRuntime) -> io::Result<()> {
+    match env::args(&rt)?.nth(1) {
+        Some(times) => compare(&rt, times.parse::<u32>().unwrap_or(1_000)),
+        None => Ok(()),
+    }
+}

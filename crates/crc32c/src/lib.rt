@@ -1,0 +1,95 @@
+//! CRC-32C, the checksum of Castagnoli's polynomial (RFC 9260, appendix A), by tables.
+//!
+//! The bytes are a polynomial over the field of two elements, and a `u32` is one of degree below
+//! 32, with the coefficient of x^31 in its lowest bit.
+#![tactic(auto)]
+
+ghost use Rattle.std.specs.Prelude.{◌≡◌, ℕ, ◌+◌, ◌*◌, ◌<◌, ◌≤◌, bit_xor, slice_index};
+ghost use Rattle.std.specs.List.{concat};
+ghost use Rattle.std.specs.Simd.Lanes.{Each1};
+ghost use Rattle.wire_spec.specs.Checksum.{remainder, checksum};
+ghost use Rattle.crc32c.specs.Register.{after, word_at};
+
+mod tables;
+#[cfg(test)]
+mod tests;
+
+use std::simd::prelude::*;
+use tables::entry;
+
+// The remainder after one more byte.
+#[inline(always)]
+fn after_byte(r: u32, byte: u8) -> u32
+    ensures { result ≡ remainder 8 (bit_xor r byte) }
+{
+    (r >> 8) ^ entry(0, (r ^ u32::from(byte)) & 0xff)
+}
+
+// The remainder after the bytes, one at a time.
+fn after_bytes(mut r: u32, bytes: &[u8]) -> u32
+    ensures { result ≡ after r bytes.now }
+{
+    for byte in bytes {
+        r = after_byte(r, *byte);
+    }
+    r
+}
+
+// The four words of a block, the first byte of each lowest. A vector's load keeps them words, where
+// one made byte by byte is taken apart into loads of bytes.
+#[inline(always)]
+fn words(block: [u8; 16]) -> [u32; 4]
+    requires { Each1 (λ b. b < 256) block }
+    ensures { (j : ℕ) → j < 4 → slice_index result j ≡ word_at block (4 * j) }
+{
+    u32x4::from_le_bytes(u8x16::from_array(block)).to_array()
+}
+
+// The word times x^(8 `row` + 32), divided by the generator: a look at a table for each byte.
+#[inline(always)]
+fn fold_word(word: u32, row: usize) -> u32
+    requires { row + 4 ≤ 16 }
+    ensures { result ≡ remainder (8 * row + 32) word }
+{
+    entry(row + 3, word & 0xff)
+        ^ entry(row + 2, (word >> 8) & 0xff)
+        ^ entry(row + 1, (word >> 16) & 0xff)
+        ^ entry(row, word >> 24)
+}
+
+// The remainder after one more block, whose words each count by what stands behind them.
+#[inline(always)]
+fn after_block(r: u32, block: &[u8; 16]) -> u32
+    ensures { result ≡ after r block.now }
+{
+    let words = words(*block);
+    fold_word(words[3], 0)
+        ^ fold_word(words[2], 4)
+        ^ fold_word(words[1], 8)
+        ^ fold_word(words[0] ^ r, 12)
+}
+
+// The remainder after the blocks.
+fn after_blocks(mut r: u32, blocks: &[[u8; 16]]) -> u32
+    ensures { result ≡ after r (concat blocks.now) }
+{
+    for block in blocks {
+        r = after_block(r, block);
+    }
+    r
+}
+
+/// The checksum of the bytes.
+pub fn sum(bytes: &[u8]) -> u32
+    ensures { result ≡ checksum bytes.now }
+{
+    let (blocks, rest) = bytes.as_chunks::<16>();
+    after_bytes(after_blocks(u32::MAX, blocks), rest) ^ u32::MAX
+}
+
+/// The checksum of the bytes, as [`sum`] gives it, one byte at a time.
+pub fn sum_by_bytes(bytes: &[u8]) -> u32
+    ensures { result ≡ checksum bytes.now }
+{
+    after_bytes(u32::MAX, bytes) ^ u32::MAX
+}
