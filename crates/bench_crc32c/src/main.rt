@@ -14,24 +14,14 @@ const LEN: usize = 65_536;
 
 const TURNS: u32 = 10;
 
-// Each time changes a byte, so that no sum can stand for another.
-fn turn_by_tables(bytes: &mut [u8], times: u32) -> u32
-    requires { 0 < length bytes.old }
+// Sums the bytes so many times. Each time changes a byte, so that no sum can stand for another.
+fn turn<F: Fn(&[u8]) -> u32 + Drop>(bytes: &mut [u8], times: u32, checksum: F) -> u32
+    requires filled { 0 < length bytes.old }
+    requires callable { F.IsAlwaysCallable checksum }
 {
     let mut mixed = 0;
     for time in 0..times {
-        mixed ^= sum(bytes);
-        bytes[time as usize % bytes.len()] = (mixed & 0xff) as u8;
-    }
-    mixed
-}
-
-fn turn_by_bytes(bytes: &mut [u8], times: u32) -> u32
-    requires { 0 < length bytes.old }
-{
-    let mut mixed = 0;
-    for time in 0..times {
-        mixed ^= sum_by_bytes(bytes);
+        mixed ^= checksum(bytes);
         bytes[time as usize % bytes.len()] = (mixed & 0xff) as u8;
     }
     mixed
@@ -50,10 +40,10 @@ fn shortest<R: Runtime>(
     let mut mixed = 0;
     for _ in 0..TURNS {
         let start = Instant::now(rt)?;
-        mixed ^= turn_by_tables(bytes, times);
+        mixed ^= turn(bytes, times, sum);
         tables = tables.min(start.elapsed(rt)?);
         let start = Instant::now(rt)?;
-        mixed ^= turn_by_bytes(bytes, times);
+        mixed ^= turn(bytes, times, sum_by_bytes);
         one = one.min(start.elapsed(rt)?);
     }
     Ok((tables, one, mixed))

@@ -1,7 +1,8 @@
-//! CRC-32C, the checksum of Castagnoli's polynomial (RFC 9260, appendix A), by tables.
+//! CRC-32C, the checksum by Castagnoli's polynomial (RFC 9260, appendix A), by tables.
 //!
 //! The bytes are a polynomial over the field of two elements, and a `u32` is one of degree below
-//! 32, with the coefficient of x^31 in its lowest bit.
+//! 32, with the coefficient of x^31 in its lowest bit. A remainder goes from byte to byte, or from
+//! block to block: division is linear, so each byte of a block adds what a table has for its place.
 #![tactic(auto)]
 
 ghost use Rattle.std.specs.Prelude.{◌≡◌, ℕ, ◌+◌, ◌*◌, ◌<◌, ◌≤◌, bit_xor, slice_index};
@@ -79,7 +80,7 @@ fn after_blocks(mut r: u32, blocks: &[[u8; 16]]) -> u32
     r
 }
 
-/// The checksum of the bytes.
+/// The checksum of the bytes, sixteen at a time by sixteen tables of 1 KiB each. It takes no memory.
 pub fn sum(bytes: &[u8]) -> u32
     ensures { result ≡ checksum bytes.now }
 {
@@ -87,7 +88,8 @@ pub fn sum(bytes: &[u8]) -> u32
     after_bytes(after_blocks(u32::MAX, blocks), rest) ^ u32::MAX
 }
 
-/// The checksum of the bytes, as [`sum`] gives it, one byte at a time.
+/// The checksum of the bytes, as [`sum`] gives it, one byte at a time by one table: the slower way,
+/// for comparison.
 pub fn sum_by_bytes(bytes: &[u8]) -> u32
     ensures { result ≡ checksum bytes.now }
 {

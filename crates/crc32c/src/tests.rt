@@ -1,6 +1,6 @@
 use super::*;
 
-// RFC 3720, appendix B.4, and the check value of the catalogue of checksums.
+// The check value of CRC-32/ISCSI in catalogues of checksums, and examples of RFC 3720, appendix B.4.
 #[test]
 fn published_values(rt: HostRuntime) {
     let nines = [0xff; 32];

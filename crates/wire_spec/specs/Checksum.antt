@@ -1,5 +1,6 @@
--- CRC-32C, the checksum by Castagnoli's polynomial (RFC 9260, appendix A; RFC 3720, section 12.1): what the bytes, as
--- a polynomial over the field of two elements, leave on division by the generator.
+-- CRC-32C, the checksum by Castagnoli's polynomial (RFC 9260, appendix A; RFC 3720, section 12.1), which a record batch
+-- of Kafka's message format has in its field crc: what the bytes, as a polynomial over the field of two elements, leave
+-- on division by the generator.
 --
 -- A polynomial of degree below n is a number below 2 ^ n, with its highest power lowest: bit k is the coefficient of
 -- x ^ (n - 1 - k). So a message of bytes is the number that they spell, the first byte lowest, and its highest
