@@ -1,1 +1,4 @@
+pub mod Answered
+pub mod Loop
 pub mod Within
+pub mod Written

@@ -1,6 +1,8 @@
 -- Records within their limits.
-use Rattle.std.proofs.Common.{Bool, ◌≤◌, suc, List, [], ◌∷◌, length, All, IsTrue, arith}
-use Rattle.std.specs.Prelude.{IfSome, FitsSigned, ◌↔◌}
+use Rattle.std.proofs.Common.{Bool, true, false, refl, sym, ℕ, ◌≡◌, ◌≤◌, suc, List, [], ◌∷◌, length, All, IsTrue, arith}
+use Rattle.std.specs.Prelude.{IfSome, FitsSigned, IsUtf8, ◌↔◌}
+use Rattle.std.specs.Str.{is_utf8}
+use Rattle.std.proofs.lemmas.Str.{is_utf8-from_IsUtf8, IsUtf8-from_is_utf8}
 use Rattle.std.specs.Int.{w64}
 use Rattle.std.specs.List.{AllByRecursion}
 use Rattle.std.proofs.lemmas.List.Elements.{All-from_recursion}
@@ -15,3 +17,12 @@ pub fits_iff : (r : Record) (b : Bool) → FitsSigned w64 r.timestamp_delta → 
     → (IsTrue b ↔ All HeaderFits r.headers) → IsTrue b ↔ RecordFits r
 fits_iff r b timestamp key value count headers =
     (λ t. record { timestamp = timestamp; key = key; value = value; count = count; headers = recursion_from_All HeaderFits r.headers (headers.0 t) }, λ f. headers.1 (All-from_recursion HeaderFits r.headers f.headers))
+
+-- a test of text is the one of the definition
+pub is_utf8_test : (bytes : List ℕ) (b : Bool) → (IsTrue b ↔ IsUtf8 bytes) → b ≡ is_utf8 bytes
+is_utf8_test bytes true h = sym (is_utf8-from_IsUtf8 bytes (h.0 refl))
+is_utf8_test bytes false h = no_text (is_utf8 bytes) (λ e. let t : false ≡ true = h.1 (IsUtf8-from_is_utf8 bytes e) in cc)
+  where
+    no_text : (t : Bool) → (t ≡ true → ⊥) → false ≡ t
+    no_text true n = absurd (n refl)
+    no_text false n = refl

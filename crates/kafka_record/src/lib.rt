@@ -4,10 +4,16 @@
 mod fault;
 mod limits;
 mod reading;
+mod sizes;
+#[tactic(auto, using(crate::proofs::Written::keeping))]
 mod writing;
 
 pub use fault::RecordFault;
 pub use limits::fits;
-pub use reading::read;
+pub use reading::{one_spelling, read};
+pub use sizes::size;
 pub use wire_spec::{Header, Headers, Record};
 pub use writing::write;
+
+#[cfg(test)]
+mod tests;

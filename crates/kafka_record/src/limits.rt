@@ -1,18 +1,19 @@
-ghost use Rattle.std.specs.Prelude.{◌≤◌, ◌↔◌, All, IfSome, IsTrue, length};
+ghost use Rattle.std.specs.Prelude.{◌≡◌, ◌≤◌, ◌↔◌, IsUtf8, All, IfSome, IsTrue, length};
+ghost use Rattle.std.specs.Str.{is_utf8};
 ghost use Rattle.wire_spec.specs.RecordSpelling.{RecordFits, HeaderFits};
 
 use bytes::Bytes;
-use wire_spec::{Header, Record};
+use wire_spec::{Header, Headers, Record};
 
-const MAX_KEY: usize = 4096;
+pub const MAX_KEY: usize = 4096;
 
-const MAX_VALUE: usize = 65536;
+pub const MAX_VALUE: usize = 65536;
 
-const MAX_HEADERS: usize = 16;
+pub const MAX_HEADERS: usize = 16;
 
-const MAX_HEADER_KEY: usize = 255;
+pub const MAX_HEADER_KEY: usize = 255;
 
-const MAX_HEADER_VALUE: usize = 4096;
+pub const MAX_HEADER_VALUE: usize = 4096;
 
 fn is_within(part: &Option<Bytes>, limit: usize) -> bool
     ensures { IsTrue result ↔ IfSome part.now (λ b. length b ≤ limit) }
@@ -23,11 +24,19 @@ fn is_within(part: &Option<Bytes>, limit: usize) -> bool
     }
 }
 
+/// Whether the bytes are UTF-8.
+pub fn is_text(bytes: &[u8]) -> bool
+    ensures text { IsTrue result ↔ IsUtf8 bytes.now }
+    ensures test { result ≡ is_utf8 bytes.now }
+{
+    std::str::from_utf8(bytes).is_ok()
+}
+
 fn header_fits(header: &Header) -> bool
     ensures { IsTrue result ↔ HeaderFits header.now }
 {
     header.key.len() <= MAX_HEADER_KEY
-        && std::str::from_utf8(&header.key).is_ok()
+        && is_text(&header.key)
         && is_within(&header.value, MAX_HEADER_VALUE)
 }
 
@@ -42,6 +51,13 @@ fn headers_fit(headers: &[Header]) -> bool
     true
 }
 
+/// The headers as a slice.
+pub fn slice_of(headers: &Headers) -> &[Header]
+    ensures { result.now ≡ headers.now }
+{
+    &headers.list
+}
+
 /// Whether the record is within the limits: a key of at most 4,096 bytes, a value of at most 65,536, at
 /// most 16 headers, each with a key of at most 255 bytes of UTF-8 and a value of at most 4,096 bytes.
 pub fn fits(record: &Record) -> bool
@@ -54,5 +70,6 @@ pub fn fits(record: &Record) -> bool
     if !is_within(&record.value, MAX_VALUE) {
         return false;
     }
-    record.headers.list.len() <= MAX_HEADERS && headers_fit(&record.headers.list)
+    let headers = slice_of(&record.headers);
+    headers.len() <= MAX_HEADERS && headers_fit(headers)
 }

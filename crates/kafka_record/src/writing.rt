@@ -1,8 +1,108 @@
-ghost use Rattle.std.specs.Prelude.{◌≡◌, ◌++◌, OnOk, OnErr};
-ghost use Rattle.wire_spec.specs.RecordSpelling.{RecordFits, record_spelling};
+ghost use Rattle.std.specs.Prelude.{◌≡◌, ◌+◌, ◌^◌, ◌<◌, ℤ, pos, ◌∷◌, [], ◌++◌, length, All, IfSome, OnOk, OnErr};
+ghost use Rattle.std.specs.List.{flat_map};
+ghost use Rattle.wire_spec.specs.Varint.{varint, varlong};
+ghost use Rattle.wire_spec.specs.RecordSpelling.{HeaderFits, RecordFits, string, nullable, header, record_body, record_spelling};
+ghost use Rattle.kafka_record.specs.Keeps.{Keeps};
 
+use crate::limits::slice_of;
+use crate::sizes::body_len;
+use bytes::Bytes;
 use std::alloc::AllocError;
-use wire_spec::Record;
+use varint::{write32, write64};
+use wire_spec::{Header, Record};
+
+/// Writes a length, of less than 2^31.
+fn put_len(len: usize, out: &mut Vec<u8>) -> Result<(), AllocError>
+    requires { len < 2 ^ 31 }
+    ensures ok { OnOk result (out.new.items ≡ out.old.items ++ varint (pos len)) }
+    ensures kept { Keeps out.old.items out.new.items }
+{
+    write32(len as i32, out)
+}
+
+/// Writes a length and that many bytes.
+fn put_string(bytes: &[u8], out: &mut Vec<u8>) -> Result<(), AllocError>
+    requires { length bytes.now < 2 ^ 31 }
+    ensures ok { OnOk result (out.new.items ≡ out.old.items ++ string bytes.now) }
+    ensures kept { Keeps out.old.items out.new.items }
+{
+    put_len(bytes.len(), out)?;
+    out.extend_from_slice(bytes)
+}
+
+/// Writes a length and that many bytes, or the length -1 for null.
+fn put_nullable(part: &Option<Bytes>, out: &mut Vec<u8>) -> Result<(), AllocError>
+    requires { IfSome part.now (λ b. length b < 2 ^ 31) }
+    ensures ok { OnOk result (out.new.items ≡ out.old.items ++ nullable part.now) }
+    ensures kept { Keeps out.old.items out.new.items }
+{
+    match part {
+        Some(bytes) => put_string(bytes, out),
+        None => write32(-1, out),
+    }
+}
+
+fn put_header(one: &Header, out: &mut Vec<u8>) -> Result<(), AllocError>
+    requires { HeaderFits one.now }
+    ensures ok { OnOk result (out.new.items ≡ out.old.items ++ header one.now) }
+    ensures kept { Keeps out.old.items out.new.items }
+{
+    put_string(&one.key, out)?;
+    put_nullable(&one.value, out)
+}
+
+fn put_headers(headers: &[Header], out: &mut Vec<u8>) -> Result<(), AllocError>
+    requires { All HeaderFits headers.now }
+    ensures ok { OnOk result (out.new.items ≡ out.old.items ++ flat_map header headers.now) }
+    ensures kept { Keeps out.old.items out.new.items }
+{
+    for one in headers {
+        put_header(one, out)?;
+    }
+    Ok(())
+}
+
+/// Writes headers after their number.
+fn put_counted(headers: &[Header], out: &mut Vec<u8>) -> Result<(), AllocError>
+    requires few { length headers.now < 2 ^ 31 }
+    requires fit { All HeaderFits headers.now }
+    ensures ok { OnOk result (out.new.items ≡ out.old.items ++ (varint (pos (length headers.now)) ++ flat_map header headers.now)) }
+    ensures kept { Keeps out.old.items out.new.items }
+{
+    put_len(headers.len(), out)?;
+    put_headers(headers, out)
+}
+
+/// Writes the attributes, a record's timestamp delta and its offset delta.
+fn put_deltas(timestamp_delta: i64, delta: i32, out: &mut Vec<u8>) -> Result<(), AllocError>
+    ensures ok { OnOk result (out.new.items ≡ out.old.items ++ 0 ∷ (varlong timestamp_delta ++ varint delta)) }
+    ensures kept { Keeps out.old.items out.new.items }
+{
+    out.push(0)?;
+    write64(timestamp_delta, out)?;
+    write32(delta, out)
+}
+
+/// Writes what follows a record's length.
+fn put_body(record: &Record, delta: i32, out: &mut Vec<u8>) -> Result<(), AllocError>
+    requires { RecordFits «record».now }
+    ensures ok { OnOk result (out.new.items ≡ out.old.items ++ record_body delta «record».now) }
+    ensures kept { Keeps out.old.items out.new.items }
+{
+    put_deltas(record.timestamp_delta, delta, out)?;
+    put_nullable(&record.key, out)?;
+    put_nullable(&record.value, out)?;
+    put_counted(slice_of(&record.headers), out)
+}
+
+fn put_record(record: &Record, delta: i32, out: &mut Vec<u8>) -> Result<(), AllocError>
+    requires { RecordFits «record».now }
+    ensures ok { OnOk result (out.new.items ≡ out.old.items ++ record_spelling delta «record».now) }
+    ensures kept { Keeps out.old.items out.new.items }
+{
+    put_len(body_len(record, delta), out)?;
+    put_body(record, delta, out)
+}
 
 /// Writes the record with this offset delta at the end. An `Err` leaves the bytes as they were.
 pub fn write(record: &Record, delta: i32, out: &mut Vec<u8>) -> Result<(), AllocError>
@@ -10,9 +110,12 @@ pub fn write(record: &Record, delta: i32, out: &mut Vec<u8>) -> Result<(), Alloc
     ensures ok { OnOk result (out.new.items ≡ out.old.items ++ record_spelling delta «record».now) }
     ensures err { OnErr result (out.new.items ≡ out.old.items) }
 {
-    // PLACEHOLDER
-    let _ = record;
-    let _ = delta;
-    let _ = out;
-    Err(AllocError)
+    let start = out.len();
+    match put_record(record, delta, out) {
+        Ok(()) => Ok(()),
+        Err(error) => {
+            out.truncate(start);
+            Err(error)
+        }
+    }
 }

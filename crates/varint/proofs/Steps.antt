@@ -1,6 +1,6 @@
 -- Shifts by groups of seven bits.
-use Rattle.std.proofs.Common.{◌≡◌, ℕ, zero, suc, ◌+◌, ◌-◌, ◌*◌, ◌/◌, ◌%◌, ◌^◌, ◌<◌, ◌≤◌, ◌⊎◌, inl, inr, List, [], ◌∷◌, ◌++◌, length, get_or, set, take, sym, subst, ap, ◌∙◌, append_assoc, arith}
-use Rattle.std.proofs.lemmas.Bool.{lt-ltb, le-ltb}
+use Rattle.std.proofs.Common.{◌≡◌, ℕ, zero, suc, ◌+◌, ◌-◌, ◌*◌, ◌/◌, ◌%◌, ◌^◌, ◌<◌, ◌≤◌, ◌⊎◌, inl, inr, List, [], ◌∷◌, ◌++◌, length, get_or, set, take, refl, sym, subst, ap, ◌∙◌, append_assoc, arith}
+use Rattle.std.proofs.lemmas.Bool.{cases_lt, lt-ltb, le-ltb}
 use Rattle.std.proofs.lemmas.List.{take_more_set}
 use Rattle.std.specs.Prelude.{ℤ, FitsSigned}
 use Rattle.std.specs.Int.{w32, w64, cast_signed, cast_unsigned}
@@ -86,3 +86,29 @@ groups_5 z h = groups_is 5 (groups 10 (zigzag z)) (zigzag z) (omega (arith, zigz
 
 pub cast_from_32 : (z : ℤ) → FitsSigned w32 z → cast_signed w64 (cast_unsigned w64 (cast_signed w32 (cast_unsigned w32 z))) ≡ z
 cast_from_32 z h = ap (λ (x : ℤ). cast_signed w64 (cast_unsigned w64 x)) (to_z-of_z w32 z h) ∙ cast_64 z h
+
+-- ---- Lengths
+
+pub len_more : (len rest total : ℕ) → len < 10 → 128 ≤ rest → len + length (groups (11 - len) rest) ≡ total → (len + 1) + length (groups (11 - (len + 1)) (rest / 128)) ≡ total
+unfolding groups
+len_more len rest total lt more is =
+    let left : 11 - len ≡ suc (11 - (len + 1)) = omega arith in
+    let before : len + suc (length (groups (11 - (len + 1)) (rest / 128))) ≡ total = rw (left, le-ltb rest 128 more) at is in
+    omega arith
+
+pub len_last : (len rest total : ℕ) → len < 10 → rest < 128 → len + length (groups (11 - len) rest) ≡ 1 + total → len ≡ total
+unfolding groups
+len_last len rest total lt few is =
+    let left : 11 - len ≡ suc (11 - (len + 1)) = omega arith in
+    let before : len + 1 ≡ 1 + total = rw (left, lt-ltb rest 128 few) at is in
+    omega arith
+
+one_group : (rest : ℕ) → length (groups 1 rest) ≡ 1
+unfolding groups
+one_group rest = elim (cases_lt rest 128) [ inl few ↦ rw (lt-ltb rest 128 few) refl | inr more ↦ rw (le-ltb rest 128 more) refl ]
+
+pub len_end : (len rest total : ℕ) → 10 ≤ len → len ≤ 10 → len + length (groups (11 - len) rest) ≡ 1 + total → 10 ≡ total
+len_end len rest total low high is =
+    let ten : len ≡ 10 = omega arith in
+    let there : 10 + length (groups (11 - 10) rest) ≡ 1 + total = subst (λ (k : ℕ). k + length (groups (11 - k) rest) ≡ 1 + total) ten is in
+    omega (arith, one_group rest, there)

@@ -1,4 +1,4 @@
-ghost use Rattle.std.specs.Prelude.{◌≡◌, ◌≤◌, take, ◌++◌, OnOk, OnErr};
+ghost use Rattle.std.specs.Prelude.{◌≡◌, ◌≤◌, length, take, ◌++◌, OnOk, OnErr};
 ghost use Rattle.wire_spec.specs.Varint.{zigzag, groups, varint, varlong};
 
 use std::alloc::AllocError;
@@ -23,14 +23,34 @@ fn put_groups(number: u64, bytes: &mut [u8; 10]) -> usize
 }
 
 /// Writes a number's groups of seven bits at the end.
+#[tactic(auto, unfolding(wire_spec::specs::Varint::groups))]
 #[inline(always)]
 fn write_groups(number: u64, out: &mut Vec<u8>) -> Result<(), AllocError>
     ensures ok { OnOk result (out.new.items ≡ out.old.items ++ groups 10 number) }
     ensures err { OnErr result (out.new.items ≡ out.old.items) }
 {
+    if number < 128 {
+        out.push(number as u8)?;
+        return Ok(());
+    }
     let mut bytes = [0u8; 10];
     let len = put_groups(number, &mut bytes);
     out.extend_from_slice(&bytes[..len])
+}
+
+/// How many groups of seven bits a number has.
+#[inline(always)]
+fn groups_len(number: u64) -> usize
+    ensures { result ≡ length (groups 10 number) }
+{
+    let mut rest = number;
+    for len in 1..10 {
+        if rest < 128 {
+            return len;
+        }
+        rest /= 128;
+    }
+    10
 }
 
 /// The zigzag number.
@@ -61,4 +81,22 @@ pub fn write64(value: i64, out: &mut Vec<u8>) -> Result<(), AllocError>
     ensures err { OnErr result (out.new.items ≡ out.old.items) }
 {
     write_groups(zigzag_of(value), out)
+}
+
+/// How many bytes the varint of a number has, 1 to 5.
+#[tactic(auto, unfolding(wire_spec::specs::Varint::varint))]
+pub fn len32(value: i32) -> usize
+    ensures size { result ≡ length (varint value) }
+    ensures small { result ≤ 5 }
+{
+    groups_len(zigzag_of(value as i64))
+}
+
+/// How many bytes the varlong of a number has, 1 to 10.
+#[tactic(auto, unfolding(wire_spec::specs::Varint::varlong))]
+pub fn len64(value: i64) -> usize
+    ensures size { result ≡ length (varlong value) }
+    ensures small { result ≤ 10 }
+{
+    groups_len(zigzag_of(value))
 }

@@ -530,3 +530,11 @@ varint_found bytes (Err f) fits e = tt
 pub varlong_found : (bytes : List ℕ) (r : Result (ℤ × ℕ) VarintFault) → IsBytes bytes → r ≡ read_varlong bytes → IfOk r (λ x. (x.1 ≤ length bytes) × IsVarlong (take x.1 bytes) x.0)
 varlong_found bytes (Ok x) fits e = let t = read_varlong-taken bytes x.0 x.1 fits (sym e) in (t.within, t.form)
 varlong_found bytes (Err f) fits e = tt
+
+pub length-varint : (z : ℤ) → length (varint z) ≤ 5
+unfolding varint
+length-varint z = length-groups 5 (zigzag z)
+
+pub length-varlong : (z : ℤ) → length (varlong z) ≤ 10
+unfolding varlong
+length-varlong z = length-groups 10 (zigzag z)

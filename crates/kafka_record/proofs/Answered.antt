@@ -1,0 +1,52 @@
+-- From what reading gives to what was answered.
+use Rattle.std.proofs.Common.{◌≡◌, ℕ, ◌+◌, ◌-◌, ◌≤◌, Bool, cond, List, ◌++◌, length, take, drop, refl, sym, ap, subst, ◌∙◌, arith}
+use Rattle.std.specs.Prelude.{ℤ, pos, Option, Some, None, Result, Ok, Err, IfOk, FitsSigned}
+use Rattle.std.specs.Int.{w32}
+use Rattle.std.specs.Ordering.{int_eq}
+use Rattle.std.proofs.lemmas.List.{length-append, length-drop, take_at}
+use Rattle.wire_spec.specs.declared.record.Record.{Record}
+use Rattle.wire_spec.specs.RecordSpelling.{RecordFits, record_spelling}
+use Rattle.wire_spec.specs.RecordReading.{varint_at, body_at, record_at}
+use Rattle.wire_spec.proofs.Varints.{IsBytes, IsBytes-drop}
+use Rattle.wire_spec.proofs.RecordLaws.{some_is, record_takes, record_again}
+use Rattle.kafka_record.specs.declared.fault.RecordFault.{RecordFault}
+use Rattle.kafka_record.specs.declared.fault.RecordFault.TheVariants.{Bad, Memory}
+use Rattle.kafka_record.specs.Gives.{Gives}
+
+-- where the length and the fields were read
+pub record_reads : (delta delta' : ℤ) (bytes slice : List ℕ) (at start end : ℕ) (len len' : ℤ) (r : Record) (b : Bool) → delta' ≡ delta → slice ≡ bytes → len' ≡ len
+    → varint_at (drop at slice) ≡ Some (len, drop start slice) → body_at delta' (drop start bytes) ≡ Some (r, drop end bytes)
+    → start ≤ end → end ≤ length bytes → b ≡ int_eq len' (pos (end - start)) → record_at delta (drop at bytes) ≡ cond b (Some (r, drop end bytes)) None
+unfolding record_at
+record_reads delta delta' bytes slice at start end len len' r b same_delta same_bytes same_len first second low high is =
+    let used : length (drop start bytes) - length (drop end bytes) ≡ end - start = omega (arith, length-drop start bytes, length-drop end bytes) in
+    let first' : varint_at (drop at bytes) ≡ Some (len, drop start bytes) = subst (λ (s : List ℕ). varint_at (drop at s) ≡ Some (len, drop start s)) same_bytes first in
+    let second' : body_at delta (drop start bytes) ≡ Some (r, drop end bytes) = subst (λ (d : ℤ). body_at d (drop start bytes) ≡ Some (r, drop end bytes)) same_delta second in
+    let is' : b ≡ int_eq len (pos (end - start)) = subst (λ (l : ℤ). b ≡ int_eq l (pos (end - start))) same_len is in
+    rw (first', second', used, ← is') refl
+
+module _ (bytes : List ℕ) (at : ℕ) (delta : ℤ) (fits : FitsSigned w32 delta) where
+  abbrev pub view : Record × ℕ → Record × List ℕ
+  view x = (x.0, drop (at + x.1) bytes)
+
+  pub is_found : (answer : Result (Record × ℕ) RecordFault) → IsBytes bytes → Gives view answer (record_at delta (drop at bytes)) → IfOk answer (λ x. at + x.1 ≤ length bytes)
+      → IfOk answer (λ x. RecordFits x.0 × (at + x.1 ≤ length bytes) × (take x.1 (drop at bytes) ≡ record_spelling delta x.0))
+  is_found (Err e) small given within = tt
+  is_found (Ok x) small given within =
+      let t = record_takes delta (drop at bytes) (view x) (IsBytes-drop at bytes small) given in
+      let len : length (record_spelling delta x.0) ≡ x.1 = omega (arith, ap length t.0.parts, length-append (record_spelling delta x.0) (drop (at + x.1) bytes), length-drop at bytes, length-drop (at + x.1) bytes) in
+      (t.1, within, ap (take x.1) t.0.parts ∙ take_at (record_spelling delta x.0) (drop (at + x.1) bytes) x.1 len)
+
+  pub is_only : (answer : Result (Record × ℕ) RecordFault) → Gives view answer (record_at delta (drop at bytes)) → IfOk answer (λ x. at + x.1 ≤ length bytes)
+      → (r : Record) (rest : List ℕ) → RecordFits r → drop at bytes ≡ record_spelling delta r ++ rest → Gives (λ x. x) answer (Some (r, length (record_spelling delta r)))
+  is_only (Err Memory) given within r rest f e = tt
+  is_only (Err Bad) given within r rest f e = absurd (no_none (sym given ∙ ap (record_at delta) e ∙ record_again delta r rest fits f))
+    where
+      no_none : ◌≡◌ {A = Option (Record × List ℕ)} None (Some (r, rest)) → ⊥
+      no_none h = cc
+  is_only (Ok x) given within r rest f e =
+      let same : ◌≡◌ {A = Record × List ℕ} (r, rest) (view x) = some_is (r, rest) (view x) (sym (ap (record_at delta) e ∙ record_again delta r rest fits f) ∙ given) in
+      let after : rest ≡ drop (at + x.1) bytes = ap (λ (p : Record × List ℕ). p.1) same in
+      let len : length (record_spelling delta r) ≡ x.1 = omega (arith, ap length e, ap length after, length-append (record_spelling delta r) rest, length-drop at bytes, length-drop (at + x.1) bytes) in
+      let first : r ≡ x.0 = ap (λ (p : Record × List ℕ). p.0) same in
+      rw (len, first) refl

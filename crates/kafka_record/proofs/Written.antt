@@ -1,0 +1,45 @@
+-- Bytes that were written at the end, one part after the other.
+use Rattle.std.proofs.Common.{◌≡◌, ℕ, ◌+◌, ◌≤◌, List, ◌∷◌, ◌++◌, length, take, refl, sym, ap, ◌∙◌, append_assoc, arith}
+use Rattle.std.specs.Prelude.{ℤ, pos}
+use Rattle.std.specs.List.{flat_map}
+use Rattle.std.proofs.lemmas.List.{take_at, take-take, take_all, length-take, length-append}
+use Rattle.wire_spec.specs.declared.record.Header.{Header}
+use Rattle.wire_spec.specs.declared.record.Record.{Record}
+use Rattle.wire_spec.specs.Varint.{varint, varlong}
+use Rattle.wire_spec.specs.RecordSpelling.{nullable, header, record_body}
+use Rattle.kafka_record.specs.Keeps.{Keeps}
+
+pub Keeps-same : (old new : List ℕ) → new ≡ old → Keeps old new
+Keeps-same old new e = record { front = ap (take (length old)) e ∙ take_all (length old) old (omega arith) }
+
+pub Keeps-append : (old new more : List ℕ) → new ≡ old ++ more → Keeps old new
+Keeps-append old new more e = record { front = ap (take (length old)) e ∙ take_at old more (length old) refl }
+
+pub Keeps-then : (a b c : List ℕ) → Keeps a b → Keeps b c → Keeps a c
+Keeps-then a b c p q =
+    let shorter : length a ≤ length b = omega (arith, length-take (length a) b, ap length p.front) in
+    record { front = sym (take-take (length a) (length b) c shorter) ∙ ap (take (length a)) q.front ∙ p.front }
+
+pub ruleset keeping = (Keeps-same, Keeps-append, Keeps-then)
+
+-- ---- The parts of a body
+
+-- all of its parts in a row
+pub body_is : (delta delta' : ℤ) (t : ℤ) (r : Record) (hs : List Header) (old a b c new : List ℕ) → delta' ≡ delta → t ≡ r.timestamp_delta → hs ≡ r.headers
+    → a ≡ old ++ 0 ∷ (varlong t ++ varint delta') → b ≡ a ++ nullable r.key → c ≡ b ++ nullable r.value → new ≡ c ++ (varint (pos (length hs)) ++ flat_map header hs)
+    → new ≡ old ++ record_body delta r
+body_is delta delta' t r hs old a b c new same_delta same_t same_hs e1 e2 e3 e4 =
+    let row : new ≡ (((old ++ 0 ∷ (varlong t ++ varint delta')) ++ nullable r.key) ++ nullable r.value) ++ (varint (pos (length hs)) ++ flat_map header hs) = cc in
+    row ∙ rw (same_delta, same_t, same_hs) (simp append_assoc)
+
+-- the sum of their lengths
+pub length_is : (delta : ℤ) (r : Record) (t d k v n h : ℕ) → t ≡ length (varlong r.timestamp_delta) → d ≡ length (varint delta) → k ≡ length (nullable r.key) → v ≡ length (nullable r.value) → n ≡ length (varint (pos (length r.headers))) → h ≡ length (flat_map header r.headers)
+    → 1 + t + d + (k + v) + n + h ≡ length (record_body delta r)
+length_is delta r t d k v n h e1 e2 e3 e4 e5 e6 =
+    let hs = flat_map header r.headers in
+    let n' = varint (pos (length r.headers)) in
+    let v' = nullable r.value in
+    let k' = nullable r.key in
+    let d' = varint delta in
+    let t' = varlong r.timestamp_delta in
+    omega (arith, length-append n' hs, length-append v' (n' ++ hs), length-append k' (v' ++ (n' ++ hs)), length-append d' (k' ++ (v' ++ (n' ++ hs))), length-append t' (d' ++ (k' ++ (v' ++ (n' ++ hs)))))

@@ -1,0 +1,74 @@
+ghost use Rattle.std.specs.Prelude.{◌≡◌, ◌+◌, ◌*◌, ◌^◌, ◌<◌, ◌≤◌, pos, length, All, IfSome};
+ghost use Rattle.std.specs.List.{flat_map};
+ghost use Rattle.wire_spec.specs.Varint.{varint};
+ghost use Rattle.wire_spec.specs.RecordSpelling.{HeaderFits, RecordFits, nullable, header, record_body, record_spelling};
+
+use crate::limits::slice_of;
+use bytes::Bytes;
+use varint::{len32, len64};
+use wire_spec::{Header, Record};
+
+/// How many bytes a length takes, and what it is the length of.
+fn string_len(len: usize) -> usize
+    requires { len < 2 ^ 31 }
+    ensures size { result ≡ length (varint (pos len)) + len }
+    ensures small { result ≤ 5 + len }
+{
+    len32(len as i32) + len
+}
+
+fn nullable_len(part: &Option<Bytes>) -> usize
+    requires { IfSome part.now (λ b. length b ≤ 65536) }
+    ensures { result ≡ length (nullable part.now) }
+{
+    match part {
+        Some(bytes) => string_len(bytes.len()),
+        None => len32(-1),
+    }
+}
+
+fn header_len(one: &Header) -> usize
+    requires { HeaderFits one.now }
+    ensures size { result ≡ length (header one.now) }
+    ensures small { result ≤ 4361 }
+{
+    string_len(one.key.len()) + nullable_len(&one.value)
+}
+
+fn headers_len(headers: &[Header]) -> usize
+    requires few { length headers.now ≤ 16 }
+    requires fit { All HeaderFits headers.now }
+    ensures size { result ≡ length (flat_map header headers.now) }
+    ensures small { result ≤ 4361 * length headers.now }
+{
+    let mut len = 0;
+    for one in headers {
+        len += header_len(one);
+    }
+    len
+}
+
+/// How many bytes follow a record's length.
+pub fn body_len(record: &Record, delta: i32) -> usize
+    requires { RecordFits «record».now }
+    ensures size { result ≡ length (record_body delta «record».now) }
+    ensures small { result ≤ 139439 }
+{
+    let timestamp = len64(record.timestamp_delta);
+    let offset = len32(delta);
+    let key = nullable_len(&record.key);
+    let value = nullable_len(&record.value);
+    let list = slice_of(&record.headers);
+    let count = len32(list.len() as i32);
+    let headers = headers_len(list);
+    1 + timestamp + offset + (key + value) + count + headers
+}
+
+/// How many bytes the record with this offset delta takes.
+pub fn size(record: &Record, delta: i32) -> usize
+    requires { RecordFits «record».now }
+    ensures size { result ≡ length (record_spelling delta «record».now) }
+    ensures small { result ≤ 139444 }
+{
+    string_len(body_len(record, delta))
+}
