@@ -28,7 +28,7 @@ more base rs i r lt e =
     ap (timestamps base) (take_more rs i r lt ∙ ap (λ (x : Record). take i rs ++ x ∷ []) (sym e)) ∙ map_push (λ (x : Record). base +ℤ x.timestamp_delta) (take i rs) r
 
 -- a timestamp that is one
-in_time : (b : Bool) (t u : ℤ) → Some t ≡ cond b (Some u) None → (b ≡ true) × (u ≡ t)
+pub in_time : (b : Bool) (t u : ℤ) → Some t ≡ cond b (Some u) None → (b ≡ true) × (u ≡ t)
 in_time true t u e = (refl, cc)
 in_time false t u e = absurd cc
 

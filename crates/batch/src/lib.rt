@@ -5,6 +5,9 @@ mod fields;
 mod limits;
 mod reading;
 mod times;
+mod writing;
 
+pub use limits::fits;
 pub use reading::{decode, one_spelling};
-pub use wire_spec::{Batch, BatchFault, Records};
+pub use wire_spec::{Batch, BatchFault, Headers, Records};
+pub use writing::encode;

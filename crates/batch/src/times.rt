@@ -3,7 +3,7 @@ ghost use Rattle.std.specs.Ordering.{int_eq};
 ghost use Rattle.wire_spec.specs.BatchReading.{is_timestamp as timestamp_test};
 ghost use Rattle.batch.specs.Latest.{when_timestamp, latest_of};
 
-use wire_spec::Record;
+use wire_spec::{Batch, Record};
 
 const END_OF_TIME: i64 = 1 << 62;
 
@@ -19,6 +19,13 @@ pub fn is_same(time: i64, other: i64) -> bool
     ensures { result ≡ int_eq time other }
 {
     time == other
+}
+
+/// The base timestamp.
+pub fn base_of(batch: &Batch) -> i64
+    ensures { result ≡ «batch».now.base_timestamp }
+{
+    batch.base_timestamp
 }
 
 /// The timestamp of a record with this delta, where it is one.

@@ -228,19 +228,19 @@ records_one place (r ∷ rs) (s ∷ ss) x y small len fits also e =
 
 -- ---- Timestamps
 
-is_timestamp-from : (t : ℤ) → IsTimestamp t → is_timestamp t ≡ true
+pub is_timestamp-from : (t : ℤ) → IsTimestamp t → is_timestamp t ≡ true
 is_timestamp-from t h = grind (arith, ints, h.0, h.1)
 
-IsTimestamp-from : (t : ℤ) → is_timestamp t ≡ true → IsTimestamp t
+pub IsTimestamp-from : (t : ℤ) → is_timestamp t ≡ true → IsTimestamp t
 IsTimestamp-from t h =
     let b = from_and (int_le (pos 0) t) (int_lt t (pos (2 ^ 62))) h in
     (grind (arith, ints, b.0), grind (arith, ints, b.1))
 
-list_all-from : (ts : List ℤ) → AllByRecursion IsTimestamp ts → list_all is_timestamp ts ≡ true
+pub list_all-from : (ts : List ℤ) → AllByRecursion IsTimestamp ts → list_all is_timestamp ts ≡ true
 list_all-from [] h = refl
 list_all-from (t ∷ ts) h = rw (is_timestamp-from t h.0) (list_all-from ts h.1)
 
-AllByRecursion-from : (ts : List ℤ) → list_all is_timestamp ts ≡ true → AllByRecursion IsTimestamp ts
+pub AllByRecursion-from : (ts : List ℤ) → list_all is_timestamp ts ≡ true → AllByRecursion IsTimestamp ts
 AllByRecursion-from [] h = tt
 AllByRecursion-from (t ∷ ts) h =
     let b = from_and (is_timestamp t) (list_all is_timestamp ts) h in
@@ -510,7 +510,7 @@ back_64 : (z : ℤ) → FitsSigned w64 z → cast_signed w64 (from_be_bytes w64 
 back_64 z fits = read_signed w64 8 (2 ^ 64) wide64 z (to_z-of_z w64 z fits) fits
 
 -- timestamps fit 64 bits
-timestamp_fits : (t : ℤ) → IsTimestamp t → FitsSigned w64 t
+pub timestamp_fits : (t : ℤ) → IsTimestamp t → FitsSigned w64 t
 timestamp_fits (pos n) h = record { sfits = omega (arith, ints, h.1) }
 timestamp_fits (negsuc n) h = absurd (omega (arith, ints, h.0))
 
@@ -518,11 +518,11 @@ max_timestamp_is : (ts : List ℤ) (a : ℤ) → IsTimestamp a → AllByRecursio
 max_timestamp_is [] a h all = h
 max_timestamp_is (t ∷ ts) a h all = max_timestamp_is ts (int_max a t) (cond_both (int_lt t a) a t IsTimestamp (λ e. h) (λ e. all.0)) all.1
 
-length-covered : (b : Batch) → length (batch_spelling b) ≡ 21 + length (covered b)
+pub length-covered : (b : Batch) → length (batch_spelling b) ≡ 21 + length (covered b)
 unfolding batch_spelling
 length-covered b = omega arith
 
-records_length : (b : Batch) → length (covered b) ≡ 40 + length (records_spelling 0 b.records)
+pub records_length : (b : Batch) → length (covered b) ≡ 40 + length (records_spelling 0 b.records)
 records_length b = omega arith
 
 stands : (b : Batch) (rest : List ℕ) → BatchFits b → Stands b (batch_spelling b ++ rest)

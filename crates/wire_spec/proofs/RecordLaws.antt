@@ -13,10 +13,10 @@ use Rattle.std.proofs.lemmas.Str.{is_utf8-from_IsUtf8, IsUtf8-from_is_utf8}
 use Rattle.wire_spec.specs.declared.fault.VarintFault.{VarintFault}
 use Rattle.wire_spec.specs.declared.record.Header.{Header}
 use Rattle.wire_spec.specs.declared.record.Record.{Record}
-use Rattle.wire_spec.specs.Varint.{zigzag, groups, varint, varlong, read_varint, read_varlong}
+use Rattle.wire_spec.specs.Varint.{varint, varlong, read_varint, read_varlong}
 use Rattle.wire_spec.specs.RecordSpelling.{HeaderFits, RecordFits, max_key, max_value, max_headers, max_header_key, max_header_value, string, nullable, header, record_body, record_spelling}
 use Rattle.wire_spec.specs.RecordReading.{◌>>=◌, with_rest, varint_at, varlong_at, bytes_at, nullable_bytes_at, string_at, nullable_at, header_at, headers_at, counted_at, attributes_at, delta_at, body_at, record_at}
-use Rattle.wire_spec.proofs.Varints.{IsBytes, IsBytes-rest, IsBytes-drop, read_varint-taken, read_varlong-taken, read_varint-form, read_varlong-form, IsVarint-varint, IsVarlong-varlong, varint_is, varlong_is, length-groups}
+use Rattle.wire_spec.proofs.Varints.{IsBytes, IsBytes-rest, IsBytes-drop, read_varint-taken, read_varlong-taken, read_varint-form, read_varlong-form, IsVarint-varint, IsVarlong-varlong, varint_is, varlong_is, length-varint, length-varlong}
 
 -- the value of a step that gave one
 pub bind_some : {A B : Type 0} (r : Option A) (f : A → Option B) (y : B) → (r >>= f) ≡ Some y → (x : A) × (r ≡ Some x) × (f x ≡ Some y)
@@ -285,22 +285,14 @@ body_again delta r rest h fits =
 
 -- ---- Records
 
-length-varint : (z : ℤ) → length (varint z) ≤ 5
-unfolding varint
-length-varint z = length-groups 5 (zigzag z)
-
-length-varlong : (z : ℤ) → length (varlong z) ≤ 10
-unfolding varlong
-length-varlong z = length-groups 10 (zigzag z)
-
 pub length-nullable : (limit : ℕ) (o : Option (List ℕ)) → IfSome o (λ s. length s ≤ limit) → length (nullable o) ≤ 5 + limit
 length-nullable limit None h = omega (arith, length-varint (negsuc 0))
 length-nullable limit (Some s) h = omega (arith, h, length-append (varint (pos (length s))) s, length-varint (pos (length s)))
 
-length-header : (h : Header) → HeaderFits h → length (header h) ≤ 4361
+pub length-header : (h : Header) → HeaderFits h → length (header h) ≤ 4361
 length-header h fits = omega (arith, fits.key, length-append (string h.key) (nullable h.value), length-append (varint (pos (length h.key))) h.key, length-varint (pos (length h.key)), length-nullable max_header_value h.value fits.value)
 
-length-headers : (hs : List Header) → AllByRecursion HeaderFits hs → length (flat_map header hs) ≤ 4361 * length hs
+pub length-headers : (hs : List Header) → AllByRecursion HeaderFits hs → length (flat_map header hs) ≤ 4361 * length hs
 length-headers [] fits = omega arith
 length-headers (h ∷ hs) fits = rw flat_map-cons (omega (arith, length-append (header h) (flat_map header hs), length-header h fits.0, length-headers hs fits.1))
 

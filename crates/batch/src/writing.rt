@@ -1,0 +1,118 @@
+ghost use Rattle.std.specs.Prelude.{◌≡◌, ◌≤◌, ◌<◌, ◌-◌, ◌∷◌, ◌++◌, pos, All, IfOk, OnOk, length, take, drop};
+ghost use Rattle.std.specs.Int.{w16, w32, w64, to_be_bytes};
+ghost use Rattle.std.specs.List.{AllByRecursion};
+ghost use Rattle.wire_spec.specs.Checksum.{checksum};
+ghost use Rattle.wire_spec.specs.RecordSpelling.{RecordFits, record_spelling};
+ghost use Rattle.wire_spec.specs.BatchSpelling.{IsTimestamp, BatchFits, timestamps, greatest, signed, records_spelling, covered, batch_spelling};
+
+use crate::fields::{put_i16, put_i32, put_i64, put_u32};
+use crate::limits::{HEADER, records_len};
+use crate::times::{base_of, latest};
+use byteorder::{BigEndian, ByteOrder};
+use std::alloc::{AllocError, Global};
+use wire_spec::{Batch, Record};
+
+// The bytes up to the end of batchLength, which it does not count.
+const FRONT: usize = 12;
+
+// The place of the checksum, and where what it covers begins.
+const CRC: usize = 17;
+
+const COVERED: usize = 21;
+
+/// Writes the record of this place at the end.
+fn put_record(out: &mut Vec<u8>, record: &Record, place: usize) -> Result<(), AllocError>
+    requires place { place < 10000 }
+    requires fits { RecordFits «record».now }
+    ensures { OnOk result (out.new.items ≡ out.old.items ++ record_spelling (pos place) «record».now) }
+{
+    kafka_record::write(record, place as i32, out)
+}
+
+fn put_records(out: &mut Vec<u8>, records: &[Record]) -> Result<(), AllocError>
+    requires few { length records.now ≤ 10000 }
+    requires fit { All RecordFits records.now }
+    ensures { OnOk result (out.new.items ≡ out.old.items ++ records_spelling 0 records.now) }
+{
+    for (place, record) in records.iter().enumerate() {
+        put_record(out, record, place)?;
+    }
+    Ok(())
+}
+
+/// The greatest timestamp of the records.
+fn greatest_of(base: i64, records: &[Record]) -> i64
+    requires { AllByRecursion IsTimestamp (timestamps base records.now) }
+    ensures { result ≡ greatest (timestamps base records.now) }
+{
+    latest(base, records).unwrap()
+}
+
+/// Writes what the checksum does not cover, with 0 in its place: baseOffset, batchLength,
+/// partitionLeaderEpoch, magic, crc.
+fn put_front(out: &mut Vec<u8>, batch: &Batch, size: usize) -> Result<(), AllocError>
+    requires least { 12 ≤ size }
+    requires most { size ≤ 1048576 }
+    ensures { OnOk result (out.new.items ≡ out.old.items ++ (signed w64 «batch».now.base_offset ++ (to_be_bytes w32 (size - 12)
+        ++ (signed w32 «batch».now.leader_epoch ++ (2 ∷ to_be_bytes w32 0))))) }
+{
+    put_i64(out, batch.base_offset)?;
+    put_u32(out, (size - FRONT) as u32)?;
+    put_i32(out, batch.leader_epoch)?;
+    out.push(2)?;
+    put_u32(out, 0)?;
+    Ok(())
+}
+
+/// Writes the header from attributes on, which the checksum covers, up to the records.
+fn put_header(out: &mut Vec<u8>, batch: &Batch, count: u32, greatest: i64) -> Result<(), AllocError>
+    requires { 0 < count }
+    ensures { OnOk result (out.new.items ≡ out.old.items ++ (to_be_bytes w16 0 ++ (to_be_bytes w32 (count - 1)
+        ++ (signed w64 «batch».now.base_timestamp ++ (signed w64 greatest ++ (signed w64 «batch».now.producer_id
+        ++ (signed w16 «batch».now.producer_epoch ++ (signed w32 «batch».now.base_sequence ++ to_be_bytes w32 count)))))))) }
+{
+    put_i16(out, 0)?;
+    put_u32(out, count - 1)?;
+    put_i64(out, batch.base_timestamp)?;
+    put_i64(out, greatest)?;
+    put_i64(out, batch.producer_id)?;
+    put_i16(out, batch.producer_epoch)?;
+    put_i32(out, batch.base_sequence)?;
+    put_u32(out, count)?;
+    Ok(())
+}
+
+/// Writes all that the checksum covers.
+fn put_covered(out: &mut Vec<u8>, batch: &Batch) -> Result<(), AllocError>
+    requires { BatchFits «batch».now }
+    ensures { OnOk result (out.new.items ≡ out.old.items ++ covered «batch».now) }
+{
+    let records = batch.records.list.as_slice();
+    let base = base_of(batch);
+    let greatest = greatest_of(base, records);
+    put_header(out, batch, records.len() as u32, greatest)?;
+    put_records(out, records)?;
+    Ok(())
+}
+
+/// Writes the checksum of what stands behind it.
+fn seal(out: &mut [u8])
+    requires { 21 ≤ length out.old }
+    ensures { out.new ≡ take 17 out.old ++ (to_be_bytes w32 (checksum (drop 21 out.old)) ++ drop 21 out.old) }
+{
+    let crc = crc32c::sum(&out[COVERED..]);
+    BigEndian::write_u32(&mut out[CRC..], crc);
+}
+
+/// The one spelling of the batch.
+pub fn encode(alloc: Global, batch: &Batch) -> Result<Vec<u8>, AllocError>
+    requires { BatchFits «batch».now }
+    ensures { IfOk result (λ v. v.items ≡ batch_spelling «batch».now) }
+{
+    let size = HEADER + records_len(batch.records.list.as_slice());
+    let mut out = Vec::with_capacity(alloc, size)?;
+    put_front(&mut out, batch, size)?;
+    put_covered(&mut out, batch)?;
+    seal(&mut out);
+    Ok(out)
+}
