@@ -4,6 +4,7 @@
 
 mod checks;
 mod kinds;
+mod laws;
 mod narrowing;
 mod order;
 mod ranges;
@@ -11,6 +12,7 @@ mod stack_set;
 mod state;
 mod transfer;
 
+pub use laws::{order_is_kept, transfer_is_sound};
 pub use machine_spec::{Instruction, Region};
 pub use state::{Edges, State};
 pub use verifier_spec::{Abs, Abstract, Check, StackSet};

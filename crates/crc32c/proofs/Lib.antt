@@ -1,5 +1,4 @@
 pub mod Blocks
-pub mod Bounds
 pub mod Division
 pub mod Linear
 pub mod Steps

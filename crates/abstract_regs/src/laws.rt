@@ -1,0 +1,29 @@
+//! What the checks and the transfer promise of every instruction.
+
+ghost use Rattle.std.specs.Prelude.{◌≡◌, true, None};
+ghost use Rattle.verifier_spec.specs.States.{is_within};
+ghost use Rattle.verifier_spec.specs.Checks.{failed_check};
+ghost use Rattle.verifier_spec.specs.Soundness.{IsSoundAt, KeepsOrder};
+
+use crate::State;
+use machine_spec::Instruction;
+
+/// Transfer is sound: where a state whose checks pass holds of the machine's state before a step,
+/// the step's edge brings a state that holds of the machine's state after it.
+#[tactic(auto, using(verifier_spec::proofs::Sound::transfer_sound))]
+pub fn transfer_is_sound(state: &State, instruction: Instruction)
+    requires { failed_check instruction state.now ≡ None }
+    ensures { IsSoundAt instruction state.now }
+{
+    let _failed = state.check(instruction);
+}
+
+/// Checks and transfer keep the order: a state within another passes the checks that the other
+/// passes, and each edge brings from it a state within the one from the other, or none.
+pub fn order_is_kept(inner: &State, outer: &State, instruction: Instruction)
+    requires within { is_within inner.now outer.now ≡ true }
+    requires passes { failed_check instruction outer.now ≡ None }
+    ensures { KeepsOrder instruction inner.now outer.now }
+{
+    let _within = inner.within(outer);
+}
