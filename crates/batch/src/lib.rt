@@ -11,3 +11,6 @@ pub use limits::fits;
 pub use reading::{decode, one_spelling};
 pub use wire_spec::{Batch, BatchFault, Headers, Records};
 pub use writing::encode;
+
+#[cfg(test)]
+mod tests;
