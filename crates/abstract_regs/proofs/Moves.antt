@@ -7,7 +7,6 @@ use Rattle.machine_spec.specs.declared.instruction.Region.{Region}
 use Rattle.verifier_spec.specs.declared.state.Abs.TheVariants as abs
 use Rattle.verifier_spec.specs.Kinds.{is_proper_kind, furthest}
 use Rattle.verifier_spec.specs.Checks.{is_one_sign, can_move}
-use Rattle.verifier_spec.specs.Transfer.{moved}
 
 -- numbers of one sign are in order where they are read as signed
 pub signed_order : (a b : ℕ) → a ≤ b → b < 2 ^ 64 → is_one_sign a b ≡ true → cast_signed w64 a ≤ℤ cast_signed w64 b
@@ -33,6 +32,3 @@ moved_bounds region low high range proper ordered fits can =
     let s = signed_order range.0 range.1 ordered fits m.0 in
     let i : low ≤ℤ high = grind (arith, ints) in
     record { from = grind (arith, ints); order = omega (arith, ints); to = grind (arith, ints) }
-
-pub moved_proper : (region : Region) (low high : ℤ) (range : ℕ × ℕ) → Bounds low high range → is_proper_kind (moved region low high (Some range)) ≡ true
-moved_proper region low high range b = grind (arith, ints, b.from, b.order, b.to)

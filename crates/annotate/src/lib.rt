@@ -3,7 +3,7 @@
 #![tactic(auto)]
 
 mod forward;
-mod load;
+mod loader;
 
-pub use load::load;
+pub use loader::load;
 pub use log_spec::LoadFault;

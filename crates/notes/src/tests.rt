@@ -116,6 +116,14 @@ fn refuses_lists(rt: HostRuntime) -> Result<(), Fail> {
     Ok(())
 }
 
+fn image_of(alloc: Global, forms: &[&[u8]]) -> Result<Vec<u8>, Fail> {
+    let mut image = Vec::new(alloc);
+    for form in forms {
+        image.extend_from_slice(form)?;
+    }
+    Ok(image)
+}
+
 #[test]
 fn refuses_instructions(rt: HostRuntime) -> Result<(), Fail> {
     let alloc = rt.alloc();
@@ -149,10 +157,7 @@ fn refuses_instructions(rt: HostRuntime) -> Result<(), Fail> {
         ),
     ];
     for (forms, notes, want) in cases {
-        let mut image = Vec::new(alloc);
-        for form in forms {
-            image.extend_from_slice(form)?;
-        }
+        let image = image_of(alloc, forms)?;
         let text = told(alloc, &image, notes)?;
         assert_eq!(rt; text.as_str(), want);
     }

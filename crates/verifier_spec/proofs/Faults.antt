@@ -38,8 +38,8 @@ pub first_of-told : {A : Type 0} (xs ys : List (Bool × A)) (x : A) → first_of
 first_of-told [] ys x h = cc
 first_of-told {A} (row ∷ xs) ys x h =
     elim (cases_Bool row.0) [
-      inl fails ↦ cond-true row.0 (Some row.1) (first_of (xs ++ ys)) fails ∙ (sym (cond-true row.0 (Some row.1) (first_of xs) fails) ∙ h)
-    | inr passes ↦ cond-false row.0 (Some row.1) (first_of (xs ++ ys)) passes ∙ first_of-told xs ys x (sym (cond-false row.0 (Some row.1) (first_of xs) passes) ∙ h)
+      | inl fails ↦ cond-true row.0 (Some row.1) (first_of (xs ++ ys)) fails ∙ (sym (cond-true row.0 (Some row.1) (first_of xs) fails) ∙ h)
+      | inr passes ↦ cond-false row.0 (Some row.1) (first_of (xs ++ ys)) passes ∙ first_of-told xs ys x (sym (cond-false row.0 (Some row.1) (first_of xs) passes) ∙ h)
     ]
 
 -- ---- one instruction
@@ -216,12 +216,12 @@ no_memory_first [] kind none e = cc
 no_memory_first (row ∷ rows) kind none e =
     let parts : (is_memory row.1 ≡ false) × (list_any (λ r. is_memory r.1) rows ≡ false) = or_parts (is_memory row.1) (list_any (λ r. is_memory r.1) rows) none in
     elim (cases_Bool row.0) [
-      inl fails ↦
-        let told : Some row.1 ≡ Some kind = sym (cond-true row.0 (Some row.1) (first_of rows) fails) ∙ e in
-        let same : row.1 ≡ kind = cc in
-        let P : Check → Type 0 = λ c. is_memory c ≡ false in
-        subst P same parts.0
-    | inr passes ↦ no_memory_first rows kind parts.1 (sym (cond-false row.0 (Some row.1) (first_of rows) passes) ∙ e)
+      | inl fails ↦
+          let told : Some row.1 ≡ Some kind = sym (cond-true row.0 (Some row.1) (first_of rows) fails) ∙ e in
+          let same : row.1 ≡ kind = cc in
+          let P : Check → Type 0 = λ c. is_memory c ≡ false in
+          subst P same parts.0
+      | inr passes ↦ no_memory_first rows kind parts.1 (sym (cond-false row.0 (Some row.1) (first_of rows) passes) ∙ e)
     ]
 
 no_memory_rows : (code : List Placed) (notes : Notes) (k : ℕ) (placed : Placed) (known : Option Abstract)
@@ -257,14 +257,14 @@ fault_of-kind code notes f e is =
     let start : Bool = (length notes == length code) && is_covered entry_state (note_at notes 0) in
     let notes_fault : VerifyFault = record { pc = 0; kind = check.Notes } in
     let none : is_memory f.kind ≡ false =
-        elim (cases_Bool start) [
-          inl passes ↦ no_memory_from code notes 0 code f (sym (cond-true start (fault_from code notes 0 code) (Some notes_fault) passes) ∙ e)
-        | inr fails ↦
-            let told : Some notes_fault ≡ Some f = sym (cond-false start (fault_from code notes 0 code) (Some notes_fault) fails) ∙ e in
-            let same : check.Notes ≡ f.kind = cc in
-            let P : Check → Type 0 = λ c. is_memory c ≡ false in
-            subst P same refl
-        ] in
+    elim (cases_Bool start) [
+      | inl passes ↦ no_memory_from code notes 0 code f (sym (cond-true start (fault_from code notes 0 code) (Some notes_fault) passes) ∙ e)
+      | inr fails ↦
+          let told : Some notes_fault ≡ Some f = sym (cond-false start (fault_from code notes 0 code) (Some notes_fault) fails) ∙ e in
+          let same : check.Notes ≡ f.kind = cc in
+          let P : Check → Type 0 = λ c. is_memory c ≡ false in
+          subst P same refl
+    ] in
     let P : Check → Type 0 = λ c. is_memory c ≡ false in
     let bad : true ≡ false = subst P is none in
     cc

@@ -53,7 +53,8 @@ natural_is (pos n) h = (n, refl)
 natural_is (negsuc n) h = absurd (negative n h)
 
 -- the places that a narrower reach may read are among those of a wider one
-set_within : (inner outer : StackSet) (lo hi low high : ℤ) (size : ℕ) → ((q : ℕ) → q < 512 → is_set outer q ≡ true → is_set inner q ≡ true) → low ≤ℤ lo → lo ≤ℤ hi → hi ≤ℤ high → pos 0 ≤ℤ low → (high +ℤ pos size) ≤ℤ pos stack_size
+set_within : (inner outer : StackSet) (lo hi low high : ℤ) (size : ℕ) → ((q : ℕ) → q < 512 → is_set outer q ≡ true → is_set inner q ≡ true) → low ≤ℤ lo → lo ≤ℤ hi → hi ≤ℤ high → pos 0 ≤ℤ low
+    → (high +ℤ pos size) ≤ℤ pos stack_size
     → are_set outer (unsigned_abs low) (unsigned_abs (high +ℤ neg_ℤ low) + size) ≡ true → are_set inner (unsigned_abs lo) (unsigned_abs (hi +ℤ neg_ℤ lo) + size) ≡ true
 set_within inner outer (negsuc m) hi low high size s p order q from to h = absurd (negative m (le_trans_z (pos 0) low (negsuc m) from p))
 set_within inner outer (pos m) (negsuc n) low high size s p order q from to h = absurd (negative n (le_trans_z (pos 0) (pos m) (negsuc n) (le_trans_z (pos 0) low (pos m) from p) order))
@@ -68,7 +69,8 @@ set_within inner outer (pos m) (pos n) (pos k) (pos l) size s p order q from to 
     rw (gap_is m n m_n) (set_from inner m ((n - m) + size) (λ i low high. s i (omega arith) (set_at outer k ((l - k) + size) i all (omega arith) (omega arith))))
 
 -- a call changes both sides alike
-called_pairs : (P : Abs → Abs → Type 0) (js ks : List Abs) (answer : Abs) (q : ℕ) → length js ≡ 11 → length ks ≡ 11 → P (get_or js q abs.None) (get_or ks q abs.None) → P answer answer → P abs.None abs.None → P (get_or (after_call_kinds js answer) q abs.None) (get_or (after_call_kinds ks answer) q abs.None)
+called_pairs : (P : Abs → Abs → Type 0) (js ks : List Abs) (answer : Abs) (q : ℕ) → length js ≡ 11 → length ks ≡ 11 → P (get_or js q abs.None) (get_or ks q abs.None) → P answer answer
+    → P abs.None abs.None → P (get_or (after_call_kinds js answer) q abs.None) (get_or (after_call_kinds ks answer) q abs.None)
 called_pairs P (j0 ∷ j1 ∷ j2 ∷ j3 ∷ j4 ∷ j5 ∷ js) (k0 ∷ k1 ∷ k2 ∷ k3 ∷ k4 ∷ k5 ∷ ks) answer zero d e h p n = p
 called_pairs P (j0 ∷ j1 ∷ j2 ∷ j3 ∷ j4 ∷ j5 ∷ js) (k0 ∷ k1 ∷ k2 ∷ k3 ∷ k4 ∷ k5 ∷ ks) answer (suc zero) d e h p n = n
 called_pairs P (j0 ∷ j1 ∷ j2 ∷ j3 ∷ j4 ∷ j5 ∷ js) (k0 ∷ k1 ∷ k2 ∷ k3 ∷ k4 ∷ k5 ∷ ks) answer (suc (suc zero)) d e h p n = n
@@ -130,27 +132,27 @@ module _ (a b : Abstract) (w : IsWithin a b) (pa : is_proper a ≡ true) (pb : i
   bases : (base : ℕ) → is_address_kind (kind_at b base) ≡ true → AreAddresses (kind_at a base) (kind_at b base)
   bases base is = addresses_within a (kind_at a base) (kind_at b base) (ordered_kind a base pa) (kind_within a b w pb base) is
 
-  record_kept : (i : Instruction) → has_wrong_kind i b ≡ false → may_leave_record b (reach_of i b) ≡ false → may_leave_record a (reach_of i a) ≡ false
-  record_kept (Move width dst source) k c = refl
-  record_kept (Compute width operation dst source) k c = refl
-  record_kept (Load size dst base offset) k c =
+  record_bounds_kept : (i : Instruction) → has_wrong_kind i b ≡ false → may_leave_record b (reach_of i b) ≡ false → may_leave_record a (reach_of i a) ≡ false
+  record_bounds_kept (Move width dst source) k c = refl
+  record_bounds_kept (Compute width operation dst source) k c = refl
+  record_bounds_kept (Load size dst base offset) k c =
       let x = bases base (not-false _ k) in
       let c' : may_leave_record b (reach_at (abs.Addr x.at x.low x.high) offset size) ≡ false = rw x.outer at c in
       rw x.inner (record_within x.at x.lo x.hi x.low x.high offset (byte_count size) x.from x.to c')
-  record_kept (JumpIf width test dst source offset) k c = refl
-  record_kept (Call number) k c = refl
-  record_kept Exit k c = refl
+  record_bounds_kept (JumpIf width test dst source offset) k c = refl
+  record_bounds_kept (Call number) k c = refl
+  record_bounds_kept Exit k c = refl
 
-  stack_kept : (i : Instruction) → has_wrong_kind i b ≡ false → may_leave_stack (reach_of i b) ≡ false → may_leave_stack (reach_of i a) ≡ false
-  stack_kept (Move width dst source) k c = refl
-  stack_kept (Compute width operation dst source) k c = refl
-  stack_kept (Load size dst base offset) k c =
+  stack_bounds_kept : (i : Instruction) → has_wrong_kind i b ≡ false → may_leave_stack (reach_of i b) ≡ false → may_leave_stack (reach_of i a) ≡ false
+  stack_bounds_kept (Move width dst source) k c = refl
+  stack_bounds_kept (Compute width operation dst source) k c = refl
+  stack_bounds_kept (Load size dst base offset) k c =
       let x = bases base (not-false _ k) in
       let c' : may_leave_stack (reach_at (abs.Addr x.at x.low x.high) offset size) ≡ false = rw x.outer at c in
       rw x.inner (stack_within x.at x.lo x.hi x.low x.high offset (byte_count size) x.from x.to c')
-  stack_kept (JumpIf width test dst source offset) k c = refl
-  stack_kept (Call number) k c = refl
-  stack_kept Exit k c = refl
+  stack_bounds_kept (JumpIf width test dst source offset) k c = refl
+  stack_bounds_kept (Call number) k c = refl
+  stack_bounds_kept Exit k c = refl
 
   stack_unset_kept : (i : Instruction) → has_wrong_kind i b ≡ false → may_leave_stack (reach_of i b) ≡ false → may_read_unset b (reach_of i b) ≡ false → may_read_unset a (reach_of i a) ≡ false
   stack_unset_kept (Move width dst source) k c u = refl
@@ -190,8 +192,8 @@ module _ (a b : Abstract) (w : IsWithin a b) (pa : is_proper a ≡ true) (pb : i
     helper = p.helper;
     unset = unset_kept i p.unset;
     type = type_kept i p.type;
-    record_bounds = record_kept i p.type p.record_bounds;
-    stack_bounds = stack_kept i p.type p.stack_bounds;
+    record_bounds = record_bounds_kept i p.type p.record_bounds;
+    stack_bounds = stack_bounds_kept i p.type p.stack_bounds;
     stack_unset = stack_unset_kept i p.type p.stack_bounds p.stack_unset;
     argument = argument_kept i p.argument;
     exit = exit_kept i p.unset p.exit;
@@ -249,10 +251,12 @@ module _ (a b : Abstract) (w : IsWithin a b) (pa : is_proper a ≡ true) (pb : i
 pub check_monotone : (i : Instruction) (a b : Abstract) → is_within a b ≡ true → is_proper a ≡ true → is_proper b ≡ true → failed_check i b ≡ None → failed_check i a ≡ None
 check_monotone i a b h pa pb pass = failed_from i a (passes_kept a b (within_parts a b h) pa pb i (passes i b pass))
 
-pub falls_monotone : (i : Instruction) (a b : Abstract) → is_within a b ≡ true → is_proper a ≡ true → is_proper b ≡ true → failed_check i b ≡ None → is_edge_covered (falls_to i a) (falls_to i b) ≡ true
+pub falls_monotone : (i : Instruction) (a b : Abstract) → is_within a b ≡ true → is_proper a ≡ true → is_proper b ≡ true → failed_check i b ≡ None
+    → is_edge_covered (falls_to i a) (falls_to i b) ≡ true
 falls_monotone i a b h pa pb pass = falls_kept a b (within_parts a b h) pa pb i h (passes i b pass)
 
-pub jumps_monotone : (i : Instruction) (a b : Abstract) → is_within a b ≡ true → is_proper a ≡ true → is_proper b ≡ true → failed_check i b ≡ None → is_edge_covered (jumps_to i a) (jumps_to i b) ≡ true
+pub jumps_monotone : (i : Instruction) (a b : Abstract) → is_within a b ≡ true → is_proper a ≡ true → is_proper b ≡ true → failed_check i b ≡ None
+    → is_edge_covered (jumps_to i a) (jumps_to i b) ≡ true
 jumps_monotone i a b h pa pb pass = jumps_kept a b (within_parts a b h) pa pb i h (passes i b pass)
 
 -- Checks and transfer keep the order at each instruction whose checks pass in the outer state.

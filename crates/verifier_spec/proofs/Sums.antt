@@ -56,7 +56,8 @@ moved_parts low high lo hi h =
     let q = and_parts _ _ p.1 in
     record { sign = p.0; from = le_z-true _ _ q.0; to = le_z-true _ _ q.1 }
 
-pub moved_in : (input : Input) (at : Region) (low high offset : ℤ) (lo hi n : ℕ) → can_move low high (Some (lo, hi)) ≡ true → low ≤ℤ offset → offset ≤ℤ high → lo ≤ n → n ≤ hi → HasKind input (moved at low high (Some (lo, hi))) (Address at (offset +ℤ cast_signed w64 n))
+pub moved_in : (input : Input) (at : Region) (low high offset : ℤ) (lo hi n : ℕ) → can_move low high (Some (lo, hi)) ≡ true → low ≤ℤ offset → offset ≤ℤ high → lo ≤ n → n ≤ hi
+    → HasKind input (moved at low high (Some (lo, hi))) (Address at (offset +ℤ cast_signed w64 n))
 moved_in input at low high offset lo hi n can low_le le_high lo_n n_hi =
     let m = moved_parts low high lo hi can in
     (refl, add_le low offset _ _ low_le (one_sign_le lo hi lo n m.sign (omega arith) lo_n n_hi), add_le offset high _ _ le_high (one_sign_le lo hi n hi m.sign lo_n n_hi (omega arith)))
@@ -83,7 +84,8 @@ number_if_moves a low high (abs.Num lo hi) h = refl
 number_if_moves a low high (abs.Len r) h = refl
 number_if_moves a low high (abs.Addr r lo hi) h = h
 
-address_and_number : (input : Input) (a : Abstract) (at : Region) (low high : ℤ) (k : Abs) (x y : Word) → can_move low high (range_of a k) ≡ true → HasKind input (abs.Addr at low high) x → IsNumber a k y → HasKind input (moved at low high (range_of a k)) (result_of Bits64 Add x y)
+address_and_number : (input : Input) (a : Abstract) (at : Region) (low high : ℤ) (k : Abs) (x y : Word) → can_move low high (range_of a k) ≡ true → HasKind input (abs.Addr at low high) x
+    → IsNumber a k y → HasKind input (moved at low high (range_of a k)) (result_of Bits64 Add x y)
 address_and_number input a at low high k Nothing y can h n = absurd h
 address_and_number input a at low high k (Number m) y can h n = absurd h
 address_and_number input a at low high k (Address r offset) y can h n =
@@ -91,7 +93,8 @@ address_and_number input a at low high k (Address r offset) y can h n =
     rw (n.is, n.range, ← h.0) (moved_in input at low high offset n.lo n.hi n.n can' h.1 h.2 n.low n.high)
 
 -- what an operation makes of words is of the kind that it makes of their kinds
-pub compute_holds : (input : Input) (a : Abstract) (width : Width) (operation : Operation) (j k : Abs) (x y : Word) → HasLengths input a → can_compute_kinds a width operation j k ≡ true → HasKind input j x → HasKind input k y → HasKind input (computed_kind a width operation j k) (result_of width operation x y)
+pub compute_holds : (input : Input) (a : Abstract) (width : Width) (operation : Operation) (j k : Abs) (x y : Word) → HasLengths input a → can_compute_kinds a width operation j k ≡ true
+    → HasKind input j x → HasKind input k y → HasKind input (computed_kind a width operation j k) (result_of width operation x y)
 compute_holds input a Bits64 Add abs.None k x y l can hx hy = absurd (false≢true can)
 compute_holds input a Bits64 Add (abs.Num lo hi) k x y l can hx hy =
     two_numbers input a (abs.Num lo hi) k x y (at_number input a (abs.Num lo hi) x l refl hx) (at_number input a k y l can hy)
@@ -118,7 +121,8 @@ range_at a (abs.Addr r lo hi) p q k = absurd (false≢true k)
 sum_of_ranges : (a : Abstract) (j k : Abs) → IsRange a j → IsRange a k → is_proper_kind (on_ranges Bits64 Add (range_of a j) (range_of a k)) ≡ true
 sum_of_ranges a j k m n = rw (m.is, n.is) (sum_proper m.lo m.hi n.lo n.hi m.order n.order)
 
-pub compute_proper : (a : Abstract) (width : Width) (operation : Operation) (j k : Abs) → is_proper a ≡ true → is_proper_kind j ≡ true → is_proper_kind k ≡ true → can_compute_kinds a width operation j k ≡ true → is_proper_kind (computed_kind a width operation j k) ≡ true
+pub compute_proper : (a : Abstract) (width : Width) (operation : Operation) (j k : Abs) → is_proper a ≡ true → is_proper_kind j ≡ true → is_proper_kind k ≡ true
+    → can_compute_kinds a width operation j k ≡ true → is_proper_kind (computed_kind a width operation j k) ≡ true
 compute_proper a Bits64 Add abs.None k p pj pk can = absurd (false≢true can)
 compute_proper a Bits64 Add (abs.Num lo hi) k p pj pk can =
     sum_of_ranges a (abs.Num lo hi) k (range_at a (abs.Num lo hi) p pj refl) (range_at a k p pk can)

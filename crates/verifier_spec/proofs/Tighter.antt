@@ -221,14 +221,16 @@ module _ (a b : Abstract) (w : IsWithin a b) (pa : is_proper a ≡ true) (pb : i
     }
 
   -- a length in the one is a number in the other
-  length_edge : (r from to low high : ℕ) (at : Region) → is_proper_kind (abs.Len at) ≡ true → kind_at a r ≡ abs.Len at → least a at ≤ from → to ≤ greatest a at → low ≤ from → to ≤ high → is_within (with_length a at (from, to)) (with_kind b r (abs.Num low high)) ≡ true
+  length_edge : (r from to low high : ℕ) (at : Region) → is_proper_kind (abs.Len at) ≡ true → kind_at a r ≡ abs.Len at → least a at ≤ from → to ≤ greatest a at → low ≤ from → to ≤ high
+      → is_within (with_length a at (from, to)) (with_kind b r (abs.Num low high)) ≡ true
   length_edge r from to low high at k is inner_low inner_high p q =
       let c = with_length a at (from, to) in
       let among : is_kind_within c (kind_at a r) (abs.Num low high) ≡ true = rw is (length_among a from to at low high k p q) in
       within_from c (with_kind b r (abs.Num low high)) (better_set c (length_registers a at (from, to)) (length_set a at (from, to)) (length_narrower a from to at inner_low inner_high) r (abs.Num low high) among)
 
   -- a length in both
-  lengths_edge : (from to low high : ℕ) (at : Region) → least a at ≤ from → to ≤ greatest a at → low ≤ from → to ≤ high → is_within a b ≡ true → is_within (with_length a at (from, to)) (with_length b at (low, high)) ≡ true
+  lengths_edge : (from to low high : ℕ) (at : Region) → least a at ≤ from → to ≤ greatest a at → low ≤ from → to ≤ high → is_within a b ≡ true
+      → is_within (with_length a at (from, to)) (with_length b at (low, high)) ≡ true
   lengths_edge from to low high region.Stack inner_low inner_high p q h = h
   lengths_edge from to low high region.Key inner_low inner_high p q h =
       let n = length_narrower a from to region.Key inner_low inner_high in
@@ -252,7 +254,8 @@ module _ (a b : Abstract) (w : IsWithin a b) (pa : is_proper a ≡ true) (pb : i
       })
 
   -- what a kind's new interval makes of the states
-  range_edge : (r : ℕ) (x y : Option (ℕ × ℕ)) (j k : Abs) (lo hi : ℕ) → is_within a b ≡ true → kind_at a r ≡ j → is_proper_kind j ≡ true → is_kind_within a j k ≡ true → is_number_kind k ≡ true → range_of a j ≡ Some (lo, hi) → RangeWithin x (Some (lo, hi)) → RangeWithin x y → is_edge_covered (with_range a r j x) (with_range b r k y) ≡ true
+  range_edge : (r : ℕ) (x y : Option (ℕ × ℕ)) (j k : Abs) (lo hi : ℕ) → is_within a b ≡ true → kind_at a r ≡ j → is_proper_kind j ≡ true → is_kind_within a j k ≡ true
+      → is_number_kind k ≡ true → range_of a j ≡ Some (lo, hi) → RangeWithin x (Some (lo, hi)) → RangeWithin x y → is_edge_covered (with_range a r j x) (with_range b r k y) ≡ true
   range_edge r None y j k lo hi h is pj jk number range inside part = refl
   range_edge r (Some x) None j k lo hi h is pj jk number range inside part = absurd part
   range_edge r (Some x) (Some y) j abs.None lo hi h is pj jk number range inside part = absurd (false≢true number)
@@ -272,7 +275,8 @@ module _ (a b : Abstract) (w : IsWithin a b) (pa : is_proper a ≡ true) (pb : i
   range_edge r (Some x) (Some y) (abs.Addr q l' m') (abs.Len g) lo hi h is pj jk number range inside part = absurd (false≢true jk)
 
   -- a conditional jump brings along each edge from the first what is within that from the second
-  pub tested_within : (width : Width) (test : Test) (taken : Bool) (dst : ℕ) (source : Source) → is_within a b ≡ true → is_number_kind (kind_at b dst) ≡ true → is_edge_covered (tested a width test taken dst source) (tested b width test taken dst source) ≡ true
+  pub tested_within : (width : Width) (test : Test) (taken : Bool) (dst : ℕ) (source : Source) → is_within a b ≡ true → is_number_kind (kind_at b dst) ≡ true
+      → is_edge_covered (tested a width test taken dst source) (tested b width test taken dst source) ≡ true
   tested_within width test taken dst (Register r) h number = h
   tested_within width test taken dst (Immediate imm) h number =
       let c = cast_unsigned w64 imm in

@@ -17,9 +17,6 @@ le_trans_z a b c h k = omega (arith, ints)
 pub not_below : (a b : ℤ) → b ≤ℤ a → int_lt a b ≡ false
 not_below a b h = grind (arith, ints)
 
-pub natural : (n : ℕ) → (k : ℕ) → pos n ≤ℤ pos k → n ≤ k
-natural n k h = omega (arith, ints)
-
 pub negative : (n : ℕ) → pos 0 ≤ℤ negsuc n → ⊥
 negative n h = omega (arith, ints)
 

@@ -195,7 +195,8 @@ same_as_itself region.Value = refl
 any_within : (a : Abstract) (lo hi : ℕ) → hi < 2 ^ 64 → is_kind_within a (abs.Num lo hi) any_number ≡ true
 any_within a lo hi h = and_from _ _ (le-leb 0 lo (omega arith)) (le-leb hi (2 ^ 64 - 1) (omega arith))
 
-sum_within : (a : Abstract) (al ah bl bh al' ah' bl' bh' : ℕ) → al' ≤ al → ah ≤ ah' → bl' ≤ bl → bh ≤ bh' → is_kind_within a (computed_range Bits64 Add (al, ah) (bl, bh)) (computed_range Bits64 Add (al', ah') (bl', bh')) ≡ true
+sum_within : (a : Abstract) (al ah bl bh al' ah' bl' bh' : ℕ) → al' ≤ al → ah ≤ ah' → bl' ≤ bl → bh ≤ bh'
+    → is_kind_within a (computed_range Bits64 Add (al, ah) (bl, bh)) (computed_range Bits64 Add (al', ah') (bl', bh')) ≡ true
 sum_within a al ah bl bh al' ah' bl' bh' p q r t =
     cond_both (nat_lt (ah' + bh') (2 ^ 64)) (abs.Num (al' + bl') (ah' + bh')) any_number (λ k. is_kind_within a (computed_range Bits64 Add (al, ah) (bl, bh)) k ≡ true)
     (λ e. let small = ltb-true (ah' + bh') (2 ^ 64) e in
@@ -241,7 +242,8 @@ numbers_computed a (abs.Len r) k u = refl
 numbers_computed a (abs.Addr r lo hi) k u = absurd (false≢true u)
 
 module _ (a b : Abstract) (n : IsNarrower a b) (p : is_proper a ≡ true) (j k : Abs) (pj : IsOrdered j) (pk : IsOrdered k) where
-  sums_within : (j' k' : Abs) → AreRanges a b j j' → AreRanges a b k k' → is_kind_within a (on_ranges Bits64 Add (range_of a j) (range_of a k)) (on_ranges Bits64 Add (range_of b j') (range_of b k')) ≡ true
+  sums_within : (j' k' : Abs) → AreRanges a b j j' → AreRanges a b k k'
+      → is_kind_within a (on_ranges Bits64 Add (range_of a j) (range_of a k)) (on_ranges Bits64 Add (range_of b j') (range_of b k')) ≡ true
   sums_within j' k' x y = rw (x.inner, x.outer, y.inner, y.outer) (sum_within a x.lo x.hi y.lo y.hi x.low x.high y.low y.high x.from x.to y.from y.to)
 
   -- what a wider pair of kinds allows, a narrower pair does
@@ -249,7 +251,8 @@ module _ (a b : Abstract) (n : IsNarrower a b) (p : is_proper a ≡ true) (j k :
     number_can : (j' : Abs) → is_kind_within a j j' ≡ true → is_number_kind j' ≡ true → is_number_kind k' ≡ true → can_compute_kinds a Bits64 Add j k ≡ true
     number_can j' hj u v = numbers_can a j k (number_within a j j' hj u) (number_within a k k' hk v)
 
-    number_computed : (j' : Abs) → is_kind_within a j j' ≡ true → is_number_kind j' ≡ true → is_number_kind k' ≡ true → is_kind_within a (computed_kind a Bits64 Add j k) (on_ranges Bits64 Add (range_of b j') (range_of b k')) ≡ true
+    number_computed : (j' : Abs) → is_kind_within a j j' ≡ true → is_number_kind j' ≡ true → is_number_kind k' ≡ true
+        → is_kind_within a (computed_kind a Bits64 Add j k) (on_ranges Bits64 Add (range_of b j') (range_of b k')) ≡ true
     number_computed j' hj u v =
         rw (numbers_computed a j k (number_within a j j' hj u)) (sums_within j' k' (ranges_within a b j j' n p pj hj u) (ranges_within a b k k' n p pk hk v))
 
@@ -267,14 +270,16 @@ module _ (a b : Abstract) (n : IsNarrower a b) (p : is_proper a ≡ true) (j k :
         let can3 : can_move x.low x.high (Some (y.low, y.high)) ≡ true = rw y.outer at can2 in
         rw (x.inner, x.outer, y.inner, y.outer) (moved_within x.lo x.hi x.low x.high y.lo y.hi y.low y.high x.from x.to y.order y.from y.to can3 a x.at)
 
-    pub can_within : (width : Width) (operation : Operation) (j' : Abs) → is_kind_within a j j' ≡ true → can_compute_kinds b width operation j' k' ≡ true → can_compute_kinds a width operation j k ≡ true
+    pub can_within : (width : Width) (operation : Operation) (j' : Abs) → is_kind_within a j j' ≡ true → can_compute_kinds b width operation j' k' ≡ true
+        → can_compute_kinds a width operation j k ≡ true
     can_within Bits64 Add abs.None hj can = absurd (false≢true can)
     can_within Bits64 Add (abs.Num lo hi) hj can = number_can (abs.Num lo hi) hj refl can
     can_within Bits64 Add (abs.Len r) hj can = number_can (abs.Len r) hj refl can
     can_within Bits64 Add (abs.Addr r lo hi) hj can = address_can (abs.Addr r lo hi) (addresses_within a j (abs.Addr r lo hi) pj hj refl) can
 
     -- and what it makes of them is within
-    pub computed_within : (width : Width) (operation : Operation) (j' : Abs) → is_kind_within a j j' ≡ true → can_compute_kinds b width operation j' k' ≡ true → is_kind_within a (computed_kind a width operation j k) (computed_kind b width operation j' k') ≡ true
+    pub computed_within : (width : Width) (operation : Operation) (j' : Abs) → is_kind_within a j j' ≡ true → can_compute_kinds b width operation j' k' ≡ true
+        → is_kind_within a (computed_kind a width operation j k) (computed_kind b width operation j' k') ≡ true
     computed_within Bits64 Add abs.None hj can = absurd (false≢true can)
     computed_within Bits64 Add (abs.Num lo hi) hj can = number_computed (abs.Num lo hi) hj refl can
     computed_within Bits64 Add (abs.Len r) hj can = number_computed (abs.Len r) hj refl can
@@ -304,7 +309,8 @@ greatest_kept a kinds region.Value = omega arith
 pub other_kinds : (a : Abstract) (kinds : List Abs) → IsNarrower (record a { registers = kinds }) a
 other_kinds a kinds = record { low = least_kept a kinds; high = greatest_kept a kinds }
 
-pairs_set : (P : Abs → Abs → Type 0) (js ks : List Abs) (r q : ℕ) (j k : Abs) → length js ≡ length ks → P (get_or js q abs.None) (get_or ks q abs.None) → P j k → P (get_or (set js r j) q abs.None) (get_or (set ks r k) q abs.None)
+pairs_set : (P : Abs → Abs → Type 0) (js ks : List Abs) (r q : ℕ) (j k : Abs) → length js ≡ length ks → P (get_or js q abs.None) (get_or ks q abs.None) → P j k
+    → P (get_or (set js r j) q abs.None) (get_or (set ks r k) q abs.None)
 pairs_set P [] [] r q j k e h p = h
 pairs_set P [] (y ∷ ks) r q j k e h p = absurd (omega arith)
 pairs_set P (x ∷ js) [] r q j k e h p = absurd (omega arith)
@@ -319,7 +325,8 @@ module _ (a b : Abstract) (w : IsWithin a b) (pa : is_proper a ≡ true) (pb : i
   same_long = (proper_parts a pa).eleven ∙ sym (proper_parts b pb).eleven
 
   -- in a state that knows lengths no worse than the first
-  pub kinds_set : (c : Abstract) (r q : ℕ) (j k : Abs) → q < 11 → IsNarrower c a → is_kind_within c j k ≡ true → is_kind_within c (get_or (set a.registers r j) q abs.None) (get_or (set b.registers r k) q abs.None) ≡ true
+  pub kinds_set : (c : Abstract) (r q : ℕ) (j k : Abs) → q < 11 → IsNarrower c a → is_kind_within c j k ≡ true
+      → is_kind_within c (get_or (set a.registers r j) q abs.None) (get_or (set b.registers r k) q abs.None) ≡ true
   kinds_set c r q j k low n h =
       pairs_set (λ x y. is_kind_within c x y ≡ true) a.registers b.registers r q j k same_long (kind_within_narrower a c (kind_at a q) (kind_at b q) n (w.kinds q low)) h
 

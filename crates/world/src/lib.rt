@@ -3,10 +3,15 @@
 
 mod catalogue;
 mod events;
+mod limits;
 mod log;
 mod program;
 mod rows;
 mod share;
 
 pub use crate::events::{World, run};
+pub use crate::limits::fits;
 pub use log_spec::{Event, LoadFault, Name, Refusal, Reply, Row};
+
+#[cfg(test)]
+mod tests;
