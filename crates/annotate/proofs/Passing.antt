@@ -60,7 +60,7 @@ length-passed_one code notes k placed None = refl
 length-passed_one code notes k placed (Some s) =
     let first = brought notes (Some (k + 1)) (falls_to placed.instruction s) in
     bring_if-length (failed_check placed.instruction s) notes (both_brought code notes k placed s)
-        (length-brought first (target_of code placed.slot (jump_of placed.instruction)) (jumps_to placed.instruction s) ∙ length-brought notes (Some (k + 1)) (falls_to placed.instruction s))
+    (length-brought first (target_of code placed.slot (jump_of placed.instruction)) (jumps_to placed.instruction s) ∙ length-brought notes (Some (k + 1)) (falls_to placed.instruction s))
 
 pub passed-end : (code : List Placed) (notes : Notes) (k : ℕ) → length code ≤ k → passed_from code notes k (drop k code) ≡ notes
 passed-end code notes k le = ap (λ (rest : List Placed). passed_from code notes k rest) (drop_of_length-le code le)

@@ -7,3 +7,6 @@ mod loader;
 
 pub use loader::load;
 pub use log_spec::LoadFault;
+
+#[cfg(test)]
+mod tests;

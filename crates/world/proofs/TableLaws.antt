@@ -50,8 +50,8 @@ pub with_image-found : (entries : List Entry) (i : ℕ) (d changed : Entry) (nam
 with_image-found [] i d changed name image lt h e same more = absurd (omega arith)
 with_image-found (entry ∷ entries) zero d changed name image lt h e same more =
     rw e (ap (λ (first : Loaded). first ∷ table_view entries) (sym
-        (ap (λ (n : List ℕ). record { name = n; images = map (λ program. arc_value program) changed.programs.items }) same
-        ∙ ap (λ (images : List (List ℕ)). record { name = entry.name; images = images }) more)))
+    (ap (λ (n : List ℕ). record { name = n; images = map (λ program. arc_value program) changed.programs.items }) same
+    ∙ ap (λ (images : List (List ℕ)). record { name = entry.name; images = images }) more)))
 with_image-found (entry ∷ entries) (suc i) d changed name image lt h e same more =
     let p = or_false (bytes_eq entry.name name) (has_name (table_view (take i entries)) name) h in
     let below : i < length entries = omega arith in

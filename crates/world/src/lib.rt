@@ -6,6 +6,7 @@ mod events;
 mod limits;
 mod log;
 mod program;
+mod readings;
 mod rows;
 mod share;
 

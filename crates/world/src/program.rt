@@ -35,19 +35,12 @@ impl Program {
         ensures { ProgramIs image.now result }
     {
         let verified = annotate::load(alloc, image)?;
-        let image = image
-            .clone()
-            .map_err(|_| LoadFault::Isa(IsaFault::Memory))?;
+        let image = image.clone().map_err(|_| LoadFault::Isa(IsaFault::Memory))?;
         Ok(Program { image, verified })
     }
 
     /// What the program means on a record.
-    pub fn run(
-        &self,
-        alloc: Global,
-        given: &Record,
-        place: &Place,
-    ) -> Result<Outcome, AllocError>
+    pub fn run(&self, alloc: Global, given: &Record, place: &Place) -> Result<Outcome, AllocError>
         requires limits { IsWithinLimits (record { given = given.now; place = place.now }) }
         requires place { IsPlace place.now }
         ensures { IfOk result (λ outcome. (n : ℕ) × Means self.now (record { given = given.now; place = place.now }) outcome n) }

@@ -69,11 +69,26 @@ fn a_record_goes_by_the_program_that_was_marked(rt: HostRuntime) -> Result<(), F
     let alloc = rt.alloc();
     let mut world = World::new(alloc, 1, 1, 4);
     let deliver = Event::Deliver(0, 0);
-    assert_eq!(rt; world.step(alloc, &load(alloc, "fwd", &FORWARD)?), Ok(Reply::Loaded(1)));
-    assert_eq!(rt; world.step(alloc, &load(alloc, "fwd", &FORWARD)?), Ok(Reply::Loaded(2)));
-    assert_eq!(rt; world.step(alloc, &mark(alloc, 0, "fwd", 1)?), Ok(Reply::Appended(0, 0)));
-    assert_eq!(rt; world.step(alloc, &put(alloc, 0)?), Ok(Reply::Appended(1, 0)));
-    assert_eq!(rt; world.step(alloc, &put(alloc, 0)?), Ok(Reply::Appended(2, 1)));
+    assert_eq!(rt;
+        world.step(alloc, &load(alloc, "fwd", &FORWARD)?),
+        Ok(Reply::Loaded(1))
+    );
+    assert_eq!(rt;
+        world.step(alloc, &load(alloc, "fwd", &FORWARD)?),
+        Ok(Reply::Loaded(2))
+    );
+    assert_eq!(rt;
+        world.step(alloc, &mark(alloc, 0, "fwd", 1)?),
+        Ok(Reply::Appended(0, 0))
+    );
+    assert_eq!(rt;
+        world.step(alloc, &put(alloc, 0)?),
+        Ok(Reply::Appended(1, 0))
+    );
+    assert_eq!(rt;
+        world.step(alloc, &put(alloc, 0)?),
+        Ok(Reply::Appended(2, 1))
+    );
     assert_eq!(rt; world.step(alloc, &deliver), Ok(Reply::Added(0)));
     assert_eq!(rt; world.step(alloc, &deliver), Ok(Reply::Added(1)));
     assert_eq!(rt; world.step(alloc, &deliver), Ok(Reply::Added(1)));
@@ -99,7 +114,10 @@ fn rows_tell_where_they_come_from(rt: HostRuntime) -> Result<(), Fail> {
     let rows = world.rows(0, 0);
     assert_eq!(rt; rows.len(), 1);
     let row = &rows[0];
-    assert_eq!(rt; (row.input, row.offset, row.number, row.timestamp), (0, 1, 0, 1000));
+    assert_eq!(rt;
+        (row.input, row.offset, row.number, row.timestamp),
+        (0, 1, 0, 1000)
+    );
     assert!(rt; matches!(&row.key, Some(key) if key.as_slice() == b"k".as_slice()));
     assert!(rt; matches!(&row.value, Some(value) if value.as_slice() == b"v".as_slice()));
     Ok(())
@@ -114,17 +132,47 @@ fn refusals_come_in_their_order(rt: HostRuntime) -> Result<(), Fail> {
         kind: notes::Check::RecordBounds,
     });
     let no_size = LoadFault::Isa(bpf_isa::IsaFault::Size);
-    assert_eq!(rt; world.step(alloc, &load(alloc, "", &FORWARD)?), Err(Refusal::Name));
-    assert_eq!(rt; world.step(alloc, &load(alloc, "a_b", &[])?), Err(Refusal::Name));
-    assert_eq!(rt; world.step(alloc, &load(alloc, "a-b", &[])?), Err(Refusal::Load(no_size)));
-    assert_eq!(rt; world.step(alloc, &load(alloc, "a", &UNSAFE)?), Err(Refusal::Load(unsafe_load)));
-    assert_eq!(rt; world.step(alloc, &mark(alloc, 1, "a", 1)?), Err(Refusal::Partition));
-    assert_eq!(rt; world.step(alloc, &mark(alloc, 0, "a", 1)?), Err(Refusal::NoVersion));
+    assert_eq!(rt;
+        world.step(alloc, &load(alloc, "", &FORWARD)?),
+        Err(Refusal::Name)
+    );
+    assert_eq!(rt;
+        world.step(alloc, &load(alloc, "a_b", &[])?),
+        Err(Refusal::Name)
+    );
+    assert_eq!(rt;
+        world.step(alloc, &load(alloc, "a-b", &[])?),
+        Err(Refusal::Load(no_size))
+    );
+    assert_eq!(rt;
+        world.step(alloc, &load(alloc, "a", &UNSAFE)?),
+        Err(Refusal::Load(unsafe_load))
+    );
+    assert_eq!(rt;
+        world.step(alloc, &mark(alloc, 1, "a", 1)?),
+        Err(Refusal::Partition)
+    );
+    assert_eq!(rt;
+        world.step(alloc, &mark(alloc, 0, "a", 1)?),
+        Err(Refusal::NoVersion)
+    );
     assert_eq!(rt; world.step(alloc, &put(alloc, 1)?), Err(Refusal::Partition));
-    assert_eq!(rt; world.step(alloc, &Event::Deliver(0, 1)), Err(Refusal::Partition));
-    assert_eq!(rt; world.step(alloc, &Event::Deliver(0, 0)), Err(Refusal::NoItem));
-    assert_eq!(rt; world.step(alloc, &put(alloc, 0)?), Ok(Reply::Appended(0, 0)));
+    assert_eq!(rt;
+        world.step(alloc, &Event::Deliver(0, 1)),
+        Err(Refusal::Partition)
+    );
+    assert_eq!(rt;
+        world.step(alloc, &Event::Deliver(0, 0)),
+        Err(Refusal::NoItem)
+    );
+    assert_eq!(rt;
+        world.step(alloc, &put(alloc, 0)?),
+        Ok(Reply::Appended(0, 0))
+    );
     assert_eq!(rt; world.step(alloc, &put(alloc, 0)?), Err(Refusal::LogFull));
-    assert_eq!(rt; world.step(alloc, &mark(alloc, 0, "a", 1)?), Err(Refusal::NoVersion));
+    assert_eq!(rt;
+        world.step(alloc, &mark(alloc, 0, "a", 1)?),
+        Err(Refusal::NoVersion)
+    );
     Ok(())
 }

@@ -16,4 +16,4 @@ returns-in-Ok-check c =
     let made : Annotated = record { code = c.in-Ok.code; notes = c.in-Ok-passed_on.states.items } in
     let none = noted_fault c.args.image.now c.in-Ok.code c.in-Ok-passed_on.states.items None c.in-Ok.ensures.exact c.in-Ok-passed_on.ensures c.in-Ok-check.ensures.passed in
     subst (λ (v : Annotated). Accepts c.args.image.now v) (sym c.in-Ok-check.ensures.ok)
-        (record { no_fault = none; code = c.in-Ok.ensures.is_code; notes = c.in-Ok-passed_on.ensures; annotation = c.in-Ok-check.ensures.annotated })
+    (record { no_fault = none; code = c.in-Ok.ensures.is_code; notes = c.in-Ok-passed_on.ensures; annotation = c.in-Ok-check.ensures.annotated })

@@ -20,8 +20,9 @@ pub returns-in-Ok-add_entry : goal.returns-in-Ok-add_entry
 returns-in-Ok-add_entry c =
     let items = c.args.entries.now.items in
     let lt : length (table_view items) < 64 = omega (arith, length-map items entry_view, c.args.entries.now.ok.0) in
-    let none = images_of-absent (table_view items) c.args.name.now c.requires.new in
-    (no_refusal (table_view items) c.args.name.now c.args.image.now (refusal_new (table_view items) c.args.name.now c.args.image.now c.requires.form c.requires.new lt) c.in-Ok.ensures.accepted,
-        ap (λ (images : List (List ℕ)). length images + 1) (sym none),
-        c.in-Ok-add_entry.ensures.ok ∙ ap (λ (image : List ℕ). table_view items ++ record { name = c.args.name.now; images = image ∷ [] } ∷ []) c.in-Ok.ensures.program
-        ∙ sym (with_image-absent (table_view items) c.args.name.now c.args.image.now c.requires.new))
+    let none = images_of-absent (table_view items) c.args.name.now c.requires.new in (
+      no_refusal (table_view items) c.args.name.now c.args.image.now (refusal_new (table_view items) c.args.name.now c.args.image.now c.requires.form c.requires.new lt) c.in-Ok.ensures.accepted,
+      ap (λ (images : List (List ℕ)). length images + 1) (sym none),
+      c.in-Ok-add_entry.ensures.ok ∙ ap (λ (image : List ℕ). table_view items ++ record { name = c.args.name.now; images = image ∷ [] } ∷ []) c.in-Ok.ensures.program
+          ∙ sym (with_image-absent (table_view items) c.args.name.now c.args.image.now c.requires.new),
+    )

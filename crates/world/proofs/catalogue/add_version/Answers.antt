@@ -48,6 +48,8 @@ returns-in-Ok-add_program c =
     let m = c.index_mut.result.now in
     let pushed = map-push (λ program. arc_value program) c.add_program.new.entry.programs.items m.programs.items c.in-Ok.program c.in-Ok-add_program.ensures.ok in
     let more : map (λ program. arc_value program) c.add_program.new.entry.programs.items ≡ map (λ program. arc_value program) m.programs.items ++ c.args.image.now ∷ [] = pushed ∙ ap (λ (image : List ℕ). map (λ program. arc_value program) m.programs.items ++ image ∷ []) c.in-Ok.ensures.program in
-    let more' = more ∙ ap (λ entry. map (λ program. arc_value program) entry.programs.items ++ c.args.image.now ∷ []) c.index_mut.ensures.value in
-    (no_refusal (table_view items) c.args.name.now c.args.image.now first c.in-Ok.ensures.accepted, omega (arith, versions),
-        sym (with_image-found items c.args.place m c.add_program.new.entry c.args.name.now c.args.image.now c.requires.inside c.requires.first (c.requires.named m) (c.add_program.ensures.name ∙ ap (λ entry. entry.name) c.index_mut.ensures.value) more'))
+    let more' = more ∙ ap (λ entry. map (λ program. arc_value program) entry.programs.items ++ c.args.image.now ∷ []) c.index_mut.ensures.value in (
+      no_refusal (table_view items) c.args.name.now c.args.image.now first c.in-Ok.ensures.accepted,
+      omega (arith, versions),
+      sym (with_image-found items c.args.place m c.add_program.new.entry c.args.name.now c.args.image.now c.requires.inside c.requires.first (c.requires.named m) (c.add_program.ensures.name ∙ ap (λ entry. entry.name) c.index_mut.ensures.value) more'),
+    )

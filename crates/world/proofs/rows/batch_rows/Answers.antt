@@ -9,7 +9,7 @@ record_rows-requires-clause-limits c =
     let items-is = c.deref-given-items.ensures.value ∙ c.records.view_is in
     let lt : c.loop-given.given-index < length c.args.batch.now.records = omega (arith, ap length items-is, c.loop-given-test.true) in
     let here : c.given-item.result ≡ get_or c.args.batch.now.records c.loop-given.given-index c.given-item.result =
-        c.given-item.is ∙ ap (λ (gs : List Record). get_or gs c.loop-given.given-index c.given-item.result) items-is in
+    c.given-item.is ∙ ap (λ (gs : List Record). get_or gs c.loop-given.given-index c.given-item.result) items-is in
     let fits = each_at (FitsRecord c.args.batch.now) c.args.batch.now.records c.loop-given.given-index c.given-item.result c.requires.fits.each lt here in
     fits.limits (record { partition = 0; offset = c.loop-given.at; timestamp = c.timestamp.result; outputs = 1 })
 
@@ -18,9 +18,10 @@ loop-given-preserved c =
     let items-is = c.deref-given-items.ensures.value ∙ c.records.view_is in
     let lt : c.loop-given.given-index < length c.args.batch.now.records = omega (arith, ap length items-is, c.loop-given-test.true) in
     let here : c.given-item.result ≡ get_or c.args.batch.now.records c.loop-given.given-index c.given-item.result =
-        c.given-item.is ∙ ap (λ (gs : List Record). get_or gs c.loop-given.given-index c.given-item.result) items-is in
+    c.given-item.is ∙ ap (λ (gs : List Record). get_or gs c.loop-given.given-index c.given-item.result) items-is in
     let added = c.in_ok-record_rows.ensures in
-    let placed = subst (λ (t : ℕ). IsRecordRows c.args.output (Some c.args.program.now) (record { partition = 0; offset = c.loop-given.at; timestamp = t; outputs = 1 }) c.given-item.result added.0) c.timestamp.ensures.value added.1 in
-    (omega (arith, c.loop-given.invariant.0),
-        records-pushed 0 c.args.output 1 (Some c.args.program.now) c.args.batch.now c.args.offset c.args.batch.now.records c.loop-given.given-index c.loop-given.at c.given-item.result
-            c.loop-given.rows.items added.0 c.record_rows.new.rows.items lt here c.loop-given.invariant.0 c.loop-given.invariant.1 placed added.2)
+    let placed = subst (λ (t : ℕ). IsRecordRows c.args.output (Some c.args.program.now) (record { partition = 0; offset = c.loop-given.at; timestamp = t; outputs = 1 }) c.given-item.result added.0) c.timestamp.ensures.value added.1 in (
+      omega (arith, c.loop-given.invariant.0),
+      records-pushed 0 c.args.output 1 (Some c.args.program.now) c.args.batch.now c.args.offset c.args.batch.now.records c.loop-given.given-index c.loop-given.at c.given-item.result
+          c.loop-given.rows.items added.0 c.record_rows.new.rows.items lt here c.loop-given.invariant.0 c.loop-given.invariant.1 placed added.2,
+    )
