@@ -1,6 +1,6 @@
 //! What is refused before anything is done.
 
-ghost use Rattle.std.specs.Prelude.{◌≡◌};
+ghost use Rattle.std.specs.Prelude.{◌≡◌, true, IfNone};
 ghost use Rattle.script.specs.Faults.{size_of, is_in_order, is_in_range, fault_of};
 
 use crate::command::Command;
@@ -73,7 +73,8 @@ fn is_in_range(command: &Command) -> bool
 /// `has_begun` says that `partitions` was done, `is_loaded` that the script loaded the program that
 /// is to be deployed.
 pub fn first_fault(command: &Command, has_begun: bool, is_loaded: bool) -> Option<ScriptFault>
-    ensures { result ≡ fault_of command.now has_begun is_loaded }
+    ensures fault { result ≡ fault_of command.now has_begun is_loaded }
+    ensures range { IfNone result (is_in_range command.now ≡ true) }
 {
     if !is_in_order(command, has_begun, is_loaded) {
         return Some(ScriptFault::Order);
