@@ -1,0 +1,21 @@
+-- The core as this program uses it, and the batches that it appends.
+use Rattle.std.specs.Prelude.{◌≡◌, ℕ, pos, negsuc, List, [], ◌∷◌, length, Option}
+use Rattle.log_spec.specs.Worlds.{World, outputs_of}
+use Rattle.wire_spec.specs.declared.record.Batch.{Batch}
+
+-- one input partition, and one output partition that takes its rows
+pub record IsOne (w : World) : Type 0 where
+  pub inputs : length w.logs ≡ 1
+  pub outputs : outputs_of w 0 ≡ 1
+
+-- a batch of one record without headers, with a timestamp in milliseconds
+abbrev pub put_batch : ℕ → Option (List ℕ) → Option (List ℕ) → Batch
+put_batch timestamp key value = record {
+  base_offset = pos 0;
+  leader_epoch = pos 0;
+  base_timestamp = pos timestamp;
+  producer_id = negsuc 0;
+  producer_epoch = negsuc 0;
+  base_sequence = negsuc 0;
+  records = record { timestamp_delta = pos 0; key = key; value = value; headers = [] } ∷ [];
+}

@@ -1,0 +1,82 @@
+//! The core with one input and one output partition.
+
+ghost use Rattle.std.specs.Prelude.{◌≡◌, ◌<◌, ◌≤◌, ◌^◌, IfOk};
+ghost use Rattle.script.specs.Faults.{size_of};
+ghost use Rattle.log_spec.specs.Logs.{FitsLog};
+ghost use Rattle.log_spec.specs.Worlds.{FitsEvent, book_of, new_world};
+ghost use Rattle.world.specs.Views.{StepsTo};
+ghost use Rattle.klog.specs.One.{IsOne, put_batch};
+
+use bytes::Bytes;
+use log_spec::{Event, Refusal, Reply, Row};
+use std::alloc::{AllocError, Global};
+use wire_spec::{Batch, Headers, Record, Records};
+use world::World;
+
+/// A core of one input and one output partition.
+#[derive(Drop)]
+pub struct Core {
+    pub world: World,
+    ghost one: { IsOne world },
+}
+
+impl Core {
+    /// A core whose log has so many cells.
+    pub fn new(alloc: Global, cells: usize) -> Core
+        requires some { 1 ≤ cells }
+        requires most { cells ≤ 65536 }
+        ensures { result.world ≡ new_world 1 1 cells }
+    {
+        let world = World::new(alloc, 1, 1, cells);
+        Core { world }
+    }
+
+    /// One event.
+    pub fn step(&mut self, alloc: Global, event: &Event) -> Result<Reply, Refusal>
+        requires { FitsEvent event.now }
+        ensures { StepsTo self.old.world event.now result self.new.world }
+    {
+        self.world.step(alloc, event)
+    }
+
+    /// The rows of the output partition.
+    pub fn rows(&self) -> &[Row]
+        ensures { result.now ≡ (book_of self.now.world 0 0).rows }
+    {
+        self.world.rows(0, 0)
+    }
+}
+
+/// A batch of one record.
+pub fn batch_of(
+    alloc: Global,
+    timestamp: u64,
+    key: Option<Bytes>,
+    value: Option<Bytes>,
+) -> Result<Batch, AllocError>
+    requires timestamp { timestamp < 2 ^ 62 }
+    requires key { size_of key ≤ 4096 }
+    requires value { size_of value ≤ 65536 }
+    ensures batch { IfOk result (λ batch. batch ≡ put_batch timestamp key value) }
+    ensures fits { IfOk result FitsLog }
+{
+    let headers = Headers {
+        list: Vec::new(alloc),
+    };
+    let mut list = Vec::new(alloc);
+    list.push(Record {
+        timestamp_delta: 0,
+        key,
+        value,
+        headers,
+    })?;
+    Ok(Batch {
+        base_offset: 0,
+        leader_epoch: 0,
+        base_timestamp: timestamp as i64,
+        producer_id: -1,
+        producer_epoch: -1,
+        base_sequence: -1,
+        records: Records { list },
+    })
+}

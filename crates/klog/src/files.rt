@@ -1,0 +1,16 @@
+//! The files that a command reads and writes.
+
+use std::io;
+use std::io::Read;
+
+/// Where named files stand: the system's, or a test's own.
+pub trait Files {
+    /// What an opened file is read by.
+    type Reader: Read + Drop;
+
+    /// Opens a file to be read.
+    fn open(&mut self, name: &str) -> io::Result<Self::Reader>;
+
+    /// Makes a file hold these bytes and no others.
+    fn write(&mut self, name: &str, bytes: &[u8]) -> io::Result<()>;
+}

@@ -1,0 +1,253 @@
+//! The commands of a script, one after the other.
+
+ghost use Rattle.std.specs.Prelude.{◌≡◌, ◌<◌, ◌≤◌, ◌^◌, true, IfOk};
+ghost use Rattle.script.specs.Faults.{size_of, is_in_range};
+ghost use Rattle.log_spec.specs.Worlds.{FitsEvent};
+
+use crate::core_world::{Core, batch_of};
+use crate::files::Files;
+use crate::stop::{Stop, refused, unwritten};
+use bytes::Bytes;
+use log_spec::{Event, Name, Refusal, Reply, Row};
+use script::{
+    Command, ScriptFault, Source, append_text, deploy_text, first_fault, load_text, parse, push_row,
+};
+use std::alloc::{AllocError, Global};
+use std::collections::BTreeMap;
+use std::io;
+use std::io::{Read, Write};
+
+/// What a script has done so far: its core, once `partitions` made it, and the last version that
+/// each name was loaded as.
+#[derive(Drop)]
+pub struct Session {
+    alloc: Global,
+    core: Option<Core>,
+    versions: BTreeMap<String, u32>,
+}
+
+/// Why a reader's bytes could not all be read.
+#[derive(Clone, Copy)]
+pub enum Unread {
+    /// The reader failed.
+    File,
+    /// Memory ran out.
+    Memory,
+}
+
+/// All bytes of a reader.
+pub fn read_whole<R: Read>(alloc: Global, reader: &mut R) -> Result<Vec<u8>, Unread> {
+    let mut bytes = Vec::new(alloc);
+    match reader.read_to_end(&mut bytes) {
+        Ok(_) => Ok(bytes),
+        Err(error) => Err(cause_of(&error)),
+    }
+}
+
+fn cause_of(error: &io::Error) -> Unread {
+    match error.kind() {
+        io::ErrorKind::OutOfMemory => Unread::Memory,
+        _ => Unread::File,
+    }
+}
+
+/// All bytes of a named file.
+pub fn read_file<F: Files>(alloc: Global, files: &mut F, name: &str) -> Result<Vec<u8>, Unread> {
+    match files.open(name) {
+        Ok(mut reader) => read_whole(alloc, &mut reader),
+        Err(error) => Err(cause_of(&error)),
+    }
+}
+
+fn print<O: Write>(stdout: &mut O, text: &str) -> Result<(), Stop> {
+    match stdout.write_all(text.as_bytes()) {
+        Ok(()) => Ok(()),
+        Err(error) => Err(unwritten(&error)),
+    }
+}
+
+impl Session {
+    /// Nothing was done yet.
+    pub fn new(alloc: Global) -> Session {
+        Session {
+            alloc,
+            core: None,
+            versions: BTreeMap::new(alloc),
+        }
+    }
+
+    fn version(&self, name: &Name) -> Option<u32> {
+        self.versions.get(name.text.as_str()).copied()
+    }
+
+    /// Whether the script loaded the program that the command deploys, if it deploys one.
+    fn is_loaded(&self, command: &Command) -> bool {
+        match command {
+            Command::Deploy(_, name) => self.version(name).is_some(),
+            _ => true,
+        }
+    }
+
+    fn step(&mut self, event: &Event) -> Result<Reply, Stop>
+        requires { FitsEvent event.now }
+    {
+        match &mut self.core {
+            None => Err(Stop::Line(ScriptFault::Order)),
+            Some(core) => match core.step(self.alloc, event) {
+                Ok(reply) => Ok(reply),
+                Err(refusal) => Err(refused(refusal)),
+            },
+        }
+    }
+
+    fn image<F: Files>(&mut self, files: &mut F, source: Source) -> Result<Bytes, Stop> {
+        match source {
+            Source::Image(image) => Ok(image),
+            Source::File(name) => match read_file(self.alloc, files, name.text.as_str()) {
+                Err(Unread::File) => Err(Stop::File(name)),
+                Err(Unread::Memory) => Err(Stop::Memory),
+                Ok(bytes) => Ok(shared(bytes)?),
+            },
+        }
+    }
+
+    fn load<O: Write>(&mut self, stdout: &mut O, name: Name, image: Bytes) -> Result<(), Stop> {
+        let text = name.text.clone()?;
+        let event = Event::Load(name, image);
+        let Reply::Loaded(version) = self.step(&event)? else {
+            return Ok(());
+        };
+        print(
+            stdout,
+            load_text(self.alloc, text.as_str(), version)?.as_str(),
+        )?;
+        self.keep(text, version)
+    }
+
+    /// The name's last version.
+    fn keep(&mut self, name: String, version: u32) -> Result<(), Stop> {
+        match self.versions.insert(name, version) {
+            Ok(_) => Ok(()),
+            Err(_) => Err(Stop::Memory),
+        }
+    }
+
+    fn deploy<O: Write>(&mut self, stdout: &mut O, input: u64, name: Name) -> Result<(), Stop> {
+        let Some(version) = self.version(&name) else {
+            return Err(Stop::Line(ScriptFault::Order));
+        };
+        let text = name.text.clone()?;
+        let event = Event::Mark(input as usize, name, version);
+        let Reply::Appended(index, _) = self.step(&event)? else {
+            return Ok(());
+        };
+        let line = deploy_text(self.alloc, input, index, text.as_str(), version)?;
+        print(stdout, line.as_str())
+    }
+
+    fn put<O: Write>(
+        &mut self,
+        stdout: &mut O,
+        input: u64,
+        timestamp: u64,
+        key: Option<Bytes>,
+        value: Option<Bytes>,
+    ) -> Result<(), Stop>
+        requires timestamp { timestamp < 2 ^ 62 }
+        requires key { size_of key ≤ 4096 }
+        requires value { size_of value ≤ 65536 }
+    {
+        let batch = batch_of(self.alloc, timestamp, key, value)?;
+        let event = Event::Batch(input as usize, batch);
+        let Reply::Appended(index, base) = self.step(&event)? else {
+            return Ok(());
+        };
+        print(
+            stdout,
+            append_text(self.alloc, input, index, base)?.as_str(),
+        )
+    }
+
+    /// Offers every item that the log has, then prints all rows.
+    fn go<O: Write>(&mut self, stdout: &mut O) -> Result<(), Stop> {
+        self.deliver_all()?;
+        match &self.core {
+            None => Ok(()),
+            Some(core) => print_rows(self.alloc, stdout, core.rows()),
+        }
+    }
+
+    fn deliver_all(&mut self) -> Result<(), Stop> {
+        for _ in 0..u64::MAX {
+            match self.step(&Event::Deliver(0, 0)) {
+                Ok(_) => {}
+                Err(Stop::Event(Refusal::NoItem)) => return Ok(()),
+                Err(stop) => return Err(stop),
+            }
+        }
+        Ok(())
+    }
+
+    /// One line of the script.
+    pub fn line<F: Files, O: Write>(
+        &mut self,
+        files: &mut F,
+        stdout: &mut O,
+        line: &str,
+    ) -> Result<(), Stop> {
+        if line.is_empty() || line.starts_with('#') {
+            return Ok(());
+        }
+        let Some(command) = parse(self.alloc, line)? else {
+            return Err(Stop::Line(ScriptFault::Syntax));
+        };
+        let has_begun = self.core.is_some();
+        let is_loaded = self.is_loaded(&command);
+        if let Some(fault) = first_fault(&command, has_begun, is_loaded) {
+            return Err(Stop::Line(fault));
+        }
+        self.act(files, stdout, command)
+    }
+
+    /// What a command asks for.
+    fn act<F: Files, O: Write>(
+        &mut self,
+        files: &mut F,
+        stdout: &mut O,
+        command: Command,
+    ) -> Result<(), Stop>
+        requires { is_in_range command ≡ true }
+    {
+        match command {
+            Command::Partitions(_, _, cells) => {
+                self.core = Some(Core::new(self.alloc, cells as usize));
+                Ok(())
+            }
+            Command::Load(name, source) => {
+                let image = self.image(files, source)?;
+                self.load(stdout, name, image)
+            }
+            Command::Deploy(input, name) => self.deploy(stdout, input, name),
+            Command::Put(input, timestamp, key, value) => {
+                self.put(stdout, input, timestamp, key, value)
+            }
+            Command::Go => self.go(stdout),
+        }
+    }
+}
+
+fn shared(bytes: Vec<u8>) -> Result<Bytes, AllocError>
+    ensures { IfOk result (λ shared. shared ≡ bytes.items) }
+{
+    Ok(Bytes::from_vec(bytes)?)
+}
+
+fn print_rows<O: Write>(alloc: Global, stdout: &mut O, rows: &[Row]) -> Result<(), Stop> {
+    let mut text = String::new(alloc);
+    for row in rows {
+        text.clear();
+        push_row(&mut text, 0, row)?;
+        print(stdout, text.as_str())?;
+    }
+    Ok(())
+}

@@ -1,0 +1,48 @@
+//! Why a command stops before its end.
+
+ghost use Rattle.std.specs.Prelude.{◌≡◌};
+ghost use Rattle.klog.specs.declared.stop.Stop.TheVariants as stop;
+
+use log_spec::Refusal;
+use script::{FileName, ScriptFault};
+use std::alloc::AllocError;
+use std::io;
+
+/// Why a script ends early.
+#[derive(Drop)]
+pub enum Stop {
+    /// The line is refused before anything of it is done.
+    Line(ScriptFault),
+    /// The core refuses what the line asks for.
+    Event(Refusal),
+    /// A file can't be read.
+    File(FileName),
+    /// Standard output can't be written.
+    Output,
+    /// Memory ran out.
+    Memory,
+}
+
+impl From<AllocError> for Stop {
+    ghost from_gives = { λ _ e. e ≡ stop.Memory };
+
+    fn from(_e: AllocError) -> Stop {
+        Stop::Memory
+    }
+}
+
+/// A refusal of the core.
+pub fn refused(refusal: Refusal) -> Stop {
+    match refusal {
+        Refusal::Memory => Stop::Memory,
+        _ => Stop::Event(refusal),
+    }
+}
+
+/// A failed write to standard output.
+pub fn unwritten(error: &io::Error) -> Stop {
+    match error.kind() {
+        io::ErrorKind::OutOfMemory => Stop::Memory,
+        _ => Stop::Output,
+    }
+}

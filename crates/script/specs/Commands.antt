@@ -1,0 +1,68 @@
+-- What a line of a script says.
+use Rattle.std.specs.Prelude.{ℕ, ◌==◌, nat_lt, nat_eq, if◌then◌else◌, List, length, drop, Option, Some, None, codes}
+use Rattle.std.specs.List.{list_all, starts_with}
+use Rattle.std.specs.Str.{bytes_eq}
+use Rattle.script.specs.declared.command.Command.{Command}
+use Rattle.script.specs.declared.command.Command.TheVariants.{Partitions, Load, Deploy, Put, Go}
+use Rattle.script.specs.declared.command.Source.{Source}
+use Rattle.script.specs.declared.command.Source.TheVariants.{Image, File}
+use Rattle.script.specs.Words.{words_of, word_at, number_of, bytes_of, hex_bytes}
+
+abbrev pub hex_source : Option (List ℕ) → List ℕ → Source
+hex_source (Some bytes) word = Image bytes
+hex_source None word = File word
+
+-- `hex:` and pairs of lower-case hex digits are an image's bytes; every other word is a file's name
+abbrev pub source_of : List ℕ → Source
+source_of word = if starts_with nat_eq word (codes "hex:") then hex_source (hex_bytes (drop 4 word)) word else File word
+
+abbrev pub partitions_of : Option ℕ → Option ℕ → Option ℕ → Option Command
+partitions_of (Some inputs) (Some outputs) (Some cells) = Some (Partitions inputs outputs cells)
+partitions_of _ _ _ = None
+
+-- `partitions I O CELLS`
+abbrev pub partitions_line : List (List ℕ) → Option Command
+partitions_line words = if length words == 4 then partitions_of (number_of (word_at words 1)) (number_of (word_at words 2)) (number_of (word_at words 3)) else None
+
+-- `load NAME FILE`
+abbrev pub load_line : List (List ℕ) → Option Command
+load_line words = if length words == 3 then Some (Load (word_at words 1) (source_of (word_at words 2))) else None
+
+abbrev pub deploy_of : Option ℕ → List ℕ → Option Command
+deploy_of (Some input) name = Some (Deploy input name)
+deploy_of None name = None
+
+-- `deploy I NAME`
+abbrev pub deploy_line : List (List ℕ) → Option Command
+deploy_line words = if length words == 3 then deploy_of (number_of (word_at words 1)) (word_at words 2) else None
+
+abbrev pub put_of : Option ℕ → Option ℕ → Option (Option (List ℕ)) → Option (Option (List ℕ)) → Option Command
+put_of (Some input) (Some timestamp) (Some key) (Some value) = Some (Put input timestamp key value)
+put_of _ _ _ _ = None
+
+-- `put I TS KEY VALUE`
+abbrev pub put_line : List (List ℕ) → Option Command
+put_line words =
+    if length words == 5
+    then put_of (number_of (word_at words 1)) (number_of (word_at words 2)) (bytes_of (word_at words 3)) (bytes_of (word_at words 4))
+    else None
+
+-- `go`
+abbrev pub go_line : List (List ℕ) → Option Command
+go_line words = if length words == 1 then Some Go else None
+
+abbrev pub command_of_words : List (List ℕ) → Option Command
+command_of_words words =
+    if bytes_eq (word_at words 0) (codes "partitions") then partitions_line words else
+    if bytes_eq (word_at words 0) (codes "load") then load_line words else
+    if bytes_eq (word_at words 0) (codes "deploy") then deploy_line words else
+    if bytes_eq (word_at words 0) (codes "put") then put_line words else
+    if bytes_eq (word_at words 0) (codes "go") then go_line words else None
+
+-- the command of words, none of which is empty
+abbrev pub command_from : List (List ℕ) → Option Command
+command_from words = if list_all (λ word. nat_lt 0 (length word)) words then command_of_words words else None
+
+-- the command of a line, if its words are those of one
+abbrev pub command_of : List ℕ → Option Command
+command_of line = command_from (words_of line)

@@ -1,0 +1,32 @@
+-- Which commands are refused before anything is done.
+use Rattle.std.specs.Prelude.{ℕ, ◌^◌, Bool, true, not, ◌&&◌, ◌==◌, nat_lt, nat_le, if◌then◌else◌, List, length, Option, Some, None}
+use Rattle.script.specs.declared.command.Command.{Command}
+use Rattle.script.specs.declared.command.Command.TheVariants.{Partitions, Load, Deploy, Put, Go}
+use Rattle.script.specs.declared.fault.ScriptFault.{ScriptFault}
+use Rattle.script.specs.declared.fault.ScriptFault.TheVariants.{Order, Range}
+
+-- `partitions` stands first and once, and a program is deployed after it was loaded
+abbrev pub is_in_order : Command → (has_begun is_loaded : Bool) → Bool
+is_in_order (Partitions inputs outputs cells) has_begun is_loaded = not has_begun
+is_in_order (Load name source) has_begun is_loaded = has_begun
+is_in_order (Deploy input name) has_begun is_loaded = has_begun && is_loaded
+is_in_order (Put input timestamp key value) has_begun is_loaded = has_begun
+is_in_order Go has_begun is_loaded = has_begun
+
+-- null has no bytes
+abbrev pub size_of : Option (List ℕ) → ℕ
+size_of None = 0
+size_of (Some bytes) = length bytes
+
+-- One input and one output partition, 1 to 65536 cells; timestamps below 2^62, keys of at most 4096 bytes and values of at
+-- most 65536.
+abbrev pub is_in_range : Command → Bool
+is_in_range (Partitions inputs outputs cells) = (inputs == 1) && ((outputs == 1) && (nat_le 1 cells && nat_le cells 65536))
+is_in_range (Load name source) = true
+is_in_range (Deploy input name) = true
+is_in_range (Put input timestamp key value) = nat_lt timestamp (2 ^ 62) && (nat_le (size_of key) 4096 && nat_le (size_of value) 65536)
+is_in_range Go = true
+
+-- the order is looked at before the numbers
+abbrev pub fault_of : Command → (has_begun is_loaded : Bool) → Option ScriptFault
+fault_of command has_begun is_loaded = if not (is_in_order command has_begun is_loaded) then Some Order else if not (is_in_range command) then Some Range else None

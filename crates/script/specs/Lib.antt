@@ -1,0 +1,4 @@
+pub mod Words
+pub mod Commands
+pub mod Faults
+pub mod Texts

@@ -1,0 +1,41 @@
+-- The lines that commands print, each with its line feed.
+use Rattle.std.specs.Prelude.{ℕ, ◌+◌, ◌-◌, ◌/◌, ◌%◌, nat_lt, if◌then◌else◌, List, [], ◌∷◌, ◌++◌, length, Option, Some, None, codes, decimal}
+use Rattle.std.specs.List.{flat_map}
+use Rattle.log_spec.specs.declared.row.Row.{Row}
+
+-- the lower-case hex digit of a number below 16
+abbrev pub hex_glyph : ℕ → ℕ
+hex_glyph digit = if nat_lt digit 10 then 48 + digit else 97 + (digit - 10)
+
+-- the high digit stands first
+abbrev pub byte_text : ℕ → List ℕ
+byte_text byte = hex_glyph (byte / 16) ∷ hex_glyph (byte % 16) ∷ []
+
+-- two lower-case hex digits a byte
+abbrev pub hex_text : List ℕ → List ℕ
+hex_text bytes = flat_map byte_text bytes
+
+-- null is `-`, and no bytes are `.`
+abbrev pub bytes_text : Option (List ℕ) → List ℕ
+bytes_text None = 45 ∷ []
+bytes_text (Some []) = 46 ∷ []
+bytes_text (Some (byte ∷ bytes)) = hex_text (byte ∷ bytes)
+
+-- `load NAME version V`
+abbrev pub load_line : List ℕ → ℕ → List ℕ
+load_line name version = codes "load " ++ (name ++ (codes " version " ++ (decimal version ++ 10 ∷ [])))
+
+-- `deploy I index X NAME version V`
+abbrev pub deploy_line : ℕ → ℕ → List ℕ → ℕ → List ℕ
+deploy_line input index name version =
+    codes "deploy " ++ (decimal input ++ (codes " index " ++ (decimal index ++ (codes " " ++ (name ++ (codes " version " ++ (decimal version ++ 10 ∷ [])))))))
+
+-- `append I index X base B`
+abbrev pub append_line : ℕ → ℕ → ℕ → List ℕ
+append_line input index base = codes "append " ++ (decimal input ++ (codes " index " ++ (decimal index ++ (codes " base " ++ (decimal base ++ 10 ∷ [])))))
+
+-- `row Q I OFFSET NUMBER TS KEY VALUE HEADERS`, of which the last is the number of headers
+abbrev pub row_line : ℕ → Row → List ℕ
+row_line output row =
+    codes "row " ++ (decimal output ++ (codes " " ++ (decimal row.input ++ (codes " " ++ (decimal row.offset ++ (codes " " ++ (decimal row.number ++ (codes " " ++ (decimal row.timestamp
+    ++ (codes " " ++ (bytes_text row.key ++ (codes " " ++ (bytes_text row.value ++ (codes " " ++ (decimal (length row.headers) ++ 10 ∷ [])))))))))))))))

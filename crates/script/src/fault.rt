@@ -1,0 +1,86 @@
+//! What is refused before anything is done.
+
+ghost use Rattle.std.specs.Prelude.{◌≡◌, true, IfNone};
+ghost use Rattle.script.specs.Faults.{size_of, is_in_order, is_in_range, fault_of};
+
+use crate::command::Command;
+use bytes::Bytes;
+use thiserror::Error;
+
+/// What is wrong with a line.
+#[derive(Clone, Copy, Debug, PartialEq, Eq, Error)]
+pub enum ScriptFault {
+    /// The line is no command.
+    #[error("S1 Syntax")]
+    Syntax,
+    /// `partitions` is not first or stands twice, or a program is deployed that was not loaded.
+    #[error("S2 Order")]
+    Order,
+    /// A number or a length is out of its limits.
+    #[error("S3 Range")]
+    Range,
+}
+
+/// How many cells a log has at most.
+const MOST_CELLS: u64 = 65536;
+
+/// Timestamps are below this, in milliseconds.
+const TIMESTAMP_END: u64 = 1 << 62;
+
+/// How many bytes a key has at most.
+const LONGEST_KEY: usize = 4096;
+
+/// How many bytes a value has at most.
+const LONGEST_VALUE: usize = 65536;
+
+fn size(bytes: &Option<Bytes>) -> usize
+    ensures { result ≡ size_of bytes.now }
+{
+    match bytes {
+        None => 0,
+        Some(bytes) => bytes.len(),
+    }
+}
+
+/// Whether a command may stand here: `partitions` is the first and stands once, and a program is
+/// deployed after it was loaded.
+fn is_in_order(command: &Command, has_begun: bool, is_loaded: bool) -> bool
+    ensures { result ≡ is_in_order command.now has_begun is_loaded }
+{
+    match command {
+        Command::Partitions(..) => !has_begun,
+        Command::Deploy(..) => has_begun && is_loaded,
+        _ => has_begun,
+    }
+}
+
+/// Whether a command's numbers and lengths are within their limits.
+fn is_in_range(command: &Command) -> bool
+    ensures { result ≡ is_in_range command.now }
+{
+    match command {
+        Command::Partitions(inputs, outputs, cells) => {
+            *inputs == 1 && *outputs == 1 && *cells >= 1 && *cells <= MOST_CELLS
+        }
+        Command::Put(_, timestamp, key, value) => {
+            *timestamp < TIMESTAMP_END && size(key) <= LONGEST_KEY && size(value) <= LONGEST_VALUE
+        }
+        _ => true,
+    }
+}
+
+/// The fault of a command, if it has one: its place in the script is looked at before its numbers.
+/// `has_begun` says that `partitions` was done, `is_loaded` that the script loaded the program that
+/// is to be deployed.
+pub fn first_fault(command: &Command, has_begun: bool, is_loaded: bool) -> Option<ScriptFault>
+    ensures fault { result ≡ fault_of command.now has_begun is_loaded }
+    ensures range { IfNone result (is_in_range command.now ≡ true) }
+{
+    if !is_in_order(command, has_begun, is_loaded) {
+        return Some(ScriptFault::Order);
+    }
+    if !is_in_range(command) {
+        return Some(ScriptFault::Range);
+    }
+    None
+}

@@ -1,0 +1,16 @@
+//! The lines of a script: what each says, which of them are refused before anything is done, and
+//! the texts that commands print.
+#![tactic(auto)]
+
+mod command;
+mod fault;
+mod pairs;
+mod text;
+mod words;
+
+pub use crate::command::{Command, FileName, Source, parse};
+pub use crate::fault::{ScriptFault, first_fault};
+pub use crate::text::{append_text, deploy_text, load_text, push_row};
+
+#[cfg(test)]
+mod tests;

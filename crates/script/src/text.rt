@@ -1,0 +1,94 @@
+//! The lines that commands print.
+
+ghost use Rattle.std.specs.Prelude.{◌≡◌, ◌<◌, ◌++◌, IfOk, OnOk, string_bytes};
+ghost use Rattle.script.specs.Texts.{load_line, deploy_line, append_line, row_line, bytes_text, hex_text, byte_text, hex_glyph};
+
+use bytes::Bytes;
+use log_spec::Row;
+use std::alloc::{AllocError, Global};
+
+/// The line that tells of a load.
+pub fn load_text(alloc: Global, name: &str, version: u32) -> Result<String, AllocError>
+    ensures { IfOk result (λ text. string_bytes text ≡ load_line name.now version) }
+{
+    format!(in alloc; "load {name} version {version}\n")
+}
+
+/// The line that tells of a deployment: the mark's index in the input's log.
+pub fn deploy_text(
+    alloc: Global,
+    input: u64,
+    index: usize,
+    name: &str,
+    version: u32,
+) -> Result<String, AllocError>
+    ensures { IfOk result (λ text. string_bytes text ≡ deploy_line input index name.now version) }
+{
+    format!(in alloc; "deploy {input} index {index} {name} version {version}\n")
+}
+
+/// The line that tells of an appended batch: its index in the input's log, and the offset of its
+/// first record.
+pub fn append_text(alloc: Global, input: u64, index: usize, base: u64) -> Result<String, AllocError>
+    ensures { IfOk result (λ text. string_bytes text ≡ append_line input index base) }
+{
+    format!(in alloc; "append {input} index {index} base {base}\n")
+}
+
+fn glyph(digit: u8) -> u8
+    requires { digit < 16 }
+    ensures { result ≡ hex_glyph digit }
+{
+    if digit < 10 {
+        b'0' + digit
+    } else {
+        b'a' + (digit - 10)
+    }
+}
+
+fn push_byte(text: &mut String, byte: u8) -> Result<(), AllocError>
+    ensures { OnOk result (string_bytes text.new ≡ string_bytes text.old ++ byte_text byte) }
+{
+    text.push(glyph(byte / 16) as char)?;
+    text.push(glyph(byte % 16) as char)
+}
+
+fn push_hex(text: &mut String, bytes: &[u8]) -> Result<(), AllocError>
+    ensures { OnOk result (string_bytes text.new ≡ string_bytes text.old ++ hex_text bytes.now) }
+{
+    for byte in bytes {
+        push_byte(text, *byte)?;
+    }
+    Ok(())
+}
+
+fn push_bytes(text: &mut String, bytes: &Option<Bytes>) -> Result<(), AllocError>
+    ensures { OnOk result (string_bytes text.new ≡ string_bytes text.old ++ bytes_text bytes.now) }
+{
+    match bytes {
+        None => text.push_str("-"),
+        Some(bytes) => {
+            if bytes.is_empty() {
+                text.push_str(".")
+            } else {
+                push_hex(text, bytes)
+            }
+        }
+    }
+}
+
+/// Appends the line of a row of an output partition to a text.
+pub fn push_row(text: &mut String, output: usize, row: &Row) -> Result<(), AllocError>
+    ensures { OnOk result (string_bytes text.new ≡ string_bytes text.old ++ row_line output row.now) }
+{
+    let input = row.input;
+    let offset = row.offset;
+    let number = row.number;
+    let timestamp = row.timestamp;
+    let headers = row.headers.list.len();
+    write!(text, "row {output} {input} {offset} {number} {timestamp} ")?;
+    push_bytes(text, &row.key)?;
+    text.push_str(" ")?;
+    push_bytes(text, &row.value)?;
+    write!(text, " {headers}\n")
+}
