@@ -9,7 +9,8 @@ use wire_spec::Headers;
 
 /// A number's value, a name, or the bytes of a key or a value, as one text.
 fn shown(alloc: Global, line: &str) -> Result<String, Fail> {
-    let text = match parse(alloc, line)? {
+    let command = parse(alloc, line)?;
+    let text = match &command {
         None => String::from_str(alloc, "none")?,
         Some(Command::Partitions(inputs, outputs, cells)) => {
             format!(in alloc; "partitions {inputs} {outputs} {cells}")?
@@ -30,7 +31,7 @@ fn shown(alloc: Global, line: &str) -> Result<String, Fail> {
         }
         Some(Command::Put(input, timestamp, key, value)) => {
             let key = key.is_some();
-            let value = value.map_or(0, |bytes| bytes.len());
+            let value = value.as_ref().map_or(0, |bytes| bytes.len());
             format!(in alloc; "put {input} {timestamp} {key} {value}")?
         }
         Some(Command::Go) => String::from_str(alloc, "go")?,
