@@ -169,6 +169,7 @@ fn whole_of(alloc: Global, bytes: &Bytes) -> Result<Batch, BatchFault>
 #[tactic(auto, unfolding(wire_spec::specs::BatchReading::batch_at))]
 fn batch_of(alloc: Global, mut bytes: Bytes) -> Result<(Batch, usize), BatchFault>
     ensures gives { Gives (λ x. x) result (batch_at bytes) }
+    ensures header { IfOk result (λ x. 61 ≤ x.1) }
     ensures bytes { (i : ℕ) → slice_index bytes i < 256 }
 {
     let size = size_of(&bytes)?;
@@ -184,6 +185,8 @@ pub fn decode(alloc: Global, bytes: Bytes) -> Result<(Batch, usize), BatchFault>
     ensures found { IfOk result (λ x. BatchFits x.0 × (x.1 ≤ length bytes) × (take x.1 bytes ≡ batch_spelling x.0)) }
     // What is spelled so is read, whatever follows it, unless memory runs out.
     ensures only { (b : Batch) (rest : List ℕ) → BatchFits b → bytes ≡ batch_spelling b ++ rest → Gives (λ x. x) result (Ok (b, length (batch_spelling b))) }
+    // A batch has its header at least.
+    ensures header { IfOk result (λ x. 61 ≤ x.1) }
     // Which refusal it is.
     ensures exact { Gives (λ x. x) result (batch_at bytes) }
 {

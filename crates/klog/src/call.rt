@@ -127,6 +127,7 @@ fn end_text(alloc: Global, ended: &Ended) -> Result<String, AllocError> {
     match &ended.stop {
         Stop::Line(fault) => format!(in alloc; "line {line}: {fault}\n"),
         Stop::Event(refusal) => format!(in alloc; "line {line}: {refusal}\n"),
+        Stop::Batch(fault) => format!(in alloc; "line {line}: {fault}\n"),
         Stop::File(file) => file_text(alloc, file.text.as_str()),
         Stop::Output => file_text(alloc, "stdout"),
         Stop::Memory => String::from_str(alloc, MEMORY),
@@ -147,7 +148,7 @@ fn tell<E: Write>(alloc: Global, stderr: &mut E, ended: &Ended) -> u8
     };
     say(stderr, text.as_str());
     match ended.stop {
-        Stop::Line(_) | Stop::Event(_) => REFUSED,
+        Stop::Line(_) | Stop::Event(_) | Stop::Batch(_) => REFUSED,
         _ => FAILED,
     }
 }

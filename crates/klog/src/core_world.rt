@@ -1,12 +1,14 @@
 //! The core with one input and one output partition.
 
-ghost use Rattle.std.specs.Prelude.{◌≡◌, ◌<◌, ◌≤◌, ◌^◌, IfOk};
+ghost use Rattle.std.specs.Prelude.{◌≡◌, ◌<◌, ◌≤◌, ◌^◌, nat_lt, length, take, IfOk};
 ghost use Rattle.script.specs.Faults.{size_of};
 ghost use Rattle.log_spec.specs.Logs.{FitsLog};
+ghost use Rattle.wire_spec.specs.BatchSpelling.{batch_spelling};
 ghost use Rattle.log_spec.specs.Worlds.{FitsEvent, book_of, new_world};
 ghost use Rattle.world.specs.Views.{StepsTo};
 ghost use Rattle.klog.specs.One.{IsOne, put_batch};
 
+use batch::{BatchFault, decode};
 use bytes::Bytes;
 use log_spec::{Event, Refusal, Reply, Row};
 use std::alloc::{AllocError, Global};
@@ -20,6 +22,9 @@ pub struct Core {
     ghost one: { IsOne world },
 }
 
+/// How many input partitions there are.
+const INPUTS: u64 = 1;
+
 impl Core {
     /// A core whose log has so many cells.
     pub fn new(alloc: Global, cells: usize) -> Core
@@ -29,6 +34,13 @@ impl Core {
     {
         let world = World::new(alloc, 1, 1, cells);
         Core { world }
+    }
+
+    /// Whether there is such an input partition.
+    pub fn has_input(&self, input: u64) -> bool
+        ensures { result ≡ nat_lt input (length self.now.world.logs) }
+    {
+        input < INPUTS
     }
 
     /// One event.
@@ -45,6 +57,15 @@ impl Core {
     {
         self.world.rows(0, 0)
     }
+}
+
+/// The batch at the front of the bytes, and how many of them it takes.
+pub fn next_batch(alloc: Global, bytes: &Bytes) -> Result<(Batch, usize), BatchFault>
+    ensures fits { IfOk result (λ x. FitsLog x.0) }
+    ensures used { IfOk result (λ x. (0 < x.1) × (x.1 ≤ length bytes.now)) }
+    ensures batch { IfOk result (λ x. take x.1 bytes.now ≡ batch_spelling x.0) }
+{
+    decode(alloc, bytes.clone()?)
 }
 
 /// A batch of one record.

@@ -2,20 +2,23 @@
 
 ghost use Rattle.std.specs.Prelude.{◌≡◌, ◌<◌, ◌≤◌, ◌^◌, true, IfOk};
 ghost use Rattle.script.specs.Faults.{size_of, is_in_range};
+ghost use Rattle.log_spec.specs.Logs.{FitsLog};
 ghost use Rattle.log_spec.specs.Worlds.{FitsEvent};
 
-use crate::core_world::{Core, batch_of};
+use crate::core_world::{Core, batch_of, next_batch};
 use crate::files::Files;
 use crate::stop::{Stop, refused, unwritten};
 use bytes::Bytes;
 use log_spec::{Event, Name, Refusal, Reply, Row};
 use script::{
-    Command, ScriptFault, Source, append_text, deploy_text, first_fault, load_text, parse, push_row,
+    Command, FileName, ScriptFault, Source, append_text, deploy_text, first_fault, load_text,
+    parse, push_row,
 };
 use std::alloc::{AllocError, Global};
 use std::collections::BTreeMap;
 use std::io;
 use std::io::{Read, Write};
+use wire_spec::Batch;
 
 /// What a script has done so far: its core, once `partitions` made it, and the last version that
 /// each name was loaded as.
@@ -56,6 +59,14 @@ pub fn read_file<F: Files>(alloc: Global, files: &mut F, name: &str) -> Result<V
     match files.open(name) {
         Ok(mut reader) => read_whole(alloc, &mut reader),
         Err(error) => Err(cause_of(&error)),
+    }
+}
+
+/// Why a command stops whose file can't be read.
+fn stopped_by(name: FileName, cause: Unread) -> Stop {
+    match cause {
+        Unread::File => Stop::File(name),
+        Unread::Memory => Stop::Memory,
     }
 }
 
@@ -102,11 +113,45 @@ impl Session {
 
     fn image<F: Files>(&mut self, files: &mut F, source: Source) -> Result<Bytes, Stop> {
         match source {
-            Source::Image(image) => Ok(image),
+            Source::Line(image) => Ok(image),
             Source::File(name) => match read_file(self.alloc, files, name.text.as_str()) {
-                Err(Unread::File) => Err(Stop::File(name)),
-                Err(Unread::Memory) => Err(Stop::Memory),
+                Err(cause) => Err(stopped_by(name, cause)),
                 Ok(bytes) => Ok(shared(bytes)?),
+            },
+        }
+    }
+
+    /// Whether there is such an input partition is asked before anything is read for it.
+    fn known_input(&self, input: u64) -> Result<(), Stop> {
+        match &self.core {
+            None => Err(Stop::Line(ScriptFault::Order)),
+            Some(core) if core.has_input(input) => Ok(()),
+            Some(_) => Err(Stop::Event(Refusal::Partition)),
+        }
+    }
+
+    /// The bytes of batches that are to be appended. Their file is opened before their input
+    /// partition is looked for, and read after it.
+    fn batches<F: Files>(
+        &mut self,
+        files: &mut F,
+        input: u64,
+        source: Source,
+    ) -> Result<Bytes, Stop> {
+        match source {
+            Source::Line(bytes) => {
+                self.known_input(input)?;
+                Ok(bytes)
+            }
+            Source::File(name) => match files.open(name.text.as_str()) {
+                Err(error) => Err(stopped_by(name, cause_of(&error))),
+                Ok(mut reader) => {
+                    self.known_input(input)?;
+                    match read_whole(self.alloc, &mut reader) {
+                        Err(cause) => Err(stopped_by(name, cause)),
+                        Ok(bytes) => Ok(shared(bytes)?),
+                    }
+                }
             },
         }
     }
@@ -158,6 +203,13 @@ impl Session {
         requires value { size_of value ≤ 65536 }
     {
         let batch = batch_of(self.alloc, timestamp, key, value)?;
+        self.append(stdout, input, batch)
+    }
+
+    /// Appends a batch, and prints where it stands.
+    fn append<O: Write>(&mut self, stdout: &mut O, input: u64, batch: Batch) -> Result<(), Stop>
+        requires { FitsLog batch }
+    {
         let event = Event::Batch(input as usize, batch);
         let Reply::Appended(index, base) = self.step(&event)? else {
             return Ok(());
@@ -166,6 +218,22 @@ impl Session {
             stdout,
             append_text(self.alloc, input, index, base)?.as_str(),
         )
+    }
+
+    /// Appends batches that stand one after the other. Those before a faulty one stay.
+    fn append_all<O: Write>(
+        &mut self,
+        stdout: &mut O,
+        input: u64,
+        bytes: Bytes,
+    ) -> Result<(), Stop> {
+        let mut rest = bytes;
+        while !rest.is_empty() {
+            let (batch, used) = next_batch(self.alloc, &rest)?;
+            self.append(stdout, input, batch)?;
+            rest.advance(used);
+        }
+        Ok(())
     }
 
     /// Offers every item that the log has, then prints all rows.
@@ -230,6 +298,10 @@ impl Session {
             Command::Deploy(input, name) => self.deploy(stdout, input, name),
             Command::Put(input, timestamp, key, value) => {
                 self.put(stdout, input, timestamp, key, value)
+            }
+            Command::Append(input, source) => {
+                let bytes = self.batches(files, input, source)?;
+                self.append_all(stdout, input, bytes)
             }
             Command::Go => self.go(stdout),
         }

@@ -3,6 +3,7 @@
 ghost use Rattle.std.specs.Prelude.{◌≡◌};
 ghost use Rattle.klog.specs.declared.stop.Stop.TheVariants as stop;
 
+use batch::BatchFault;
 use log_spec::Refusal;
 use script::{FileName, ScriptFault};
 use std::alloc::AllocError;
@@ -15,6 +16,8 @@ pub enum Stop {
     Line(ScriptFault),
     /// The core refuses what the line asks for.
     Event(Refusal),
+    /// The bytes that the line names are no record batches.
+    Batch(BatchFault),
     /// A file can't be read.
     File(FileName),
     /// Standard output can't be written.
@@ -28,6 +31,15 @@ impl From<AllocError> for Stop {
 
     fn from(_e: AllocError) -> Stop {
         Stop::Memory
+    }
+}
+
+impl From<BatchFault> for Stop {
+    fn from(fault: BatchFault) -> Stop {
+        match fault {
+            BatchFault::Memory => Stop::Memory,
+            _ => Stop::Batch(fault),
+        }
     }
 }
 

@@ -56,6 +56,7 @@ fn called(alloc: Global, words: &[&str], script: &str) -> Result<(u8, String, St
     files.write("forward.bin", &FORWARD)?;
     files.write("script", script.as_bytes())?;
     files.write("bad", b"go\xff")?;
+    files.write("batches.bin", &BATCHES)?;
     let mut all = Vec::new(alloc);
     for word in words {
         all.push(String::from_str(alloc, word)?)?;
@@ -202,6 +203,7 @@ fn needs_partitions_first(rt: HostRuntime) -> Result<(), Fail> {
     for (script, err, status) in [
         ("", "", 0),
         ("go", "line 1: S2 Order\n", 1),
+        ("append 0 nothing", "line 1: S2 Order\n", 1),
         ("#\ngo", "line 2: S2 Order\n", 1),
         ("load x nothing", "line 1: S2 Order\n", 1),
         ("frob", "line 1: S1 Syntax\n", 1),
@@ -280,5 +282,168 @@ fn tells_that_output_fails(rt: HostRuntime) -> Result<(), Fail> {
     );
     assert!(rt; status == 3);
     assert!(rt; stderr.as_slice() == b"file stdout\n".as_slice());
+    Ok(())
+}
+
+/// Batches that a Kafka client made, of one record and of four.
+const BATCHES: [u8; 263] = [
+    0x00, 0x00, 0x00, 0x00, 0x00, 0x00, 0x00, 0x00, 0x00, 0x00, 0x00, 0x3a, 0x00, 0x00, 0x00, 0x00,
+    0x02, 0xe9, 0x9b, 0x8d, 0xd8, 0x00, 0x00, 0x00, 0x00, 0x00, 0x00, 0x00, 0x00, 0x01, 0x8b, 0xcf,
+    0xe5, 0x68, 0x00, 0x00, 0x00, 0x01, 0x8b, 0xcf, 0xe5, 0x68, 0x00, 0xff, 0xff, 0xff, 0xff, 0xff,
+    0xff, 0xff, 0xff, 0xff, 0xff, 0xff, 0xff, 0xff, 0xff, 0x00, 0x00, 0x00, 0x01, 0x10, 0x00, 0x00,
+    0x00, 0x02, 0x6b, 0x02, 0x76, 0x00, 0x00, 0x00, 0x00, 0x00, 0x00, 0x00, 0x00, 0x00, 0x00, 0x00,
+    0x00, 0xb5, 0x00, 0x00, 0x00, 0x00, 0x02, 0x42, 0x8e, 0xa1, 0x4d, 0x00, 0x00, 0x00, 0x00, 0x00,
+    0x03, 0x00, 0x00, 0x01, 0x8b, 0xcf, 0xe5, 0x68, 0x00, 0x00, 0x00, 0x01, 0x8b, 0xcf, 0xe5, 0x68,
+    0x05, 0x00, 0x00, 0x00, 0x00, 0x00, 0x00, 0x12, 0x67, 0x00, 0x03, 0x00, 0x00, 0x00, 0x0c, 0x00,
+    0x00, 0x00, 0x04, 0x10, 0x00, 0x00, 0x00, 0x02, 0x6b, 0x02, 0x76, 0x00, 0x1e, 0x00, 0x0a, 0x02,
+    0x01, 0x00, 0x04, 0x02, 0x68, 0x01, 0x04, 0xc3, 0xa4, 0x04, 0x78, 0x00, 0x0c, 0x00, 0x01, 0x04,
+    0x00, 0x01, 0x00, 0xc4, 0x01, 0x00, 0x0a, 0x06, 0x14, 0x6c, 0x6f, 0x6e, 0x67, 0x65, 0x72, 0x20,
+    0x6b, 0x65, 0x79, 0x94, 0x01, 0x61, 0x20, 0x76, 0x61, 0x6c, 0x75, 0x65, 0x20, 0x6f, 0x66, 0x20,
+    0x6d, 0x6f, 0x72, 0x65, 0x20, 0x74, 0x68, 0x61, 0x6e, 0x20, 0x73, 0x69, 0x78, 0x74, 0x79, 0x2d,
+    0x74, 0x68, 0x72, 0x65, 0x65, 0x20, 0x62, 0x79, 0x74, 0x65, 0x73, 0x2c, 0x20, 0x73, 0x6f, 0x20,
+    0x74, 0x68, 0x61, 0x74, 0x20, 0x69, 0x74, 0x73, 0x20, 0x6c, 0x65, 0x6e, 0x67, 0x74, 0x68, 0x20,
+    0x74, 0x61, 0x6b, 0x65, 0x73, 0x20, 0x74, 0x77, 0x6f, 0x20, 0x62, 0x79, 0x74, 0x65, 0x73, 0x02,
+    0x0a, 0x65, 0x6d, 0x70, 0x74, 0x79, 0x00,
+];
+
+/// A batch of one record: key `k`, value `v`, timestamp 0.
+const ONE: &str =
+    "00000000000000000000003a0000000002fe917cab00000000000000000000000000000000000000000000ffffffffffffffffffffffffffff0000000110000000026b027600";
+
+/// The same record twice, both with the offset delta 0.
+const SAME_DELTA: &str =
+    "00000000000000000000004300000000028a32626100000000000100000000000000000000000000000000ffffffffffffffffffffffffffff0000000210000000026b02760010000000026b027600";
+
+#[test]
+fn appends_batches(rt: HostRuntime) -> Result<(), Fail> {
+    let alloc = rt.alloc();
+    let printed = "load fwd version 1\ndeploy 0 index 0 fwd version 1\n\
+        append 0 index 1 base 0\nappend 0 index 2 base 1\nappend 0 index 3 base 5\n\
+        row 0 0 0 0 1700000000000 6b 76 0\n\
+        row 0 0 1 0 1700000000000 6b 76 0\n\
+        row 0 0 2 0 1700000000005 - . 2\n\
+        row 0 0 3 0 1699999999999 . - 0\n\
+        row 0 0 4 0 1700000000005 6c6f6e676572206b6579 612076616c7565206f66206d6f7265207468616e2073697874792d74687265652062797465732c20736f207468617420697473206c656e6774682074616b65732074776f206279746573 1\n\
+        row 0 0 5 0 0 6b 76 0\n";
+    let script = format!(in alloc;
+        "{BEGIN}deploy 0 fwd\nappend 0 batches.bin\nappend 0 hex:{ONE}\ngo\n"
+    )?;
+    let (status, out, err) = called(alloc, &["run", "stdin"], script.as_str())?;
+    assert!(rt; err.as_str() == "", "{err}");
+    assert!(rt; out.as_str() == printed, "{out}");
+    assert!(rt; status == 0);
+    Ok(())
+}
+
+#[test]
+fn keeps_the_batches_before_a_faulty_one(rt: HostRuntime) -> Result<(), Fail> {
+    let alloc = rt.alloc();
+    let appended = "append 0 index 0 base 0\n";
+    let cut = ONE.get(..138).ok_or("text")?;
+    for (cells, line, out, err, status) in [
+        (8, format!(in alloc; "append 0 hex:")?, "", "", 0),
+        (
+            8,
+            format!(in alloc; "append 0 hex:{ONE}{cut}")?,
+            appended,
+            "line 2: B1 Short\n",
+            1,
+        ),
+        (
+            8,
+            format!(in alloc; "append 0 hex:{ONE}{SAME_DELTA}")?,
+            appended,
+            "line 2: B8 Record record 1\n",
+            1,
+        ),
+        (
+            1,
+            format!(in alloc; "append 0 hex:{ONE}{ONE}")?,
+            appended,
+            "line 2: L1 Full\n",
+            1,
+        ),
+        (
+            1,
+            format!(in alloc; "append 0 hex:{ONE}{cut}")?,
+            appended,
+            "line 2: B1 Short\n",
+            1,
+        ),
+        (
+            8,
+            format!(in alloc; "append 1 hex:00")?,
+            "",
+            "line 2: P1 Partition\n",
+            1,
+        ),
+        (
+            8,
+            format!(in alloc; "append 1 hex:")?,
+            "",
+            "line 2: P1 Partition\n",
+            1,
+        ),
+        (
+            8,
+            format!(in alloc; "append 1180591620717411303424 bad")?,
+            "",
+            "line 2: P1 Partition\n",
+            1,
+        ),
+        (
+            8,
+            format!(in alloc; "append 1 nothing.bin")?,
+            "",
+            "file nothing.bin\n",
+            3,
+        ),
+        (
+            8,
+            format!(in alloc; "append 0 hex:0")?,
+            "",
+            "file hex:0\n",
+            3,
+        ),
+        (
+            8,
+            format!(in alloc; "append 0")?,
+            "",
+            "line 2: S1 Syntax\n",
+            1,
+        ),
+    ] {
+        let script = format!(in alloc; "partitions 1 1 {cells}\n{line}\n")?;
+        let (told, printed, fault) = called(alloc, &["run", "script"], script.as_str())?;
+        assert!(rt; fault.as_str() == err, "{line}: {fault}");
+        assert!(rt; printed.as_str() == out, "{line}: {printed}");
+        assert!(rt; told == status, "{line}: {told}");
+    }
+    Ok(())
+}
+
+/// A word of so many bytes.
+fn bytes_word(alloc: Global, count: usize) -> Result<String, Fail> {
+    if count == 0 {
+        return Ok(String::from_str(alloc, ".")?);
+    }
+    Ok("61".repeat(alloc, count)?)
+}
+
+#[test]
+fn limits_keys_and_values(rt: HostRuntime) -> Result<(), Fail> {
+    let alloc = rt.alloc();
+    for (key, value, err) in [
+        (4096, 0, ""),
+        (4097, 0, "line 2: S3 Range\n"),
+        (0, 65_536, ""),
+        (0, 65_537, "line 2: S3 Range\n"),
+    ] {
+        let key = bytes_word(alloc, key)?;
+        let value = bytes_word(alloc, value)?;
+        let script = format!(in alloc; "partitions 1 1 8\nput 0 0 {key} {value}\n")?;
+        let (_told, _out, fault) = called(alloc, &["run", "script"], script.as_str())?;
+        assert!(rt; fault.as_str() == err, "{fault}");
+    }
     Ok(())
 }

@@ -1,1 +1,2 @@
+pub mod FittingBatches
 pub mod LogLaws

@@ -1,2 +1,3 @@
 pub mod Meanings
+pub mod Runs
 pub mod Slots

@@ -3,16 +3,16 @@ use Rattle.std.specs.Prelude.{ℕ, ◌==◌, nat_lt, nat_eq, if◌then◌else◌
 use Rattle.std.specs.List.{list_all, starts_with}
 use Rattle.std.specs.Str.{bytes_eq}
 use Rattle.script.specs.declared.command.Command.{Command}
-use Rattle.script.specs.declared.command.Command.TheVariants.{Partitions, Load, Deploy, Put, Go}
+use Rattle.script.specs.declared.command.Command.TheVariants.{Partitions, Load, Deploy, Put, Append, Go}
 use Rattle.script.specs.declared.command.Source.{Source}
-use Rattle.script.specs.declared.command.Source.TheVariants.{Image, File}
+use Rattle.script.specs.declared.command.Source.TheVariants.{Line, File}
 use Rattle.script.specs.Words.{words_of, word_at, number_of, bytes_of, hex_bytes}
 
 abbrev pub hex_source : Option (List ℕ) → List ℕ → Source
-hex_source (Some bytes) word = Image bytes
+hex_source (Some bytes) word = Line bytes
 hex_source None word = File word
 
--- `hex:` and pairs of lower-case hex digits are an image's bytes; every other word is a file's name
+-- `hex:` and pairs of lower-case hex digits are those bytes; every other word is a file's name
 abbrev pub source_of : List ℕ → Source
 source_of word = if starts_with nat_eq word (codes "hex:") then hex_source (hex_bytes (drop 4 word)) word else File word
 
@@ -47,6 +47,14 @@ put_line words =
     then put_of (number_of (word_at words 1)) (number_of (word_at words 2)) (bytes_of (word_at words 3)) (bytes_of (word_at words 4))
     else None
 
+abbrev pub append_of : Option ℕ → Source → Option Command
+append_of (Some input) source = Some (Append input source)
+append_of None source = None
+
+-- `append I FILE`
+abbrev pub append_line : List (List ℕ) → Option Command
+append_line words = if length words == 3 then append_of (number_of (word_at words 1)) (source_of (word_at words 2)) else None
+
 -- `go`
 abbrev pub go_line : List (List ℕ) → Option Command
 go_line words = if length words == 1 then Some Go else None
@@ -57,6 +65,7 @@ command_of_words words =
     if bytes_eq (word_at words 0) (codes "load") then load_line words else
     if bytes_eq (word_at words 0) (codes "deploy") then deploy_line words else
     if bytes_eq (word_at words 0) (codes "put") then put_line words else
+    if bytes_eq (word_at words 0) (codes "append") then append_line words else
     if bytes_eq (word_at words 0) (codes "go") then go_line words else None
 
 -- the command of words, none of which is empty

@@ -1,7 +1,7 @@
 -- Which commands are refused before anything is done.
 use Rattle.std.specs.Prelude.{ℕ, ◌^◌, Bool, true, not, ◌&&◌, ◌==◌, nat_lt, nat_le, if◌then◌else◌, List, length, Option, Some, None}
 use Rattle.script.specs.declared.command.Command.{Command}
-use Rattle.script.specs.declared.command.Command.TheVariants.{Partitions, Load, Deploy, Put, Go}
+use Rattle.script.specs.declared.command.Command.TheVariants.{Partitions, Load, Deploy, Put, Append, Go}
 use Rattle.script.specs.declared.fault.ScriptFault.{ScriptFault}
 use Rattle.script.specs.declared.fault.ScriptFault.TheVariants.{Order, Range}
 
@@ -11,6 +11,7 @@ is_in_order (Partitions inputs outputs cells) has_begun is_loaded = not has_begu
 is_in_order (Load name source) has_begun is_loaded = has_begun
 is_in_order (Deploy input name) has_begun is_loaded = has_begun && is_loaded
 is_in_order (Put input timestamp key value) has_begun is_loaded = has_begun
+is_in_order (Append input source) has_begun is_loaded = has_begun
 is_in_order Go has_begun is_loaded = has_begun
 
 -- null has no bytes
@@ -25,6 +26,7 @@ is_in_range (Partitions inputs outputs cells) = (inputs == 1) && ((outputs == 1)
 is_in_range (Load name source) = true
 is_in_range (Deploy input name) = true
 is_in_range (Put input timestamp key value) = nat_lt timestamp (2 ^ 62) && (nat_le (size_of key) 4096 && nat_le (size_of value) 65536)
+is_in_range (Append input source) = true
 is_in_range Go = true
 
 -- the order is looked at before the numbers

@@ -3,7 +3,7 @@
 ghost use Rattle.std.specs.Prelude.{◌≡◌, ◌<◌, length, drop, nat_eq, nat_lt, codes, IfOk, if◌then◌else◌};
 ghost use Rattle.std.specs.List.{list_all, starts_with};
 ghost use Rattle.script.specs.Words.{texts, hex_bytes};
-ghost use Rattle.script.specs.Commands.{source_of, partitions_line, load_line, deploy_line, put_line, go_line, command_of_words, command_from, command_of};
+ghost use Rattle.script.specs.Commands.{source_of, partitions_line, load_line, deploy_line, put_line, append_line, go_line, command_of_words, command_from, command_of};
 
 use crate::pairs::{bytes_word, hex};
 use crate::words::{number_at, word, words};
@@ -26,11 +26,11 @@ impl Model for FileName {
     ghost view = { λ n. string_bytes n.text };
 }
 
-/// Where the image of a program stands.
+/// Where the image of a program, or record batches, stand.
 #[derive(Drop)]
 pub enum Source {
     /// In the line itself.
-    Image(Bytes),
+    Line(Bytes),
     /// In a file.
     File(FileName),
 }
@@ -47,6 +47,8 @@ pub enum Command {
     /// Appends one record to an input partition: its timestamp in milliseconds, its key and its
     /// value, which may be null.
     Put(u64, u64, Option<Bytes>, Option<Bytes>),
+    /// Appends record batches, one after the other, to an input partition.
+    Append(u64, Source),
     /// Runs the programs on all that was appended, and prints the rows.
     Go,
 }
@@ -66,8 +68,8 @@ fn file_of(alloc: Global, text: &str) -> Result<FileName, AllocError>
 }
 
 /// The bytes of a word that begins with `hex:`, where pairs of lower-case hex digits follow.
-fn image(alloc: Global, word: &[u8]) -> Result<Option<Bytes>, AllocError>
-    ensures { IfOk result (λ image. image ≡ (if starts_with nat_eq word.now (codes "hex:") then hex_bytes (drop 4 word.now) else None)) }
+fn hex_word(alloc: Global, word: &[u8]) -> Result<Option<Bytes>, AllocError>
+    ensures { IfOk result (λ bytes. bytes ≡ (if starts_with nat_eq word.now (codes "hex:") then hex_bytes (drop 4 word.now) else None)) }
 {
     if !word.starts_with(b"hex:") {
         return Ok(None);
@@ -75,12 +77,12 @@ fn image(alloc: Global, word: &[u8]) -> Result<Option<Bytes>, AllocError>
     hex(alloc, &word[4..])
 }
 
-/// `hex:` and hex pairs are an image, every other word is a file's name.
+/// `hex:` and hex pairs are those bytes, every other word is a file's name.
 fn source_named(alloc: Global, word: &str) -> Result<Source, AllocError>
     ensures { IfOk result (λ source. source ≡ source_of word.now) }
 {
-    match image(alloc, word.as_bytes())? {
-        Some(image) => Ok(Source::Image(image)),
+    match hex_word(alloc, word.as_bytes())? {
+        Some(bytes) => Ok(Source::Line(bytes)),
         None => Ok(Source::File(file_of(alloc, word)?)),
     }
 }
@@ -142,6 +144,19 @@ fn put(alloc: Global, words: &[&str]) -> Result<Option<Command>, AllocError>
     Ok(Some(Command::Put(input, timestamp, key, value)))
 }
 
+fn append(alloc: Global, words: &[&str]) -> Result<Option<Command>, AllocError>
+    ensures { IfOk result (λ command. command ≡ append_line (texts words.now)) }
+{
+    if words.len() != 3 {
+        return Ok(None);
+    }
+    let Some(input) = number_at(words, 1) else {
+        return Ok(None);
+    };
+    let source = source_named(alloc, word(words, 2))?;
+    Ok(Some(Command::Append(input, source)))
+}
+
 fn go(words: &[&str]) -> Option<Command>
     ensures { result ≡ go_line (texts words.now) }
 {
@@ -166,6 +181,8 @@ fn command_said(alloc: Global, words: &[&str]) -> Result<Option<Command>, AllocE
         deploy(alloc, words)
     } else if name == "put" {
         put(alloc, words)
+    } else if name == "append" {
+        append(alloc, words)
     } else if name == "go" {
         Ok(go(words))
     } else {

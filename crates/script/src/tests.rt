@@ -15,7 +15,7 @@ fn shown(alloc: Global, line: &str) -> Result<String, Fail> {
         Some(Command::Partitions(inputs, outputs, cells)) => {
             format!(in alloc; "partitions {inputs} {outputs} {cells}")?
         }
-        Some(Command::Load(name, Source::Image(image))) => {
+        Some(Command::Load(name, Source::Line(image))) => {
             let name = name.text.as_str();
             let image = image.as_slice();
             format!(in alloc; "image {name} {image:?}")?
@@ -33,6 +33,14 @@ fn shown(alloc: Global, line: &str) -> Result<String, Fail> {
             let key = key.is_some();
             let value = value.as_ref().map_or(0, |bytes| bytes.len());
             format!(in alloc; "put {input} {timestamp} {key} {value}")?
+        }
+        Some(Command::Append(input, Source::Line(batches))) => {
+            let batches = batches.as_slice();
+            format!(in alloc; "batches {input} {batches:?}")?
+        }
+        Some(Command::Append(input, Source::File(file))) => {
+            let file = file.text.as_str();
+            format!(in alloc; "append {input} {file}")?
         }
         Some(Command::Go) => String::from_str(alloc, "go")?,
     };
@@ -70,6 +78,13 @@ fn reads_lines(rt: HostRuntime) -> Result<(), Fail> {
         ("put 0 1000 6b 7", "none"),
         ("put 0 1000 6b 7G", "none"),
         ("put 0 1000 6b .76", "none"),
+        ("append 0 batches.bin", "append 0 batches.bin"),
+        ("append 3 hex:00ff", "batches 3 [0, 255]"),
+        ("append 0 hex:", "batches 0 []"),
+        ("append 0 hex:FF", "append 0 hex:FF"),
+        ("append 00 batches.bin", "none"),
+        ("append batches.bin", "none"),
+        ("append 0 batches.bin 2", "none"),
         ("Go", "none"),
         (" ", "none"),
     ] {
@@ -84,6 +99,8 @@ fn tells_faults(rt: HostRuntime) -> Result<(), Fail> {
     for (line, has_begun, is_loaded, fault) in [
         ("go", false, true, Some(ScriptFault::Order)),
         ("go", true, true, None),
+        ("append 0 f", false, true, Some(ScriptFault::Order)),
+        ("append 9 f", true, true, None),
         ("partitions 1 1 8", true, true, Some(ScriptFault::Order)),
         ("partitions 1 1 65536", false, true, None),
         (

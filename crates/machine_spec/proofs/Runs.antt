@@ -1,0 +1,290 @@
+-- Runs of small programs, worked out by computing: what the definitions say of them is what a reader expects.
+use Rattle.std.proofs.Common.{◌≡◌, ◌≢◌, ℕ, zero, suc, ◌+◌, List, [], ◌∷◌, ◌++◌, Option, Some, None, Err, refl, subst, pos}
+use Rattle.machine_spec.specs.declared.instruction.Instruction.{Instruction}
+use Rattle.machine_spec.specs.declared.instruction.Instruction.TheVariants.{Move, Compute, Load, JumpIf, Call, Exit}
+use Rattle.machine_spec.specs.declared.instruction.Trap.{Trap}
+use Rattle.machine_spec.specs.declared.instruction.Trap.TheVariants as trap
+use Rattle.machine_spec.specs.declared.instruction.IsaFault.TheVariants as fault
+use Rattle.machine_spec.specs.declared.outcome.Emission.{Emission}
+use Rattle.machine_spec.specs.declared.outcome.Outcome.{Outcome}
+use Rattle.machine_spec.specs.declared.outcome.Outcome.TheVariants.{Kept, Rejected}
+use Rattle.machine_spec.specs.Image.{form_at, read_slot, instruction_of, is_known, first_slots, read_image}
+use Rattle.machine_spec.specs.Machine.{Input, State, entry, after}
+use Rattle.machine_spec.specs.Traps.{trap_at}
+use Rattle.machine_spec.specs.Meaning.{Step, Reaches, EndsAt, Means, outcome_of}
+use Rattle.machine_spec.proofs.Meanings.{step_on}
+
+-- ---- computing a run
+
+-- what a run does at a state: it ends, goes on to another, or is trapped
+pub data Turn : Type 0 where
+  Ends : Outcome → Turn
+  Goes : State → Turn
+  Trapped : Trap → Turn
+
+abbrev turn_by : Input → State → Option Trap → Option Instruction → Turn
+turn_by input s (Some told) form = Trapped told
+turn_by input s None None = Trapped trap.Form
+turn_by input s None (Some Exit) = Ends (outcome_of (s.registers 0) s.emitted)
+turn_by input s None (Some (Move a b c)) = Goes (after (Move a b c) input s)
+turn_by input s None (Some (Compute a b c d)) = Goes (after (Compute a b c d) input s)
+turn_by input s None (Some (Load a b c d)) = Goes (after (Load a b c d) input s)
+turn_by input s None (Some (JumpIf a b c d e)) = Goes (after (JumpIf a b c d e) input s)
+turn_by input s None (Some (Call a)) = Goes (after (Call a) input s)
+
+abbrev turn : List ℕ → Input → State → Turn
+turn image input s = turn_by input s (trap_at image input s) (form_at image s.slot)
+
+-- how a run ends, with the number of instructions that it completed
+pub data End : Type 0 where
+  Out : Outcome → ℕ → End
+  Stopped : Trap → ℕ → End
+
+abbrev run_by : (State → Option End) → ℕ → Turn → Option End
+run_by on n (Ends outcome) = Some (Out outcome (n + 1))
+run_by on n (Goes s) = on s
+run_by on n (Trapped told) = Some (Stopped told n)
+
+-- the end of a run from a state that is reached after n steps, if it has at most so many turns
+abbrev run_from : ℕ → List ℕ → Input → ℕ → State → Option End
+run_from zero image input n s = None
+run_from (suc turns) image input n s = run_by (run_from turns image input (n + 1)) n (turn image input s)
+
+abbrev pub run : ℕ → List ℕ → Input → Option End
+run turns image input = run_from turns image input 0 (entry input)
+
+-- ---- what is computed is what the program means
+
+ends_by : (input : Input) (s : State) (t : Option Trap) (form : Option Instruction) (outcome : Outcome) → turn_by input s t form ≡ Ends outcome
+    → (t ≡ None) × (form ≡ Some Exit) × (outcome ≡ outcome_of (s.registers 0) s.emitted)
+ends_by input s (Some told) form outcome e = absurd cc
+ends_by input s None None outcome e = absurd cc
+ends_by input s None (Some Exit) outcome e = (refl, refl, cc)
+ends_by input s None (Some (Move a b c)) outcome e = absurd cc
+ends_by input s None (Some (Compute a b c d)) outcome e = absurd cc
+ends_by input s None (Some (Load a b c d)) outcome e = absurd cc
+ends_by input s None (Some (JumpIf a b c d f)) outcome e = absurd cc
+ends_by input s None (Some (Call a)) outcome e = absurd cc
+
+-- an instruction other than EXIT, and the state after it
+abbrev GoesOn : Input → State → Option Trap → Option Instruction → State → Type 0
+GoesOn input s t form next = (i : Instruction) × (t ≡ None) × (form ≡ Some i) × (i ≢ Exit) × (after i input s ≡ next)
+
+goes_by : (input : Input) (s : State) (t : Option Trap) (form : Option Instruction) (next : State) → turn_by input s t form ≡ Goes next → GoesOn input s t form next
+goes_by input s (Some told) form next e = absurd cc
+goes_by input s None None next e = absurd cc
+goes_by input s None (Some Exit) next e = absurd cc
+goes_by input s None (Some (Move a b c)) next e = (Move a b c, refl, refl, (λ p. absurd cc), cc)
+goes_by input s None (Some (Compute a b c d)) next e = (Compute a b c d, refl, refl, (λ p. absurd cc), cc)
+goes_by input s None (Some (Load a b c d)) next e = (Load a b c d, refl, refl, (λ p. absurd cc), cc)
+goes_by input s None (Some (JumpIf a b c d f)) next e = (JumpIf a b c d f, refl, refl, (λ p. absurd cc), cc)
+goes_by input s None (Some (Call a)) next e = (Call a, refl, refl, (λ p. absurd cc), cc)
+
+module _ (image : List ℕ) (input : Input) where
+  end_means : (n : ℕ) (s : State) (outcome : Outcome) → Reaches image input n s → turn image input s ≡ Ends outcome → Means image input outcome (n + 1)
+  end_means n s outcome chain e =
+      let end = ends_by input s (trap_at image input s) (form_at image s.slot) outcome e in
+      record { steps = n; last = s; count = refl; chain = chain; end = record { form = end.1; no_trap = end.0; outcome_is = end.2 } }
+
+  goes_reaches : (n : ℕ) (s next : State) → Reaches image input n s → turn image input s ≡ Goes next → Reaches image input (n + 1) next
+  goes_reaches n s next chain e =
+      let on = goes_by input s (trap_at image input s) (form_at image s.slot) next e in
+      subst (Reaches image input (n + 1)) on.4 (step_on image input n s on.0 chain on.2 on.3 on.1)
+
+  out_is : (o p : Outcome) (n m : ℕ) → Some (Out o n) ≡ Some (Out p m) → (o ≡ p) × (n ≡ m)
+  out_is o p n m e = (cc, cc)
+
+  means_by : (turns n : ℕ) (s : State) (o : Outcome) (m : ℕ) → Reaches image input n s
+      → ((next : State) → Reaches image input (n + 1) next → run_from turns image input (n + 1) next ≡ Some (Out o m) → Means image input o m)
+      → (t : Turn) → turn image input s ≡ t → run_by (run_from turns image input (n + 1)) n t ≡ Some (Out o m) → Means image input o m
+  means_by turns n s o m chain later (Ends p) at e =
+      let same = out_is p o (n + 1) m e in
+      subst (λ q. Means image input q m) same.0 (subst (Means image input p) same.1 (end_means n s p chain at))
+  means_by turns n s o m chain later (Goes next) at e = later next (goes_reaches n s next chain at) e
+  means_by turns n s o m chain later (Trapped told) at e = absurd cc
+
+  means_from : (turns n : ℕ) (s : State) (o : Outcome) (m : ℕ) → Reaches image input n s → run_from turns image input n s ≡ Some (Out o m) → Means image input o m
+  means_from zero n s o m chain e = absurd cc
+  means_from (suc turns) n s o m chain e =
+      means_by turns n s o m chain (λ next reaches later. means_from turns (n + 1) next o m reaches later) (turn image input s) refl e
+
+  -- an outcome that is computed is the program's meaning
+  pub run_means : (turns : ℕ) (o : Outcome) (n : ℕ) → run turns image input ≡ Some (Out o n) → Means image input o n
+  run_means turns o n e = means_from turns 0 (entry input) o n refl e
+
+-- ---- instructions, as the bytes of their slots
+
+-- an instruction with an opcode, its registers (the destination's number plus sixteen times the source's), an offset and
+-- an immediate below 256
+abbrev slot : ℕ → ℕ → ℕ → ℕ → List ℕ
+slot opcode registers offset imm = opcode ∷ registers ∷ offset ∷ 0 ∷ imm ∷ 0 ∷ 0 ∷ 0 ∷ []
+
+-- mov64 r, number
+abbrev move_to : ℕ → ℕ → List ℕ
+move_to register number = slot 0xb7 register 0 number
+
+-- call helper
+abbrev call : ℕ → List ℕ
+call helper = slot 0x85 0 0 helper
+
+abbrev exit : List ℕ
+exit = slot 0x95 0 0 0
+
+-- a record with the key `k` and a value, the first of its partition, and so many output partitions
+abbrev of_value : ℕ → Option (List ℕ) → Input
+of_value outputs value = record {
+  given = record { timestamp_delta = pos 0; key = Some (107 ∷ []); value = value; headers = [] };
+  place = record { partition = 0; offset = 0; timestamp = 1000; outputs = outputs };
+}
+
+abbrev forwarded : Emission
+forwarded = record { out = 0; key = Some (107 ∷ []); value = Some (118 ∷ []); headers = [] }
+
+abbrev repeated : ℕ → List ℕ → List ℕ
+repeated zero bytes = []
+repeated (suc n) bytes = bytes ++ repeated n bytes
+
+-- ---- outcomes
+
+-- mov64 r0, 0; exit
+nothing_kept : run 9 (move_to 0 0 ++ exit) (of_value 1 None) ≡ Some (Out (Kept []) 2)
+unfolding read_slot instruction_of is_known first_slots trap_at after
+nothing_kept = refl
+
+-- mov64 r1, 0; call 3; exit: the record goes to output 0
+record_forwarded : run 9 (move_to 1 0 ++ (call 3 ++ exit)) (of_value 1 (Some (118 ∷ []))) ≡ Some (Out (Kept (forwarded ∷ [])) 3)
+unfolding read_slot instruction_of is_known first_slots trap_at after
+record_forwarded = refl
+
+-- mov64 r1, 9; call 3; exit: there is no output 9
+no_such_output : run 9 (move_to 1 9 ++ (call 3 ++ exit)) (of_value 2 None) ≡ Some (Out (Rejected 1) 3)
+unfolding read_slot instruction_of is_known first_slots trap_at after
+no_such_output = refl
+
+-- the seventeenth emission is not added
+seventeenth_emission : run 40 (repeated 17 (move_to 1 0 ++ call 3) ++ exit) (of_value 1 None) ≡ Some (Out (Rejected 3) 35)
+unfolding read_slot instruction_of is_known first_slots trap_at after
+seventeenth_emission = refl
+
+-- mov64 r0, -1; add64 r0, 6; exit: 64-bit sums wrap
+sum_wraps : run 9 ((0xb7 ∷ 0 ∷ 0 ∷ 0 ∷ 0xff ∷ 0xff ∷ 0xff ∷ 0xff ∷ []) ++ (slot 0x07 0 0 6 ++ exit)) (of_value 1 None) ≡ Some (Out (Rejected 5) 3)
+unfolding read_slot instruction_of is_known first_slots trap_at after
+sum_wraps = refl
+
+-- mov64 r0, 0; jlt64 r2, 1, +1; ldx8 r0, [r1+0]; exit: the value's first byte, if it has one
+abbrev first_byte : List ℕ
+first_byte = move_to 0 0 ++ (slot 0xa5 2 1 1 ++ (slot 0x71 0x10 0 0 ++ exit))
+
+-- of the value 07
+first_byte_of_one : run 9 first_byte (of_value 1 (Some (7 ∷ []))) ≡ Some (Out (Rejected 7) 4)
+unfolding read_slot instruction_of is_known first_slots trap_at after
+first_byte_of_one = refl
+
+-- of the empty value
+first_byte_of_empty : run 9 first_byte (of_value 1 (Some [])) ≡ Some (Out (Kept []) 3)
+unfolding read_slot instruction_of is_known first_slots trap_at after
+first_byte_of_empty = refl
+
+-- of the null value
+first_byte_of_null : run 9 first_byte (of_value 1 None) ≡ Some (Out (Kept []) 3)
+unfolding read_slot instruction_of is_known first_slots trap_at after
+first_byte_of_null = refl
+
+-- ldx16 r0, [r1+1]; exit: the low byte stands first
+two_bytes : run 9 (slot 0x69 0x10 1 0 ++ exit) (of_value 1 (Some (9 ∷ 2 ∷ 1 ∷ []))) ≡ Some (Out (Rejected 258) 2)
+unfolding read_slot instruction_of is_known first_slots trap_at after
+two_bytes = refl
+
+-- ---- traps
+
+-- no bytes at all
+past_the_end : run 9 [] (of_value 1 None) ≡ Some (Stopped trap.RanOff 0)
+unfolding read_slot instruction_of is_known first_slots trap_at after
+past_the_end = refl
+
+-- mov64 r0, 0 alone
+no_exit : run 9 (move_to 0 0) (of_value 1 None) ≡ Some (Stopped trap.RanOff 1)
+unfolding read_slot instruction_of is_known first_slots trap_at after
+no_exit = refl
+
+-- an opcode of no table
+no_instruction : run 9 (slot 0xff 0 0 0) (of_value 1 None) ≡ Some (Stopped trap.Form 0)
+unfolding read_slot instruction_of is_known first_slots trap_at after
+no_instruction = refl
+
+-- exit alone: r0 holds nothing
+exit_alone : run 9 exit (of_value 1 None) ≡ Some (Stopped trap.Unset 0)
+unfolding read_slot instruction_of is_known first_slots trap_at after
+exit_alone = refl
+
+-- add64 r1, r3: two addresses
+sum_of_addresses : run 9 (slot 0x0f 0x31 0 0 ++ exit) (of_value 1 None) ≡ Some (Stopped trap.WrongType 0)
+unfolding read_slot instruction_of is_known first_slots trap_at after
+sum_of_addresses = refl
+
+-- mov64 r10, 0
+frame_written : run 9 (move_to 10 0 ++ exit) (of_value 1 None) ≡ Some (Stopped trap.Frame 0)
+unfolding read_slot instruction_of is_known first_slots trap_at after
+frame_written = refl
+
+-- ldx8 r0, [r1+0] of a null value
+value_too_short : run 9 (slot 0x71 0x10 0 0 ++ exit) (of_value 1 None) ≡ Some (Stopped trap.RecordBounds 0)
+unfolding read_slot instruction_of is_known first_slots trap_at after
+value_too_short = refl
+
+-- ldx64 r0, [r10-520]
+below_the_stack : run 9 ((0x79 ∷ 0xa0 ∷ 0xf8 ∷ 0xfd ∷ 0 ∷ 0 ∷ 0 ∷ 0 ∷ []) ++ exit) (of_value 1 None) ≡ Some (Stopped trap.StackBounds 0)
+unfolding read_slot instruction_of is_known first_slots trap_at after
+below_the_stack = refl
+
+-- ldx64 r0, [r10-8]
+stack_unset : run 9 ((0x79 ∷ 0xa0 ∷ 0xf8 ∷ 0xff ∷ 0 ∷ 0 ∷ 0 ∷ 0 ∷ []) ++ exit) (of_value 1 None) ≡ Some (Stopped trap.StackUnset 0)
+unfolding read_slot instruction_of is_known first_slots trap_at after
+stack_unset = refl
+
+-- call 99
+no_helper : run 9 (call 99 ++ exit) (of_value 1 None) ≡ Some (Stopped trap.Helper 0)
+unfolding read_slot instruction_of is_known first_slots trap_at after
+no_helper = refl
+
+-- call 3 where r1 is still the value's address
+address_as_output : run 9 (call 3 ++ exit) (of_value 1 None) ≡ Some (Stopped trap.HelperArgument 0)
+unfolding read_slot instruction_of is_known first_slots trap_at after
+address_as_output = refl
+
+-- mov64 r0, r1; exit
+address_at_exit : run 9 (slot 0xbf 0x10 0 0 ++ exit) (of_value 1 None) ≡ Some (Stopped trap.Exit 1)
+unfolding read_slot instruction_of is_known first_slots trap_at after
+address_at_exit = refl
+
+-- ---- images
+
+-- no bytes
+empty_image : read_image [] ≡ Err fault.Size
+unfolding read_image read_slot instruction_of is_known first_slots
+empty_image = refl
+
+-- 12 bytes
+cut_image : read_image (exit ++ (0 ∷ 0 ∷ 0 ∷ 0 ∷ [])) ≡ Err fault.Size
+unfolding read_image read_slot instruction_of is_known first_slots
+cut_image = refl
+
+-- db is an opcode of a table, and outside the profile
+atomic_opcode : read_image (slot 0xdb 0 0 0) ≡ Err (fault.NotInProfile 0)
+unfolding read_image read_slot instruction_of is_known first_slots
+atomic_opcode = refl
+
+-- ff is one of no table
+unknown_opcode : read_image (slot 0xff 0 0 0) ≡ Err (fault.Opcode 0)
+unfolding read_image read_slot instruction_of is_known first_slots
+unknown_opcode = refl
+
+-- mov64 r11, 0
+register_eleven : read_image (move_to 11 0) ≡ Err (fault.Register 0)
+unfolding read_image read_slot instruction_of is_known first_slots
+register_eleven = refl
+
+-- exit with an immediate
+unused_field : read_image (slot 0x95 0 0 1) ≡ Err (fault.Unused 0)
+unfolding read_image read_slot instruction_of is_known first_slots
+unused_field = refl
