@@ -14,6 +14,7 @@ use varint::{read32, read64};
 use wire_spec::{Header, Headers, Record};
 
 /// The varint at a place, and the place after it.
+#[inline(always)]
 fn varint_from(bytes: &[u8], at: usize) -> Result<(i32, usize), RecordFault>
     requires { at ≤ length bytes.now }
     ensures gives { Gives (λ x. (x.0, drop x.1 bytes.now)) result (varint_at (drop at bytes.now)) }
@@ -38,6 +39,7 @@ fn varlong_from(bytes: &[u8], at: usize) -> Result<(i64, usize), RecordFault>
 }
 
 /// That many bytes at a place, no more than the limit, and the place after them.
+#[inline(always)]
 fn bytes_from(
     bytes: &Bytes,
     at: usize,
@@ -59,6 +61,7 @@ fn bytes_from(
 }
 
 /// The same, or null for the length -1.
+#[inline(always)]
 fn nullable_bytes_from(
     bytes: &Bytes,
     at: usize,
@@ -87,6 +90,7 @@ fn string_from(bytes: &Bytes, at: usize, limit: usize) -> Result<(Bytes, usize),
 }
 
 #[tactic(auto, unfolding(wire_spec::specs::RecordReading::nullable_at))]
+#[inline(always)]
 fn nullable_from(
     bytes: &Bytes,
     at: usize,

@@ -12,6 +12,7 @@ use varint::{write32, write64};
 use wire_spec::{Header, Record};
 
 /// Writes a length, of less than 2^31.
+#[inline(always)]
 fn put_len(len: usize, out: &mut Vec<u8>) -> Result<(), AllocError>
     requires { len < 2 ^ 31 }
     ensures ok { OnOk result (out.new.items ≡ out.old.items ++ varint (pos len)) }
@@ -21,6 +22,7 @@ fn put_len(len: usize, out: &mut Vec<u8>) -> Result<(), AllocError>
 }
 
 /// Writes a length and that many bytes.
+#[inline(always)]
 fn put_string(bytes: &[u8], out: &mut Vec<u8>) -> Result<(), AllocError>
     requires { length bytes.now < 2 ^ 31 }
     ensures ok { OnOk result (out.new.items ≡ out.old.items ++ string bytes.now) }
@@ -31,6 +33,7 @@ fn put_string(bytes: &[u8], out: &mut Vec<u8>) -> Result<(), AllocError>
 }
 
 /// Writes a length and that many bytes, or the length -1 for null.
+#[inline(always)]
 fn put_nullable(part: &Option<Bytes>, out: &mut Vec<u8>) -> Result<(), AllocError>
     requires { IfSome part.now (λ b. length b < 2 ^ 31) }
     ensures ok { OnOk result (out.new.items ≡ out.old.items ++ nullable part.now) }

@@ -67,6 +67,7 @@ fn zigzag_of(value: i64) -> u64
 
 /// Writes the varint of a number at the end, in 1 to 5 bytes. An `Err` leaves the bytes as they were.
 #[tactic(auto, unfolding(wire_spec::specs::Varint::varint))]
+#[inline(always)]
 pub fn write32(value: i32, out: &mut Vec<u8>) -> Result<(), AllocError>
     ensures ok { OnOk result (out.new.items ≡ out.old.items ++ varint value) }
     ensures err { OnErr result (out.new.items ≡ out.old.items) }

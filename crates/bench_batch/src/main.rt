@@ -1,0 +1,238 @@
+//! Measures how fast `batch` reads and writes batches. Given how many times to do so in a turn, it takes
+//! ten turns with each batch and prints the bytes and records a second of the best; given nothing, it
+//! prints nothing.
+#![tactic(auto)]
+
+ghost use Rattle.wire_spec.specs.BatchSpelling.{BatchFits};
+
+use batch::{Batch, Headers, Records, decode, encode, fits};
+use bytes::Bytes;
+use kafka_record::{Header, Record};
+use std::alloc::{AllocError, Global};
+use std::io::ErrorKind;
+use std::num::nearest_u64_to_f64;
+use std::rt::Clock;
+use std::time::{Duration, Instant};
+use std::{env, io};
+
+const TURNS: u32 = 10;
+
+/// What the records of a batch are like; lengths are of bytes.
+struct Shape {
+    name: &'static str,
+    records: usize,
+    key: Option<usize>,
+    value: usize,
+    headers: usize,
+}
+
+const SMALL: Shape = Shape {
+    name: "10,000 of 64 bytes",
+    records: 10_000,
+    key: Some(8),
+    value: 64,
+    headers: 0,
+};
+
+const LARGE: Shape = Shape {
+    name: "15 of 65,536 bytes",
+    records: 15,
+    key: None,
+    value: 65_536,
+    headers: 0,
+};
+
+const HEADED: Shape = Shape {
+    name: "1,000 of 4 headers",
+    records: 1_000,
+    key: Some(8),
+    value: 64,
+    headers: 4,
+};
+
+/// So many bytes, which are text.
+fn text(alloc: Global, len: usize) -> Result<Bytes, AllocError> {
+    let text = vec![in alloc; b'k'; len]?;
+    Ok(Bytes::from_vec(text)?)
+}
+
+fn key(alloc: Global, len: Option<usize>) -> Result<Option<Bytes>, AllocError> {
+    match len {
+        Some(len) => Ok(Some(text(alloc, len)?)),
+        None => Ok(None),
+    }
+}
+
+fn header(alloc: Global) -> Result<Header, AllocError> {
+    let key = text(alloc, 8)?;
+    let value = text(alloc, 16)?;
+    Ok(Header {
+        key,
+        value: Some(value),
+    })
+}
+
+fn headers(alloc: Global, count: usize) -> Result<Headers, AllocError> {
+    let mut list = Vec::new(alloc);
+    for _ in 0..count {
+        let header = header(alloc)?;
+        list.push(header)?;
+    }
+    Ok(Headers { list })
+}
+
+fn record_of(alloc: Global, shape: &Shape) -> Result<Record, AllocError> {
+    let key = key(alloc, shape.key)?;
+    let value = text(alloc, shape.value)?;
+    let headers = headers(alloc, shape.headers)?;
+    Ok(Record {
+        timestamp_delta: 0,
+        key,
+        value: Some(value),
+        headers,
+    })
+}
+
+fn records_of(alloc: Global, shape: &Shape) -> Result<Records, AllocError> {
+    let mut list = Vec::new(alloc);
+    for _ in 0..shape.records {
+        let one = record_of(alloc, shape)?;
+        list.push(one)?;
+    }
+    Ok(Records { list })
+}
+
+fn batch_of(alloc: Global, shape: &Shape) -> Result<Batch, AllocError> {
+    let records = records_of(alloc, shape)?;
+    Ok(Batch {
+        base_offset: 0,
+        leader_epoch: 0,
+        base_timestamp: 1_700_000_000_000,
+        producer_id: -1,
+        producer_epoch: -1,
+        base_sequence: -1,
+        records,
+    })
+}
+
+/// The lengths of a record's parts, and how many headers it has.
+fn sum_of_record(one: &Record) -> u64 {
+    let key = one.key.as_ref().map_or(0, |key| key.len() as u64);
+    let value = one.value.as_ref().map_or(0, |value| value.len() as u64);
+    let headers = one.headers.list.len() as u64;
+    key.wrapping_add(value).wrapping_add(headers)
+}
+
+fn sum_of_batch(batch: &Batch) -> u64 {
+    let mut sum: u64 = 0;
+    for one in &batch.records.list {
+        sum = sum.wrapping_add(sum_of_record(one));
+    }
+    sum
+}
+
+/// Reads the batch so many times, and sums what was read.
+fn read_turn(alloc: Global, bytes: &Bytes, times: u32) -> io::Result<u64> {
+    let mut sum: u64 = 0;
+    for _ in 0..times {
+        let shared = bytes.clone()?;
+        let Ok((batch, _)) = decode(alloc, shared) else {
+            return Err(ErrorKind::InvalidData.into());
+        };
+        sum = sum.wrapping_add(sum_of_batch(&batch));
+    }
+    Ok(sum)
+}
+
+/// Writes the batch so many times, and sums how many bytes there are.
+fn write_turn(alloc: Global, batch: &Batch, times: u32) -> io::Result<u64>
+    requires { BatchFits batch.now }
+{
+    let mut sum: u64 = 0;
+    for _ in 0..times {
+        let bytes = encode(alloc, batch)?;
+        sum = sum.wrapping_add(bytes.len() as u64);
+    }
+    Ok(sum)
+}
+
+/// The shortest turn of reading, and the sum of all.
+fn shortest_read<R: Clock>(
+    rt: &R,
+    alloc: Global,
+    bytes: &Bytes,
+    times: u32,
+) -> io::Result<(Duration, u64)> {
+    let mut shortest = Duration::MAX;
+    let mut sum: u64 = 0;
+    for _ in 0..TURNS {
+        let start = Instant::now(rt)?;
+        sum = sum.wrapping_add(read_turn(alloc, bytes, times)?);
+        shortest = shortest.min(start.elapsed(rt)?);
+    }
+    Ok((shortest, sum))
+}
+
+/// The shortest turn of writing, and the sum of all.
+fn shortest_write<R: Clock>(
+    rt: &R,
+    alloc: Global,
+    batch: &Batch,
+    times: u32,
+) -> io::Result<(Duration, u64)>
+    requires { BatchFits batch.now }
+{
+    let mut shortest = Duration::MAX;
+    let mut sum: u64 = 0;
+    for _ in 0..TURNS {
+        let start = Instant::now(rt)?;
+        sum = sum.wrapping_add(write_turn(alloc, batch, times)?);
+        shortest = shortest.min(start.elapsed(rt)?);
+    }
+    Ok((shortest, sum))
+}
+
+/// Prints what a turn took: so many times so many bytes and records.
+fn show<R: Print>(
+    rt: &R,
+    name: &str,
+    took: Duration,
+    times: u32,
+    bytes: usize,
+    records: usize,
+    sum: u64,
+) -> io::Result<()> {
+    let micros = took.as_secs_f64() * 1_000_000.0;
+    let each = micros / f64::from(times);
+    println!(rt;
+        "{name}: {:6.0} MB/s  {:8.3} million records/s  (sum {sum})",
+        nearest_u64_to_f64(bytes as u64) / each,
+        nearest_u64_to_f64(records as u64) / each
+    )
+}
+
+fn compare<R: Print + Clock>(rt: &R, alloc: Global, shape: &Shape, times: u32) -> io::Result<()> {
+    let batch = batch_of(alloc, shape)?;
+    if !fits(&batch) {
+        return Err(ErrorKind::InvalidData.into());
+    }
+    let bytes = Bytes::from_vec(encode(alloc, &batch)?)?;
+    println!(rt; "{}, {} bytes in all", shape.name, bytes.len())?;
+    let (took, sum) = shortest_read(rt, alloc, &bytes, times)?;
+    show(rt, "  decode", took, times, bytes.len(), shape.records, sum)?;
+    let (took, sum) = shortest_write(rt, alloc, &batch, times)?;
+    show(rt, "  encode", took, times, bytes.len(), shape.records, sum)
+}
+
+fn compare_all<R: Print + Clock>(rt: &R, alloc: Global, times: u32) -> io::Result<()> {
+    compare(rt, alloc, &SMALL, times)?;
+    compare(rt, alloc, &LARGE, times)?;
+    compare(rt, alloc, &HEADED, times)
+}
+
+fn main(rt: HostRuntime) -> io::Result<()> {
+    match env::args(&rt)?.nth(1) {
+        Some(times) => compare_all(&rt, rt.alloc(), times.parse::<u32>().unwrap_or(20)),
+        None => Ok(()),
+    }
+}
