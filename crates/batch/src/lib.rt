@@ -4,11 +4,13 @@
 mod fields;
 mod limits;
 mod reading;
+mod sharing;
 mod times;
 mod writing;
 
 pub use limits::fits;
 pub use reading::{decode, one_spelling};
+pub use sharing::share;
 pub use wire_spec::{Batch, BatchFault, Headers, Records};
 pub use writing::encode;
 

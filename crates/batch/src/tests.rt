@@ -293,3 +293,20 @@ fn without_records(rt: HostRuntime) -> Result<(), Fail> {
     assert!(rt; !fits(&batch));
     Ok(())
 }
+
+#[test]
+fn another_owner(rt: HostRuntime) -> Result<(), Fail> {
+    let (mut batch, _) = decode(rt.alloc(), Bytes::from_static(CLIENT_FOUR))?;
+    let shared = share(rt.alloc(), &batch)?;
+    assert!(rt; fits(&shared));
+    let out = encode(rt.alloc(), &shared)?;
+    assert_eq!(rt; out.as_slice(), CLIENT_FOUR);
+
+    batch.base_offset = 42;
+    batch.leader_epoch = 9;
+    let shared = share(rt.alloc(), &batch)?;
+    drop(batch);
+    assert_eq!(rt; (shared.base_offset, shared.leader_epoch), (42, 9));
+    assert_eq!(rt; shared.records.list.len(), 4);
+    Ok(())
+}

@@ -4,6 +4,7 @@
 mod fault;
 mod limits;
 mod reading;
+mod sharing;
 mod sizes;
 #[tactic(auto, using(crate::proofs::Written::keeping))]
 mod writing;
@@ -11,6 +12,7 @@ mod writing;
 pub use fault::RecordFault;
 pub use limits::fits;
 pub use reading::{one_spelling, read};
+pub use sharing::{share, share_bytes, share_headers};
 pub use sizes::size;
 pub use wire_spec::{Header, Headers, Record};
 pub use writing::write;

@@ -112,3 +112,28 @@ fn limits(rt: HostRuntime) -> Result<(), Fail> {
     }
     Ok(())
 }
+
+#[test]
+fn another_owner(rt: HostRuntime) -> Result<(), Fail> {
+    let mut list = Vec::new(rt.alloc());
+    list.push(Header {
+        key: Bytes::from_static(b"h"),
+        value: Some(Bytes::from_static(b"x")),
+    })?;
+    let given = Record {
+        timestamp_delta: -7,
+        key: Some(Bytes::copy_from_slice(rt.alloc(), b"key")?),
+        value: None,
+        headers: Headers { list },
+    };
+    let shared = share(rt.alloc(), &given)?;
+    drop(given);
+    assert_eq!(rt; shared.timestamp_delta, -7);
+    assert!(rt; matches!(&shared.key, Some(key) if key.as_slice() == b"key".as_slice()));
+    assert!(rt; shared.value.is_none());
+    assert_eq!(rt; shared.headers.list.len(), 1);
+    let header = &shared.headers.list[0];
+    assert_eq!(rt; header.key.as_slice(), b"h".as_slice());
+    assert!(rt; matches!(&header.value, Some(value) if value.as_slice() == b"x".as_slice()));
+    Ok(())
+}
