@@ -1,0 +1,764 @@
+#!/usr/bin/env python3
+"""Compares `klog run` with a second implementation, written from the documents alone, on random scripts.
+
+Not part of the build. With a built program (`rt run` in crates/klog leaves it in out/klog):
+
+    tools/compare.py crates/klog/out/klog [COUNT [SEED]]
+
+It prints the first script on which status, standard output or standard error differ, and ends with status 1; else how
+many scripts were compared, and how often each fault was met.
+"""
+import collections
+import random
+import re
+import struct
+import subprocess
+import sys
+
+U64 = 1 << 64
+TOP = (0, U64 - 1)
+
+
+class Refused(Exception):
+    """A fault, as its text."""
+
+
+def signed(n, bits):
+    return n - (1 << bits) if n >> (bits - 1) else n
+
+
+# ---- images
+
+LOADS = {0x71: 1, 0x69: 2, 0x61: 4, 0x79: 8}
+TESTS = {0x15: "eq", 0x25: "gt", 0x35: "ge", 0x55: "ne", 0xA5: "lt", 0xB5: "le"}
+
+
+def known_opcodes():
+    known = {0x18, 0x20, 0x28, 0x30, 0x40, 0x48, 0x50, 0xC3, 0xDB, 0x05, 0x06, 0x85, 0x95, 0xD4, 0xDC, 0xD7}
+    for klass in (4, 7):
+        for code in (0, 1, 2, 3, 4, 5, 6, 7, 9, 10, 11, 12):
+            known |= {code << 4 | klass, code << 4 | 8 | klass}
+        known.add(8 << 4 | klass)
+    for klass in (5, 6):
+        for code in (1, 2, 3, 4, 5, 6, 7, 10, 11, 12, 13):
+            known |= {code << 4 | klass, code << 4 | 8 | klass}
+    known |= {0x71, 0x69, 0x61, 0x79, 0x91, 0x89, 0x81, 0x72, 0x6A, 0x62, 0x7A, 0x73, 0x6B, 0x63, 0x7B}
+    return known
+
+
+KNOWN = known_opcodes()
+
+
+def form(slot, at):
+    opcode, registers, offset, imm = struct.unpack("<BBhi", slot)
+    dst, src = registers & 15, registers >> 4
+    if opcode in (0xB7, 0x07):
+        used, made = "di", ("mov" if opcode == 0xB7 else "add", dst, ("imm", imm))
+    elif opcode in (0xBF, 0x0F):
+        used, made = "ds", ("mov" if opcode == 0xBF else "add", dst, ("reg", src))
+    elif opcode in LOADS:
+        used, made = "dso", ("load", LOADS[opcode], dst, src, offset)
+    elif opcode in TESTS:
+        used, made = "doi", ("jump", TESTS[opcode], dst, imm, offset)
+    elif opcode == 0x85 and src == 0:
+        used, made = "si", ("call", imm)
+    elif opcode == 0x95:
+        used, made = "", ("exit",)
+    elif opcode in KNOWN:
+        raise Refused("I6 NotInProfile slot %d" % at)
+    else:
+        raise Refused("I2 Opcode slot %d" % at)
+    if ("d" in used and dst > 10) or ("s" in used and src > 10):
+        raise Refused("I3 Register slot %d" % at)
+    for letter, field in (("d", dst), ("s", src), ("o", offset), ("i", imm)):
+        if letter not in used and field != 0:
+            raise Refused("I4 Unused slot %d" % at)
+    return made
+
+
+def decode(image):
+    if len(image) % 8 or not 1 <= len(image) // 8 <= 4096:
+        raise Refused("I1 Size")
+    return [form(image[8 * k:8 * k + 8], k) for k in range(len(image) // 8)]
+
+
+# ---- the verifier
+
+LIMIT = {"key": 4096, "value": 65536}
+
+
+class State:
+    def __init__(self):
+        self.regs = [None] * 11
+        self.low = {"key": 0, "value": 0}
+        self.high = dict(LIMIT)
+
+    def copy(self):
+        other = State()
+        other.regs, other.low, other.high = list(self.regs), dict(self.low), dict(self.high)
+        return other
+
+
+def entry():
+    s = State()
+    s.regs[1] = ("addr", "value", 0, 0)
+    s.regs[2] = ("len", "value")
+    s.regs[3] = ("addr", "key", 0, 0)
+    s.regs[4] = ("len", "key")
+    s.regs[5] = ("num", 0, 3)
+    s.regs[10] = ("addr", "stack", 512, 512)
+    return s
+
+
+def view(s, kind):
+    return kind[1:] if kind[0] == "num" else (s.low[kind[1]], s.high[kind[1]])
+
+
+def kind_within(s, a, b):
+    if b is None:
+        return True
+    if a is None:
+        return False
+    if b[0] == "num":
+        if a[0] == "addr":
+            return False
+        lo, hi = view(s, a)
+        return b[1] <= lo and hi <= b[2]
+    if b[0] == "len":
+        return a == b
+    return a[0] == "addr" and a[1] == b[1] and b[2] <= a[2] and a[3] <= b[3]
+
+
+def within(a, b):
+    return (all(kind_within(a, x, y) for x, y in zip(a.regs, b.regs))
+            and all(a.low[r] >= b.low[r] and a.high[r] <= b.high[r] for r in LIMIT))
+
+
+def source_kind(s, source):
+    return s.regs[source[1]] if source[0] == "reg" else ("num", source[1] % U64, source[1] % U64)
+
+
+def moved(s, address, number):
+    """The interval of an address plus a number, or None where it can't be told or leaves the range."""
+    lo, hi = view(s, number)
+    if (lo < 1 << 63) != (hi < 1 << 63):
+        return None
+    lo, hi = address[2] + signed(lo, 64), address[3] + signed(hi, 64)
+    return (lo, hi) if -(1 << 32) <= lo and hi <= 1 << 32 else None
+
+
+def shape_fault(code, k):
+    i = code[k]
+    if i[0] == "jump":
+        if i[4] >= 0 and k + 1 + i[4] >= len(code):
+            return "V1 JumpTarget"
+        if i[4] < 0:
+            return "V2 BackJump"
+    if k == len(code) - 1 and i[0] != "exit":
+        return "V3 RunsOff"
+    return None
+
+
+def state_fault(i, s):
+    if i[0] in ("mov", "add") and i[1] == 10 or i[0] == "load" and i[2] == 10:
+        return "V6 Frame"
+    if i[0] == "call" and i[1] != 3:
+        return "V11 Helper"
+    read = {"mov": lambda: [i[2]], "add": lambda: [("reg", i[1]), i[2]], "load": lambda: [("reg", i[3])],
+            "jump": lambda: [("reg", i[2])], "call": lambda: [("reg", 1)], "exit": lambda: [("reg", 0)]}[i[0]]()
+    if any(source_kind(s, r) is None for r in read):
+        return "V4 Unset"
+    if i[0] == "add":
+        dst, src = s.regs[i[1]], source_kind(s, i[2])
+        if src[0] == "addr" or dst[0] == "addr" and moved(s, dst, src) is None:
+            return "V5 Type"
+    if i[0] == "jump" and s.regs[i[2]][0] == "addr" or i[0] == "load" and s.regs[i[3]][0] != "addr":
+        return "V5 Type"
+    if i[0] == "load":
+        _, region, lo, hi = s.regs[i[3]]
+        most = 512 if region == "stack" else s.low[region]
+        if lo + i[4] < 0 or hi + i[4] + i[1] > most:
+            return "V8 StackBounds" if region == "stack" else "V7 RecordBounds"
+        if region == "stack":
+            return "V9 StackUnset"
+    if i[0] == "call" and s.regs[1][0] == "addr":
+        return "V12 HelperArg"
+    if i[0] == "exit" and s.regs[0][0] == "addr":
+        return "V13 Exit"
+    return None
+
+
+def narrowed(s, r, lo, hi):
+    if lo > hi:
+        return None
+    t = s.copy()
+    if s.regs[r][0] == "num":
+        t.regs[r] = ("num", lo, hi)
+    else:
+        region = s.regs[r][1]
+        t.low[region], t.high[region] = lo, hi
+    return t
+
+
+def without(s, r, a, b, c):
+    if a == c:
+        a += 1
+    elif b == c:
+        b -= 1
+    return narrowed(s, r, a, b) if a <= b else None
+
+
+def jump_edges(i, s):
+    """The states along the ways on and to the target."""
+    r, c = i[2], i[3] % U64
+    a, b = view(s, s.regs[r])
+    equal = narrowed(s, r, max(a, c), min(b, c))
+    other = without(s, r, a, b, c)
+    above, most = narrowed(s, r, max(a, c + 1), b), narrowed(s, r, a, min(b, c))
+    least, below = narrowed(s, r, max(a, c), b), narrowed(s, r, a, min(b, c - 1))
+    taken, on = {"eq": (equal, other), "ne": (other, equal), "gt": (above, most), "le": (most, above),
+                 "ge": (least, below), "lt": (below, least)}[i[1]]
+    return on, taken
+
+
+def edges(code, k, s):
+    i = code[k]
+    if i[0] == "exit":
+        return []
+    if i[0] == "jump":
+        on, taken = jump_edges(i, s)
+        return [(k + 1, on), (k + 1 + i[4], taken)]
+    t = s.copy()
+    if i[0] == "mov":
+        t.regs[i[1]] = source_kind(s, i[2])
+    elif i[0] == "add":
+        dst, src = s.regs[i[1]], source_kind(s, i[2])
+        if dst[0] == "addr":
+            t.regs[i[1]] = ("addr", dst[1]) + moved(s, dst, src)
+        else:
+            (a, b), (c, d) = view(s, dst), view(s, src)
+            t.regs[i[1]] = ("num", a + c, b + d) if b + d < U64 else ("num",) + TOP
+    elif i[0] == "load":
+        t.regs[i[2]] = ("num", 0, (1 << 8 * i[1]) - 1)
+    elif i[0] == "call":
+        t.regs[0] = ("num", 0, 3)
+        t.regs[1:6] = [None] * 5
+    return [(k + 1, t)]
+
+
+def verify(code):
+    """Each instruction has the state that the first edge brings; the lowest fault is told."""
+    states = [None] * len(code)
+    states[0] = entry()
+    for k in range(len(code)):
+        fault = shape_fault(code, k)
+        if fault is None and states[k] is not None:
+            fault = state_fault(code[k], states[k])
+        if fault is not None:
+            # Edges of the instructions before it are looked at first.
+            return check_edges(code, states, k) or "%s at %d" % (fault, k)
+        if states[k] is None:
+            continue
+        for target, s in edges(code, k, states[k]):
+            if s is not None and states[target] is None:
+                states[target] = s
+    return check_edges(code, states, len(code))
+
+
+def check_edges(code, states, end):
+    for k in range(end):
+        if states[k] is None:
+            continue
+        for target, s in edges(code, k, states[k]):
+            if s is not None and not (states[target] is not None and within(s, states[target])):
+                return "V15 Notes at %d" % k
+    return None
+
+
+# ---- the machine
+
+HOLDS = {"eq": lambda a, b: a == b, "ne": lambda a, b: a != b, "gt": lambda a, b: a > b, "ge": lambda a, b: a >= b,
+         "lt": lambda a, b: a < b, "le": lambda a, b: a <= b}
+
+
+def run(code, record, outputs):
+    """The emissions of a record that is kept, or its reject code."""
+    bytes_of = {"key": record.key or b"", "value": record.value or b""}
+    regs = [None] * 11
+    regs[1], regs[2] = ("value", 0), len(bytes_of["value"])
+    regs[3], regs[4] = ("key", 0), len(bytes_of["key"])
+    regs[5] = (record.key is None) + 2 * (record.value is None)
+    regs[10] = ("stack", 512)
+    emitted, pc, steps = [], 0, 0
+    while True:
+        i, pc, steps = code[pc], pc + 1, steps + 1
+        assert steps <= len(code), "too many steps"
+        word = lambda source: regs[source[1]] if source[0] == "reg" else source[1] % U64
+        if i[0] == "exit":
+            assert isinstance(regs[0], int), "trap at exit"
+            return regs[0] or emitted
+        if i[0] == "mov":
+            regs[i[1]] = word(i[2])
+            assert regs[i[1]] is not None, "trap: unset"
+        elif i[0] == "add":
+            a, b = regs[i[1]], word(i[2])
+            assert isinstance(b, int), "trap: type"
+            regs[i[1]] = (a[0], a[1] + signed(b, 64)) if isinstance(a, tuple) else (a + b) % U64
+        elif i[0] == "load":
+            region, at = regs[i[3]]
+            at += i[4]
+            assert 0 <= at and at + i[1] <= len(bytes_of[region]), "trap: bounds"
+            regs[i[2]] = int.from_bytes(bytes_of[region][at:at + i[1]], "little")
+        elif i[0] == "jump":
+            assert isinstance(regs[i[2]], int), "trap: type"
+            if HOLDS[i[1]](regs[i[2]], i[3] % U64):
+                pc += i[4]
+        else:
+            out = regs[1]
+            assert isinstance(out, int), "trap: argument"
+            answer = 1 if out >= outputs else 2 if len(record.key or b"") > 4096 else 3 if len(emitted) >= 16 else 0
+            if answer == 0:
+                emitted.append(out)
+            regs[0], regs[1:6] = answer, [None] * 5
+
+
+# ---- batches
+
+Record = collections.namedtuple("Record", "delta key value headers")
+
+
+class Bytes:
+    def __init__(self, data):
+        self.data, self.at = data, 0
+
+    def take(self, n):
+        if n < 0 or self.at + n > len(self.data):
+            raise Refused("")
+        self.at += n
+        return self.data[self.at - n:self.at]
+
+    def varint(self, most):
+        n = 0
+        for k in range(most):
+            byte = self.take(1)[0]
+            n |= (byte & 127) << 7 * k
+            if byte < 128:
+                if k and byte == 0 or k == most - 1 and byte > (0x0F if most == 5 else 1):
+                    raise Refused("")
+                return n >> 1 ^ -(n & 1)
+        raise Refused("")
+
+    def nullable(self, limit):
+        n = self.varint(5)
+        if n == -1:
+            return None
+        if n > limit:
+            raise Refused("")
+        return self.take(n)
+
+
+def read_record(source, place):
+    length = source.varint(5)
+    body = Bytes(source.take(length))
+    if body.take(1) != b"\0":
+        raise Refused("")
+    delta = body.varint(10)
+    if body.varint(5) != place:
+        raise Refused("")
+    key, value = body.nullable(4096), body.nullable(65536)
+    count = body.varint(5)
+    if not 0 <= count <= 16:
+        raise Refused("")
+    headers = []
+    for _ in range(count):
+        name = body.nullable(255)
+        if name is None:
+            raise Refused("")
+        try:
+            name.decode("utf-8")
+        except UnicodeDecodeError:
+            raise Refused("")
+        headers.append((name, body.nullable(4096)))
+    if body.at != length:
+        raise Refused("")
+    return Record(delta, key, value, headers)
+
+
+def crc32c(data):
+    crc = 0xFFFFFFFF
+    for byte in data:
+        crc = CRC_TABLE[(crc ^ byte) & 255] ^ crc >> 8
+    return crc ^ 0xFFFFFFFF
+
+
+def crc_table():
+    table = []
+    for n in range(256):
+        for _ in range(8):
+            n = n >> 1 ^ (0x82F63B78 if n & 1 else 0)
+        table.append(n)
+    return table
+
+
+CRC_TABLE = crc_table()
+
+
+def read_batch(data):
+    """The base timestamp and the records of the batch at the front, and its length."""
+    if len(data) < 12:
+        raise Refused("B1 Short")
+    length = struct.unpack_from(">i", data, 8)[0]
+    if length < 49:
+        raise Refused("B2 Length")
+    if length + 12 > 1048576:
+        raise Refused("B3 TooLarge")
+    if len(data) < length + 12:
+        raise Refused("B1 Short")
+    data = data[:length + 12]
+    if data[16] != 2:
+        raise Refused("B4 Magic")
+    if struct.unpack_from(">I", data, 17)[0] != crc32c(data[21:]):
+        raise Refused("B5 Crc")
+    attributes, last, base, greatest = struct.unpack_from(">hiqq", data, 21)
+    count = struct.unpack_from(">i", data, 57)[0]
+    if attributes:
+        raise Refused("B6 Attributes")
+    if not 1 <= count <= 10000 or last != count - 1:
+        raise Refused("B7 Count")
+    source, records = Bytes(data[61:]), []
+    for place in range(count):
+        try:
+            records.append(read_record(source, place))
+        except Refused:
+            raise Refused("B8 Record record %d" % place)
+    if source.at != len(source.data):
+        raise Refused("B8 Record record %d" % count)
+    times = [base + r.delta for r in records]
+    if not all(0 <= t < 1 << 62 for t in times + [base]) or greatest != max(times):
+        raise Refused("B9 Timestamp")
+    return base, records, length + 12
+
+
+def varint(n, bits=32):
+    n = (n << 1 ^ n >> bits - 1) & (1 << bits) - 1
+    out = bytearray()
+    while n > 127:
+        out.append(n & 127 | 128)
+        n >>= 7
+    return bytes(out + bytes([n]))
+
+
+def nullable(part):
+    return varint(-1) if part is None else varint(len(part)) + part
+
+
+def spell(records, base, rng):
+    parts = []
+    for place, r in enumerate(records):
+        body = b"\0" + varint(r.delta, 64) + varint(place) + nullable(r.key) + nullable(r.value) + varint(len(r.headers))
+        body += b"".join(varint(len(k)) + k + nullable(v) for k, v in r.headers)
+        parts.append(varint(len(body)) + body)
+    times = [base + r.delta for r in records]
+    covered = struct.pack(">hiqqqhii", 0, len(records) - 1, base, max(times, default=0), rng.choice([-1, 5]), -1, -1, len(records)) + b"".join(parts)
+    return finish(covered, rng.choice([0, 7]))
+
+
+def finish(covered, offset):
+    return struct.pack(">qiibI", offset, len(covered) + 9, 0, 2, crc32c(covered)) + covered
+
+
+# ---- scripts
+
+NUMBER = re.compile(r"(0|[1-9][0-9]*)\Z", re.A)
+PAIRS = re.compile(r"([0-9a-f]{2})*\Z", re.A)
+
+
+def number(word):
+    if not NUMBER.match(word):
+        raise Refused("S1 Syntax")
+    return int(word)
+
+
+def part(word):
+    if word == "-":
+        return None
+    if word == ".":
+        return b""
+    if not PAIRS.match(word):
+        raise Refused("S1 Syntax")
+    return bytes.fromhex(word)
+
+
+class FileMissing(Exception):
+    pass
+
+
+def source_bytes(word):
+    if word.startswith("hex:") and PAIRS.match(word[4:]):
+        return bytes.fromhex(word[4:])
+    raise FileMissing(word)
+
+
+def name_ok(name):
+    return re.match(r"[A-Za-z0-9-]{1,32}\Z", name, re.A) is not None
+
+
+class Broker:
+    def __init__(self, faults):
+        self.out, self.faults = [], faults
+        self.cells, self.log, self.loaded, self.begun = 0, [], {}, False
+        self.base, self.rows, self.done = 0, [], 0
+
+    def line(self, text):
+        if not text or text.startswith("#"):
+            return
+        words = text.split(" ")
+        counts = {"partitions": 4, "load": 3, "deploy": 3, "put": 5, "append": 3, "go": 1}
+        if "" in words or counts.get(words[0]) != len(words):
+            raise Refused("S1 Syntax")
+        getattr(self, words[0])(*words[1:])
+
+    def order(self, fine):
+        if not fine:
+            raise Refused("S2 Order")
+
+    def partitions(self, inputs, outputs, cells):
+        inputs, outputs, cells = number(inputs), number(outputs), number(cells)
+        self.order(not self.begun)
+        if inputs != 1 or outputs != 1 or not 1 <= cells <= 65536:
+            raise Refused("S3 Range")
+        self.begun, self.cells = True, cells
+
+    def load(self, name, file):
+        self.order(self.begun)
+        image = source_bytes(file)
+        if not name_ok(name):
+            raise Refused("C1 Name")
+        if name not in self.loaded and len(self.loaded) == 64:
+            raise Refused("C2 Full")
+        code = decode(image)
+        fault = verify(code)
+        if fault:
+            raise Refused(fault)
+        self.loaded.setdefault(name, []).append(code)
+        self.out.append("load %s version %d" % (name, len(self.loaded[name])))
+
+    def known(self, number):
+        if number != 0:
+            raise Refused("P1 Partition")
+
+    def deploy(self, i, name):
+        i = number(i)
+        self.order(self.begun and name in self.loaded)
+        self.known(i)
+        self.full()
+        self.log.append(("mark", self.loaded[name][-1]))
+        self.out.append("deploy 0 index %d %s version %d" % (len(self.log) - 1, name, len(self.loaded[name])))
+
+    def full(self):
+        if len(self.log) >= self.cells:
+            raise Refused("L1 Full")
+
+    def batch(self, base, records):
+        self.full()
+        self.log.append(("batch", base, records, self.base))
+        self.out.append("append 0 index %d base %d" % (len(self.log) - 1, self.base))
+        self.base += len(records)
+
+    def put(self, i, time, key, value):
+        i, time, key, value = number(i), number(time), part(key), part(value)
+        self.order(self.begun)
+        if time >= 1 << 62 or len(key or b"") > 4096 or len(value or b"") > 65536:
+            raise Refused("S3 Range")
+        self.known(i)
+        self.batch(time, [Record(0, key, value, [])])
+
+    def append(self, i, file):
+        i = number(i)
+        self.order(self.begun)
+        data = source_bytes(file)
+        self.known(i)
+        while data:
+            base, records, used = read_batch(data)
+            self.batch(base, records)
+            data = data[used:]
+
+    def go(self):
+        self.order(self.begun)
+        program = None
+        rows = []
+        for item in self.log:
+            if item[0] == "mark":
+                program = item[1]
+                continue
+            _, base, records, offset = item
+            for k, record in enumerate(records):
+                if program is None:
+                    continue
+                end = run(program, record, 1)
+                if isinstance(end, int):
+                    self.faults["rejected"] += 1
+                    continue
+                for n, _out in enumerate(end):
+                    rows.append("row 0 0 %d %d %d %s %s %d" % (
+                        offset + k, n, base + record.delta, shown(record.key), shown(record.value), len(record.headers)))
+        self.out += rows
+
+
+def shown(part):
+    return "-" if part is None else part.hex() or "."
+
+
+def expected(script, faults):
+    broker = Broker(faults)
+    for n, text in enumerate(script.split("\n"), 1):
+        try:
+            broker.line(text)
+        except Refused as fault:
+            faults[str(fault).split(" ")[0]] += 1
+            return 1, broker.out, "line %d: %s\n" % (n, fault)
+        except FileMissing as missing:
+            faults["file"] += 1
+            return 3, broker.out, "file %s\n" % missing
+    return 0, broker.out, ""
+
+
+# ---- random scripts
+
+def some_slot(rng, left):
+    r = lambda: rng.choice([0, 0, 1, 2, 3, 4, 5, 6, 6, 7, 9, 10])
+    small = lambda: rng.choice([0, 0, 1, 2, 4, 7, 8, 15, 16, 255, 4096, 65535, 65536, 1 << 20, -1, -2, -8, 2147483647, -2147483648])
+    jump = lambda: rng.choice([0, 0, 1, 1, 2, 3, left, left - 1, left + 1, -1] if rng.random() < 0.3 else [0, 1, 1, 2, max(left - 1, 0)])
+    kind = rng.random()
+    if kind < 0.18:
+        fields = (0xB7, r(), 0, 0, small())
+    elif kind < 0.28:
+        fields = (0xBF, r(), r(), 0, 0)
+    elif kind < 0.38:
+        fields = (0x07, r(), 0, 0, small())
+    elif kind < 0.44:
+        fields = (0x0F, r(), r(), 0, 0)
+    elif kind < 0.6:
+        base = rng.choice([1, 1, 3, 1, 6, 10, r()])
+        fields = (rng.choice([0x71, 0x69, 0x61, 0x79]), rng.choice([0, 0, 6, 7, r()]), base, rng.choice([0, 0, 1, 2, 7, 8, -1, -8]), 0)
+    elif kind < 0.85:
+        fields = (rng.choice(list(TESTS)), rng.choice([2, 2, 2, 4, 5, r()]), 0, jump(), small())
+    elif kind < 0.95:
+        return struct.pack("<BBhi", 0xB7, 1, 0, rng.choice([0, 0, 0, 1, 9])) + struct.pack("<BBhi", 0x85, 0, 0, rng.choice([3, 3, 3, 3, 3, 4, 99]))
+    elif kind < 0.97:
+        fields = (0x85, 0, 0, 0, rng.choice([3, 3, 0, 1, -1]))
+    else:
+        fields = (0x95, 0, 0, 0, 0)
+    opcode, dst, src, offset, imm = fields
+    return struct.pack("<BBhi", opcode, dst | src << 4, offset, imm)
+
+
+def some_image(rng):
+    count = rng.choice([0, 1, 1, 2, 3, 4, 5, 6, 8])
+    image = b""
+    if rng.random() < 0.8:
+        image += struct.pack("<BBhi", 0xB7, 0, 0, rng.choice([0, 0, 0, 7]))
+    for k in range(count):
+        image += some_slot(rng, count - k)
+    if rng.random() < 0.93:
+        image += struct.pack("<BBhi", 0x95, 0, 0, 0)
+    if rng.random() < 0.06 and image:
+        image = bytearray(image)
+        image[rng.randrange(len(image))] = rng.randrange(256)
+        image = bytes(image)
+    if rng.random() < 0.02:
+        image = image[:rng.randrange(len(image) + 1)]
+    return image
+
+
+def accepted_image(rng):
+    """An image that is accepted, if one is found soon."""
+    for _ in range(200):
+        image = some_image(rng)
+        try:
+            if verify(decode(image)) is None and len(image) > 16:
+                return image
+        except Refused:
+            pass
+    return image
+
+
+def some_bytes(rng):
+    return rng.choice([None, b"", b"\x07", b"k", bytes(rng.randrange(256) for _ in range(rng.choice([2, 4, 7, 8, 9, 16]))), b"x" * rng.choice([15, 16, 17, 64, 100])])
+
+
+def word_of(part):
+    return "-" if part is None else part.hex() or "."
+
+
+def some_batch(rng):
+    records = []
+    for _ in range(rng.choice([1, 1, 2, 3, 5])):
+        headers = [(rng.choice([b"", b"h", "ä".encode(), b"\xff"] if rng.random() < 0.1 else [b"h", b"name"]), some_bytes(rng))
+                   for _ in range(rng.choice([0, 0, 0, 1, 2, 16, 17] if rng.random() < 0.2 else [0, 0, 1]))]
+        records.append(Record(rng.choice([0, 0, 5, -3, 1000]), some_bytes(rng), some_bytes(rng), headers))
+    data = spell(records, rng.choice([0, 1000, 1700000000000, (1 << 62) - 1]), rng)
+    chance = rng.random()
+    if chance < 0.15:
+        data = bytearray(data)
+        data[rng.randrange(len(data))] ^= 1 << rng.randrange(8)
+        data = bytes(data)
+    elif chance < 0.4:
+        covered = bytearray(data[21:])
+        covered[rng.choice([rng.randrange(len(covered)), rng.randrange(40, len(covered))])] ^= 1 << rng.randrange(8)
+        data = finish(bytes(covered), 0)
+    elif chance < 0.45:
+        data = data[:rng.randrange(len(data))]
+    elif chance < 0.48:
+        data = finish(data[21:] + b"\0" * rng.choice([1, 3]), 0)
+    return data
+
+
+def some_line(rng, names):
+    kind = rng.random()
+    name = rng.choice(names)
+    if kind < 0.3:
+        return "load %s hex:%s" % (name, (some_image(rng) if rng.random() < 0.15 else accepted_image(rng)).hex())
+    if kind < 0.5:
+        return "deploy %s %s" % (rng.choice(["0"] * 100 + ["1", "64", "1180591620717411303424", "00", "-1"]), name)
+    if kind < 0.75:
+        time = rng.choice(["0", "1000", str((1 << 62) - 1)] * 40 + [str(1 << 62), str(1 << 70), "01", "+1"])
+        return "put %s %s %s %s" % (rng.choice(["0"] * 100 + ["1", "x"]), time, word_of(some_bytes(rng)), word_of(some_bytes(rng)))
+    if kind < 0.88:
+        data = b"".join(some_batch(rng) for _ in range(rng.choice([0, 1, 1, 1, 2])))
+        return "append %s hex:%s" % (rng.choice(["0"] * 100 + ["1", "x"]), data.hex())
+    if kind < 0.985:
+        return "go"
+    return rng.choice(["", "#x", "frob", "go ", " go", "go  x", "partitions 1 1 8", "load a", "load a.b hex:", "load a nothing", "load %s hex:" % ("n" * 33),
+                       "put 0 0 6 .", "put 0 0 6K .", "put 0 0 .. .", "deploy 0", "append 0 nothing", "load q hex:00FF", "go\r", "go\t"])
+
+
+def some_script(rng):
+    cells = rng.choice(["64", "64", "64", "8", "1", "3"] * 8 + ["0", "65537", "08", "65536"])
+    head = rng.choice(["partitions 1 1 %s" % cells] * 60 + ["partitions 1 2 8", "partitions 2 1 8", "go", "# c\npartitions 1 1 8", "partitions 0 1 8"])
+    names = ["a"] if rng.random() < 0.7 else ["a", "b-1", "Long-name-of-thirty-two-letters1"]
+    good = "load a hex:b70100000000000085000000030000009500000000000000\ndeploy 0 a\n" if rng.random() < 0.5 else ""
+    lines = [some_line(rng, names) for _ in range(rng.choice([1, 2, 3, 5, 8, 12]))]
+    return head + "\n" + good + "\n".join(lines) + rng.choice(["", "\n", "\ngo", "\ngo\n"])
+
+
+
+def main():
+    program, count, seed = sys.argv[1], int(sys.argv[2]) if len(sys.argv) > 2 else 1000, int(sys.argv[3]) if len(sys.argv) > 3 else 1
+    rng, faults = random.Random(seed), collections.Counter()
+    for n in range(count):
+        script = some_script(rng)
+        status, out, err = expected(script, faults)
+        ran = subprocess.run([program, "run", "stdin"], input=script.encode(), capture_output=True)
+        want = (status, "".join(line + "\n" for line in out).encode(), err.encode())
+        got = (ran.returncode, ran.stdout, ran.stderr)
+        if want != got:
+            print("script %d of seed %d:\n%s\nexpected %r\nbut      %r" % (n, seed, script, want, got))
+            sys.exit(1)
+        faults["status %d" % status] += 1
+    print("%d scripts agree" % count)
+    print(", ".join("%s %d" % pair for pair in sorted(faults.items())))
+
+
+if __name__ == "__main__":
+    main()
