@@ -1,10 +1,12 @@
 //! What the words of a call ask for.
 
-ghost use Rattle.std.specs.Prelude.{◌≤◌};
+ghost use Rattle.std.specs.Prelude.{◌≡◌, ◌≤◌, ◌⊎◌, ◌==◌, ◌&&◌, nat_lt, length, slice_index};
+ghost use Rattle.klog.specs.Stops.{status_of};
+ghost use Rattle.klog.specs.declared.call.Misuse.TheVariants.{Memory};
 
 use crate::files::Files;
 use crate::session::{Session, Unread, read_file, read_whole};
-use crate::stop::{Stop, unwritten};
+use crate::stop::{Stop, status_of, unwritten};
 use clap::error::ErrorKind;
 use clap::{Arg, ArgAction, ArgMatches};
 use std::alloc::{AllocError, Global};
@@ -12,9 +14,6 @@ use std::io::{Read, Write};
 
 /// Everything was done.
 const DONE: u8 = 0;
-
-/// A line of the script was refused.
-const REFUSED: u8 = 1;
 
 /// The words are no call of the program.
 const USAGE: u8 = 2;
@@ -35,12 +34,16 @@ enum Misuse {
 }
 
 impl From<AllocError> for Misuse {
+    ghost from_gives = { λ _ e. e ≡ Memory };
+
     fn from(_e: AllocError) -> Misuse {
         Misuse::Memory
     }
 }
 
-fn is_option(word: &str) -> bool {
+fn is_option(word: &str) -> bool
+    ensures { result ≡ (nat_lt 1 (length word.now) && (slice_index word.now 0 == 45)) }
+{
     word.len() > 1 && word.as_bytes()[0] == b'-'
 }
 
@@ -138,24 +141,22 @@ fn file_text(alloc: Global, name: &str) -> Result<String, AllocError> {
     format!(in alloc; "file {name}\n")
 }
 
-/// Tells why a script ended early, and answers the status.
+/// Tells why a script ended early, and answers the status. Where there is no memory for the text,
+/// that is told.
 fn tell<E: Write>(alloc: Global, stderr: &mut E, ended: &Ended) -> u8
-    ensures { result ≤ 3 }
+    ensures { (result ≡ status_of ended.now.stop) ⊎ (result ≡ 3) }
 {
     let Ok(text) = end_text(alloc, ended) else {
         say(stderr, MEMORY);
         return FAILED;
     };
     say(stderr, text.as_str());
-    match ended.stop {
-        Stop::Line(_) | Stop::Event(_) | Stop::Batch(_) => REFUSED,
-        _ => FAILED,
-    }
+    status_of(&ended.stop)
 }
 
 /// Tells that a script can't be read, and answers the status.
 fn tell_unread<E: Write>(alloc: Global, stderr: &mut E, name: &str, unread: Unread) -> u8
-    ensures { result ≤ 3 }
+    ensures { result ≡ 3 }
 {
     match unread {
         Unread::File => match file_text(alloc, name) {

@@ -1,9 +1,10 @@
 //! The core with one input and one output partition.
 
-ghost use Rattle.std.specs.Prelude.{◌≡◌, ◌<◌, ◌≤◌, ◌^◌, nat_lt, length, take, IfOk};
+ghost use Rattle.std.specs.Prelude.{◌≡◌, ◌<◌, ◌≤◌, ◌^◌, nat_lt, length, IfOk};
 ghost use Rattle.script.specs.Faults.{size_of};
 ghost use Rattle.log_spec.specs.Logs.{FitsLog};
-ghost use Rattle.wire_spec.specs.BatchSpelling.{batch_spelling};
+ghost use Rattle.wire_spec.specs.BatchReading.{batch_at};
+ghost use Rattle.batch.specs.Gives.{Gives};
 ghost use Rattle.log_spec.specs.Worlds.{FitsEvent, book_of, new_world};
 ghost use Rattle.world.specs.Views.{StepsTo};
 ghost use Rattle.klog.specs.One.{IsOne, put_batch};
@@ -59,11 +60,11 @@ impl Core {
     }
 }
 
-/// The batch at the front of the bytes, and how many of them it takes.
+/// The batch at the front of the bytes, and how many of them it takes, or why there is none.
 pub fn next_batch(alloc: Global, bytes: &Bytes) -> Result<(Batch, usize), BatchFault>
     ensures fits { IfOk result (λ x. FitsLog x.0) }
     ensures used { IfOk result (λ x. (0 < x.1) × (x.1 ≤ length bytes.now)) }
-    ensures batch { IfOk result (λ x. take x.1 bytes.now ≡ batch_spelling x.0) }
+    ensures gives { Gives (λ x. x) result (batch_at bytes.now) }
 {
     decode(alloc, bytes.clone()?)
 }

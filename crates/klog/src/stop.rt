@@ -2,6 +2,7 @@
 
 ghost use Rattle.std.specs.Prelude.{◌≡◌};
 ghost use Rattle.klog.specs.declared.stop.Stop.TheVariants as stop;
+ghost use Rattle.klog.specs.Stops.{stop_of_fault, stop_of_refusal, status_of};
 
 use batch::BatchFault;
 use log_spec::Refusal;
@@ -35,6 +36,8 @@ impl From<AllocError> for Stop {
 }
 
 impl From<BatchFault> for Stop {
+    ghost from_gives = { λ fault e. e ≡ stop_of_fault fault };
+
     fn from(fault: BatchFault) -> Stop {
         match fault {
             BatchFault::Memory => Stop::Memory,
@@ -44,10 +47,23 @@ impl From<BatchFault> for Stop {
 }
 
 /// A refusal of the core.
-pub fn refused(refusal: Refusal) -> Stop {
+pub fn refused(refusal: Refusal) -> Stop
+    ensures { result ≡ stop_of_refusal refusal }
+{
     match refusal {
         Refusal::Memory => Stop::Memory,
         _ => Stop::Event(refusal),
+    }
+}
+
+/// The status that tells why a script ended: 1, its line is refused; 3, a file, standard output or
+/// memory fails.
+pub fn status_of(stop: &Stop) -> u8
+    ensures { result ≡ status_of stop.now }
+{
+    match stop {
+        Stop::Line(_) | Stop::Event(_) | Stop::Batch(_) => 1,
+        Stop::File(_) | Stop::Output | Stop::Memory => 3,
     }
 }
 
