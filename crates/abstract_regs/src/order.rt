@@ -121,8 +121,8 @@ fn are_bounds_within(inner: &Abstract, outer: &Abstract) -> bool
             && (outer.value_min <= inner.value_min && inner.value_max <= outer.value_max))
 }
 
-/// Whether a state is within another: each register is, its lengths lie no further apart, and no
-/// fewer bytes are set.
+/// Whether a state is within another: each register is, its least lengths are not smaller and its
+/// greatest not greater, and no fewer bytes are set.
 #[tactic(auto, unfolding(verifier_spec::specs::States::is_within))]
 pub fn is_within(inner: &Abstract, outer: &Abstract) -> bool
     ensures { result ≡ is_within inner.now outer.now }

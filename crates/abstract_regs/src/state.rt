@@ -107,7 +107,8 @@ impl State {
     }
 
     /// Whether all that another state knows is known here too: each register's kind is within the
-    /// other's, the lengths lie no further apart, and no fewer stack bytes are set.
+    /// other's, the least lengths are not smaller, the greatest not greater, and no fewer stack bytes
+    /// are set.
     pub fn within(&self, outer: &State) -> bool
         ensures within { result ≡ is_within self.now outer.now }
         ensures proper { is_proper self.now ≡ true }

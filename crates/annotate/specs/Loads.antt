@@ -22,6 +22,11 @@ abbrev pub FaultIs : List ℕ → LoadFault → Type 0
 FaultIs image (Isa fault) = fault ≢ isa.Memory → load_fault image ≡ Some (Isa fault)
 FaultIs image (Verify fault) = fault.kind ≢ check.Memory → load_fault image ≡ Some (Verify fault)
 
+-- that memory ran out for the verifier is told at 0
+abbrev pub IsAtStart : LoadFault → Type 0
+IsAtStart (Isa fault) = Unit {0}
+IsAtStart (Verify fault) = fault.kind ≡ check.Memory → fault.pc ≡ 0
+
 -- An image is accepted, or its refusal is the one that is told.
 abbrev pub Loads : List ℕ → Result Annotated LoadFault → Type 0
 Loads image (Ok verified) = Accepts image verified

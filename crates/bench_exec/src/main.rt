@@ -5,7 +5,7 @@
 use abstract_regs::State;
 use bpf_isa::decode;
 use bytes::Bytes;
-use exec::{Headers, Outcome, Place, Record, fits, is_place, run};
+use exec::{Headers, Outcome, Place, Record, is_place, is_within_limits, run};
 use machine_spec::Region;
 use notes::{Verified, check};
 use std::alloc::Global;
@@ -26,7 +26,7 @@ const OVER_ALL: [u8; 8] = [0xa5, 2, 0xfd, 0x0f, 1, 0, 0, 0];
 // add64 r0, r2
 const ADD_LENGTH: [u8; 8] = [0x0f, 0x20, 0, 0, 0, 0, 0, 0];
 
-// ldx8 r0, [r1+0]
+// ld8 r0, [r1+0]
 const FIRST_BYTE: [u8; 8] = [0x71, 0x10, 0, 0, 0, 0, 0, 0];
 
 // jeq64 r2, 70000, +0
@@ -108,7 +108,7 @@ fn records(alloc: Global) -> Option<Vec<Record>> {
 
 /// The reject code of a program on a record, 0 where it is kept.
 fn code_of(alloc: Global, program: &Verified, record: &Record) -> Option<u64> {
-    if !fits(record) || !is_place(&PLACE) {
+    if !is_within_limits(record) || !is_place(&PLACE) {
         return None;
     }
     match run(alloc, program, record, &PLACE) {

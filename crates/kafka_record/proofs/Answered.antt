@@ -1,10 +1,11 @@
 -- From what reading gives to what was answered.
-use Rattle.std.proofs.Common.{◌≡◌, ℕ, ◌+◌, ◌-◌, ◌≤◌, Bool, cond, List, ◌++◌, length, take, drop, refl, sym, ap, subst, ◌∙◌, arith}
+use Rattle.std.proofs.Common.{◌≡◌, ℕ, ◌+◌, ◌-◌, ◌<◌, ◌≤◌, Bool, cond, List, [], ◌++◌, length, take, drop, refl, sym, ap, subst, ◌∙◌, arith}
 use Rattle.std.specs.Prelude.{ℤ, pos, Option, Some, None, Result, Ok, Err, IfOk, FitsSigned}
 use Rattle.std.specs.Int.{w32}
 use Rattle.std.specs.Ordering.{int_eq}
-use Rattle.std.proofs.lemmas.List.{length-append, length-drop, take_at}
+use Rattle.std.proofs.lemmas.List.{length-append, length-drop, take_at, drop_all}
 use Rattle.wire_spec.specs.declared.record.Record.{Record}
+use Rattle.wire_spec.specs.Varint.{read_varint}
 use Rattle.wire_spec.specs.RecordSpelling.{RecordFits, record_spelling}
 use Rattle.wire_spec.specs.RecordReading.{varint_at, body_at, record_at}
 use Rattle.wire_spec.proofs.Varints.{IsBytes, IsBytes-drop}
@@ -24,6 +25,15 @@ record_reads delta delta' bytes slice at start end len len' r b same_delta same_
     let second' : body_at delta (drop start bytes) ≡ Some (r, drop end bytes) = subst (λ (d : ℤ). body_at d (drop start bytes) ≡ Some (r, drop end bytes)) same_delta second in
     let is' : b ≡ int_eq len (pos (end - start)) = subst (λ (l : ℤ). b ≡ int_eq l (pos (end - start))) same_len is in
     rw (first', second', used, ← is') refl
+
+-- no bytes begin with a record
+nothing_begins : (delta : ℤ) → record_at delta [] ≡ None
+unfolding record_at read_varint
+nothing_begins delta = refl
+
+-- and so none begins past the end
+pub past_end : (bytes : List ℕ) (at : ℕ) (delta : ℤ) → length bytes < at → record_at delta (drop at bytes) ≡ None
+past_end bytes at delta past = ap (record_at delta) (drop_all at bytes (omega (arith, past))) ∙ nothing_begins delta
 
 module _ (bytes : List ℕ) (at : ℕ) (delta : ℤ) (fits : FitsSigned w32 delta) where
   abbrev pub view : Record × ℕ → Record × List ℕ

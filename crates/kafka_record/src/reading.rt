@@ -265,14 +265,14 @@ fn read_from(
 }
 
 /// The record with this offset delta that begins at a place in the bytes, and how many bytes it takes.
-/// Its keys and values share the bytes.
+/// Its keys and values share the bytes. It fails as `Bad` where no such record begins there, as past
+/// the end of the bytes none does, and as `Memory` where memory runs out.
 pub fn read(
     alloc: Global,
     bytes: &Bytes,
     at: usize,
     delta: i32,
 ) -> Result<(Record, usize), RecordFault>
-    requires { at ≤ length bytes.now }
     // What is read is spelled so.
     ensures found { IfOk result (λ x. RecordFits x.0 × (at + x.1 ≤ length bytes.now) × (take x.1 (drop at bytes.now) ≡ record_spelling delta x.0)) }
     // What is spelled so is read, whatever follows it, unless memory runs out.
@@ -280,6 +280,9 @@ pub fn read(
     // Whether there is one.
     ensures exact { Gives (λ x. (x.0, drop (at + x.1) bytes.now)) result (record_at delta (drop at bytes.now)) }
 {
+    if at > bytes.len() {
+        return Err(RecordFault::Bad);
+    }
     read_from(alloc, bytes, bytes.as_slice(), at, delta)
 }
 

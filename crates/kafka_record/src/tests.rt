@@ -75,7 +75,7 @@ fn nulls(rt: HostRuntime) -> Result<(), Fail> {
 
 #[test]
 fn refusals(rt: HostRuntime) {
-    let cases: [&'static [u8]; 9] = [
+    let cases: [&'static [u8]; 8] = [
         // nothing, and a record cut short
         &[],
         &[0x10, 0, 0, 0, 0x02, 0x6b, 0x02, 0x76],
@@ -87,14 +87,36 @@ fn refusals(rt: HostRuntime) {
         // a key of length -2
         &[0x0c, 0, 0, 0, 0x03, 0, 0],
         // a header with a null key, and one whose key is no text
-        &[0x12, 0, 0, 0, 0x01, 0x01, 0x02, 0x01, 0x68, 0x01],
+        &[0x10, 0, 0, 0, 0x01, 0x01, 0x02, 0x01, 0x01],
         &[0x12, 0, 0, 0, 0x01, 0x01, 0x02, 0x02, 0xff, 0x01],
-        // 17 headers
-        &[0x0c, 0, 0, 0, 0x01, 0x01, 0x22],
     ];
     for bytes in cases {
         assert!(rt; is_bad(rt.alloc(), bytes, 0), "at {bytes:?}");
     }
+}
+
+/// Past the end of the bytes no record begins.
+#[test]
+fn past_the_end(rt: HostRuntime) {
+    for at in [0, 1, usize::MAX] {
+        let read = read(rt.alloc(), &Bytes::from_static(&[]), at, 0);
+        assert!(rt; matches!(read, Err(RecordFault::Bad)));
+    }
+}
+
+/// Records without key and value, whose headers have keys of no bytes and null values.
+#[test]
+fn at_most_sixteen_headers(rt: HostRuntime) -> Result<(), Fail> {
+    for (headers, len, count, within) in [(16, 0x4c, 0x20, true), (17, 0x50, 0x22, false)] {
+        let mut bytes = Vec::new(rt.alloc());
+        bytes.extend_from_slice(&[len, 0, 0, 0, 0x01, 0x01, count])?;
+        for _ in 0..headers {
+            bytes.extend_from_slice(&[0, 0x01])?;
+        }
+        let read = read(rt.alloc(), &Bytes::from_vec(bytes)?, 0, 0);
+        assert_eq!(rt; read.is_ok(), within);
+    }
+    Ok(())
 }
 
 #[test]

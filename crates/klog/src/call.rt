@@ -1,6 +1,8 @@
 //! What the words of a call ask for.
 
-ghost use Rattle.std.specs.Prelude.{◌≡◌, ◌≤◌, ◌⊎◌, ◌==◌, ◌&&◌, nat_lt, length, slice_index};
+ghost use Rattle.std.specs.Prelude.{◌≡◌, ◌≢◌, ◌≤◌, ◌⊎◌, ◌==◌, ◌&&◌, nat_lt, length, slice_index};
+ghost use Rattle.std.specs.IoError.{error_kind};
+ghost use Rattle.std.specs.declared.io.ErrorKind.TheVariants.{OutOfMemory};
 ghost use Rattle.klog.specs.Stops.{status_of};
 ghost use Rattle.klog.specs.declared.call.Misuse.TheVariants.{Memory};
 
@@ -10,6 +12,7 @@ use crate::stop::{Stop, status_of, unwritten};
 use clap::error::ErrorKind;
 use clap::{Arg, ArgAction, ArgMatches};
 use std::alloc::{AllocError, Global};
+use std::io;
 use std::io::{Read, Write};
 
 /// Everything was done.
@@ -84,6 +87,34 @@ fn say<E: Write>(stderr: &mut E, text: &str) {
     let _ = stderr.write_all(text.as_bytes());
 }
 
+/// Says how the program is called, and answers the status.
+fn tell_usage<E: Write>(stderr: &mut E) -> u8
+    ensures { result ≡ 2 }
+{
+    say(stderr, "usage: klog COMMAND FILE ...\n");
+    USAGE
+}
+
+/// Says that memory ran out, and answers the status.
+fn tell_memory<E: Write>(stderr: &mut E) -> u8
+    ensures { result ≡ 3 }
+{
+    say(stderr, MEMORY);
+    FAILED
+}
+
+/// Tells why the words of a call could not be had, and answers the status: memory ran out, or a word
+/// is not UTF-8, which no call has.
+pub fn tell_no_words<E: Write>(stderr: &mut E, error: &io::Error) -> u8
+    ensures memory { error_kind error.now ≡ OutOfMemory → result ≡ 3 }
+    ensures no_text { error_kind error.now ≢ OutOfMemory → result ≡ 2 }
+{
+    match error.kind() {
+        io::ErrorKind::OutOfMemory => tell_memory(stderr),
+        _ => tell_usage(stderr),
+    }
+}
+
 /// The whole text of a script; `stdin` is standard input.
 fn script_text<F: Files, I: Read>(
     alloc: Global,
@@ -147,8 +178,7 @@ fn tell<E: Write>(alloc: Global, stderr: &mut E, ended: &Ended) -> u8
     ensures { (result ≡ status_of ended.now.stop) ⊎ (result ≡ 3) }
 {
     let Ok(text) = end_text(alloc, ended) else {
-        say(stderr, MEMORY);
-        return FAILED;
+        return tell_memory(stderr);
     };
     say(stderr, text.as_str());
     status_of(&ended.stop)
@@ -158,13 +188,13 @@ fn tell<E: Write>(alloc: Global, stderr: &mut E, ended: &Ended) -> u8
 fn tell_unread<E: Write>(alloc: Global, stderr: &mut E, name: &str, unread: Unread) -> u8
     ensures { result ≡ 3 }
 {
-    match unread {
-        Unread::File => match file_text(alloc, name) {
-            Ok(text) => say(stderr, text.as_str()),
-            Err(_) => say(stderr, MEMORY),
-        },
-        Unread::Memory => say(stderr, MEMORY),
-    }
+    let Unread::File = unread else {
+        return tell_memory(stderr);
+    };
+    let Ok(text) = file_text(alloc, name) else {
+        return tell_memory(stderr);
+    };
+    say(stderr, text.as_str());
     FAILED
 }
 
@@ -200,14 +230,8 @@ pub fn command<F: Files, I: Read, O: Write, E: Write>(
 {
     let name = match script_named(alloc, words) {
         Ok(name) => name,
-        Err(Misuse::Usage) => {
-            say(stderr, "usage: klog COMMAND FILE ...\n");
-            return USAGE;
-        }
-        Err(Misuse::Memory) => {
-            say(stderr, MEMORY);
-            return FAILED;
-        }
+        Err(Misuse::Usage) => return tell_usage(stderr),
+        Err(Misuse::Memory) => return tell_memory(stderr),
     };
     let script = match script_text(alloc, files, stdin, name) {
         Ok(script) => script,

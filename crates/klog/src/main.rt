@@ -8,9 +8,9 @@ mod files;
 mod session;
 mod stop;
 
-use crate::call::command;
+use crate::call::{command, tell_no_words};
 use crate::files::Files;
-use std::io::{BufWriter, Write};
+use std::io::BufWriter;
 use std::process::ExitCode;
 use std::{env, fs, io};
 
@@ -32,7 +32,8 @@ impl<R: fs::Files> Files for HostFiles<'_, R> {
     }
 }
 
-/// The call that the system's words ask for, or that memory ran out before it began.
+/// The call that the system's words ask for. It fails before it begins where memory runs out or a
+/// word is not UTF-8.
 fn called(rt: &HostRuntime) -> io::Result<u8> {
     let alloc = rt.alloc();
     let mut words = Vec::new(alloc);
@@ -55,13 +56,11 @@ fn called(rt: &HostRuntime) -> io::Result<u8> {
 }
 
 fn main(rt: HostRuntime) -> ExitCode {
-    match called(&rt) {
-        Ok(status) => ExitCode::from(status),
-        Err(_) => {
-            let _ = rt.stderr().write_all(b"memory\n");
-            ExitCode::from(3)
-        }
-    }
+    let status = match called(&rt) {
+        Ok(status) => status,
+        Err(error) => tell_no_words(&mut rt.stderr(), &error),
+    };
+    ExitCode::from(status)
 }
 
 #[cfg(test)]

@@ -1,6 +1,9 @@
 //! The commands of a script, one after the other.
 
-ghost use Rattle.std.specs.Prelude.{◌≡◌, ◌<◌, ◌≤◌, ◌^◌, true, IfOk};
+ghost use Rattle.std.specs.Prelude.{◌≡◌, ◌≢◌, ◌<◌, ◌≤◌, ◌^◌, true, IfOk};
+ghost use Rattle.std.specs.IoError.{error_kind};
+ghost use Rattle.std.specs.declared.io.ErrorKind.TheVariants.{OutOfMemory};
+ghost use Rattle.klog.specs.declared.session.Unread.TheVariants as unread;
 ghost use Rattle.script.specs.Faults.{size_of, is_in_range};
 ghost use Rattle.log_spec.specs.Logs.{FitsLog};
 ghost use Rattle.log_spec.specs.Worlds.{FitsEvent};
@@ -47,7 +50,10 @@ pub fn read_whole<R: Read>(alloc: Global, reader: &mut R) -> Result<Vec<u8>, Unr
     }
 }
 
-fn cause_of(error: &io::Error) -> Unread {
+fn cause_of(error: &io::Error) -> Unread
+    ensures memory { error_kind error.now ≡ OutOfMemory → result ≡ unread.Memory }
+    ensures file { error_kind error.now ≢ OutOfMemory → result ≡ unread.File }
+{
     match error.kind() {
         io::ErrorKind::OutOfMemory => Unread::Memory,
         _ => Unread::File,

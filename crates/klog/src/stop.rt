@@ -1,6 +1,8 @@
 //! Why a command stops before its end.
 
-ghost use Rattle.std.specs.Prelude.{◌≡◌};
+ghost use Rattle.std.specs.Prelude.{◌≡◌, ◌≢◌};
+ghost use Rattle.std.specs.IoError.{error_kind};
+ghost use Rattle.std.specs.declared.io.ErrorKind.TheVariants.{OutOfMemory};
 ghost use Rattle.klog.specs.declared.stop.Stop.TheVariants as stop;
 ghost use Rattle.klog.specs.Stops.{stop_of_fault, stop_of_refusal, status_of};
 
@@ -68,7 +70,10 @@ pub fn status_of(stop: &Stop) -> u8
 }
 
 /// A failed write to standard output.
-pub fn unwritten(error: &io::Error) -> Stop {
+pub fn unwritten(error: &io::Error) -> Stop
+    ensures memory { error_kind error.now ≡ OutOfMemory → result ≡ stop.Memory }
+    ensures output { error_kind error.now ≢ OutOfMemory → result ≡ stop.Output }
+{
     match error.kind() {
         io::ErrorKind::OutOfMemory => Stop::Memory,
         _ => Stop::Output,

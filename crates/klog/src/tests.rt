@@ -1,4 +1,4 @@
-use crate::call::command;
+use crate::call::{command, tell_no_words};
 use crate::files::Files;
 use std::alloc::Global;
 use std::collections::BTreeMap;
@@ -96,6 +96,24 @@ fn forwards_a_record(rt: HostRuntime) -> Result<(), Fail> {
         assert!(rt; status == 0);
         assert!(rt; out.as_str() == printed, "{out}");
         assert!(rt; err.as_str() == "", "{err}");
+    }
+    Ok(())
+}
+
+#[test]
+fn words_that_can_not_be_had(rt: HostRuntime) -> Result<(), Fail> {
+    for (kind, text, status) in [
+        (
+            io::ErrorKind::InvalidData,
+            "usage: klog COMMAND FILE ...\n",
+            2,
+        ),
+        (io::ErrorKind::OutOfMemory, "memory\n", 3),
+    ] {
+        let mut stderr = Vec::new(rt.alloc());
+        assert!(rt; tell_no_words(&mut stderr, &io::Error::from(kind)) == status);
+        let told = String::from_utf8(stderr).ok().ok_or("text")?;
+        assert!(rt; told.as_str() == text, "{told}");
     }
     Ok(())
 }

@@ -1,5 +1,5 @@
 -- Runs of small programs, worked out by computing: what the definitions say of them is what a reader expects.
-use Rattle.std.proofs.Common.{◌≡◌, ◌≢◌, ℕ, zero, suc, ◌+◌, List, [], ◌∷◌, ◌++◌, Option, Some, None, Err, refl, subst, pos}
+use Rattle.std.proofs.Common.{◌≡◌, ◌≢◌, ℕ, zero, suc, ◌+◌, List, [], ◌∷◌, ◌++◌, map, Option, Some, None, Err, refl, subst, pos}
 use Rattle.machine_spec.specs.declared.instruction.Instruction.{Instruction}
 use Rattle.machine_spec.specs.declared.instruction.Instruction.TheVariants.{Move, Compute, Load, JumpIf, Call, Exit}
 use Rattle.machine_spec.specs.declared.instruction.Trap.{Trap}
@@ -11,20 +11,22 @@ use Rattle.machine_spec.specs.declared.outcome.Outcome.TheVariants.{Kept, Reject
 use Rattle.machine_spec.specs.Image.{form_at, read_slot, instruction_of, is_known, first_slots, read_image}
 use Rattle.machine_spec.specs.Machine.{Input, State, entry, after}
 use Rattle.machine_spec.specs.Traps.{trap_at}
-use Rattle.machine_spec.specs.Meaning.{Step, Reaches, EndsAt, Means, outcome_of}
+use Rattle.machine_spec.specs.Meaning.{Reaches, Means, IsTrapped, outcome_of}
 use Rattle.machine_spec.proofs.Meanings.{step_on}
 
 -- ---- computing a run
 
--- what a run does at a state: it ends, goes on to another, or is trapped
+-- what a run does at a state: it ends, goes on to another or is trapped; a state without an instruction has a trap, so
+-- that no run gets lost
 pub data Turn : Type 0 where
   Ends : Outcome → Turn
   Goes : State → Turn
   Trapped : Trap → Turn
+  Lost : Turn
 
 abbrev turn_by : Input → State → Option Trap → Option Instruction → Turn
 turn_by input s (Some told) form = Trapped told
-turn_by input s None None = Trapped trap.Form
+turn_by input s None None = Lost
 turn_by input s None (Some Exit) = Ends (outcome_of (s.registers 0) s.emitted)
 turn_by input s None (Some (Move a b c)) = Goes (after (Move a b c) input s)
 turn_by input s None (Some (Compute a b c d)) = Goes (after (Compute a b c d) input s)
@@ -44,6 +46,7 @@ abbrev run_by : (State → Option End) → ℕ → Turn → Option End
 run_by on n (Ends outcome) = Some (Out outcome (n + 1))
 run_by on n (Goes s) = on s
 run_by on n (Trapped told) = Some (Stopped told n)
+run_by on n Lost = None
 
 -- the end of a run from a state that is reached after n steps, if it has at most so many turns
 abbrev run_from : ℕ → List ℕ → Input → ℕ → State → Option End
@@ -65,6 +68,16 @@ ends_by input s None (Some (Compute a b c d)) outcome e = absurd cc
 ends_by input s None (Some (Load a b c d)) outcome e = absurd cc
 ends_by input s None (Some (JumpIf a b c d f)) outcome e = absurd cc
 ends_by input s None (Some (Call a)) outcome e = absurd cc
+
+trapped_by : (input : Input) (s : State) (t : Option Trap) (form : Option Instruction) (told : Trap) → turn_by input s t form ≡ Trapped told → t ≡ Some told
+trapped_by input s (Some other) form told e = cc
+trapped_by input s None None told e = absurd cc
+trapped_by input s None (Some Exit) told e = absurd cc
+trapped_by input s None (Some (Move a b c)) told e = absurd cc
+trapped_by input s None (Some (Compute a b c d)) told e = absurd cc
+trapped_by input s None (Some (Load a b c d)) told e = absurd cc
+trapped_by input s None (Some (JumpIf a b c d f)) told e = absurd cc
+trapped_by input s None (Some (Call a)) told e = absurd cc
 
 -- an instruction other than EXIT, and the state after it
 abbrev GoesOn : Input → State → Option Trap → Option Instruction → State → Type 0
@@ -91,26 +104,33 @@ module _ (image : List ℕ) (input : Input) where
       let on = goes_by input s (trap_at image input s) (form_at image s.slot) next e in
       subst (Reaches image input (n + 1)) on.4 (step_on image input n s on.0 chain on.2 on.3 on.1)
 
-  out_is : (o p : Outcome) (n m : ℕ) → Some (Out o n) ≡ Some (Out p m) → (o ≡ p) × (n ≡ m)
-  out_is o p n m e = (cc, cc)
+  trap_stands : (n : ℕ) (s : State) (told : Trap) → Reaches image input n s → turn image input s ≡ Trapped told → IsTrapped image input told n
+  trap_stands n s told chain e = record { last = s; chain = chain; trap = trapped_by input s (trap_at image input s) (form_at image s.slot) told e }
 
-  means_by : (turns n : ℕ) (s : State) (o : Outcome) (m : ℕ) → Reaches image input n s
-      → ((next : State) → Reaches image input (n + 1) next → run_from turns image input (n + 1) next ≡ Some (Out o m) → Means image input o m)
-      → (t : Turn) → turn image input s ≡ t → run_by (run_from turns image input (n + 1)) n t ≡ Some (Out o m) → Means image input o m
-  means_by turns n s o m chain later (Ends p) at e =
-      let same = out_is p o (n + 1) m e in
-      subst (λ q. Means image input q m) same.0 (subst (Means image input p) same.1 (end_means n s p chain at))
-  means_by turns n s o m chain later (Goes next) at e = later next (goes_reaches n s next chain at) e
-  means_by turns n s o m chain later (Trapped told) at e = absurd cc
+  -- what the definitions say of such an end
+  abbrev pub IsEnd : End → Type 0
+  IsEnd (Out outcome n) = Means image input outcome n
+  IsEnd (Stopped told n) = IsTrapped image input told n
 
-  means_from : (turns n : ℕ) (s : State) (o : Outcome) (m : ℕ) → Reaches image input n s → run_from turns image input n s ≡ Some (Out o m) → Means image input o m
-  means_from zero n s o m chain e = absurd cc
-  means_from (suc turns) n s o m chain e =
-      means_by turns n s o m chain (λ next reaches later. means_from turns (n + 1) next o m reaches later) (turn image input s) refl e
+  end_is : (e f : End) → Some e ≡ Some f → e ≡ f
+  end_is e f same = cc
 
-  -- an outcome that is computed is the program's meaning
-  pub run_means : (turns : ℕ) (o : Outcome) (n : ℕ) → run turns image input ≡ Some (Out o n) → Means image input o n
-  run_means turns o n e = means_from turns 0 (entry input) o n refl e
+  ends_as : (turns n : ℕ) (s : State) (end : End) → Reaches image input n s
+      → ((next : State) → Reaches image input (n + 1) next → run_from turns image input (n + 1) next ≡ Some end → IsEnd end)
+      → (t : Turn) → turn image input s ≡ t → run_by (run_from turns image input (n + 1)) n t ≡ Some end → IsEnd end
+  ends_as turns n s end chain later (Ends outcome) at e = subst IsEnd (end_is (Out outcome (n + 1)) end e) (end_means n s outcome chain at)
+  ends_as turns n s end chain later (Goes next) at e = later next (goes_reaches n s next chain at) e
+  ends_as turns n s end chain later (Trapped told) at e = subst IsEnd (end_is (Stopped told n) end e) (trap_stands n s told chain at)
+  ends_as turns n s end chain later Lost at e = absurd cc
+
+  ends_from : (turns n : ℕ) (s : State) (end : End) → Reaches image input n s → run_from turns image input n s ≡ Some end → IsEnd end
+  ends_from zero n s end chain e = absurd cc
+  ends_from (suc turns) n s end chain e =
+      ends_as turns n s end chain (λ next reaches later. ends_from turns (n + 1) next end reaches later) (turn image input s) refl e
+
+  -- a computed outcome is the program's meaning, and a computed trap is the one that stops it
+  pub run_ends : (turns : ℕ) (end : End) → run turns image input ≡ Some end → IsEnd end
+  run_ends turns end e = ends_from turns 0 (entry input) end refl e
 
 -- ---- instructions, as the bytes of their slots
 
@@ -171,7 +191,7 @@ sum_wraps : run 9 ((0xb7 ∷ 0 ∷ 0 ∷ 0 ∷ 0xff ∷ 0xff ∷ 0xff ∷ 0xff �
 unfolding read_slot instruction_of is_known first_slots trap_at after
 sum_wraps = refl
 
--- mov64 r0, 0; jlt64 r2, 1, +1; ldx8 r0, [r1+0]; exit: the value's first byte, if it has one
+-- mov64 r0, 0; jlt64 r2, 1, +1; ld8 r0, [r1+0]; exit: the value's first byte, if it has one
 abbrev first_byte : List ℕ
 first_byte = move_to 0 0 ++ (slot 0xa5 2 1 1 ++ (slot 0x71 0x10 0 0 ++ exit))
 
@@ -190,10 +210,61 @@ first_byte_of_null : run 9 first_byte (of_value 1 None) ≡ Some (Out (Kept []) 
 unfolding read_slot instruction_of is_known first_slots trap_at after
 first_byte_of_null = refl
 
--- ldx16 r0, [r1+1]; exit: the low byte stands first
+-- ld16 r0, [r1+1]; exit: the low byte stands first
 two_bytes : run 9 (slot 0x69 0x10 1 0 ++ exit) (of_value 1 (Some (9 ∷ 2 ∷ 1 ∷ []))) ≡ Some (Out (Rejected 258) 2)
 unfolding read_slot instruction_of is_known first_slots trap_at after
 two_bytes = refl
+
+-- ---- jumps
+
+-- mov64 r0, 1; a jump over the next by r2 and a number; mov64 r0, 0; exit: rejected by 1 where the jump is taken
+abbrev jump_over : ℕ → ℕ → List ℕ
+jump_over opcode number = move_to 0 1 ++ (slot opcode 2 1 number ++ (move_to 0 0 ++ exit))
+
+abbrev taken : Option End
+taken = Some (Out (Rejected 1) 3)
+
+abbrev not_taken : Option End
+not_taken = Some (Out (Kept []) 4)
+
+-- with the numbers 2, 3 and 4, of a value of three bytes
+abbrev jumps : ℕ → List (Option End)
+jumps opcode = map (λ number. run 9 (jump_over opcode number) (of_value 1 (Some (7 ∷ 8 ∷ 9 ∷ [])))) (2 ∷ 3 ∷ 4 ∷ [])
+
+-- jeq64
+if_equal : jumps 0x15 ≡ not_taken ∷ taken ∷ not_taken ∷ []
+unfolding read_slot instruction_of is_known first_slots trap_at after
+if_equal = refl
+
+-- jgt64
+if_greater : jumps 0x25 ≡ taken ∷ not_taken ∷ not_taken ∷ []
+unfolding read_slot instruction_of is_known first_slots trap_at after
+if_greater = refl
+
+-- jge64
+if_greater_or_equal : jumps 0x35 ≡ taken ∷ taken ∷ not_taken ∷ []
+unfolding read_slot instruction_of is_known first_slots trap_at after
+if_greater_or_equal = refl
+
+-- jne64
+if_not_equal : jumps 0x55 ≡ taken ∷ not_taken ∷ taken ∷ []
+unfolding read_slot instruction_of is_known first_slots trap_at after
+if_not_equal = refl
+
+-- jlt64
+if_less : jumps 0xa5 ≡ not_taken ∷ not_taken ∷ taken ∷ []
+unfolding read_slot instruction_of is_known first_slots trap_at after
+if_less = refl
+
+-- jle64
+if_less_or_equal : jumps 0xb5 ≡ not_taken ∷ taken ∷ taken ∷ []
+unfolding read_slot instruction_of is_known first_slots trap_at after
+if_less_or_equal = refl
+
+-- mov64 r0, 1; jlt64 r2, -1, +1; mov64 r0, 0; exit: the immediate is sign-extended, and the test unsigned
+below_all_ones : run 9 (move_to 0 1 ++ ((0xa5 ∷ 2 ∷ 1 ∷ 0 ∷ 0xff ∷ 0xff ∷ 0xff ∷ 0xff ∷ []) ++ (move_to 0 0 ++ exit))) (of_value 1 None) ≡ taken
+unfolding read_slot instruction_of is_known first_slots trap_at after
+below_all_ones = refl
 
 -- ---- traps
 
@@ -227,20 +298,58 @@ frame_written : run 9 (move_to 10 0 ++ exit) (of_value 1 None) ≡ Some (Stopped
 unfolding read_slot instruction_of is_known first_slots trap_at after
 frame_written = refl
 
--- ldx8 r0, [r1+0] of a null value
+-- ld8 r0, [r1+0] of a null value
 value_too_short : run 9 (slot 0x71 0x10 0 0 ++ exit) (of_value 1 None) ≡ Some (Stopped trap.RecordBounds 0)
 unfolding read_slot instruction_of is_known first_slots trap_at after
 value_too_short = refl
 
--- ldx64 r0, [r10-520]
+-- ld64 r0, [r10-520]
 below_the_stack : run 9 ((0x79 ∷ 0xa0 ∷ 0xf8 ∷ 0xfd ∷ 0 ∷ 0 ∷ 0 ∷ 0 ∷ []) ++ exit) (of_value 1 None) ≡ Some (Stopped trap.StackBounds 0)
 unfolding read_slot instruction_of is_known first_slots trap_at after
 below_the_stack = refl
 
--- ldx64 r0, [r10-8]
+-- ld64 r0, [r10-8]
 stack_unset : run 9 ((0x79 ∷ 0xa0 ∷ 0xf8 ∷ 0xff ∷ 0 ∷ 0 ∷ 0 ∷ 0 ∷ []) ++ exit) (of_value 1 None) ≡ Some (Stopped trap.StackUnset 0)
 unfolding read_slot instruction_of is_known first_slots trap_at after
 stack_unset = refl
+
+-- mov64 r0, 0; jeq64 r2, 0, -1; exit: back to itself, if the value is empty
+abbrev jump_back : List ℕ
+jump_back = move_to 0 0 ++ ((0x15 ∷ 2 ∷ 0xff ∷ 0xff ∷ 0 ∷ 0 ∷ 0 ∷ 0 ∷ []) ++ exit)
+
+back : run 9 jump_back (of_value 1 None) ≡ Some (Stopped trap.Jump 1)
+unfolding read_slot instruction_of is_known first_slots trap_at after
+back = refl
+
+-- a jump that is not taken has no trap
+back_not_taken : run 9 jump_back (of_value 1 (Some (7 ∷ []))) ≡ Some (Out (Kept []) 3)
+unfolding read_slot instruction_of is_known first_slots trap_at after
+back_not_taken = refl
+
+-- jeq64 r2, 0, +1; exit: to the end of the image
+to_the_end : run 9 (slot 0x15 2 1 0 ++ exit) (of_value 1 None) ≡ Some (Stopped trap.Jump 0)
+unfolding read_slot instruction_of is_known first_slots trap_at after
+to_the_end = refl
+
+-- the same with four bytes behind it: they are no whole slot
+to_a_cut_slot : run 9 (slot 0x15 2 1 0 ++ (exit ++ (0x95 ∷ 0 ∷ 0 ∷ 0 ∷ []))) (of_value 1 None) ≡ Some (Stopped trap.Jump 0)
+unfolding read_slot instruction_of is_known first_slots trap_at after
+to_a_cut_slot = refl
+
+-- mov64 r0, 0 and four bytes behind it: the run falls off the image
+onto_a_cut_slot : run 9 (move_to 0 0 ++ (0x95 ∷ 0 ∷ 0 ∷ 0 ∷ [])) (of_value 1 None) ≡ Some (Stopped trap.RanOff 1)
+unfolding read_slot instruction_of is_known first_slots trap_at after
+onto_a_cut_slot = refl
+
+-- jeq64 r2, 0, +1; a 64-bit immediate; exit: into the second slot of the wide instruction
+into_a_wide : run 9 (slot 0x15 2 1 0 ++ (slot 0x18 0 0 0 ++ (slot 0 0 0 0 ++ exit))) (of_value 1 None) ≡ Some (Stopped trap.Jump 0)
+unfolding read_slot instruction_of is_known first_slots trap_at after
+into_a_wide = refl
+
+-- mov64 r0, r10; jeq64 r0, 0, +0; exit: a jump tests numbers alone
+address_tested : run 9 (slot 0xbf 0xa0 0 0 ++ (slot 0x15 0 0 0 ++ exit)) (of_value 1 None) ≡ Some (Stopped trap.WrongType 1)
+unfolding read_slot instruction_of is_known first_slots trap_at after
+address_tested = refl
 
 -- call 99
 no_helper : run 9 (call 99 ++ exit) (of_value 1 None) ≡ Some (Stopped trap.Helper 0)

@@ -8,7 +8,7 @@ pub enum Region {
     Value,
 }
 
-/// How many bytes a load or a store moves: 1, 2, 4 or 8 (RFC 9669, section 5.1).
+/// How many bytes a load or a store moves: 1, 2, 4 or 8 (RFC 9669, section 5).
 #[derive(Clone, Copy, Debug, PartialEq, Eq)]
 pub enum Size {
     Byte,

@@ -223,7 +223,7 @@ fn command_from(alloc: Global, words: &[&str]) -> Result<Option<Command>, AllocE
 }
 
 /// The command of a line; `None` where the line is none. A line that is empty or begins with `#`
-/// says nothing and is no command either.
+/// says nothing and is no command either. It fails only where memory runs out.
 pub fn parse(alloc: Global, line: &str) -> Result<Option<Command>, AllocError>
     ensures { IfOk result (λ command. command ≡ command_of line.now) }
 {

@@ -7,14 +7,15 @@ use bytes::Bytes;
 use log_spec::Row;
 use std::alloc::{AllocError, Global};
 
-/// The line that tells of a load.
+/// The line that tells of a load. It fails only where memory runs out.
 pub fn load_text(alloc: Global, name: &str, version: u32) -> Result<String, AllocError>
     ensures { IfOk result (λ text. string_bytes text ≡ load_line name.now version) }
 {
     format!(in alloc; "load {name} version {version}\n")
 }
 
-/// The line that tells of a deployment: the mark's index in the input's log.
+/// The line that tells of a deployment: the mark's index in the input's log. It fails only where
+/// memory runs out.
 pub fn deploy_text(
     alloc: Global,
     input: u64,
@@ -28,7 +29,7 @@ pub fn deploy_text(
 }
 
 /// The line that tells of an appended batch: its index in the input's log, and the offset of its
-/// first record.
+/// first record. It fails only where memory runs out.
 pub fn append_text(alloc: Global, input: u64, index: usize, base: u64) -> Result<String, AllocError>
     ensures { IfOk result (λ text. string_bytes text ≡ append_line input index base) }
 {
@@ -77,7 +78,8 @@ fn push_bytes(text: &mut String, bytes: &Option<Bytes>) -> Result<(), AllocError
     }
 }
 
-/// Appends the line of a row of an output partition to a text.
+/// Appends the line of a row of an output partition to a text. It fails only where memory runs out;
+/// the text may then end within the line.
 pub fn push_row(text: &mut String, output: usize, row: &Row) -> Result<(), AllocError>
     ensures { OnOk result (string_bytes text.new ≡ string_bytes text.old ++ row_line output row.now) }
 {

@@ -64,7 +64,9 @@ fn varlong_of(bytes: &[u8]) -> Result<(i64, usize), VarintFault>
     Ok((signed_of(number), used))
 }
 
-/// The varint at the front of the bytes, and how many of them it takes, 1 to 5.
+/// The varint at the front of the bytes, and how many of them it takes, 1 to 5. It fails where there
+/// is none: as `Short` where no byte of fewer than 5 ends it, as `Long` where the fifth doesn't or has
+/// bits past the 32nd, as `NotShortest` where fewer bytes would do.
 pub fn read32(bytes: &[u8]) -> Result<(i32, usize), VarintFault>
     // What is read is spelled so.
     ensures found { IfOk result (λ x. (x.1 ≤ length bytes.now) × IsVarint (take x.1 bytes.now) x.0) }
@@ -76,7 +78,9 @@ pub fn read32(bytes: &[u8]) -> Result<(i32, usize), VarintFault>
     varint_of(bytes)
 }
 
-/// The varlong at the front of the bytes, and how many of them it takes, 1 to 10.
+/// The varlong at the front of the bytes, and how many of them it takes, 1 to 10. It fails where there
+/// is none: as `Short` where no byte of fewer than 10 ends it, as `Long` where the tenth doesn't or has
+/// bits past the 64th, as `NotShortest` where fewer bytes would do.
 pub fn read64(bytes: &[u8]) -> Result<(i64, usize), VarintFault>
     // What is read is spelled so.
     ensures found { IfOk result (λ x. (x.1 ≤ length bytes.now) × IsVarlong (take x.1 bytes.now) x.0) }

@@ -24,7 +24,7 @@ use Rattle.verifier_spec.proofs.Whole.{le_z-true, le-le_z, le_trans_z, add_le}
 
 -- ---- lengths
 
--- each region's length lies no further apart
+-- each region's least length is not smaller, and its greatest not greater
 pub record IsNarrower (a b : Abstract) : Type 0 where
   pub low : (at : Region) → least b at ≤ least a at
   pub high : (at : Region) → greatest a at ≤ greatest b at

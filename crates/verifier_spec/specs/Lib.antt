@@ -6,5 +6,4 @@ pub mod Annotation
 pub mod Forward
 pub mod StandsFor
 pub mod Run
-pub mod Laws
 pub mod Soundness

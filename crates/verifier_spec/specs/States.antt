@@ -18,7 +18,8 @@ is_proper s =
     (length s.registers == 11) && (list_all is_proper_kind s.registers && (nat_le s.key_min s.key_max && (nat_le s.key_max key_limit
     && (nat_le s.value_min s.value_max && nat_le s.value_max value_limit))))
 
--- A state is within another: each register is, its lengths lie no further apart, and no fewer bytes are set.
+-- A state is within another: each register is, its least lengths are not smaller and its greatest not greater, and no
+-- fewer bytes are set.
 unfoldable pub is_within : Abstract → Abstract → Bool
 is_within inner outer =
     each_below 11 (λ r. is_kind_within inner (kind_at inner r) (kind_at outer r))

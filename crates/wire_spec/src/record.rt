@@ -52,11 +52,18 @@ impl Model for Records {
 /// batch has one spelling.
 #[derive(Drop)]
 pub struct Batch {
+    /// The field baseOffset, which the producer sets and a log doesn't look at.
     pub base_offset: i64,
+    /// The field partitionLeaderEpoch.
     pub leader_epoch: i32,
+    /// The field baseTimestamp, in milliseconds: what the records' timestamps count from.
     pub base_timestamp: i64,
+    /// The field producerId, -1 for none.
     pub producer_id: i64,
+    /// The field producerEpoch, -1 for none.
     pub producer_epoch: i16,
+    /// The field baseSequence, -1 for none.
     pub base_sequence: i32,
+    /// The records, 1 to 10,000 of them.
     pub records: Records,
 }

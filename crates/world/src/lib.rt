@@ -11,7 +11,7 @@ mod rows;
 mod share;
 
 pub use crate::events::{World, run};
-pub use crate::limits::fits;
+pub use crate::limits::fits_log;
 pub use log_spec::{Event, LoadFault, Name, Refusal, Reply, Row};
 
 #[cfg(test)]

@@ -58,7 +58,7 @@ fn put(alloc: Global, input: usize) -> Result<Event, Fail>
         base_sequence: -1,
         records: Records { list },
     };
-    if !fits(&batch) {
+    if !fits_log(&batch) {
         Err("the batch fits")?;
     }
     Ok(Event::Batch(input, batch))
