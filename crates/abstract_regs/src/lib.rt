@@ -16,6 +16,3 @@ pub use laws::{order_is_kept, transfer_is_sound};
 pub use machine_spec::{Instruction, Region};
 pub use state::{Edges, State};
 pub use verifier_spec::{Abs, Abstract, Check, StackSet};
-
-#[cfg(test)]
-mod tests;

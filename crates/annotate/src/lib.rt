@@ -7,6 +7,3 @@ mod loader;
 
 pub use loader::load;
 pub use log_spec::LoadFault;
-
-#[cfg(test)]
-mod tests;

@@ -13,6 +13,3 @@ pub use reading::{decode, one_spelling};
 pub use sharing::share;
 pub use wire_spec::{Batch, BatchFault, Headers, Records};
 pub use writing::encode;
-
-#[cfg(test)]
-mod tests;

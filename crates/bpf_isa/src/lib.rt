@@ -17,6 +17,3 @@ pub use decoding::decode;
 pub use encoding::encode;
 pub use laws::image_and_code;
 pub use machine_spec::{Instruction, IsaFault, Placed};
-
-#[cfg(test)]
-mod tests;

@@ -12,8 +12,6 @@ ghost use Rattle.wire_spec.specs.Checksum.{remainder, checksum};
 ghost use Rattle.crc32c.specs.Register.{after, word_at};
 
 mod tables;
-#[cfg(test)]
-mod tests;
 
 use std::simd::prelude::*;
 use tables::entry;

@@ -16,6 +16,3 @@ pub use sharing::{share, share_bytes, share_headers};
 pub use sizes::size;
 pub use wire_spec::{Header, Headers, Record};
 pub use writing::write;
-
-#[cfg(test)]
-mod tests;

@@ -11,6 +11,3 @@ mod verified;
 
 pub use verified::{Verified, check};
 pub use verifier_spec::{Check, VerifyFault};
-
-#[cfg(test)]
-mod tests;

@@ -8,6 +8,3 @@ mod writing;
 pub use reading::{one_spelling, read32, read64};
 pub use wire_spec::VarintFault;
 pub use writing::{len32, len64, write32, write64};
-
-#[cfg(test)]
-mod tests;

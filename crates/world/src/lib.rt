@@ -13,6 +13,3 @@ mod share;
 pub use crate::events::{World, run};
 pub use crate::limits::fits_log;
 pub use log_spec::{Event, LoadFault, Name, Refusal, Reply, Row};
-
-#[cfg(test)]
-mod tests;

@@ -1,0 +1,143 @@
+use bpf_isa::{Instruction, IsaFault, decode, encode, image_and_code};
+use machine_spec::{Operation, Size, Source, Test, Width};
+use std::test::Fail;
+
+const MOVE: [u8; 8] = [0xb7, 0, 0, 0, 0, 0, 0, 0];
+
+const FORMS: [[u8; 8]; 16] = [
+    [0xb7, 0x01, 0, 0, 0xff, 0xff, 0xff, 0xff],
+    [0xbf, 0x26, 0, 0, 0, 0, 0, 0],
+    [0x07, 0x06, 0, 0, 0x01, 0x02, 0, 0x80],
+    [0x0f, 0xa3, 0, 0, 0, 0, 0, 0],
+    [0x71, 0x10, 0, 0, 0, 0, 0, 0],
+    [0x69, 0x10, 0xff, 0x7f, 0, 0, 0, 0],
+    [0x61, 0x30, 0x01, 0, 0, 0, 0, 0],
+    [0x79, 0xa0, 0xf8, 0xff, 0, 0, 0, 0],
+    [0x15, 0x02, 0x01, 0, 0, 0, 0, 0],
+    [0x25, 0x02, 0x01, 0, 0, 0, 0, 0],
+    [0x35, 0x02, 0x01, 0, 0, 0, 0, 0],
+    [0x55, 0x02, 0xff, 0xff, 0, 0, 0, 0],
+    [0xa5, 0x02, 0x01, 0, 0x10, 0, 0, 0],
+    [0xb5, 0x02, 0x01, 0, 0, 0, 0, 0],
+    [0x85, 0, 0, 0, 0x03, 0, 0, 0],
+    [0x95, 0, 0, 0, 0, 0, 0, 0],
+];
+
+fn jump(test: Test, imm: i32, offset: i16) -> Instruction {
+    Instruction::JumpIf(Width::Bits64, test, 2, Source::Immediate(imm), offset)
+}
+
+fn instructions() -> [Instruction; 16] {
+    [
+        Instruction::Move(Width::Bits64, 1, Source::Immediate(-1)),
+        Instruction::Move(Width::Bits64, 6, Source::Register(2)),
+        Instruction::Compute(
+            Width::Bits64,
+            Operation::Add,
+            6,
+            Source::Immediate(-2147483135),
+        ),
+        Instruction::Compute(Width::Bits64, Operation::Add, 3, Source::Register(10)),
+        Instruction::Load(Size::Byte, 0, 1, 0),
+        Instruction::Load(Size::Half, 0, 1, 32767),
+        Instruction::Load(Size::Word, 0, 3, 1),
+        Instruction::Load(Size::Double, 0, 10, -8),
+        jump(Test::Equal, 0, 1),
+        jump(Test::Greater, 0, 1),
+        jump(Test::GreaterOrEqual, 0, 1),
+        jump(Test::NotEqual, 0, -1),
+        jump(Test::Less, 16, 1),
+        jump(Test::LessOrEqual, 0, 1),
+        Instruction::Call(3),
+        Instruction::Exit,
+    ]
+}
+
+#[test]
+fn every_form(rt: HostRuntime) -> Result<(), Fail> {
+    let mut image = Vec::new(rt.alloc());
+    for form in &FORMS {
+        image.extend_from_slice(form)?;
+    }
+    let code = decode(rt.alloc(), &image)?;
+    assert_eq!(rt; code.len(), 16);
+    for (k, instruction) in instructions().iter().enumerate() {
+        assert!(rt; k < code.len());
+        assert_eq!(rt; code.instr(k), *instruction, "at {k}");
+        assert_eq!(rt; code.slot(k), k);
+        assert_eq!(rt; code.get(k).instruction, *instruction, "at {k}");
+        assert_eq!(rt; code.at(k), Some(k));
+    }
+    assert_eq!(rt; code.at(16), None);
+    assert_eq!(rt; code.at(usize::MAX), None);
+    let again = encode(rt.alloc(), &code)?;
+    assert_eq!(rt; again.as_slice(), image.as_slice());
+    Ok(())
+}
+
+#[test]
+fn refused_slots(rt: HostRuntime) {
+    for (slot, fault) in [
+        ([0xdb, 0, 0, 0, 0, 0, 0, 0], IsaFault::NotInProfile(0)),
+        ([0x85, 0x10, 0, 0, 1, 0, 0, 0], IsaFault::NotInProfile(0)),
+        ([0x18, 0, 0, 0, 0, 0, 0, 0], IsaFault::NotInProfile(0)),
+        ([0x1d, 0, 0, 0, 0, 0, 0, 0], IsaFault::NotInProfile(0)),
+        ([0x62, 0x0f, 0, 0, 0, 0, 0, 0], IsaFault::NotInProfile(0)),
+        ([0xff, 0, 0, 0, 0, 0, 0, 0], IsaFault::Opcode(0)),
+        ([0x00, 0, 0, 0, 0, 0, 0, 0], IsaFault::Opcode(0)),
+        ([0x8f, 0, 0, 0, 0, 0, 0, 0], IsaFault::Opcode(0)),
+        ([0xb7, 0x0b, 0, 0, 0, 0, 0, 0], IsaFault::Register(0)),
+        ([0xbf, 0xb0, 0, 0, 0, 0, 0, 0], IsaFault::Register(0)),
+        ([0x79, 0xbb, 0, 0, 1, 0, 0, 0], IsaFault::Register(0)),
+        ([0xb7, 0xb0, 0, 0, 0, 0, 0, 0], IsaFault::Unused(0)),
+        ([0x95, 0, 0, 0, 1, 0, 0, 0], IsaFault::Unused(0)),
+        ([0x71, 0x10, 0, 0, 0, 0, 0, 1], IsaFault::Unused(0)),
+    ] {
+        assert_eq!(rt; decode(rt.alloc(), &slot).err(), Some(fault), "at {slot:?}");
+    }
+}
+
+#[test]
+fn first_refusal(rt: HostRuntime) -> Result<(), Fail> {
+    let mut image = Vec::from_slice(rt.alloc(), &MOVE)?;
+    image.extend_from_slice(&[0x95, 0, 0, 0, 1, 0, 0, 0])?;
+    image.extend_from_slice(&[0xff; 8])?;
+    assert_eq!(rt; decode(rt.alloc(), &image).err(), Some(IsaFault::Unused(1)));
+    Ok(())
+}
+
+#[test]
+fn sizes(rt: HostRuntime) -> Result<(), Fail> {
+    assert_eq!(rt; decode(rt.alloc(), &[]).err(), Some(IsaFault::Size));
+    assert_eq!(rt; decode(rt.alloc(), &[0; 12]).err(), Some(IsaFault::Size));
+    assert_eq!(rt; decode(rt.alloc(), &[0; 7]).err(), Some(IsaFault::Size));
+    let mut image = Vec::new(rt.alloc());
+    for _ in 0..4096u16 {
+        image.extend_from_slice(&MOVE)?;
+    }
+    let code = decode(rt.alloc(), &image)?;
+    assert_eq!(rt; code.len(), 4096);
+    assert_eq!(rt; code.at(4095), Some(4095));
+    assert_eq!(rt; code.at(4096), None);
+    assert_eq!(rt; encode(rt.alloc(), &code)?.as_slice(), image.as_slice());
+    image.extend_from_slice(&MOVE)?;
+    assert_eq!(rt; decode(rt.alloc(), &image).err(), Some(IsaFault::Size));
+    Ok(())
+}
+
+#[test]
+fn texts(rt: HostRuntime) -> Result<(), Fail> {
+    for (fault, text) in [
+        (IsaFault::Size, "I1 Size"),
+        (IsaFault::Opcode(4095), "I2 Opcode slot 4095"),
+        (IsaFault::Register(0), "I3 Register slot 0"),
+        (IsaFault::Unused(7), "I4 Unused slot 7"),
+        (IsaFault::Wide(1), "I5 Wide slot 1"),
+        (IsaFault::NotInProfile(0), "I6 NotInProfile slot 0"),
+        (IsaFault::Memory, "I7 Memory"),
+    ] {
+        assert_eq!(rt; format!(in rt.alloc(); "{fault}")?.as_str(), text);
+    }
+    image_and_code();
+    Ok(())
+}

@@ -1,0 +1,11 @@
+//! Tests of the wire crates by their public calls: published values, refusals, texts.
+#![tactic(auto)]
+
+#[cfg(test)]
+mod batches;
+#[cfg(test)]
+mod checksums;
+#[cfg(test)]
+mod records;
+#[cfg(test)]
+mod varints;
