@@ -83,8 +83,12 @@ pub fn right_shift(a: u64, b: u64) -> u64
 pub fn remainder(a: u64, b: u64) -> u64
     ensures { result ≡ number_of Width.Bits32 Operation.Mod a b }
 {
-    let (a, b) = (low_32(a), low_32(b));
-    if b == 0 { a as u64 } else { (a % b) as u64 }
+    let (low, divisor) = (low_32(a), low_32(b));
+    if divisor == 0 {
+        low as u64
+    } else {
+        (low % divisor) as u64
+    }
 }
 
 /// The remainder with the sign of `a`, or `a` of a division by 0.

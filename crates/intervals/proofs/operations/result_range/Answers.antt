@@ -1,6 +1,4 @@
-use Rattle.std.proofs.Common.{subst, sym, ◌≤◌, ◌<◌}
-use Rattle.machine_spec.specs.Arithmetic.{limit}
-use Rattle.verifier_spec.specs.declared.interval.Interval.{Interval}
+use Rattle.std.proofs.Common.{subst, sym}
 use Rattle.verifier_spec.specs.Intervals.{IsRangeOf}
 use Rattle.verifier_spec.proofs.RangesProper.{computed_proper}
 use Rattle.intervals.proofs.operations.result_range.Goals as goal
