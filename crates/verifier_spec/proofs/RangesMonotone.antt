@@ -145,7 +145,8 @@ module _ (width : Width) (x y a b : Interval) (in_a : IsPartOf x a) (in_b : IsPa
       or_whole_part width (is_single b && is_non_negative width a) (is_single y && is_non_negative width x) (shifted_right width a b.low) (shifted_right width x y.low) single_non_negative_too
       (λ e. right_part (and_parts (is_single b) (is_non_negative width a) e).0) (computed_proper width x y x_range y_range ArithmeticRightShift)
 
-cut_part : (width : Width) (inner outer : Interval) → IsRangeOf Bits64 inner → IsPartOf inner outer → IsPartOf (cut width inner) (cut width outer)
+-- the part of an operand that an operation takes keeps the order
+pub cut_part : (width : Width) (inner outer : Interval) → IsRangeOf Bits64 inner → IsPartOf inner outer → IsPartOf (cut width inner) (cut width outer)
 cut_part Bits32 inner outer proper h =
     or_whole_part Bits32 (nat_lt outer.high (2 ^ 32)) (nat_lt inner.high (2 ^ 32)) outer inner
     (λ e. let small = ltb-true outer.high (2 ^ 32) e in lt-ltb inner.high (2 ^ 32) (omega arith)) (λ e. h) (cut_range Bits32 inner proper)

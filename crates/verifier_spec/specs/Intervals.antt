@@ -50,11 +50,12 @@ unless_wrapping width low high = if nat_lt high (limit width) then from_to low h
 abbrev pub is_single : Interval → Bool
 is_single x = x.low == x.high
 
--- an interval's numbers are not negative when they are read as signed
+-- one more than the greatest number that is not negative when it is read as signed
 abbrev pub half : Width → ℕ
 half Bits32 = 2 ^ 31
 half Bits64 = 2 ^ 63
 
+-- no number of an interval is negative when it is read as signed
 abbrev pub is_non_negative : Width → Interval → Bool
 is_non_negative width x = nat_lt x.high (half width)
 
@@ -66,11 +67,16 @@ bit_length n = 64 - leading_zeros w64 n
 abbrev pub of_same_bits : Interval → Interval → Interval
 of_same_bits x y = from_to 0 (2 ^ bit_length (max x.high y.high) - 1)
 
+-- a divisor that is one number and not 0
+abbrev pub is_divisor : Interval → Bool
+is_divisor y = is_single y && nat_lt 0 y.low
+
+-- quotients and remainders; by a divisor that is not known they are no greater than the dividend
 abbrev pub quotients : Interval → Interval → Interval
-quotients x y = if is_single y && nat_lt 0 y.low then from_to (x.low / y.low) (x.high / y.low) else from_to 0 x.high
+quotients x y = if is_divisor y then from_to (x.low / y.low) (x.high / y.low) else from_to 0 x.high
 
 abbrev pub remainders : Interval → Interval → Interval
-remainders x y = if is_single y && nat_lt 0 y.low then from_to 0 (min x.high (y.low - 1)) else from_to 0 x.high
+remainders x y = if is_divisor y then from_to 0 (min x.high (y.low - 1)) else from_to 0 x.high
 
 -- numbers shifted by a count that is one number
 abbrev pub shifted_left : Width → Interval → ℕ → Interval
@@ -79,7 +85,8 @@ shifted_left width x count = unless_wrapping width (x.low * 2 ^ (count % bit_cou
 abbrev pub shifted_right : Width → Interval → ℕ → Interval
 shifted_right width x count = from_to (x.low / 2 ^ (count % bit_count width)) (x.high / 2 ^ (count % bit_count width))
 
--- the results of an operation on numbers of a width
+-- The results of an operation on numbers of a width. Where one could wrap or be negative as a signed number, they are
+-- every number of the width.
 abbrev pub computed_range : Width → Operation → Interval → Interval → Interval
 computed_range width Add x y = unless_wrapping width (x.low + y.low) (x.high + y.high)
 computed_range width Sub x y = if nat_le y.high x.low then from_to (x.low - y.high) (x.high - y.low) else whole width
@@ -101,7 +108,7 @@ result_range width operation x y = computed_range width operation (cut width x) 
 
 -- ---- changes of one number
 
--- The results of a change. A sign extension keeps numbers that are not negative as part of their bits.
+-- The results of a change. A sign extension keeps numbers whose bits past the part, and its sign, are 0.
 abbrev pub changed_range : Change → Interval → Interval
 changed_range (Negate width) x = whole width
 changed_range (Order order width) x = from_to 0 (2 ^ swapped_bits width - 1)
