@@ -1,3 +1,5 @@
 pub mod Meanings
+pub mod Results
 pub mod Runs
 pub mod Slots
+pub mod WorkedNumbers

@@ -1,4 +1,5 @@
 pub mod Image
+pub mod Arithmetic
 pub mod Words
 pub mod Machine
 pub mod Traps

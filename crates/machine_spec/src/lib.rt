@@ -5,6 +5,7 @@
 #![tactic(auto)]
 
 mod instruction;
+pub mod operation;
 mod outcome;
 
 pub use instruction::{
