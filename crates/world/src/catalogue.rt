@@ -7,9 +7,9 @@ ghost use Rattle.log_spec.specs.Catalogue.{load_fault, refused_load, images_of, 
 ghost use Rattle.world.specs.Views.{entry_view, table_view, LoadsInto, RefusedAs, version_of};
 ghost use Rattle.annotate.specs.Loads.{FaultIs};
 
-use crate::program::Program;
 use crate::share::share_name;
 use bytes::Bytes;
+use log_item::Program;
 use log_spec::{LoadFault, Name, Refusal};
 use machine_spec::IsaFault;
 use std::alloc::{AllocError, Global};

@@ -5,7 +5,6 @@ mod catalogue;
 mod events;
 mod limits;
 mod log;
-mod program;
 mod readings;
 mod rows;
 mod share;

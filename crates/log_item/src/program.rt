@@ -1,5 +1,5 @@
 ghost use Rattle.std.specs.Prelude.{◌≡◌, ℕ, IfOk};
-ghost use Rattle.world.specs.Views.{ProgramIs};
+ghost use Rattle.log_item.specs.Programs.{ProgramIs};
 ghost use Rattle.machine_spec.specs.Meaning.{IsPlace, Means};
 ghost use Rattle.verifier_spec.specs.StandsFor.{IsWithinLimits};
 
