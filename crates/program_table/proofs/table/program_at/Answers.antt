@@ -1,7 +1,7 @@
 use Rattle.std.proofs.Common.{◌-◌, map, sym, ◌∙◌, arith}
 use Rattle.std.specs.Arc.{arc_value}
-use Rattle.world.proofs.TableLaws.{version_of-previous, image_at, no_image_at}
-use Rattle.world.proofs.catalogue.program_at.Goals as goal
+use Rattle.program_table.proofs.TableLaws.{version_of-previous, image_at, no_image_at}
+use Rattle.program_table.proofs.table.program_at.Goals as goal
 
 pub returns-then-number-programs : goal.returns-then-number-programs
 returns-then-number-programs c =

@@ -1,10 +1,10 @@
 use Rattle.std.proofs.Common.{◌≡◌, List, [], map, get_or, ap, sym, ◌∙◌}
 use Rattle.std.specs.Arc.{arc_value}
 use Rattle.log_spec.specs.Catalogue.{images_of}
-use Rattle.world.specs.declared.catalogue.Entry.{Entry}
-use Rattle.world.specs.Views.{table_view}
-use Rattle.world.proofs.TableLaws.{images_of-absent, images_of-found, image_of-version, version_of-none}
-use Rattle.world.proofs.catalogue.Catalogue.version.Goals as goal
+use Rattle.program_table.specs.declared.table.Entry.{Entry}
+use Rattle.program_table.specs.Tables.{table_view}
+use Rattle.program_table.proofs.TableLaws.{images_of-absent, images_of-found, image_of-version, version_of-none}
+use Rattle.program_table.proofs.table.Table.version.Goals as goal
 
 pub returns-in-None : goal.returns-in-None
 returns-in-None c =

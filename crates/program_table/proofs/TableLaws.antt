@@ -9,8 +9,8 @@ use Rattle.log_spec.specs.declared.event.Refusal.TheVariants as refusal
 use Rattle.std.specs.Arc.{arc_value}
 use Rattle.std.specs.Str.{bytes_eq}
 use Rattle.log_spec.specs.Catalogue.{Table, images_of, image_of, with_image, has_name, is_name, load_fault, load_refusal, refused_load, Entry as Loaded}
-use Rattle.world.specs.declared.catalogue.Entry.{Entry}
-use Rattle.world.specs.Views.{entry_view, table_view, version_of, RefusedAs}
+use Rattle.program_table.specs.declared.table.Entry.{Entry}
+use Rattle.program_table.specs.Tables.{entry_view, table_view, version_of, RefusedAs}
 
 or_false : (a b : Bool) → (a || b) ≡ false → (a ≡ false) × (b ≡ false)
 or_false true b e = absurd cc

@@ -1,13 +1,13 @@
 ghost use Rattle.std.specs.Prelude.{◌≡◌, List, IfErr, ℕ, ◌<◌, ◌≤◌, ◌+◌, length, Some, None, [], ◌∷◌, ◌++◌, option_map, MatchOption, OnOk, OnErr, IfOk, string_bytes, false, true, map, slice_get, slice_set, take, IfNone, IfSome, slice_index_or};
 ghost use Rattle.std.specs.List.{list_all};
-ghost use Rattle.world.specs.declared.catalogue.Entry.{Entry};
+ghost use Rattle.program_table.specs.declared.table.Entry.{Entry};
 ghost use Rattle.std.specs.Arc.{arc_value};
 ghost use Rattle.std.specs.Str.{bytes_eq};
 ghost use Rattle.log_spec.specs.Catalogue.{load_fault, refused_load, images_of, image_of, has_name, is_name, is_name_byte, with_image};
-ghost use Rattle.world.specs.Views.{entry_view, table_view, LoadsInto, RefusedAs, version_of};
+ghost use Rattle.program_table.specs.Tables.{entry_view, table_view, LoadsInto, RefusedAs, version_of};
 ghost use Rattle.annotate.specs.Loads.{FaultIs};
 
-use crate::share::share_name;
+use crate::name::share_name;
 use bytes::Bytes;
 use log_item::Program;
 use log_spec::{LoadFault, Name, Refusal};
@@ -35,15 +35,15 @@ pub struct Entry {
 
 /// The programs that were loaded, by name.
 #[derive(Drop)]
-pub struct Catalogue {
+pub struct Table {
     entries: Vec<Entry>,
 }
 
-impl Model for Catalogue {
-    ghost use Rattle.log_spec.specs.Catalogue.{Table};
-    ghost use Rattle.world.specs.Views.{table_view};
+impl Model for Table {
+    ghost use Rattle.log_spec.specs.Catalogue.{Table as Loads};
+    ghost use Rattle.program_table.specs.Tables.{table_view};
 
-    ghost Value = { Table };
+    ghost Value = { Loads };
 
     ghost view = { λ c. table_view c.entries.items };
 }
@@ -197,12 +197,12 @@ fn add_entry(
     Ok(())
 }
 
-impl Catalogue {
+impl Table {
     /// With no name.
-    pub fn new(alloc: Global) -> Catalogue
+    pub fn new(alloc: Global) -> Table
         ensures { result ≡ [] }
     {
-        Catalogue {
+        Table {
             entries: Vec::new(alloc),
         }
     }

@@ -1,9 +1,9 @@
 use Rattle.std.proofs.Common.{◌≡◌, ◌<◌, ◌≤◌, ◌-◌, ◌^◌, ◌++◌, ◌∷◌, [], List, ℕ, map, length, ap, sym, ◌∙◌, refl, arith}
 use Rattle.std.specs.Arc.{arc_value}
 use Rattle.log_spec.specs.Catalogue.{images_of}
-use Rattle.world.specs.Views.{table_view, entry_view}
-use Rattle.world.proofs.TableLaws.{versions_of-found, has_name-found, with_image-found, table-set_same, refusal_named, refusal_versions, map-push, no_refusal}
-use Rattle.world.proofs.catalogue.add_version.Goals as goal
+use Rattle.program_table.specs.Tables.{table_view, entry_view}
+use Rattle.program_table.proofs.TableLaws.{versions_of-found, has_name-found, with_image-found, table-set_same, refusal_named, refusal_versions, map-push, no_refusal}
+use Rattle.program_table.proofs.table.add_version.Goals as goal
 
 pub returns-then-versions-ge-MOST_VERSIONS : goal.returns-then-versions-ge-MOST_VERSIONS
 returns-then-versions-ge-MOST_VERSIONS c =

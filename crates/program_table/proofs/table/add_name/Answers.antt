@@ -1,8 +1,8 @@
 use Rattle.std.proofs.Common.{◌<◌, ◌≤◌, ◌+◌, ◌++◌, ◌∷◌, [], List, ℕ, length, ap, sym, ◌∙◌, refl, arith}
 use Rattle.std.proofs.lemmas.List.{length-map}
-use Rattle.world.specs.Views.{table_view, entry_view}
-use Rattle.world.proofs.TableLaws.{images_of-absent, with_image-absent, refusal_new, refusal_full, no_refusal}
-use Rattle.world.proofs.catalogue.add_name.Goals as goal
+use Rattle.program_table.specs.Tables.{table_view, entry_view}
+use Rattle.program_table.proofs.TableLaws.{images_of-absent, with_image-absent, refusal_new, refusal_full, no_refusal}
+use Rattle.program_table.proofs.table.add_name.Goals as goal
 
 pub returns-then-len-ge-MOST_NAMES : goal.returns-then-len-ge-MOST_NAMES
 returns-then-len-ge-MOST_NAMES c =
