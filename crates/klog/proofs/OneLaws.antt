@@ -33,6 +33,7 @@ one-happens : (w : World) (e : Event) (reply : Reply) (next : World) → IsOne w
 one-happens w (event.Load name image) reply next one done = one-along _ next done.1 (record { inputs = one.inputs; outputs = one.outputs })
 one-happens w (event.Batch input batch) reply next one done = one-appends w input _ reply next one done
 one-happens w (event.Mark input name version) reply next one done = one-appends w input _ reply next one done
+one-happens w (event.Close input) reply next one done = one-appends w input _ reply next one done
 one-happens w (event.Deliver input output) reply next one done =
     elim done [
       | inl adds ↦ one-along _ next adds.next_is (one-with_book w input output _ one)

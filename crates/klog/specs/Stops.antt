@@ -15,6 +15,7 @@ stop_of_refusal refusal.Full = stop.Event refusal.Full
 stop_of_refusal refusal.Versions = stop.Event refusal.Versions
 stop_of_refusal (refusal.Load load) = stop.Event (refusal.Load load)
 stop_of_refusal refusal.NoVersion = stop.Event refusal.NoVersion
+stop_of_refusal refusal.LogClosed = stop.Event refusal.LogClosed
 stop_of_refusal refusal.LogFull = stop.Event refusal.LogFull
 stop_of_refusal refusal.NoItem = stop.Event refusal.NoItem
 stop_of_refusal refusal.Memory = stop.Memory

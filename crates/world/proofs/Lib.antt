@@ -1,4 +1,3 @@
-pub mod TableLaws
 pub mod LogViews
 pub mod RowLaws
 pub mod CoreLaws

@@ -7,10 +7,9 @@ ghost use Rattle.machine_spec.specs.Meaning.{IsPlace};
 ghost use Rattle.verifier_spec.specs.StandsFor.{IsWithinLimits};
 ghost use Rattle.log_spec.specs.declared.row.Row.{Row};
 ghost use Rattle.log_spec.specs.Logs.{timestamp_of, place_of, row_of, rows_to, rows_of, IsRecordRows, IsRecordsRows, IsItemRows, FitsRecord, FitsLog, records_in};
-ghost use Rattle.world.specs.Views.{item_view, FitsItem};
+ghost use Rattle.log_item.specs.Items.{item_view};
 
-use crate::log::Item;
-use crate::program::Program;
+use log_item::{Item, Program};
 use log_spec::Row;
 use machine_spec::{Emission, Outcome, Place};
 use std::alloc::{AllocError, Global};
@@ -128,7 +127,7 @@ fn batch_rows(
     Ok(rows)
 }
 
-/// The rows of an item: none of a mark, and none of a batch with no mark before it.
+/// The rows of an item: none of a mark or the end, and none of a batch with no mark before it.
 pub fn item_rows(
     alloc: Global,
     program: &Option<Arc<Program>>,
@@ -136,15 +135,15 @@ pub fn item_rows(
     item: &Item,
     offset: u64,
 ) -> Result<Vec<Row>, AllocError>
-    requires fits { FitsItem (item_view item.now) }
-    requires offset { offset ≤ 655360000 }
+    requires { offset ≤ 655360000 }
     ensures { IfOk result (λ rows. IsItemRows 0 output 1 (option_map (λ p. arc_value p) program.now) offset (item_view item.now) rows.items) }
 {
     match item {
-        Item::Mark(_, _, _) => Ok(Vec::new(alloc)),
-        Item::Batch(batch) => match program {
+        Item::Mark { .. } => Ok(Vec::new(alloc)),
+        Item::End => Ok(Vec::new(alloc)),
+        Item::Batch(logged) => match program {
             None => Ok(Vec::new(alloc)),
-            Some(program) => batch_rows(alloc, program, output, batch, offset),
+            Some(program) => batch_rows(alloc, program, output, logged.batch(), offset),
         },
     }
 }

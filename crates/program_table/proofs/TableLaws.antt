@@ -1,0 +1,151 @@
+-- Finding a name among the entries of the catalogue.
+use Rattle.std.proofs.Common.{◌≡◌, ℕ, zero, suc, ◌<◌, ◌≤◌, Bool, true, false, List, [], ◌∷◌, ◌++◌, length, take, get_or, set, map, refl, sym, ap, ◌∙◌, arith}
+use Rattle.std.specs.Prelude.{◌||◌, ◌-◌, ◌^◌, ◌≢◌, nat_le, slice_get, option_map, Some, None, Option}
+use Rattle.std.proofs.lemmas.Bool.Decides.{nat_tests}
+use Rattle.std.proofs.lemmas.List.{length-map, map_push}
+use Rattle.std.proofs.lemmas.Option.{slice_get-map, slice_get_read, slice_get_past}
+use Rattle.log_spec.specs.declared.event.Refusal.{Refusal}
+use Rattle.log_spec.specs.declared.event.Refusal.TheVariants as refusal
+use Rattle.std.specs.Arc.{arc_value}
+use Rattle.std.specs.Str.{bytes_eq}
+use Rattle.log_spec.specs.Catalogue.{Table, images_of, image_of, with_image, has_name, is_name, load_fault, load_refusal, refused_load, Entry as Loaded}
+use Rattle.program_table.specs.declared.table.Entry.{Entry}
+use Rattle.program_table.specs.Tables.{entry_view, table_view, version_of, RefusedAs}
+
+or_false : (a b : Bool) → (a || b) ≡ false → (a ≡ false) × (b ≡ false)
+or_false true b e = absurd cc
+or_false false b e = (refl, e)
+
+pub has_name-next : (entries : List Entry) (i : ℕ) (d : Entry) (name : List ℕ) → i < length entries → has_name (table_view (take i entries)) name ≡ false
+    → bytes_eq (get_or entries i d).name name ≡ false → has_name (table_view (take (suc i) entries)) name ≡ false
+has_name-next [] i d name lt h e = absurd (omega arith)
+has_name-next (entry ∷ entries) zero d name lt h e = rw e refl
+has_name-next (entry ∷ entries) (suc i) d name lt h e =
+    let p = or_false (bytes_eq entry.name name) (has_name (table_view (take i entries)) name) h in
+    let below : i < length entries = omega arith in
+    rw p.0 (has_name-next entries i d name below p.1 e)
+
+pub images_of-found : (entries : List Entry) (i : ℕ) (d : Entry) (name : List ℕ) → i < length entries → has_name (table_view (take i entries)) name ≡ false
+    → bytes_eq (get_or entries i d).name name ≡ true → images_of (table_view entries) name ≡ map (λ program. arc_value program) (get_or entries i d).programs.items
+images_of-found [] i d name lt h e = absurd (omega arith)
+images_of-found (entry ∷ entries) zero d name lt h e = rw e refl
+images_of-found (entry ∷ entries) (suc i) d name lt h e =
+    let p = or_false (bytes_eq entry.name name) (has_name (table_view (take i entries)) name) h in
+    let below : i < length entries = omega arith in
+    rw p.0 (images_of-found entries i d name below p.1 e)
+
+pub has_name-found : (entries : List Entry) (i : ℕ) (d : Entry) (name : List ℕ) → i < length entries
+    → bytes_eq (get_or entries i d).name name ≡ true → has_name (table_view entries) name ≡ true
+has_name-found [] i d name lt e = absurd (omega arith)
+has_name-found (entry ∷ entries) zero d name lt e = rw e refl
+has_name-found (entry ∷ entries) (suc i) d name lt e =
+    let below : i < length entries = omega arith in
+    let later : has_name (table_view entries) name ≡ true = has_name-found entries i d name below e in
+    rw later (elim (bytes_eq entry.name name) as (λ b. (b || true) ≡ true) [ true ↦ refl | false ↦ refl ])
+
+pub with_image-found : (entries : List Entry) (i : ℕ) (d changed : Entry) (name image : List ℕ) → i < length entries → has_name (table_view (take i entries)) name ≡ false
+    → bytes_eq (get_or entries i d).name name ≡ true → changed.name ≡ (get_or entries i d).name
+    → map (λ program. arc_value program) changed.programs.items ≡ map (λ program. arc_value program) (get_or entries i d).programs.items ++ image ∷ []
+    → with_image (table_view entries) name image ≡ table_view (set entries i changed)
+with_image-found [] i d changed name image lt h e same more = absurd (omega arith)
+with_image-found (entry ∷ entries) zero d changed name image lt h e same more =
+    rw e (ap (λ (first : Loaded). first ∷ table_view entries) (sym
+    (ap (λ (n : List ℕ). record { name = n; images = map (λ program. arc_value program) changed.programs.items }) same
+    ∙ ap (λ (images : List (List ℕ)). record { name = entry.name; images = images }) more)))
+with_image-found (entry ∷ entries) (suc i) d changed name image lt h e same more =
+    let p = or_false (bytes_eq entry.name name) (has_name (table_view (take i entries)) name) h in
+    let below : i < length entries = omega arith in
+    rw p.0 (ap (λ (rest : Table). entry_view entry ∷ rest) (with_image-found entries i d changed name image below p.1 e same more))
+
+pub images_of-absent : (table : Table) (name : List ℕ) → has_name table name ≡ false → images_of table name ≡ []
+images_of-absent [] name h = refl
+images_of-absent (entry ∷ table) name h =
+    let p = or_false (bytes_eq entry.name name) (has_name table name) h in
+    rw p.0 (images_of-absent table name p.1)
+
+pub with_image-absent : (table : Table) (name image : List ℕ) → has_name table name ≡ false
+    → with_image table name image ≡ table ++ record { name = name; images = image ∷ [] } ∷ []
+with_image-absent [] name image h = refl
+with_image-absent (entry ∷ table) name image h =
+    let p = or_false (bytes_eq entry.name name) (has_name table name) h in
+    rw p.0 (ap (λ (rest : Table). entry ∷ rest) (with_image-absent table name image p.1))
+
+-- ---- which refusal comes first
+
+-- of a name that is loaded, after its form: its versions, then the image
+pub refusal_named : (table : Table) (name image : List ℕ) → is_name name ≡ true → has_name table name ≡ true → length (images_of table name) < 2 ^ 32 - 1
+    → load_refusal table name image ≡ refused_load (load_fault image)
+refusal_named table name image form named lt =
+    let room : nat_le (2 ^ 32 - 1) (length (images_of table name)) ≡ false = grind (arith, nat_tests) in
+    rw (form, named, room) refl
+
+pub refusal_versions : (table : Table) (name image : List ℕ) → is_name name ≡ true → has_name table name ≡ true → 2 ^ 32 - 1 ≤ length (images_of table name)
+    → load_refusal table name image ≡ Some refusal.Versions
+refusal_versions table name image form named le =
+    let full : nat_le (2 ^ 32 - 1) (length (images_of table name)) ≡ true = grind (arith, nat_tests) in
+    rw (form, named, full) refl
+
+-- of a new name: whether there is room, then the image
+pub refusal_new : (table : Table) (name image : List ℕ) → is_name name ≡ true → has_name table name ≡ false → length table < 64
+    → load_refusal table name image ≡ refused_load (load_fault image)
+refusal_new table name image form new lt =
+    let room : nat_le 64 (length table) ≡ false = grind (arith, nat_tests) in
+    rw (form, new, room, images_of-absent table name new) refl
+
+pub refusal_full : (table : Table) (name image : List ℕ) → is_name name ≡ true → has_name table name ≡ false → 64 ≤ length table
+    → load_refusal table name image ≡ Some refusal.Full
+refusal_full table name image form new le =
+    let full : nat_le 64 (length table) ≡ true = grind (arith, nat_tests) in
+    rw (form, new, full) refl
+
+pub refusal_form : (table : Table) (name image : List ℕ) → is_name name ≡ false → load_refusal table name image ≡ Some refusal.Name
+refusal_form table name image form = rw form refl
+
+-- ---- what a load that changes an entry leaves
+
+-- how many versions the name at a place has
+pub versions_of-found : (entries : List Entry) (i : ℕ) (d : Entry) (name : List ℕ) → i < length entries → has_name (table_view (take i entries)) name ≡ false
+    → bytes_eq (get_or entries i d).name name ≡ true → length (images_of (table_view entries) name) ≡ length (get_or entries i d).programs.items
+versions_of-found entries i d name lt h e =
+    ap length (images_of-found entries i d name lt h e) ∙ length-map (get_or entries i d).programs.items (λ program. arc_value program)
+
+pub table-set_same : (entries : List Entry) (i : ℕ) (d changed : Entry) → i < length entries → entry_view changed ≡ entry_view (get_or entries i d)
+    → table_view (set entries i changed) ≡ table_view entries
+table-set_same [] i d changed lt e = refl
+table-set_same (entry ∷ entries) zero d changed lt e = ap (λ (first : Loaded). first ∷ table_view entries) e
+table-set_same (entry ∷ entries) (suc i) d changed lt e =
+    let below : i < length entries = omega arith in
+    ap (λ (rest : Table). entry_view entry ∷ rest) (table-set_same entries i d changed below e)
+
+pub image_of-version : (table : Table) (name : List ℕ) (images : List (List ℕ)) (version : ℕ) → images_of table name ≡ images → image_of table name version ≡ version_of images version
+image_of-version table name images zero e = refl
+image_of-version table name images (suc k) e = ap (λ (is : List (List ℕ)). slice_get is k) e
+
+pub version_of-none : (version : ℕ) → version_of [] version ≡ None
+version_of-none zero = refl
+version_of-none (suc k) = refl
+
+pub version_of-previous : (images : List (List ℕ)) (version : ℕ) → version ≢ 0 → version_of images version ≡ slice_get images (version - 1)
+version_of-previous images zero ne = absurd (ne refl)
+version_of-previous images (suc k) ne =
+    let e : suc k - 1 ≡ k = omega arith in
+    rw e refl
+
+-- a refusal that is told of the image is told of the load
+pub told_through : (first second : Option Refusal) (told : Refusal) → first ≡ second → RefusedAs second told → RefusedAs first told
+told_through first second told e h = λ ne. e ∙ h ne
+
+pub map-push : {A B : Type 0} (f : A → B) (xs ys : List A) (x : A) → xs ≡ ys ++ x ∷ [] → map f xs ≡ map f ys ++ f x ∷ []
+map-push f xs ys x e = ap (map f) e ∙ map_push f ys x
+
+pub no_refusal : (table : Table) (name image : List ℕ) → load_refusal table name image ≡ refused_load (load_fault image) → load_fault image ≡ None → load_refusal table name image ≡ None
+no_refusal table name image e h = e ∙ ap refused_load h
+
+-- the image of the program at a place, and of none past the end
+pub image_at : {A : Type 0} (image : A → List ℕ) (programs : List A) (k : ℕ) (found : A) → k < length programs → found ≡ get_or programs k found
+    → Some (image found) ≡ slice_get (map image programs) k
+image_at image programs k found lt e =
+    sym (slice_get-map image programs k ∙ ap (option_map image) (slice_get_read programs (length programs) k found refl lt e))
+
+pub no_image_at : {A : Type 0} (image : A → List ℕ) (programs : List A) (k : ℕ) → length programs ≤ k → slice_get (map image programs) k ≡ None
+no_image_at image programs k le = slice_get-map image programs k ∙ ap (option_map image) (slice_get_past programs k le)

@@ -1,0 +1,247 @@
+ghost use Rattle.std.specs.Prelude.{◌≡◌, List, IfErr, ℕ, ◌<◌, ◌≤◌, ◌+◌, length, Some, None, [], ◌∷◌, ◌++◌, option_map, MatchOption, OnOk, OnErr, IfOk, string_bytes, false, true, map, slice_get, slice_set, take, IfNone, IfSome, slice_index_or};
+ghost use Rattle.std.specs.List.{list_all};
+ghost use Rattle.program_table.specs.declared.table.Entry.{Entry};
+ghost use Rattle.std.specs.Arc.{arc_value};
+ghost use Rattle.std.specs.Str.{bytes_eq};
+ghost use Rattle.log_spec.specs.Catalogue.{load_fault, refused_load, images_of, image_of, has_name, is_name, is_name_byte, with_image};
+ghost use Rattle.program_table.specs.Tables.{entry_view, table_view, LoadsInto, RefusedAs, version_of};
+ghost use Rattle.annotate.specs.Loads.{FaultIs};
+
+use crate::name::share_name;
+use bytes::Bytes;
+use log_item::Program;
+use log_spec::{LoadFault, Name, Refusal};
+use machine_spec::IsaFault;
+use std::alloc::{AllocError, Global};
+use std::marker::Model;
+use std::sync::Arc;
+use verifier_spec::Check;
+
+/// How many names are loaded at most.
+const MOST_NAMES: usize = 64;
+
+/// How many bytes a name has at most.
+const LONGEST_NAME: usize = 32;
+
+/// The greatest version.
+const MOST_VERSIONS: usize = 0xffff_ffff;
+
+/// A name with its programs, oldest first.
+#[derive(Drop)]
+pub struct Entry {
+    pub name: Name,
+    pub programs: Vec<Arc<Program>>,
+}
+
+/// The programs that were loaded, by name.
+#[derive(Drop)]
+pub struct Table {
+    entries: Vec<Entry>,
+}
+
+impl Model for Table {
+    ghost use Rattle.log_spec.specs.Catalogue.{Table as Loads};
+    ghost use Rattle.program_table.specs.Tables.{table_view};
+
+    ghost Value = { Loads };
+
+    ghost view = { λ c. table_view c.entries.items };
+}
+
+fn is_name_char(byte: u8) -> bool
+    ensures { result ≡ is_name_byte byte }
+{
+    byte.is_ascii_alphanumeric() || byte == b'-'
+}
+
+fn are_name_chars(bytes: &[u8]) -> bool
+    ensures { result ≡ list_all is_name_byte bytes.now }
+{
+    bytes.iter().all(|byte| is_name_char(*byte))
+}
+
+/// 1 to 32 ASCII letters, digits and hyphens.
+fn has_name_form(name: &str) -> bool
+    ensures { result ≡ is_name name.now }
+{
+    let bytes = name.as_bytes();
+    if bytes.is_empty() || bytes.len() > LONGEST_NAME {
+        return false;
+    }
+    are_name_chars(bytes)
+}
+
+/// The place of a name, if it is loaded.
+fn place_of(entries: &[Entry], name: &Name) -> Option<usize>
+    ensures absent { IfNone result (has_name (table_view entries.now) name.now ≡ false) }
+    ensures found { IfSome result (λ i. i < length entries.now) }
+    ensures first { IfSome result (λ i. has_name (table_view (take i entries.now)) name.now ≡ false) }
+    ensures named { IfSome result (λ i. (d : Entry) → bytes_eq (slice_index_or entries.now i d).name name.now ≡ true) }
+{
+    for (i, entry) in entries.iter().enumerate() {
+        if entry.name.text.as_str() == name.text.as_str() {
+            return Some(i);
+        }
+    }
+    None
+}
+
+/// The refusal of a load whose image is refused.
+fn refusal_of(fault: LoadFault) -> Refusal
+    ensures { (image : List ℕ) → FaultIs image fault → RefusedAs (refused_load (load_fault image)) result }
+{
+    match fault {
+        LoadFault::Isa(IsaFault::Memory) => Refusal::Memory,
+        LoadFault::Isa(_) => Refusal::Load(fault),
+        LoadFault::Verify(refused) => match refused.kind {
+            Check::Memory => Refusal::Memory,
+            _ => Refusal::Load(fault),
+        },
+    }
+}
+
+fn program_of(alloc: Global, image: &Bytes) -> Result<Arc<Program>, Refusal>
+    ensures program { IfOk result (λ program. arc_value program ≡ image.now) }
+    ensures accepted { OnOk result (load_fault image.now ≡ None) }
+    ensures refused { IfErr result (λ told. RefusedAs (refused_load (load_fault image.now)) told) }
+{
+    match Program::new(alloc, image) {
+        Err(fault) => Err(refusal_of(fault)),
+        Ok(program) => match Arc::new(alloc, program) {
+            Err(_) => Err(Refusal::Memory),
+            Ok(program) => Ok(program),
+        },
+    }
+}
+
+/// Adds a program to a name; on `Err` it has the programs that it had.
+fn add_program(entry: &mut Entry, program: Arc<Program>) -> Result<(), AllocError>
+    ensures name { entry.new.name ≡ entry.old.name }
+    ensures ok { OnOk result (entry.new.programs.items ≡ entry.old.programs.items ++ program ∷ []) }
+    ensures err { OnErr result (entry_view entry.new ≡ entry_view entry.old) }
+{
+    entry.programs.push(program)?;
+    Ok(())
+}
+
+/// One more program of the name at a place.
+fn add_version(
+    alloc: Global,
+    entries: &mut Vec<Entry>,
+    place: usize,
+    name: &Name,
+    image: &Bytes,
+) -> Result<u32, Refusal>
+    requires form { is_name name.now ≡ true }
+    requires inside { place < length entries.old.items }
+    requires first { has_name (table_view (take place entries.old.items)) name.now ≡ false }
+    requires named { (d : Entry) → bytes_eq (slice_index_or entries.old.items place d).name name.now ≡ true }
+    ensures { LoadsInto (table_view entries.old.items) name.now image.now result (table_view entries.new.items) }
+{
+    let versions = entries[place].programs.len();
+    if versions >= MOST_VERSIONS {
+        return Err(Refusal::Versions);
+    }
+    match program_of(alloc, image) {
+        Err(refusal) => Err(refusal),
+        Ok(program) => match add_program(&mut entries[place], program) {
+            Err(_) => Err(Refusal::Memory),
+            Ok(()) => Ok(versions as u32 + 1),
+        },
+    }
+}
+
+/// The first program of a name that is not loaded.
+fn add_name(
+    alloc: Global,
+    entries: &mut Vec<Entry>,
+    name: &Name,
+    image: &Bytes,
+) -> Result<u32, Refusal>
+    requires form { is_name name.now ≡ true }
+    requires new { has_name (table_view entries.old.items) name.now ≡ false }
+    ensures { LoadsInto (table_view entries.old.items) name.now image.now result (table_view entries.new.items) }
+{
+    if entries.len() >= MOST_NAMES {
+        return Err(Refusal::Full);
+    }
+    match program_of(alloc, image) {
+        Err(refusal) => Err(refusal),
+        Ok(program) => match add_entry(alloc, entries, name, program) {
+            Err(_) => Err(Refusal::Memory),
+            Ok(()) => Ok(1),
+        },
+    }
+}
+
+fn entry_of(alloc: Global, name: &Name, program: Arc<Program>) -> Result<Entry, AllocError>
+    ensures { IfOk result (λ entry. entry_view entry ≡ record { name = name.now; images = arc_value program ∷ [] }) }
+{
+    let name = share_name(alloc, name)?;
+    let mut programs = Vec::new(alloc);
+    programs.push(program)?;
+    Ok(Entry { name, programs })
+}
+
+fn add_entry(
+    alloc: Global,
+    entries: &mut Vec<Entry>,
+    name: &Name,
+    program: Arc<Program>,
+) -> Result<(), AllocError>
+    ensures ok { OnOk result (table_view entries.new.items ≡ table_view entries.old.items ++ record { name = name.now; images = arc_value program ∷ [] } ∷ []) }
+    ensures err { OnErr result (table_view entries.new.items ≡ table_view entries.old.items) }
+{
+    let entry = entry_of(alloc, name, program)?;
+    entries.push(entry)?;
+    Ok(())
+}
+
+impl Table {
+    /// With no name.
+    pub fn new(alloc: Global) -> Table
+        ensures { result ≡ [] }
+    {
+        Table {
+            entries: Vec::new(alloc),
+        }
+    }
+
+    /// Loads an image under a name, and answers the name's version, from 1. An `Err` changes
+    /// nothing.
+    pub fn load(&mut self, alloc: Global, name: &Name, image: &Bytes) -> Result<u32, Refusal>
+        ensures { LoadsInto self.old name.now image.now result self.new }
+    {
+        if !has_name_form(name.text.as_str()) {
+            return Err(Refusal::Name);
+        }
+        match place_of(&self.entries, name) {
+            Some(place) => add_version(alloc, &mut self.entries, place, name, image),
+            None => add_name(alloc, &mut self.entries, name, image),
+        }
+    }
+
+    /// The program that was loaded as a version of a name, if one was.
+    pub fn version(&self, name: &Name, version: u32) -> Option<&Arc<Program>>
+        ensures { option_map (λ program. arc_value program.now) result ≡ image_of self.now name.now version }
+    {
+        match place_of(&self.entries, name) {
+            None => None,
+            Some(place) => program_at(&self.entries[place].programs, version),
+        }
+    }
+}
+
+/// The program of a version, from 1.
+fn program_at(programs: &[Arc<Program>], version: u32) -> Option<&Arc<Program>>
+    ensures { option_map (λ program. arc_value program.now) result ≡ version_of (map (λ program. arc_value program) programs.now) version }
+{
+    if version == 0 {
+        return None;
+    }
+    let number = version as usize - 1;
+    if number >= programs.len() {
+        return None;
+    }
+    Some(&programs[number])
+}
