@@ -6,7 +6,7 @@ ghost use Rattle.verifier_spec.specs.Checks.{jump_of, failed_check};
 
 use abstract_regs::State;
 use bpf_isa::Code;
-use machine_spec::{Instruction, Placed};
+use machine_spec::{Placed, Summary};
 use std::alloc::{AllocError, Global};
 
 /// The state of an instruction, if it is reached.
@@ -44,11 +44,9 @@ fn target_of_jump(code: &Code, placed: Placed) -> Option<usize>
     requires { placed.slot < 4096 }
     ensures { result ≡ target_of code.now placed.slot (jump_of placed.instruction) }
 {
-    match placed.instruction {
-        Instruction::JumpIf(_, _, _, _, offset) => {
-            code.at(placed.slot + 1 + usize::from(offset.unsigned_abs()))
-        }
-        _ => None,
+    match Summary::of(placed.instruction).jump {
+        Some(offset) => code.at(placed.slot + 1 + offset.unsigned_abs() as usize),
+        None => None,
     }
 }
 

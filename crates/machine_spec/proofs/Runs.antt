@@ -1,7 +1,7 @@
 -- Runs of small programs, worked out by computing: what the definitions say of them is what a reader expects.
-use Rattle.std.proofs.Common.{◌≡◌, ◌≢◌, ℕ, zero, suc, ◌+◌, List, [], ◌∷◌, ◌++◌, map, Option, Some, None, Err, refl, subst, pos}
+use Rattle.std.proofs.Common.{◌≡◌, ◌≢◌, ℕ, zero, suc, ◌+◌, Bool, true, false, List, [], ◌∷◌, ◌++◌, map, Option, Some, None, Err, refl, ap, subst, pos}
 use Rattle.machine_spec.specs.declared.instruction.Instruction.{Instruction}
-use Rattle.machine_spec.specs.declared.instruction.Instruction.TheVariants.{Move, Compute, Load, JumpIf, Call, Exit}
+use Rattle.machine_spec.specs.declared.instruction.Instruction.TheVariants.{Exit}
 use Rattle.machine_spec.specs.declared.instruction.Trap.{Trap}
 use Rattle.machine_spec.specs.declared.instruction.Trap.TheVariants as trap
 use Rattle.machine_spec.specs.declared.instruction.IsaFault.TheVariants as fault
@@ -9,10 +9,11 @@ use Rattle.machine_spec.specs.declared.outcome.Emission.{Emission}
 use Rattle.machine_spec.specs.declared.outcome.Outcome.{Outcome}
 use Rattle.machine_spec.specs.declared.outcome.Outcome.TheVariants.{Kept, Rejected}
 use Rattle.machine_spec.specs.Image.{form_at, read_slot, instruction_of, is_known, first_slots, read_image}
+use Rattle.machine_spec.specs.Summaries.{summary_of}
 use Rattle.machine_spec.specs.Machine.{Input, State, entry, after}
 use Rattle.machine_spec.specs.Traps.{trap_at}
 use Rattle.machine_spec.specs.Meaning.{Reaches, Means, IsTrapped, outcome_of}
-use Rattle.machine_spec.proofs.Meanings.{step_on}
+use Rattle.machine_spec.proofs.Meanings.{exit_is, other_than_exit, step_on}
 
 -- ---- computing a run
 
@@ -24,15 +25,14 @@ pub data Turn : Type 0 where
   Trapped : Trap → Turn
   Lost : Turn
 
+abbrev turn_at : Bool → Input → State → Instruction → Turn
+turn_at true input s i = Ends (outcome_of (s.registers 0) s.emitted)
+turn_at false input s i = Goes (after i input s)
+
 abbrev turn_by : Input → State → Option Trap → Option Instruction → Turn
 turn_by input s (Some told) form = Trapped told
 turn_by input s None None = Lost
-turn_by input s None (Some Exit) = Ends (outcome_of (s.registers 0) s.emitted)
-turn_by input s None (Some (Move a b c)) = Goes (after (Move a b c) input s)
-turn_by input s None (Some (Compute a b c d)) = Goes (after (Compute a b c d) input s)
-turn_by input s None (Some (Load a b c d)) = Goes (after (Load a b c d) input s)
-turn_by input s None (Some (JumpIf a b c d e)) = Goes (after (JumpIf a b c d e) input s)
-turn_by input s None (Some (Call a)) = Goes (after (Call a) input s)
+turn_by input s None (Some i) = turn_at (summary_of i).exits input s i
 
 abbrev turn : List ℕ → Input → State → Turn
 turn image input s = turn_by input s (trap_at image input s) (form_at image s.slot)
@@ -58,40 +58,38 @@ run turns image input = run_from turns image input 0 (entry input)
 
 -- ---- what is computed is what the program means
 
+ends_at : (exits : Bool) (input : Input) (s : State) (i : Instruction) (outcome : Outcome) → (summary_of i).exits ≡ exits → turn_at exits input s i ≡ Ends outcome
+    → (i ≡ Exit) × (outcome ≡ outcome_of (s.registers 0) s.emitted)
+ends_at true input s i outcome is e = (exit_is i is, cc)
+ends_at false input s i outcome is e = absurd cc
+
 ends_by : (input : Input) (s : State) (t : Option Trap) (form : Option Instruction) (outcome : Outcome) → turn_by input s t form ≡ Ends outcome
     → (t ≡ None) × (form ≡ Some Exit) × (outcome ≡ outcome_of (s.registers 0) s.emitted)
 ends_by input s (Some told) form outcome e = absurd cc
 ends_by input s None None outcome e = absurd cc
-ends_by input s None (Some Exit) outcome e = (refl, refl, cc)
-ends_by input s None (Some (Move a b c)) outcome e = absurd cc
-ends_by input s None (Some (Compute a b c d)) outcome e = absurd cc
-ends_by input s None (Some (Load a b c d)) outcome e = absurd cc
-ends_by input s None (Some (JumpIf a b c d f)) outcome e = absurd cc
-ends_by input s None (Some (Call a)) outcome e = absurd cc
+ends_by input s None (Some i) outcome e = let end = ends_at (summary_of i).exits input s i outcome refl e in (refl, ap Some end.0, end.1)
+
+never_trapped : (exits : Bool) (input : Input) (s : State) (i : Instruction) (told : Trap) → turn_at exits input s i ≡ Trapped told → ⊥
+never_trapped true input s i told e = cc
+never_trapped false input s i told e = cc
 
 trapped_by : (input : Input) (s : State) (t : Option Trap) (form : Option Instruction) (told : Trap) → turn_by input s t form ≡ Trapped told → t ≡ Some told
 trapped_by input s (Some other) form told e = cc
 trapped_by input s None None told e = absurd cc
-trapped_by input s None (Some Exit) told e = absurd cc
-trapped_by input s None (Some (Move a b c)) told e = absurd cc
-trapped_by input s None (Some (Compute a b c d)) told e = absurd cc
-trapped_by input s None (Some (Load a b c d)) told e = absurd cc
-trapped_by input s None (Some (JumpIf a b c d f)) told e = absurd cc
-trapped_by input s None (Some (Call a)) told e = absurd cc
+trapped_by input s None (Some i) told e = absurd (never_trapped (summary_of i).exits input s i told e)
 
 -- an instruction other than EXIT, and the state after it
 abbrev GoesOn : Input → State → Option Trap → Option Instruction → State → Type 0
 GoesOn input s t form next = (i : Instruction) × (t ≡ None) × (form ≡ Some i) × (i ≢ Exit) × (after i input s ≡ next)
 
+goes_at : (exits : Bool) (input : Input) (s : State) (i : Instruction) (next : State) → (summary_of i).exits ≡ exits → turn_at exits input s i ≡ Goes next → (i ≢ Exit) × (after i input s ≡ next)
+goes_at true input s i next is e = absurd cc
+goes_at false input s i next is e = (other_than_exit i is, cc)
+
 goes_by : (input : Input) (s : State) (t : Option Trap) (form : Option Instruction) (next : State) → turn_by input s t form ≡ Goes next → GoesOn input s t form next
 goes_by input s (Some told) form next e = absurd cc
 goes_by input s None None next e = absurd cc
-goes_by input s None (Some Exit) next e = absurd cc
-goes_by input s None (Some (Move a b c)) next e = (Move a b c, refl, refl, (λ p. absurd cc), cc)
-goes_by input s None (Some (Compute a b c d)) next e = (Compute a b c d, refl, refl, (λ p. absurd cc), cc)
-goes_by input s None (Some (Load a b c d)) next e = (Load a b c d, refl, refl, (λ p. absurd cc), cc)
-goes_by input s None (Some (JumpIf a b c d f)) next e = (JumpIf a b c d f, refl, refl, (λ p. absurd cc), cc)
-goes_by input s None (Some (Call a)) next e = (Call a, refl, refl, (λ p. absurd cc), cc)
+goes_by input s None (Some i) next e = let on = goes_at (summary_of i).exits input s i next refl e in (i, refl, refl, on.0, on.1)
 
 module _ (image : List ℕ) (input : Input) where
   end_means : (n : ℕ) (s : State) (outcome : Outcome) → Reaches image input n s → turn image input s ≡ Ends outcome → Means image input outcome (n + 1)

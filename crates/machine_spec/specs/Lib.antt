@@ -1,5 +1,6 @@
 pub mod Image
 pub mod Words
+pub mod Summaries
 pub mod Machine
 pub mod Traps
 pub mod Meaning

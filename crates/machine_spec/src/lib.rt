@@ -1,13 +1,16 @@
 //! The machine of RFC 9669 as klog profiles it: its instructions, its states and what a program
 //! means on a record.
 //!
-//! This crate has the types and the definitions that a reader must believe, and no function.
+//! This crate has the types and the definitions that a reader must believe. Its one function is
+//! `Summary::of`, which every crate above shares.
 #![tactic(auto)]
 
 mod instruction;
 mod outcome;
+mod summary;
 
 pub use instruction::{
     Helper, Instruction, IsaFault, Operation, Placed, Region, Size, Source, Test, Trap, Width,
 };
 pub use outcome::{Emission, Emissions, Outcome, Place};
+pub use summary::{Condition, Direction, MemoryOperand, Operands, Summary};

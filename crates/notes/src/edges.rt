@@ -1,13 +1,13 @@
 ghost use Rattle.std.specs.Prelude.{◌≡◌, ◌<◌, None};
 ghost use Rattle.std.specs.Option.{option_copied};
-ghost use Rattle.verifier_spec.specs.Checks.{failed_check, jump_of};
+ghost use Rattle.verifier_spec.specs.Checks.{failed_check};
 ghost use Rattle.verifier_spec.specs.Annotation.{is_covered, is_edge_covered, target_note, are_edges_covered};
 
 use crate::lookup::note_at;
-use crate::shape::{jump_of, target_of};
+use crate::shape::target_of;
 use abstract_regs::State;
 use bpf_isa::Code;
-use machine_spec::Placed;
+use machine_spec::{Placed, Summary};
 
 /// Whether a state is within the one that an instruction has, if it has one.
 pub fn is_covered(state: &State, outer: Option<&State>) -> bool
@@ -34,7 +34,7 @@ fn target_note<'a>(
     code: &Code,
     notes: &'a [Option<State>],
     slot: usize,
-    jump: Option<i16>,
+    jump: Option<i32>,
 ) -> Option<&'a State>
     requires { slot < 4096 }
     ensures { option_copied result ≡ target_note code.now notes.now slot jump }
@@ -64,6 +64,11 @@ pub fn are_edges_covered(
 {
     let edges = state.transfer(placed.instruction);
     let next = note_at(notes, k + 1);
-    let target = target_note(code, notes, placed.slot, jump_of(placed.instruction));
+    let target = target_note(
+        code,
+        notes,
+        placed.slot,
+        Summary::of(placed.instruction).jump,
+    );
     is_edge_covered(&edges.next, next) && is_edge_covered(&edges.jump, target)
 }

@@ -1,6 +1,7 @@
 -- Annotations: lists of abstract states that are closed under a program's edges and pass its checks.
 use Rattle.std.specs.Prelude.{◌≡◌, ℕ, zero, suc, ◌+◌, ℤ, Bool, true, false, ◌==◌, ◌&&◌, not, if◌then◌else◌, List, [], ◌∷◌, ◌++◌, length, slice_get, Option, Some, None}
 use Rattle.machine_spec.specs.declared.instruction.Placed.{Placed}
+use Rattle.machine_spec.specs.Summaries.{summary_of}
 use Rattle.machine_spec.specs.Image.{number_at}
 use Rattle.machine_spec.specs.Machine.{jump_target}
 use Rattle.machine_spec.specs.Traps.{first_of}
@@ -67,7 +68,7 @@ pub record IsAnnotation (code : List Placed) (notes : Notes) : Type 0 where
 -- of a reached instruction, after the checks of its shape: its checks, then its edges
 abbrev pub reached_checks : List Placed → Notes → ℕ → Placed → Option Abstract → List (Bool × Check)
 reached_checks code notes k placed None = []
-reached_checks code notes k placed (Some s) = checks placed.instruction s ++ (not (are_edges_covered code notes k placed s), check.Notes) ∷ []
+reached_checks code notes k placed (Some s) = checks (summary_of placed.instruction) s ++ (not (are_edges_covered code notes k placed s), check.Notes) ∷ []
 
 -- the first check that instruction number k fails
 unfoldable pub failed_at : List Placed → Notes → ℕ → Placed → Option Check

@@ -1,11 +1,11 @@
 -- What the checks and the transfer of an instruction promise: soundness against the machine, and that they keep the
 -- order of abstract states.
-use Rattle.std.specs.Prelude.{◌≡◌, ℕ, ◌<◌, Bool, true, false, List, Option, Some, None}
+use Rattle.std.specs.Prelude.{◌≡◌, ℕ, ◌<◌, Bool, true, false, List, ◌&&◌, Option, Some, None, is_some}
 use Rattle.machine_spec.specs.declared.instruction.Instruction.{Instruction}
-use Rattle.machine_spec.specs.declared.instruction.Instruction.TheVariants.{Move, Compute, Load, JumpIf, Call, Exit}
+use Rattle.machine_spec.specs.Summaries.{summary_of}
 use Rattle.machine_spec.specs.Image.{form_at}
-use Rattle.machine_spec.specs.Words.{operand, is_taken}
 use Rattle.machine_spec.specs.Machine.{Input, State}
+use Rattle.machine_spec.specs.Traps.{is_met}
 use Rattle.machine_spec.specs.Meaning.{Step}
 use Rattle.verifier_spec.specs.declared.state.Abstract.{Abstract}
 use Rattle.verifier_spec.specs.States.{is_proper}
@@ -20,12 +20,7 @@ pub record AreBytes (s : State) : Type 0 where
 
 -- a state takes the jump that an instruction is
 abbrev pub takes_jump : Instruction → State → Bool
-takes_jump (JumpIf width test dst source offset) s = is_taken width test (s.registers dst) (operand s.registers source)
-takes_jump (Move _ _ _) s = false
-takes_jump (Compute _ _ _ _) s = false
-takes_jump (Load _ _ _ _) s = false
-takes_jump (Call _) s = false
-takes_jump Exit s = false
+takes_jump i s = is_some (summary_of i).jump && is_met (summary_of i).condition s.registers
 
 -- the abstract state along the edge to a jump's target, or along the one to the next instruction
 abbrev pub edge_of : Bool → Instruction → Abstract → Option Abstract
