@@ -1,3 +1,4 @@
+pub mod Readings
 pub mod Meanings
 pub mod Runs
 pub mod Slots

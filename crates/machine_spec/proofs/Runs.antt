@@ -8,7 +8,8 @@ use Rattle.machine_spec.specs.declared.instruction.IsaFault.TheVariants as fault
 use Rattle.machine_spec.specs.declared.outcome.Emission.{Emission}
 use Rattle.machine_spec.specs.declared.outcome.Outcome.{Outcome}
 use Rattle.machine_spec.specs.declared.outcome.Outcome.TheVariants.{Kept, Rejected}
-use Rattle.machine_spec.specs.Image.{form_at, read_slot, instruction_of, is_known, first_slots, read_image}
+use Rattle.machine_spec.specs.Opcodes.{template_of, is_known}
+use Rattle.machine_spec.specs.Image.{form_at, read_slot, read_fields, first_slots, read_image}
 use Rattle.machine_spec.specs.Summaries.{summary_of}
 use Rattle.machine_spec.specs.Machine.{Input, State, entry, after}
 use Rattle.machine_spec.specs.Traps.{trap_at}
@@ -166,27 +167,27 @@ repeated (suc n) bytes = bytes ++ repeated n bytes
 
 -- mov64 r0, 0; exit
 nothing_kept : run 9 (move_to 0 0 ++ exit) (of_value 1 None) ≡ Some (Out (Kept []) 2)
-unfolding read_slot instruction_of is_known first_slots trap_at after
+unfolding read_slot read_fields template_of is_known first_slots trap_at after
 nothing_kept = refl
 
 -- mov64 r1, 0; call 3; exit: the record goes to output 0
 record_forwarded : run 9 (move_to 1 0 ++ (call 3 ++ exit)) (of_value 1 (Some (118 ∷ []))) ≡ Some (Out (Kept (forwarded ∷ [])) 3)
-unfolding read_slot instruction_of is_known first_slots trap_at after
+unfolding read_slot read_fields template_of is_known first_slots trap_at after
 record_forwarded = refl
 
 -- mov64 r1, 9; call 3; exit: there is no output 9
 no_such_output : run 9 (move_to 1 9 ++ (call 3 ++ exit)) (of_value 2 None) ≡ Some (Out (Rejected 1) 3)
-unfolding read_slot instruction_of is_known first_slots trap_at after
+unfolding read_slot read_fields template_of is_known first_slots trap_at after
 no_such_output = refl
 
 -- the seventeenth emission is not added
 seventeenth_emission : run 40 (repeated 17 (move_to 1 0 ++ call 3) ++ exit) (of_value 1 None) ≡ Some (Out (Rejected 3) 35)
-unfolding read_slot instruction_of is_known first_slots trap_at after
+unfolding read_slot read_fields template_of is_known first_slots trap_at after
 seventeenth_emission = refl
 
 -- mov64 r0, -1; add64 r0, 6; exit: 64-bit sums wrap
 sum_wraps : run 9 ((0xb7 ∷ 0 ∷ 0 ∷ 0 ∷ 0xff ∷ 0xff ∷ 0xff ∷ 0xff ∷ []) ++ (slot 0x07 0 0 6 ++ exit)) (of_value 1 None) ≡ Some (Out (Rejected 5) 3)
-unfolding read_slot instruction_of is_known first_slots trap_at after
+unfolding read_slot read_fields template_of is_known first_slots trap_at after
 sum_wraps = refl
 
 -- mov64 r0, 0; jlt64 r2, 1, +1; ld8 r0, [r1+0]; exit: the value's first byte, if it has one
@@ -195,22 +196,22 @@ first_byte = move_to 0 0 ++ (slot 0xa5 2 1 1 ++ (slot 0x71 0x10 0 0 ++ exit))
 
 -- of the value 07
 first_byte_of_one : run 9 first_byte (of_value 1 (Some (7 ∷ []))) ≡ Some (Out (Rejected 7) 4)
-unfolding read_slot instruction_of is_known first_slots trap_at after
+unfolding read_slot read_fields template_of is_known first_slots trap_at after
 first_byte_of_one = refl
 
 -- of the empty value
 first_byte_of_empty : run 9 first_byte (of_value 1 (Some [])) ≡ Some (Out (Kept []) 3)
-unfolding read_slot instruction_of is_known first_slots trap_at after
+unfolding read_slot read_fields template_of is_known first_slots trap_at after
 first_byte_of_empty = refl
 
 -- of the null value
 first_byte_of_null : run 9 first_byte (of_value 1 None) ≡ Some (Out (Kept []) 3)
-unfolding read_slot instruction_of is_known first_slots trap_at after
+unfolding read_slot read_fields template_of is_known first_slots trap_at after
 first_byte_of_null = refl
 
 -- ld16 r0, [r1+1]; exit: the low byte stands first
 two_bytes : run 9 (slot 0x69 0x10 1 0 ++ exit) (of_value 1 (Some (9 ∷ 2 ∷ 1 ∷ []))) ≡ Some (Out (Rejected 258) 2)
-unfolding read_slot instruction_of is_known first_slots trap_at after
+unfolding read_slot read_fields template_of is_known first_slots trap_at after
 two_bytes = refl
 
 -- ---- jumps
@@ -231,84 +232,84 @@ jumps opcode = map (λ number. run 9 (jump_over opcode number) (of_value 1 (Some
 
 -- jeq64
 if_equal : jumps 0x15 ≡ not_taken ∷ taken ∷ not_taken ∷ []
-unfolding read_slot instruction_of is_known first_slots trap_at after
+unfolding read_slot read_fields template_of is_known first_slots trap_at after
 if_equal = refl
 
 -- jgt64
 if_greater : jumps 0x25 ≡ taken ∷ not_taken ∷ not_taken ∷ []
-unfolding read_slot instruction_of is_known first_slots trap_at after
+unfolding read_slot read_fields template_of is_known first_slots trap_at after
 if_greater = refl
 
 -- jge64
 if_greater_or_equal : jumps 0x35 ≡ taken ∷ taken ∷ not_taken ∷ []
-unfolding read_slot instruction_of is_known first_slots trap_at after
+unfolding read_slot read_fields template_of is_known first_slots trap_at after
 if_greater_or_equal = refl
 
 -- jne64
 if_not_equal : jumps 0x55 ≡ taken ∷ not_taken ∷ taken ∷ []
-unfolding read_slot instruction_of is_known first_slots trap_at after
+unfolding read_slot read_fields template_of is_known first_slots trap_at after
 if_not_equal = refl
 
 -- jlt64
 if_less : jumps 0xa5 ≡ not_taken ∷ not_taken ∷ taken ∷ []
-unfolding read_slot instruction_of is_known first_slots trap_at after
+unfolding read_slot read_fields template_of is_known first_slots trap_at after
 if_less = refl
 
 -- jle64
 if_less_or_equal : jumps 0xb5 ≡ not_taken ∷ taken ∷ taken ∷ []
-unfolding read_slot instruction_of is_known first_slots trap_at after
+unfolding read_slot read_fields template_of is_known first_slots trap_at after
 if_less_or_equal = refl
 
 -- mov64 r0, 1; jlt64 r2, -1, +1; mov64 r0, 0; exit: the immediate is sign-extended, and the test unsigned
 below_all_ones : run 9 (move_to 0 1 ++ ((0xa5 ∷ 2 ∷ 1 ∷ 0 ∷ 0xff ∷ 0xff ∷ 0xff ∷ 0xff ∷ []) ++ (move_to 0 0 ++ exit))) (of_value 1 None) ≡ taken
-unfolding read_slot instruction_of is_known first_slots trap_at after
+unfolding read_slot read_fields template_of is_known first_slots trap_at after
 below_all_ones = refl
 
 -- ---- traps
 
 -- no bytes at all
 past_the_end : run 9 [] (of_value 1 None) ≡ Some (Stopped trap.RanOff 0)
-unfolding read_slot instruction_of is_known first_slots trap_at after
+unfolding read_slot read_fields template_of is_known first_slots trap_at after
 past_the_end = refl
 
 -- mov64 r0, 0 alone
 no_exit : run 9 (move_to 0 0) (of_value 1 None) ≡ Some (Stopped trap.RanOff 1)
-unfolding read_slot instruction_of is_known first_slots trap_at after
+unfolding read_slot read_fields template_of is_known first_slots trap_at after
 no_exit = refl
 
 -- an opcode of no table
 no_instruction : run 9 (slot 0xff 0 0 0) (of_value 1 None) ≡ Some (Stopped trap.Form 0)
-unfolding read_slot instruction_of is_known first_slots trap_at after
+unfolding read_slot read_fields template_of is_known first_slots trap_at after
 no_instruction = refl
 
 -- exit alone: r0 holds nothing
 exit_alone : run 9 exit (of_value 1 None) ≡ Some (Stopped trap.Unset 0)
-unfolding read_slot instruction_of is_known first_slots trap_at after
+unfolding read_slot read_fields template_of is_known first_slots trap_at after
 exit_alone = refl
 
 -- add64 r1, r3: two addresses
 sum_of_addresses : run 9 (slot 0x0f 0x31 0 0 ++ exit) (of_value 1 None) ≡ Some (Stopped trap.WrongType 0)
-unfolding read_slot instruction_of is_known first_slots trap_at after
+unfolding read_slot read_fields template_of is_known first_slots trap_at after
 sum_of_addresses = refl
 
 -- mov64 r10, 0
 frame_written : run 9 (move_to 10 0 ++ exit) (of_value 1 None) ≡ Some (Stopped trap.Frame 0)
-unfolding read_slot instruction_of is_known first_slots trap_at after
+unfolding read_slot read_fields template_of is_known first_slots trap_at after
 frame_written = refl
 
 -- ld8 r0, [r1+0] of a null value
 value_too_short : run 9 (slot 0x71 0x10 0 0 ++ exit) (of_value 1 None) ≡ Some (Stopped trap.RecordBounds 0)
-unfolding read_slot instruction_of is_known first_slots trap_at after
+unfolding read_slot read_fields template_of is_known first_slots trap_at after
 value_too_short = refl
 
 -- ld64 r0, [r10-520]
 below_the_stack : run 9 ((0x79 ∷ 0xa0 ∷ 0xf8 ∷ 0xfd ∷ 0 ∷ 0 ∷ 0 ∷ 0 ∷ []) ++ exit) (of_value 1 None) ≡ Some (Stopped trap.StackBounds 0)
-unfolding read_slot instruction_of is_known first_slots trap_at after
+unfolding read_slot read_fields template_of is_known first_slots trap_at after
 below_the_stack = refl
 
 -- ld64 r0, [r10-8]
 stack_unset : run 9 ((0x79 ∷ 0xa0 ∷ 0xf8 ∷ 0xff ∷ 0 ∷ 0 ∷ 0 ∷ 0 ∷ []) ++ exit) (of_value 1 None) ≡ Some (Stopped trap.StackUnset 0)
-unfolding read_slot instruction_of is_known first_slots trap_at after
+unfolding read_slot read_fields template_of is_known first_slots trap_at after
 stack_unset = refl
 
 -- mov64 r0, 0; jeq64 r2, 0, -1; exit: back to itself, if the value is empty
@@ -316,82 +317,82 @@ abbrev jump_back : List ℕ
 jump_back = move_to 0 0 ++ ((0x15 ∷ 2 ∷ 0xff ∷ 0xff ∷ 0 ∷ 0 ∷ 0 ∷ 0 ∷ []) ++ exit)
 
 back : run 9 jump_back (of_value 1 None) ≡ Some (Stopped trap.Jump 1)
-unfolding read_slot instruction_of is_known first_slots trap_at after
+unfolding read_slot read_fields template_of is_known first_slots trap_at after
 back = refl
 
 -- a jump that is not taken has no trap
 back_not_taken : run 9 jump_back (of_value 1 (Some (7 ∷ []))) ≡ Some (Out (Kept []) 3)
-unfolding read_slot instruction_of is_known first_slots trap_at after
+unfolding read_slot read_fields template_of is_known first_slots trap_at after
 back_not_taken = refl
 
 -- jeq64 r2, 0, +1; exit: to the end of the image
 to_the_end : run 9 (slot 0x15 2 1 0 ++ exit) (of_value 1 None) ≡ Some (Stopped trap.Jump 0)
-unfolding read_slot instruction_of is_known first_slots trap_at after
+unfolding read_slot read_fields template_of is_known first_slots trap_at after
 to_the_end = refl
 
 -- the same with four bytes behind it: they are no whole slot
 to_a_cut_slot : run 9 (slot 0x15 2 1 0 ++ (exit ++ (0x95 ∷ 0 ∷ 0 ∷ 0 ∷ []))) (of_value 1 None) ≡ Some (Stopped trap.Jump 0)
-unfolding read_slot instruction_of is_known first_slots trap_at after
+unfolding read_slot read_fields template_of is_known first_slots trap_at after
 to_a_cut_slot = refl
 
 -- mov64 r0, 0 and four bytes behind it: the run falls off the image
 onto_a_cut_slot : run 9 (move_to 0 0 ++ (0x95 ∷ 0 ∷ 0 ∷ 0 ∷ [])) (of_value 1 None) ≡ Some (Stopped trap.RanOff 1)
-unfolding read_slot instruction_of is_known first_slots trap_at after
+unfolding read_slot read_fields template_of is_known first_slots trap_at after
 onto_a_cut_slot = refl
 
 -- jeq64 r2, 0, +1; a 64-bit immediate; exit: into the second slot of the wide instruction
 into_a_wide : run 9 (slot 0x15 2 1 0 ++ (slot 0x18 0 0 0 ++ (slot 0 0 0 0 ++ exit))) (of_value 1 None) ≡ Some (Stopped trap.Jump 0)
-unfolding read_slot instruction_of is_known first_slots trap_at after
+unfolding read_slot read_fields template_of is_known first_slots trap_at after
 into_a_wide = refl
 
 -- mov64 r0, r10; jeq64 r0, 0, +0; exit: a jump tests numbers alone
 address_tested : run 9 (slot 0xbf 0xa0 0 0 ++ (slot 0x15 0 0 0 ++ exit)) (of_value 1 None) ≡ Some (Stopped trap.WrongType 1)
-unfolding read_slot instruction_of is_known first_slots trap_at after
+unfolding read_slot read_fields template_of is_known first_slots trap_at after
 address_tested = refl
 
 -- call 99
 no_helper : run 9 (call 99 ++ exit) (of_value 1 None) ≡ Some (Stopped trap.Helper 0)
-unfolding read_slot instruction_of is_known first_slots trap_at after
+unfolding read_slot read_fields template_of is_known first_slots trap_at after
 no_helper = refl
 
 -- call 3 where r1 is still the value's address
 address_as_output : run 9 (call 3 ++ exit) (of_value 1 None) ≡ Some (Stopped trap.HelperArgument 0)
-unfolding read_slot instruction_of is_known first_slots trap_at after
+unfolding read_slot read_fields template_of is_known first_slots trap_at after
 address_as_output = refl
 
 -- mov64 r0, r1; exit
 address_at_exit : run 9 (slot 0xbf 0x10 0 0 ++ exit) (of_value 1 None) ≡ Some (Stopped trap.Exit 1)
-unfolding read_slot instruction_of is_known first_slots trap_at after
+unfolding read_slot read_fields template_of is_known first_slots trap_at after
 address_at_exit = refl
 
 -- ---- images
 
 -- no bytes
 empty_image : read_image [] ≡ Err fault.Size
-unfolding read_image read_slot instruction_of is_known first_slots
+unfolding read_image read_slot read_fields template_of is_known first_slots
 empty_image = refl
 
 -- 12 bytes
 cut_image : read_image (exit ++ (0 ∷ 0 ∷ 0 ∷ 0 ∷ [])) ≡ Err fault.Size
-unfolding read_image read_slot instruction_of is_known first_slots
+unfolding read_image read_slot read_fields template_of is_known first_slots
 cut_image = refl
 
 -- db is an opcode of a table, and outside the profile
 atomic_opcode : read_image (slot 0xdb 0 0 0) ≡ Err (fault.NotInProfile 0)
-unfolding read_image read_slot instruction_of is_known first_slots
+unfolding read_image read_slot read_fields template_of is_known first_slots
 atomic_opcode = refl
 
 -- ff is one of no table
 unknown_opcode : read_image (slot 0xff 0 0 0) ≡ Err (fault.Opcode 0)
-unfolding read_image read_slot instruction_of is_known first_slots
+unfolding read_image read_slot read_fields template_of is_known first_slots
 unknown_opcode = refl
 
 -- mov64 r11, 0
 register_eleven : read_image (move_to 11 0) ≡ Err (fault.Register 0)
-unfolding read_image read_slot instruction_of is_known first_slots
+unfolding read_image read_slot read_fields template_of is_known first_slots
 register_eleven = refl
 
 -- exit with an immediate
 unused_field : read_image (slot 0x95 0 0 1) ≡ Err (fault.Unused 0)
-unfolding read_image read_slot instruction_of is_known first_slots
+unfolding read_image read_slot read_fields template_of is_known first_slots
 unused_field = refl

@@ -1,3 +1,4 @@
+pub mod Opcodes
 pub mod Image
 pub mod Words
 pub mod Summaries

@@ -6,11 +6,13 @@
 #![tactic(auto)]
 
 mod instruction;
+mod opcode;
 mod outcome;
 mod summary;
 
 pub use instruction::{
     Helper, Instruction, IsaFault, Operation, Placed, Region, Size, Source, Test, Trap, Width,
 };
+pub use opcode::TEMPLATES;
 pub use outcome::{Emission, Emissions, Outcome, Place};
 pub use summary::{Condition, Direction, MemoryOperand, Operands, Summary};
