@@ -9,7 +9,7 @@ use Rattle.machine_spec.specs.declared.outcome.Emission.{Emission}
 use Rattle.machine_spec.specs.declared.outcome.Outcome.{Outcome}
 use Rattle.machine_spec.specs.declared.outcome.Outcome.TheVariants.{Kept, Rejected}
 use Rattle.machine_spec.specs.Opcodes.{template_of, is_known}
-use Rattle.machine_spec.specs.Image.{form_at, read_slot, read_fields, first_slots, read_image}
+use Rattle.machine_spec.specs.Image.{Program, form_at, read_slot, read_fields, first_slots, read_image}
 use Rattle.machine_spec.specs.Summaries.{summary_of}
 use Rattle.machine_spec.specs.Machine.{Input, State, entry, after}
 use Rattle.machine_spec.specs.Traps.{trap_at}
@@ -35,8 +35,8 @@ turn_by input s (Some told) form = Trapped told
 turn_by input s None None = Lost
 turn_by input s None (Some i) = turn_at (summary_of i).exits input s i
 
-abbrev turn : List ℕ → Input → State → Turn
-turn image input s = turn_by input s (trap_at image input s) (form_at image s.slot)
+abbrev turn : Program → Input → State → Turn
+turn program input s = turn_by input s (trap_at program input s) (form_at program.image s.slot)
 
 -- how a run ends, with the number of instructions that it completed
 pub data End : Type 0 where
@@ -50,12 +50,12 @@ run_by on n (Trapped told) = Some (Stopped told n)
 run_by on n Lost = None
 
 -- the end of a run from a state that is reached after n steps, if it has at most so many turns
-abbrev run_from : ℕ → List ℕ → Input → ℕ → State → Option End
-run_from zero image input n s = None
-run_from (suc turns) image input n s = run_by (run_from turns image input (n + 1)) n (turn image input s)
+abbrev run_from : ℕ → Program → Input → ℕ → State → Option End
+run_from zero program input n s = None
+run_from (suc turns) program input n s = run_by (run_from turns program input (n + 1)) n (turn program input s)
 
 abbrev pub run : ℕ → List ℕ → Input → Option End
-run turns image input = run_from turns image input 0 (entry input)
+run turns image input = run_from turns (record { image = image }) input 0 (entry input)
 
 -- ---- what is computed is what the program means
 
@@ -92,43 +92,43 @@ goes_by input s (Some told) form next e = absurd cc
 goes_by input s None None next e = absurd cc
 goes_by input s None (Some i) next e = let on = goes_at (summary_of i).exits input s i next refl e in (i, refl, refl, on.0, on.1)
 
-module _ (image : List ℕ) (input : Input) where
-  end_means : (n : ℕ) (s : State) (outcome : Outcome) → Reaches image input n s → turn image input s ≡ Ends outcome → Means image input outcome (n + 1)
+module _ (program : Program) (input : Input) where
+  end_means : (n : ℕ) (s : State) (outcome : Outcome) → Reaches program input n s → turn program input s ≡ Ends outcome → Means program input outcome (n + 1)
   end_means n s outcome chain e =
-      let end = ends_by input s (trap_at image input s) (form_at image s.slot) outcome e in
+      let end = ends_by input s (trap_at program input s) (form_at program.image s.slot) outcome e in
       record { steps = n; last = s; count = refl; chain = chain; end = record { form = end.1; no_trap = end.0; outcome_is = end.2 } }
 
-  goes_reaches : (n : ℕ) (s next : State) → Reaches image input n s → turn image input s ≡ Goes next → Reaches image input (n + 1) next
+  goes_reaches : (n : ℕ) (s next : State) → Reaches program input n s → turn program input s ≡ Goes next → Reaches program input (n + 1) next
   goes_reaches n s next chain e =
-      let on = goes_by input s (trap_at image input s) (form_at image s.slot) next e in
-      subst (Reaches image input (n + 1)) on.4 (step_on image input n s on.0 chain on.2 on.3 on.1)
+      let on = goes_by input s (trap_at program input s) (form_at program.image s.slot) next e in
+      subst (Reaches program input (n + 1)) on.4 (step_on program input n s on.0 chain on.2 on.3 on.1)
 
-  trap_stands : (n : ℕ) (s : State) (told : Trap) → Reaches image input n s → turn image input s ≡ Trapped told → IsTrapped image input told n
-  trap_stands n s told chain e = record { last = s; chain = chain; trap = trapped_by input s (trap_at image input s) (form_at image s.slot) told e }
+  trap_stands : (n : ℕ) (s : State) (told : Trap) → Reaches program input n s → turn program input s ≡ Trapped told → IsTrapped program input told n
+  trap_stands n s told chain e = record { last = s; chain = chain; trap = trapped_by input s (trap_at program input s) (form_at program.image s.slot) told e }
 
   -- what the definitions say of such an end
   abbrev pub IsEnd : End → Type 0
-  IsEnd (Out outcome n) = Means image input outcome n
-  IsEnd (Stopped told n) = IsTrapped image input told n
+  IsEnd (Out outcome n) = Means program input outcome n
+  IsEnd (Stopped told n) = IsTrapped program input told n
 
   end_is : (e f : End) → Some e ≡ Some f → e ≡ f
   end_is e f same = cc
 
-  ends_as : (turns n : ℕ) (s : State) (end : End) → Reaches image input n s
-      → ((next : State) → Reaches image input (n + 1) next → run_from turns image input (n + 1) next ≡ Some end → IsEnd end)
-      → (t : Turn) → turn image input s ≡ t → run_by (run_from turns image input (n + 1)) n t ≡ Some end → IsEnd end
+  ends_as : (turns n : ℕ) (s : State) (end : End) → Reaches program input n s
+      → ((next : State) → Reaches program input (n + 1) next → run_from turns program input (n + 1) next ≡ Some end → IsEnd end)
+      → (t : Turn) → turn program input s ≡ t → run_by (run_from turns program input (n + 1)) n t ≡ Some end → IsEnd end
   ends_as turns n s end chain later (Ends outcome) at e = subst IsEnd (end_is (Out outcome (n + 1)) end e) (end_means n s outcome chain at)
   ends_as turns n s end chain later (Goes next) at e = later next (goes_reaches n s next chain at) e
   ends_as turns n s end chain later (Trapped told) at e = subst IsEnd (end_is (Stopped told n) end e) (trap_stands n s told chain at)
   ends_as turns n s end chain later Lost at e = absurd cc
 
-  ends_from : (turns n : ℕ) (s : State) (end : End) → Reaches image input n s → run_from turns image input n s ≡ Some end → IsEnd end
+  ends_from : (turns n : ℕ) (s : State) (end : End) → Reaches program input n s → run_from turns program input n s ≡ Some end → IsEnd end
   ends_from zero n s end chain e = absurd cc
   ends_from (suc turns) n s end chain e =
-      ends_as turns n s end chain (λ next reaches later. ends_from turns (n + 1) next end reaches later) (turn image input s) refl e
+      ends_as turns n s end chain (λ next reaches later. ends_from turns (n + 1) next end reaches later) (turn program input s) refl e
 
   -- a computed outcome is the program's meaning, and a computed trap is the one that stops it
-  pub run_ends : (turns : ℕ) (end : End) → run turns image input ≡ Some end → IsEnd end
+  pub run_ends : (turns : ℕ) (end : End) → run turns program.image input ≡ Some end → IsEnd end
   run_ends turns end e = ends_from turns 0 (entry input) end refl e
 
 -- ---- instructions, as the bytes of their slots

@@ -3,7 +3,7 @@
 use Rattle.std.specs.Prelude.{◌≡◌, ℕ, ◌<◌, Bool, true, false, List, ◌&&◌, Option, Some, None, is_some}
 use Rattle.machine_spec.specs.declared.instruction.Instruction.{Instruction}
 use Rattle.machine_spec.specs.Summaries.{summary_of}
-use Rattle.machine_spec.specs.Image.{form_at}
+use Rattle.machine_spec.specs.Image.{Program, form_at}
 use Rattle.machine_spec.specs.Machine.{Input, State}
 use Rattle.machine_spec.specs.Traps.{is_met}
 use Rattle.machine_spec.specs.Meaning.{Step}
@@ -30,7 +30,7 @@ edge_of false i a = falls_to i a
 -- Transfer is sound at an instruction: where an abstract state holds of the machine's before a step, the edge of that
 -- step brings an abstract state, which is in its ranges and holds of the machine's after the step.
 pub record IsSoundAt (i : Instruction) (a : Abstract) : Type 0 where
-  pub edge : (image : List ℕ) (input : Input) (before next : State) → HasBytes input → AreBytes before → StandsFor input a before → form_at image before.slot ≡ Some i → Step image input before next
+  pub edge : (program : Program) (input : Input) (before next : State) → HasBytes input → AreBytes before → StandsFor input a before → form_at program.image before.slot ≡ Some i → Step program input before next
       → (b : Abstract) × (edge_of (takes_jump i before) i a ≡ Some b) × StandsFor input b next × (is_proper b ≡ true)
 
 -- The order of two abstract states is kept at an instruction: the inner one passes the checks, and each edge brings from

@@ -43,7 +43,7 @@ impl Program {
     pub fn run(&self, alloc: Global, given: &Record, place: &Place) -> Result<Outcome, AllocError>
         requires limits { IsWithinLimits (record { given = given.now; place = place.now }) }
         requires place { IsPlace place.now }
-        ensures { IfOk result (λ outcome. (n : ℕ) × Means self.now (record { given = given.now; place = place.now }) outcome n) }
+        ensures { IfOk result (λ outcome. (n : ℕ) × Means (record { image = self.now }) (record { given = given.now; place = place.now }) outcome n) }
     {
         exec::run(alloc, &self.verified, given, place)
     }
