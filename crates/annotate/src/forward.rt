@@ -1,8 +1,8 @@
 ghost use Rattle.std.specs.Prelude.{◌≡◌, ◌<◌, length, IfOk, slice_set, replicate, Some, None};
 ghost use Rattle.verifier_spec.specs.States.{entry_state};
 ghost use Rattle.verifier_spec.specs.Annotation.{note_at};
-ghost use Rattle.verifier_spec.specs.Forward.{brought, passed_one, passed_from, passed_on, target_of, both_brought};
-ghost use Rattle.verifier_spec.specs.Checks.{jump_of, failed_check};
+ghost use Rattle.verifier_spec.specs.Forward.{brought, passed_one, passed_from, passed_on, both_brought};
+ghost use Rattle.verifier_spec.specs.Checks.{failed_check};
 
 use abstract_regs::State;
 use bpf_isa::Code;
@@ -39,17 +39,6 @@ fn bring_along(states: &mut [Option<State>], target: Option<usize>, state: Optio
     }
 }
 
-/// The instruction that a jump leads to.
-fn target_of_jump(code: &Code, placed: Placed) -> Option<usize>
-    requires { placed.slot < 4096 }
-    ensures { result ≡ target_of code.now placed.slot (jump_of placed.instruction) }
-{
-    match Summary::of(placed.instruction).jump {
-        Some(offset) => code.at(placed.slot + 1 + offset.unsigned_abs() as usize),
-        None => None,
-    }
-}
-
 /// What an instruction with a note brings: nothing where it is not reached or fails a check.
 fn pass_one(
     code: &Code,
@@ -78,7 +67,8 @@ fn bring_both(code: &Code, states: &mut [Option<State>], k: usize, placed: Place
 {
     let edges = state.transfer(placed.instruction);
     bring_along(states, Some(k + 1), edges.next);
-    bring_along(states, target_of_jump(code, placed), edges.jump);
+    let jump = Summary::of(placed.instruction).jump;
+    bring_along(states, code.target(placed.slot, jump), edges.jump);
 }
 
 /// The entry state alone.

@@ -1,5 +1,5 @@
 ghost use Rattle.std.specs.Prelude.{◌≡◌, ◌<◌, ◌≤◌, length, slice_get, option_map, IfSome};
-ghost use Rattle.machine_spec.specs.Image.{number_at};
+ghost use Rattle.machine_spec.specs.Image.{number_at, jump_target, target_of};
 ghost use Rattle.bpf_isa.specs.Code.{HasImage};
 ghost use Rattle.bpf_isa.specs.Spelling.{HasRegisters};
 
@@ -25,6 +25,19 @@ impl Model for Code {
     ghost view = { λ c. c.placed.items };
 
     ghost invariant = { λ c. IsKept c.placed.items c.numbers.items };
+}
+
+/// The slot that a jump leads to.
+#[tactic(auto, using(machine_spec::proofs::Slots::forward_target, machine_spec::proofs::Slots::back_target))]
+fn jump_target(slot: usize, offset: i32) -> Option<usize>
+    requires { slot < 4096 }
+    ensures { result ≡ jump_target slot offset }
+{
+    if offset < 0 {
+        None
+    } else {
+        Some(slot + 1 + offset.unsigned_abs() as usize)
+    }
 }
 
 impl Code {
@@ -72,6 +85,22 @@ impl Code {
         ensures is_within { IfSome result (λ k. k < length self.now) }
     {
         self.entry(slot)
+    }
+
+    /// The number of the instruction that a jump from a slot leads to, if it leads to one. A jump
+    /// back leads nowhere.
+    pub fn target(&self, slot: usize, jump: Option<i32>) -> Option<usize>
+        requires { slot < 4096 }
+        ensures is_target { result ≡ target_of self.now slot jump }
+        ensures is_within { IfSome result (λ k. k < length self.now) }
+    {
+        match jump {
+            Some(offset) => match jump_target(slot, offset) {
+                Some(slot) => self.at(slot),
+                None => None,
+            },
+            None => None,
+        }
     }
 
     /// What the table of slots has at a slot.

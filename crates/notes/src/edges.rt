@@ -1,10 +1,9 @@
 ghost use Rattle.std.specs.Prelude.{◌≡◌, ◌<◌, None};
 ghost use Rattle.std.specs.Option.{option_copied};
 ghost use Rattle.verifier_spec.specs.Checks.{failed_check};
-ghost use Rattle.verifier_spec.specs.Annotation.{is_covered, is_edge_covered, target_note, are_edges_covered};
+ghost use Rattle.verifier_spec.specs.Annotation.{is_covered, is_edge_covered, note_of, are_edges_covered};
 
 use crate::lookup::note_at;
-use crate::shape::target_of;
 use abstract_regs::State;
 use bpf_isa::Code;
 use machine_spec::{Placed, Summary};
@@ -29,21 +28,12 @@ fn is_edge_covered(brought: &Option<State>, outer: Option<&State>) -> bool
     }
 }
 
-/// The state of the instruction that a jump leads to.
-fn target_note<'a>(
-    code: &Code,
-    notes: &'a [Option<State>],
-    slot: usize,
-    jump: Option<i32>,
-) -> Option<&'a State>
-    requires { slot < 4096 }
-    ensures { option_copied result ≡ target_note code.now notes.now slot jump }
+/// The state of an instruction, by its number if it has one.
+fn note_of(notes: &[Option<State>], number: Option<usize>) -> Option<&State>
+    ensures { option_copied result ≡ note_of notes.now number }
 {
-    match jump {
-        Some(offset) => match target_of(code, slot, offset) {
-            Some(k) => note_at(notes, k),
-            None => None,
-        },
+    match number {
+        Some(k) => note_at(notes, k),
         None => None,
     }
 }
@@ -64,11 +54,7 @@ pub fn are_edges_covered(
 {
     let edges = state.transfer(placed.instruction);
     let next = note_at(notes, k + 1);
-    let target = target_note(
-        code,
-        notes,
-        placed.slot,
-        Summary::of(placed.instruction).jump,
-    );
+    let jump = Summary::of(placed.instruction).jump;
+    let target = note_of(notes, code.target(placed.slot, jump));
     is_edge_covered(&edges.next, next) && is_edge_covered(&edges.jump, target)
 }

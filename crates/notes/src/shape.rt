@@ -1,6 +1,4 @@
 ghost use Rattle.std.specs.Prelude.{◌≡◌, ◌<◌};
-ghost use Rattle.machine_spec.specs.Image.{number_at};
-ghost use Rattle.machine_spec.specs.Machine.{jump_target};
 ghost use Rattle.machine_spec.specs.Traps.{first_of};
 ghost use Rattle.verifier_spec.specs.Checks.{leads_nowhere, leads_back, runs_off, shape_checks};
 
@@ -8,27 +6,12 @@ use bpf_isa::Code;
 use machine_spec::{Placed, Summary};
 use verifier_spec::Check;
 
-fn jump_target(slot: usize, offset: i32) -> usize
-    requires { slot < 4096 }
-    ensures { result ≡ jump_target slot offset }
-{
-    slot + 1 + offset.unsigned_abs() as usize
-}
-
-/// The number of the instruction that a jump by this distance leads to, if one begins there.
-pub fn target_of(code: &Code, slot: usize, offset: i32) -> Option<usize>
-    requires { slot < 4096 }
-    ensures { result ≡ number_at code.now (jump_target slot offset) }
-{
-    code.at(jump_target(slot, offset))
-}
-
 fn leads_nowhere(code: &Code, slot: usize, jump: Option<i32>) -> bool
     requires { slot < 4096 }
     ensures { result ≡ leads_nowhere code.now slot jump }
 {
     match jump {
-        Some(offset) => offset >= 0 && target_of(code, slot, offset).is_none(),
+        Some(offset) => offset >= 0 && code.target(slot, jump).is_none(),
         None => false,
     }
 }

@@ -21,9 +21,9 @@ use Rattle.machine_spec.specs.declared.summary.MemoryOperand.{MemoryOperand}
 use Rattle.machine_spec.specs.declared.summary.Condition.{Condition}
 use Rattle.machine_spec.specs.declared.summary.Summary.{Summary}
 use Rattle.machine_spec.specs.Summaries.{summary_of}
-use Rattle.machine_spec.specs.Image.{number_at}
+use Rattle.machine_spec.specs.Image.{target_of}
 use Rattle.machine_spec.specs.Words.{byte_count}
-use Rattle.machine_spec.specs.Machine.{helper_of, jump_target, stack_size}
+use Rattle.machine_spec.specs.Machine.{helper_of, stack_size}
 use Rattle.machine_spec.specs.Traps.{writes_frame, calls_no_helper, read_registers, is_read, is_stack, first_of}
 use Rattle.verifier_spec.specs.declared.state.Abs.{Abs}
 use Rattle.verifier_spec.specs.declared.state.Abs.TheVariants as abs
@@ -168,7 +168,7 @@ jump_of i = (summary_of i).jump
 
 -- a jump forward whose target is outside the image or the second slot of a wide instruction
 abbrev pub leads_nowhere : List Placed → ℕ → Option ℤ → Bool
-leads_nowhere code slot (Some offset) = if int_lt offset (pos 0) then false else is_none (number_at code (jump_target slot offset))
+leads_nowhere code slot (Some offset) = if int_lt offset (pos 0) then false else is_none (target_of code slot (Some offset))
 leads_nowhere code slot None = false
 
 abbrev pub leads_back : Option ℤ → Bool
