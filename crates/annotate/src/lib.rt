@@ -6,7 +6,7 @@ mod forward;
 mod loader;
 
 pub use loader::load;
-pub use log_spec::LoadFault;
+pub use verifier_spec::LoadFault;
 
 #[cfg(test)]
 mod tests;

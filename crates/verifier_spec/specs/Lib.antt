@@ -7,3 +7,4 @@ pub mod Forward
 pub mod StandsFor
 pub mod Run
 pub mod Soundness
+pub mod Loading

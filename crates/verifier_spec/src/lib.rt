@@ -7,5 +7,5 @@
 mod fault;
 mod state;
 
-pub use fault::{Check, VerifyFault};
+pub use fault::{Check, LoadFault, VerifyFault};
 pub use state::{Abs, Abstract, StackSet};

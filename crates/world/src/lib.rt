@@ -12,7 +12,8 @@ mod share;
 
 pub use crate::events::{World, run};
 pub use crate::limits::fits_log;
-pub use log_spec::{Event, LoadFault, Name, Refusal, Reply, Row};
+pub use log_spec::{Event, Name, Refusal, Reply, Row};
+pub use verifier_spec::LoadFault;
 
 #[cfg(test)]
 mod tests;

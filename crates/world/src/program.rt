@@ -4,11 +4,11 @@ ghost use Rattle.machine_spec.specs.Meaning.{IsPlace, Means};
 ghost use Rattle.verifier_spec.specs.StandsFor.{IsWithinLimits};
 
 use bytes::Bytes;
-use log_spec::LoadFault;
 use machine_spec::{IsaFault, Outcome, Place};
 use notes::Verified;
 use std::alloc::{AllocError, Global};
 use std::marker::Model;
+use verifier_spec::LoadFault;
 use wire_spec::Record;
 
 /// A program that the verifier accepted, with its image. A clause sees the image.
