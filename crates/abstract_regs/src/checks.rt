@@ -1,6 +1,6 @@
 ghost use Rattle.std.specs.Prelude.{◌≡◌, ◌+◌, pos, neg_ℤ, ◌+ℤ◌, ◌&&◌, int_le, unsigned_abs};
 ghost use Rattle.std.specs.List.{list_any};
-ghost use Rattle.machine_spec.specs.Words.{byte_count};
+ghost use Rattle.machine_spec.specs.Values.{byte_count};
 ghost use Rattle.machine_spec.specs.Machine.{helper_of};
 ghost use Rattle.machine_spec.specs.Traps.{writes_frame, calls_no_helper, source_registers, operand_registers, base_registers, condition_registers, call_registers, helper_registers, is_read, is_stack};
 ghost use Rattle.verifier_spec.specs.Kinds.{kind_at, is_unknown, furthest};

@@ -1,7 +1,7 @@
 //! The core with one input and one output partition.
 
 ghost use Rattle.std.specs.Prelude.{◌≡◌, ◌<◌, ◌≤◌, ◌^◌, nat_lt, length, IfOk};
-ghost use Rattle.script.specs.Faults.{size_of};
+ghost use Rattle.script.specs.Faults.{text_size};
 ghost use Rattle.log_spec.specs.Logs.{FitsLog};
 ghost use Rattle.wire_spec.specs.BatchReading.{batch_at};
 ghost use Rattle.batch.specs.Gives.{Gives};
@@ -77,8 +77,8 @@ pub fn batch_of(
     value: Option<Bytes>,
 ) -> Result<Batch, AllocError>
     requires timestamp { timestamp < TIMESTAMP_END }
-    requires key { size_of key ≤ MAX_KEY }
-    requires value { size_of value ≤ MAX_VALUE }
+    requires key { text_size key ≤ MAX_KEY }
+    requires value { text_size value ≤ MAX_VALUE }
     ensures batch { IfOk result (λ batch. batch ≡ put_batch timestamp key value) }
     ensures fits { IfOk result FitsLog }
 {

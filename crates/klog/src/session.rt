@@ -4,7 +4,7 @@ ghost use Rattle.std.specs.Prelude.{◌≡◌, ◌≢◌, ◌<◌, ◌≤◌, �
 ghost use Rattle.std.specs.IoError.{error_kind};
 ghost use Rattle.std.specs.declared.io.ErrorKind.TheVariants.{OutOfMemory};
 ghost use Rattle.klog.specs.declared.session.Unread.TheVariants as unread;
-ghost use Rattle.script.specs.Faults.{size_of, is_in_range};
+ghost use Rattle.script.specs.Faults.{text_size, is_in_range};
 ghost use Rattle.log_spec.specs.Logs.{FitsLog};
 ghost use Rattle.log_spec.specs.Worlds.{FitsEvent};
 
@@ -205,8 +205,8 @@ impl Session {
         value: Option<Bytes>,
     ) -> Result<(), Stop>
         requires timestamp { timestamp < TIMESTAMP_END }
-        requires key { size_of key ≤ MAX_KEY }
-        requires value { size_of value ≤ MAX_VALUE }
+        requires key { text_size key ≤ MAX_KEY }
+        requires value { text_size value ≤ MAX_VALUE }
     {
         let batch = batch_of(self.alloc, timestamp, key, value)?;
         self.append(stdout, input, batch)

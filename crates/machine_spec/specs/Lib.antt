@@ -1,6 +1,6 @@
 pub mod Opcodes
 pub mod Image
-pub mod Words
+pub mod Values
 pub mod Summaries
 pub mod Machine
 pub mod Traps

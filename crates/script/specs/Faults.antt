@@ -17,9 +17,9 @@ is_in_order (Append input source) has_begun is_loaded = has_begun
 is_in_order Go has_begun is_loaded = has_begun
 
 -- null has no bytes
-abbrev pub size_of : Option (List ℕ) → ℕ
-size_of None = 0
-size_of (Some bytes) = length bytes
+abbrev pub text_size : Option (List ℕ) → ℕ
+text_size None = 0
+text_size (Some bytes) = length bytes
 
 -- One input and one output partition, 1 to 65536 cells; timestamps below 2^62, keys of at most 4096 bytes and values of at
 -- most 65536.
@@ -27,7 +27,7 @@ abbrev pub is_in_range : Command → Bool
 is_in_range (Partitions inputs outputs cells) = (inputs == 1) && ((outputs == 1) && (nat_le 1 cells && nat_le cells MAX_CELLS))
 is_in_range (Load name source) = true
 is_in_range (Deploy input name) = true
-is_in_range (Put input timestamp key value) = nat_lt timestamp TIMESTAMP_END && (nat_le (size_of key) MAX_KEY && nat_le (size_of value) MAX_VALUE)
+is_in_range (Put input timestamp key value) = nat_lt timestamp TIMESTAMP_END && (nat_le (text_size key) MAX_KEY && nat_le (text_size value) MAX_VALUE)
 is_in_range (Append input source) = true
 is_in_range Go = true
 

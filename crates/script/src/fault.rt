@@ -1,7 +1,7 @@
 //! What is refused before anything is done.
 
 ghost use Rattle.std.specs.Prelude.{◌≡◌, true, IfNone};
-ghost use Rattle.script.specs.Faults.{size_of, is_in_order, is_in_range, fault_of};
+ghost use Rattle.script.specs.Faults.{text_size, is_in_order, is_in_range, fault_of};
 
 use crate::command::Command;
 use bytes::Bytes;
@@ -24,7 +24,7 @@ pub enum ScriptFault {
 }
 
 fn size(bytes: &Option<Bytes>) -> usize
-    ensures { result ≡ size_of bytes.now }
+    ensures { result ≡ text_size bytes.now }
 {
     match bytes {
         None => 0,

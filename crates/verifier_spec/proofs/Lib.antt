@@ -17,4 +17,4 @@ pub mod Tighter
 pub mod Turns
 pub mod Whole
 pub mod Wider
-pub mod Words
+pub mod Values

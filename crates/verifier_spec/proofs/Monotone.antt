@@ -20,7 +20,7 @@ use Rattle.machine_spec.specs.declared.summary.MemoryOperand.{MemoryOperand}
 use Rattle.machine_spec.specs.declared.summary.Condition.{Condition}
 use Rattle.machine_spec.specs.declared.summary.Summary.{Summary}
 use Rattle.machine_spec.specs.Summaries.{summary_of}
-use Rattle.machine_spec.specs.Words.{byte_count}
+use Rattle.machine_spec.specs.Values.{byte_count}
 use Rattle.machine_spec.specs.Machine.{helper_of, stack_size}
 use Rattle.machine_spec.specs.Traps.{read_registers}
 use Rattle.verifier_spec.specs.declared.state.Abs.{Abs}

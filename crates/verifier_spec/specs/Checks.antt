@@ -22,7 +22,7 @@ use Rattle.machine_spec.specs.declared.summary.Condition.{Condition}
 use Rattle.machine_spec.specs.declared.summary.Summary.{Summary}
 use Rattle.machine_spec.specs.Summaries.{summary_of}
 use Rattle.machine_spec.specs.Image.{target_of}
-use Rattle.machine_spec.specs.Words.{byte_count}
+use Rattle.machine_spec.specs.Values.{byte_count}
 use Rattle.machine_spec.specs.Machine.{helper_of, stack_size}
 use Rattle.machine_spec.specs.Traps.{writes_frame, calls_no_helper, read_registers, is_read, is_stack, first_of}
 use Rattle.verifier_spec.specs.declared.state.Abs.{Abs}

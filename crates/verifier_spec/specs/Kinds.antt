@@ -1,4 +1,4 @@
--- Kinds of registers, what they stand for, and their order.
+-- Abstract values of registers: their ranges and their order.
 use Rattle.std.specs.Prelude.{ℕ, ◌/◌, ◌%◌, ◌^◌, pos, neg_ℤ, Bool, true, false, ◌==◌, ◌&&◌, nat_lt, nat_le, int_le, slice_index, slice_index_or, Option, Some, None}
 use Rattle.std.specs.Int.{bit_at}
 use Rattle.wire_spec.specs.declared.limits.TheConstants.{MAX_KEY, MAX_VALUE}

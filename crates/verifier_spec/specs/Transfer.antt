@@ -18,7 +18,7 @@ use Rattle.machine_spec.specs.declared.instruction.Helper.{Helper}
 use Rattle.machine_spec.specs.declared.instruction.Helper.TheVariants.{EmitRecord}
 use Rattle.machine_spec.specs.declared.summary.Condition.{Condition}
 use Rattle.machine_spec.specs.Summaries.{summary_of}
-use Rattle.machine_spec.specs.Words.{byte_count}
+use Rattle.machine_spec.specs.Values.{byte_count}
 use Rattle.machine_spec.specs.Machine.{helper_of}
 use Rattle.verifier_spec.specs.declared.state.Abs.{Abs}
 use Rattle.verifier_spec.specs.declared.state.Abs.TheVariants as abs

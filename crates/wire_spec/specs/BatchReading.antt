@@ -66,8 +66,8 @@ abbrev pub with_front : ℤ → ℕ
 with_front (pos n) = n + 12
 with_front (negsuc n) = 0
 
-abbrev pub size_of : List ℕ → ℕ
-size_of bytes = with_front (batch_length bytes)
+abbrev pub batch_size : List ℕ → ℕ
+batch_size bytes = with_front (batch_length bytes)
 
 -- ---- What is wrong with the bytes
 
@@ -145,9 +145,9 @@ unfoldable pub size_at : List ℕ → Result ℕ BatchFault
 size_at bytes =
     if nat_lt (length bytes) 12 then Err faults.Short
     else if int_lt (batch_length bytes) (pos 49) then Err faults.Length
-    else if nat_lt max_batch (size_of bytes) then Err faults.TooLarge
-    else if nat_lt (length bytes) (size_of bytes) then Err faults.Short
-    else Ok (size_of bytes)
+    else if nat_lt max_batch (batch_size bytes) then Err faults.TooLarge
+    else if nat_lt (length bytes) (batch_size bytes) then Err faults.Short
+    else Ok (batch_size bytes)
 
 -- the batch at the front of the bytes, and how many of them it takes
 unfoldable pub batch_at : List ℕ → Result (Batch × ℕ) BatchFault
