@@ -1,3 +1,4 @@
+pub mod ReadParts
 pub mod Sets
 pub mod Intervals
 pub mod Proper

@@ -1,13 +1,16 @@
 ghost use Rattle.std.specs.Prelude.{◌≡◌, ◌+◌, pos, neg_ℤ, ◌+ℤ◌, ◌&&◌, int_le, unsigned_abs};
 ghost use Rattle.std.specs.List.{list_any};
-ghost use Rattle.machine_spec.specs.Words.{byte_count};
+ghost use Rattle.machine_spec.specs.Values.{byte_count};
 ghost use Rattle.machine_spec.specs.Machine.{helper_of};
-ghost use Rattle.machine_spec.specs.Traps.{writes_frame, calls_no_helper, source_registers, helper_registers, is_stack};
+ghost use Rattle.machine_spec.specs.Traps.{writes_frame, calls_no_helper, source_registers, operand_registers, base_registers, condition_registers, call_registers, helper_registers, is_read, is_stack};
 ghost use Rattle.verifier_spec.specs.Kinds.{kind_at, is_unknown, furthest};
-ghost use Rattle.verifier_spec.specs.Checks.{reads_unknown, is_one_sign, can_move, can_compute_kinds, has_wrong_kind, reach_at, reach_of, may_leave_record, may_leave_stack, may_read_unset, has_wrong_argument_kind, may_call_wrongly, may_exit_wrongly, failed_check};
+ghost use Rattle.verifier_spec.specs.Checks.{reads_unknown, is_one_sign, can_move, can_compute_kinds, has_wrong_kinds, has_wrong_base_kind, has_wrong_condition_kind, reach_at, reach_of, may_write_record, may_leave_record, may_leave_stack, may_read_unset, has_wrong_argument_kind, may_call_wrongly, may_exit_wrongly, failed_check};
 
 use crate::{kinds, stack_set};
-use machine_spec::{Helper, Instruction, Operation, Region, Size, Source, Width};
+use machine_spec::{
+    Condition, Direction, Helper, Instruction, MemoryOperand, Operands, Operation, Region,
+    STACK_SIZE, Size, Source, Summary, Width,
+};
 use verifier_spec::{Abs, Abstract, Check};
 
 /// The register that is never written, the stack's end.
@@ -16,21 +19,14 @@ const FRAME: u8 = 10;
 /// The first number that is negative where it is read as signed: 2^63.
 const FIRST_NEGATIVE: u64 = 9_223_372_036_854_775_808;
 
-/// How many bytes the stack has.
-const STACK_SIZE: u32 = 512;
-
 // ---- registers that are written, helpers that there are
 
-fn writes_frame(instruction: Instruction) -> bool
-    ensures { result ≡ writes_frame instruction }
+fn writes_frame(register: Option<u8>) -> bool
+    ensures { result ≡ writes_frame register }
 {
-    match instruction {
-        Instruction::Move(_, dst, _) => dst == FRAME,
-        Instruction::Compute(_, _, dst, _) => dst == FRAME,
-        Instruction::Load(_, dst, _, _) => dst == FRAME,
-        Instruction::JumpIf(_, _, _, _, _) => false,
-        Instruction::Call(_) => false,
-        Instruction::Exit => false,
+    match register {
+        Some(r) => r == FRAME,
+        None => false,
     }
 }
 
@@ -45,16 +41,12 @@ pub fn helper_of(number: i32) -> Option<Helper>
     }
 }
 
-fn calls_no_helper(instruction: Instruction) -> bool
-    ensures { result ≡ calls_no_helper instruction }
+fn calls_no_helper(call: Option<i32>) -> bool
+    ensures { result ≡ calls_no_helper call }
 {
-    match instruction {
-        Instruction::Call(number) => helper_of(number).is_none(),
-        Instruction::Move(_, _, _) => false,
-        Instruction::Compute(_, _, _, _) => false,
-        Instruction::Load(_, _, _, _) => false,
-        Instruction::JumpIf(_, _, _, _, _) => false,
-        Instruction::Exit => false,
+    match call {
+        Some(number) => helper_of(number).is_none(),
+        None => false,
     }
 }
 
@@ -84,21 +76,54 @@ fn has_unknown_argument(state: &Abstract, helper: Option<Helper>) -> bool
     }
 }
 
-fn reads_unknown(instruction: Instruction, state: &Abstract) -> bool
-    ensures { result ≡ reads_unknown instruction state.now }
+fn is_unknown_operand(state: &Abstract, takes: Operands) -> bool
+    ensures { result ≡ list_any (λ r. is_unknown (kind_at state.now r)) (operand_registers takes) }
 {
-    match instruction {
-        Instruction::Move(_, _, source) => is_unknown_source(state, source),
-        Instruction::Compute(_, _, dst, source) => {
+    match takes {
+        Operands::Nothing => false,
+        Operands::Any(source) => is_unknown_source(state, source),
+        Operands::Computed(_, _, dst, source) => {
             is_unknown_at(state, dst) || is_unknown_source(state, source)
         }
-        Instruction::Load(_, _, base, _) => is_unknown_at(state, base),
-        Instruction::JumpIf(_, _, dst, source, _) => {
-            is_unknown_at(state, dst) || is_unknown_source(state, source)
-        }
-        Instruction::Call(number) => has_unknown_argument(state, helper_of(number)),
-        Instruction::Exit => is_unknown_at(state, 0),
     }
+}
+
+fn is_unknown_base(state: &Abstract, memory: Option<MemoryOperand>) -> bool
+    ensures { result ≡ list_any (λ r. is_unknown (kind_at state.now r)) (base_registers memory) }
+{
+    match memory {
+        Some(m) => is_unknown_at(state, m.base),
+        None => false,
+    }
+}
+
+fn is_unknown_in_condition(state: &Abstract, condition: Option<Condition>) -> bool
+    ensures { result ≡ list_any (λ r. is_unknown (kind_at state.now r)) (condition_registers condition) }
+{
+    match condition {
+        Some(c) => is_unknown_at(state, c.dst) || is_unknown_source(state, c.source),
+        None => false,
+    }
+}
+
+fn is_unknown_in_call(state: &Abstract, call: Option<i32>) -> bool
+    ensures { result ≡ list_any (λ r. is_unknown (kind_at state.now r)) (call_registers call) }
+{
+    match call {
+        Some(number) => has_unknown_argument(state, helper_of(number)),
+        None => false,
+    }
+}
+
+#[tactic(auto, using(crate::proofs::ReadParts::reads_parts))]
+fn reads_unknown(summary: Summary, state: &Abstract) -> bool
+    ensures { result ≡ reads_unknown summary state.now }
+{
+    is_unknown_operand(state, summary.takes)
+        || is_unknown_base(state, summary.memory)
+        || is_unknown_in_condition(state, summary.condition)
+        || is_unknown_in_call(state, summary.call)
+        || (summary.exits && is_unknown_at(state, 0))
 }
 
 // ---- kinds that an instruction takes
@@ -147,29 +172,44 @@ fn can_compute(state: &Abstract, width: Width, operation: Operation, to: Abs, by
     }
 }
 
-fn has_wrong_kind(instruction: Instruction, state: &Abstract) -> bool
-    ensures { result ≡ has_wrong_kind instruction state.now }
+fn has_wrong_kinds(takes: Operands, state: &Abstract) -> bool
+    ensures { result ≡ has_wrong_kinds takes state.now }
 {
-    match instruction {
-        Instruction::Move(_, _, _) => false,
-        Instruction::Compute(width, operation, dst, source) => !can_compute(
+    match takes {
+        Operands::Nothing => false,
+        Operands::Any(_) => false,
+        Operands::Computed(width, operation, dst, source) => !can_compute(
             state,
             width,
             operation,
             kinds::kind_at(state, dst),
             kinds::source_kind(state, source),
         ),
-        Instruction::Load(_, _, base, _) => !kinds::is_address(kinds::kind_at(state, base)),
-        Instruction::JumpIf(_, _, dst, source, _) => {
-            !(kinds::is_number(kinds::kind_at(state, dst))
-                && kinds::is_number(kinds::source_kind(state, source)))
-        }
-        Instruction::Call(_) => false,
-        Instruction::Exit => false,
     }
 }
 
-// ---- bytes that a load may read
+fn has_wrong_base_kind(memory: Option<MemoryOperand>, state: &Abstract) -> bool
+    ensures { result ≡ has_wrong_base_kind memory state.now }
+{
+    match memory {
+        Some(m) => !kinds::is_address(kinds::kind_at(state, m.base)),
+        None => false,
+    }
+}
+
+fn has_wrong_condition_kind(condition: Option<Condition>, state: &Abstract) -> bool
+    ensures { result ≡ has_wrong_condition_kind condition state.now }
+{
+    match condition {
+        Some(c) => {
+            !(kinds::is_number(kinds::kind_at(state, c.dst))
+                && kinds::is_number(kinds::source_kind(state, c.source)))
+        }
+        None => false,
+    }
+}
+
+// ---- bytes that may be read or written
 
 fn byte_count(size: Size) -> u8
     ensures { result ≡ byte_count size }
@@ -189,6 +229,15 @@ fn is_stack(region: Region) -> bool
         Region::Stack => true,
         Region::Key => false,
         Region::Value => false,
+    }
+}
+
+fn is_read(direction: Direction) -> bool
+    ensures { result ≡ is_read direction }
+{
+    match direction {
+        Direction::Read => true,
+        Direction::Write => false,
     }
 }
 
@@ -212,22 +261,33 @@ fn is_reach_within(low: i64, high: i64, offset: i16, size: u8, length: u32) -> b
     0 <= first_byte(low, offset) && end_byte(high, offset, size) <= length as i128
 }
 
-fn access_leaves_record(state: &Abstract, base: Abs, offset: i16, size: Size) -> bool
-    ensures { result ≡ may_leave_record state.now (reach_at base offset size) }
+fn access_writes_record(m: MemoryOperand, base: Abs) -> bool
+    ensures { result ≡ may_write_record (reach_at m.direction base m.offset m.size) }
+{
+    match base {
+        Abs::Addr(region, _, _) => !is_read(m.direction) && !is_stack(region),
+        Abs::None => false,
+        Abs::Num(_, _) => false,
+        Abs::Len(_) => false,
+    }
+}
+
+fn may_write_record(memory: Option<MemoryOperand>, state: &Abstract) -> bool
+    ensures { result ≡ may_write_record (reach_of memory state.now) }
+{
+    match memory {
+        Some(m) => access_writes_record(m, kinds::kind_at(state, m.base)),
+        None => false,
+    }
+}
+
+fn access_leaves_record(state: &Abstract, m: MemoryOperand, base: Abs) -> bool
+    ensures { result ≡ may_leave_record state.now (reach_at m.direction base m.offset m.size) }
 {
     match base {
         Abs::Addr(region, low, high) => {
-            if is_stack(region) {
-                false
-            } else {
-                !is_reach_within(
-                    low,
-                    high,
-                    offset,
-                    byte_count(size),
-                    kinds::least(state, region),
-                )
-            }
+            let length = kinds::least(state, region);
+            !is_stack(region) && !is_reach_within(low, high, m.offset, byte_count(m.size), length)
         }
         Abs::None => false,
         Abs::Num(_, _) => false,
@@ -235,31 +295,22 @@ fn access_leaves_record(state: &Abstract, base: Abs, offset: i16, size: Size) ->
     }
 }
 
-fn may_leave_record(instruction: Instruction, state: &Abstract) -> bool
-    ensures { result ≡ may_leave_record state.now (reach_of instruction state.now) }
+fn may_leave_record(memory: Option<MemoryOperand>, state: &Abstract) -> bool
+    ensures { result ≡ may_leave_record state.now (reach_of memory state.now) }
 {
-    match instruction {
-        Instruction::Load(size, _, base, offset) => {
-            access_leaves_record(state, kinds::kind_at(state, base), offset, size)
-        }
-        Instruction::Move(_, _, _) => false,
-        Instruction::Compute(_, _, _, _) => false,
-        Instruction::JumpIf(_, _, _, _, _) => false,
-        Instruction::Call(_) => false,
-        Instruction::Exit => false,
+    match memory {
+        Some(m) => access_leaves_record(state, m, kinds::kind_at(state, m.base)),
+        None => false,
     }
 }
 
-fn access_leaves_stack(base: Abs, offset: i16, size: Size) -> bool
-    ensures { result ≡ may_leave_stack (reach_at base offset size) }
+fn access_leaves_stack(m: MemoryOperand, base: Abs) -> bool
+    ensures { result ≡ may_leave_stack (reach_at m.direction base m.offset m.size) }
 {
     match base {
         Abs::Addr(region, low, high) => {
-            if is_stack(region) {
-                !is_reach_within(low, high, offset, byte_count(size), STACK_SIZE)
-            } else {
-                false
-            }
+            is_stack(region)
+                && !is_reach_within(low, high, m.offset, byte_count(m.size), STACK_SIZE as u32)
         }
         Abs::None => false,
         Abs::Num(_, _) => false,
@@ -267,18 +318,12 @@ fn access_leaves_stack(base: Abs, offset: i16, size: Size) -> bool
     }
 }
 
-fn may_leave_stack(instruction: Instruction, state: &Abstract) -> bool
-    ensures { result ≡ may_leave_stack (reach_of instruction state.now) }
+fn may_leave_stack(memory: Option<MemoryOperand>, state: &Abstract) -> bool
+    ensures { result ≡ may_leave_stack (reach_of memory state.now) }
 {
-    match instruction {
-        Instruction::Load(size, _, base, offset) => {
-            access_leaves_stack(kinds::kind_at(state, base), offset, size)
-        }
-        Instruction::Move(_, _, _) => false,
-        Instruction::Compute(_, _, _, _) => false,
-        Instruction::JumpIf(_, _, _, _, _) => false,
-        Instruction::Call(_) => false,
-        Instruction::Exit => false,
+    match memory {
+        Some(m) => access_leaves_stack(m, kinds::kind_at(state, m.base)),
+        None => false,
     }
 }
 
@@ -295,17 +340,15 @@ fn reach_length(low: i64, high: i64, offset: i16, size: u8) -> u128
     apart.unsigned_abs() + size as u128
 }
 
-fn access_reads_unset(state: &Abstract, base: Abs, offset: i16, size: Size) -> bool
-    ensures { result ≡ may_read_unset state.now (reach_at base offset size) }
+fn access_reads_unset(state: &Abstract, m: MemoryOperand, base: Abs) -> bool
+    ensures { result ≡ may_read_unset state.now (reach_at m.direction base m.offset m.size) }
 {
     match base {
         Abs::Addr(region, low, high) => {
-            if is_stack(region) {
-                !stack_set::are_set(
-                    &state.set,
-                    first_place(low, offset),
-                    reach_length(low, high, offset, byte_count(size)),
-                )
+            if is_read(m.direction) && is_stack(region) {
+                let first = first_place(low, m.offset);
+                let count = reach_length(low, high, m.offset, byte_count(m.size));
+                !stack_set::are_set(&state.set, first, count)
             } else {
                 false
             }
@@ -316,18 +359,12 @@ fn access_reads_unset(state: &Abstract, base: Abs, offset: i16, size: Size) -> b
     }
 }
 
-fn may_read_unset(instruction: Instruction, state: &Abstract) -> bool
-    ensures { result ≡ may_read_unset state.now (reach_of instruction state.now) }
+fn may_read_unset(memory: Option<MemoryOperand>, state: &Abstract) -> bool
+    ensures { result ≡ may_read_unset state.now (reach_of memory state.now) }
 {
-    match instruction {
-        Instruction::Load(size, _, base, offset) => {
-            access_reads_unset(state, kinds::kind_at(state, base), offset, size)
-        }
-        Instruction::Move(_, _, _) => false,
-        Instruction::Compute(_, _, _, _) => false,
-        Instruction::JumpIf(_, _, _, _, _) => false,
-        Instruction::Call(_) => false,
-        Instruction::Exit => false,
+    match memory {
+        Some(m) => access_reads_unset(state, m, kinds::kind_at(state, m.base)),
+        None => false,
     }
 }
 
@@ -342,30 +379,19 @@ fn has_wrong_argument(helper: Option<Helper>, state: &Abstract) -> bool
     }
 }
 
-fn may_call_wrongly(instruction: Instruction, state: &Abstract) -> bool
-    ensures { result ≡ may_call_wrongly instruction state.now }
+fn may_call_wrongly(call: Option<i32>, state: &Abstract) -> bool
+    ensures { result ≡ may_call_wrongly call state.now }
 {
-    match instruction {
-        Instruction::Call(number) => has_wrong_argument(helper_of(number), state),
-        Instruction::Move(_, _, _) => false,
-        Instruction::Compute(_, _, _, _) => false,
-        Instruction::Load(_, _, _, _) => false,
-        Instruction::JumpIf(_, _, _, _, _) => false,
-        Instruction::Exit => false,
+    match call {
+        Some(number) => has_wrong_argument(helper_of(number), state),
+        None => false,
     }
 }
 
-fn may_exit_wrongly(instruction: Instruction, state: &Abstract) -> bool
-    ensures { result ≡ may_exit_wrongly instruction state.now }
+fn may_exit_wrongly(exits: bool, state: &Abstract) -> bool
+    ensures { result ≡ may_exit_wrongly exits state.now }
 {
-    match instruction {
-        Instruction::Exit => kinds::is_address(kinds::kind_at(state, 0)),
-        Instruction::Move(_, _, _) => false,
-        Instruction::Compute(_, _, _, _) => false,
-        Instruction::Load(_, _, _, _) => false,
-        Instruction::JumpIf(_, _, _, _, _) => false,
-        Instruction::Call(_) => false,
-    }
+    exits && !kinds::is_number(kinds::kind_at(state, 0))
 }
 
 // ---- the first check that fails
@@ -375,23 +401,30 @@ fn may_exit_wrongly(instruction: Instruction, state: &Abstract) -> bool
 pub fn failed_check(instruction: Instruction, state: &Abstract) -> Option<Check>
     ensures { result ≡ failed_check instruction state.now }
 {
-    if writes_frame(instruction) {
+    let summary = Summary::of(instruction);
+    if writes_frame(summary.writes) {
         Some(Check::Frame)
-    } else if calls_no_helper(instruction) {
+    } else if calls_no_helper(summary.call) {
         Some(Check::Helper)
-    } else if reads_unknown(instruction, state) {
+    } else if reads_unknown(summary, state) {
         Some(Check::Unset)
-    } else if has_wrong_kind(instruction, state) {
+    } else if has_wrong_kinds(summary.takes, state) {
         Some(Check::WrongType)
-    } else if may_leave_record(instruction, state) {
+    } else if has_wrong_base_kind(summary.memory, state) {
+        Some(Check::WrongType)
+    } else if has_wrong_condition_kind(summary.condition, state) {
+        Some(Check::WrongType)
+    } else if may_write_record(summary.memory, state) {
+        Some(Check::ReadOnly)
+    } else if may_leave_record(summary.memory, state) {
         Some(Check::RecordBounds)
-    } else if may_leave_stack(instruction, state) {
+    } else if may_leave_stack(summary.memory, state) {
         Some(Check::StackBounds)
-    } else if may_read_unset(instruction, state) {
+    } else if may_read_unset(summary.memory, state) {
         Some(Check::StackUnset)
-    } else if may_call_wrongly(instruction, state) {
+    } else if may_call_wrongly(summary.call, state) {
         Some(Check::HelperArg)
-    } else if may_exit_wrongly(instruction, state) {
+    } else if may_exit_wrongly(summary.exits, state) {
         Some(Check::Exit)
     } else {
         None

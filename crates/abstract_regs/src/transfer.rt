@@ -3,10 +3,12 @@ ghost use Rattle.std.specs.Int.{w64, cast_signed};
 ghost use Rattle.verifier_spec.specs.Kinds.{kind_at, greatest, range_of, is_proper_kind, furthest};
 ghost use Rattle.verifier_spec.specs.States.{is_proper};
 ghost use Rattle.verifier_spec.specs.Checks.{can_move, can_compute_kinds, source_kind, failed_check};
-ghost use Rattle.verifier_spec.specs.Transfer.{with_kind, computed_range, on_ranges, moved, computed_kind, loaded_kind, with_length, with_range, narrowed_range, tested, answer_kind, after_call_kinds, called_kinds, falls_to, jumps_to};
+ghost use Rattle.verifier_spec.specs.Transfer.{with_kind, computed_range, on_ranges, moved, computed_kind, loaded_kind, with_length, with_range, narrowed_range, tested, answer_kind, after_call_kinds, called_kinds, met_edge, jump_edge, falls_to, jumps_to};
 
 use crate::{checks, kinds, narrowing};
-use machine_spec::{Helper, Instruction, Operation, Region, Size, Source, Test, Width};
+use machine_spec::{
+    Condition, Helper, Instruction, Operation, Region, Size, Source, Summary, Test, Width,
+};
 use verifier_spec::{Abs, Abstract};
 
 // ---- a register's kind
@@ -347,6 +349,28 @@ pub fn falls_to(instruction: Instruction, state: &Abstract) -> Option<Abstract>
     }
 }
 
+fn met_edge(condition: Option<Condition>, state: &Abstract) -> Option<Abstract>
+    requires { is_proper state.now ≡ true }
+    ensures edge { result ≡ met_edge condition state.now }
+    ensures proper { IfSome result (λ s. is_proper s ≡ true) }
+{
+    match condition {
+        Some(c) => tested(state, (c.width, c.test), true, c.dst, c.source),
+        None => Some(*state),
+    }
+}
+
+fn jump_edge(condition: Option<Condition>, jump: Option<i32>, state: &Abstract) -> Option<Abstract>
+    requires { is_proper state.now ≡ true }
+    ensures edge { result ≡ jump_edge condition jump state.now }
+    ensures proper { IfSome result (λ s. is_proper s ≡ true) }
+{
+    match jump {
+        Some(_) => met_edge(condition, state),
+        None => None,
+    }
+}
+
 /// The state at the target of a jump that is taken, or none.
 #[tactic(auto, unfolding(verifier_spec::specs::Transfer::jumps_to))]
 pub fn jumps_to(instruction: Instruction, state: &Abstract) -> Option<Abstract>
@@ -354,14 +378,6 @@ pub fn jumps_to(instruction: Instruction, state: &Abstract) -> Option<Abstract>
     ensures edge { result ≡ jumps_to instruction state.now }
     ensures proper { IfSome result (λ s. is_proper s ≡ true) }
 {
-    match instruction {
-        Instruction::JumpIf(width, test, dst, source, _) => {
-            tested(state, (width, test), true, dst, source)
-        }
-        Instruction::Move(_, _, _) => None,
-        Instruction::Compute(_, _, _, _) => None,
-        Instruction::Load(_, _, _, _) => None,
-        Instruction::Call(_) => None,
-        Instruction::Exit => None,
-    }
+    let summary = Summary::of(instruction);
+    jump_edge(summary.condition, summary.jump, state)
 }

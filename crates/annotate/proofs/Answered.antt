@@ -7,8 +7,8 @@ use Rattle.machine_spec.specs.Image.{read_image}
 use Rattle.verifier_spec.specs.declared.fault.VerifyFault.{VerifyFault}
 use Rattle.verifier_spec.specs.Annotation.{Notes, fault_of}
 use Rattle.verifier_spec.specs.Forward.{passed_on}
-use Rattle.log_spec.specs.declared.event.LoadFault.TheVariants.{Isa}
-use Rattle.log_spec.specs.Catalogue.{load_fault, code_fault, verify_fault}
+use Rattle.verifier_spec.specs.declared.fault.LoadFault.TheVariants.{Isa}
+use Rattle.verifier_spec.specs.Loading.{load_fault, code_fault, verify_fault}
 use Rattle.bpf_isa.specs.Code.{Answers}
 
 -- a refusal of the image is its reading's

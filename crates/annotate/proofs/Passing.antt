@@ -3,11 +3,12 @@ use Rattle.std.proofs.Common.{◌≡◌, ℕ, zero, suc, ◌+◌, ◌<◌, ◌�
 use Rattle.std.specs.Prelude.{slice_get, is_none, cond, true, false}
 use Rattle.verifier_spec.specs.declared.state.Abstract.{Abstract}
 use Rattle.machine_spec.specs.declared.instruction.Placed.{Placed}
+use Rattle.machine_spec.specs.Image.{target_of}
 use Rattle.verifier_spec.specs.Annotation.{Notes, note_at}
 use Rattle.verifier_spec.specs.declared.fault.Check.{Check}
 use Rattle.verifier_spec.specs.Checks.{failed_check, jump_of}
 use Rattle.verifier_spec.specs.Transfer.{falls_to, jumps_to}
-use Rattle.verifier_spec.specs.Forward.{brought, bring_if, both_brought, target_of, passed_one, passed_from}
+use Rattle.verifier_spec.specs.Forward.{brought, bring_if, both_brought, passed_one, passed_from}
 use Rattle.std.proofs.Math.ListN.{length-set, drop_of_length-le}
 
 pub note_at-get_or : (notes : Notes) (k : ℕ) (d : Option Abstract) → k < length notes → note_at notes k ≡ get_or notes k d

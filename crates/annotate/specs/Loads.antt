@@ -6,9 +6,9 @@ use Rattle.verifier_spec.specs.declared.fault.Check.TheVariants as check
 use Rattle.verifier_spec.specs.Annotation.{IsAnnotation}
 use Rattle.verifier_spec.specs.Forward.{passed_on}
 use Rattle.verifier_spec.specs.Run.{Annotated}
-use Rattle.log_spec.specs.declared.event.LoadFault.{LoadFault}
-use Rattle.log_spec.specs.declared.event.LoadFault.TheVariants.{Isa, Verify}
-use Rattle.log_spec.specs.Catalogue.{load_fault}
+use Rattle.verifier_spec.specs.declared.fault.LoadFault.{LoadFault}
+use Rattle.verifier_spec.specs.declared.fault.LoadFault.TheVariants.{Isa, Verify}
+use Rattle.verifier_spec.specs.Loading.{load_fault}
 
 -- The program that was accepted: the code of the image, with the notes that one pass finds, and they are an annotation.
 pub record Accepts (image : List ℕ) (verified : Annotated) : Type 0 where

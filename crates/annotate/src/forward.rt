@@ -1,12 +1,12 @@
 ghost use Rattle.std.specs.Prelude.{◌≡◌, ◌<◌, length, IfOk, slice_set, replicate, Some, None};
 ghost use Rattle.verifier_spec.specs.States.{entry_state};
 ghost use Rattle.verifier_spec.specs.Annotation.{note_at};
-ghost use Rattle.verifier_spec.specs.Forward.{brought, passed_one, passed_from, passed_on, target_of, both_brought};
-ghost use Rattle.verifier_spec.specs.Checks.{jump_of, failed_check};
+ghost use Rattle.verifier_spec.specs.Forward.{brought, passed_one, passed_from, passed_on, both_brought};
+ghost use Rattle.verifier_spec.specs.Checks.{failed_check};
 
 use abstract_regs::State;
 use bpf_isa::Code;
-use machine_spec::{Instruction, Placed};
+use machine_spec::{MAX_SLOTS, Placed, Summary};
 use std::alloc::{AllocError, Global};
 
 /// The state of an instruction, if it is reached.
@@ -39,19 +39,6 @@ fn bring_along(states: &mut [Option<State>], target: Option<usize>, state: Optio
     }
 }
 
-/// The instruction that a jump leads to.
-fn target_of_jump(code: &Code, placed: Placed) -> Option<usize>
-    requires { placed.slot < 4096 }
-    ensures { result ≡ target_of code.now placed.slot (jump_of placed.instruction) }
-{
-    match placed.instruction {
-        Instruction::JumpIf(_, _, _, _, offset) => {
-            code.at(placed.slot + 1 + usize::from(offset.unsigned_abs()))
-        }
-        _ => None,
-    }
-}
-
 /// What an instruction with a note brings: nothing where it is not reached or fails a check.
 fn pass_one(
     code: &Code,
@@ -60,8 +47,8 @@ fn pass_one(
     placed: Placed,
     note: Option<State>,
 )
-    requires slot { placed.slot < 4096 }
-    requires number { k < 4096 }
+    requires slot { placed.slot < MAX_SLOTS }
+    requires number { k < MAX_SLOTS }
     ensures { states.new ≡ passed_one code.now states.old k placed note }
 {
     if let Some(state) = note {
@@ -73,14 +60,15 @@ fn pass_one(
 
 /// Both edges of an instruction, the one to the next instruction first.
 fn bring_both(code: &Code, states: &mut [Option<State>], k: usize, placed: Placed, state: State)
-    requires slot { placed.slot < 4096 }
-    requires number { k < 4096 }
+    requires slot { placed.slot < MAX_SLOTS }
+    requires number { k < MAX_SLOTS }
     requires passes { failed_check placed.instruction state ≡ None }
     ensures { states.new ≡ both_brought code.now states.old k placed state }
 {
     let edges = state.transfer(placed.instruction);
     bring_along(states, Some(k + 1), edges.next);
-    bring_along(states, target_of_jump(code, placed), edges.jump);
+    let jump = Summary::of(placed.instruction).jump;
+    bring_along(states, code.target(placed.slot, jump), edges.jump);
 }
 
 /// The entry state alone.

@@ -6,4 +6,4 @@ mod forward;
 mod loader;
 
 pub use loader::load;
-pub use log_spec::LoadFault;
+pub use verifier_spec::LoadFault;

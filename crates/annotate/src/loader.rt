@@ -3,9 +3,9 @@ ghost use Rattle.annotate.specs.Loads.{Loads, IsAtStart};
 
 use crate::forward::passed_on;
 use bpf_isa::decode;
-use log_spec::LoadFault;
 use notes::{Check, Verified, VerifyFault};
 use std::alloc::Global;
+use verifier_spec::LoadFault;
 
 /// The verified program of an image: its instructions, each with the abstract state that the first
 /// edge in code order brings to it. Where a second edge brings more, the list of states is no

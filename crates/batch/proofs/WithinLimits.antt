@@ -29,8 +29,8 @@ not_in_time base rs e all =
     let none : None ≡ Some (greatest (timestamps base rs)) = e ∙ latest_some base rs all in
     absurd cc
 
-pub bytes_of : (b : Batch) → length (batch_spelling b) ≡ 61 + length (records_spelling 0 b.records)
-bytes_of b = omega (arith, length-covered b, records_length b)
+pub spelling_length : (b : Batch) → length (batch_spelling b) ≡ 61 + length (records_spelling 0 b.records)
+spelling_length b = omega (arith, length-covered b, records_length b)
 
 fits_of : (b : Batch) (n : ℕ) → FitsSigned w64 b.base_offset → FitsSigned w32 b.leader_epoch → FitsSigned w64 b.producer_id → FitsSigned w16 b.producer_epoch → FitsSigned w32 b.base_sequence
     → 0 < length b.records → length b.records ≤ max_records → All RecordFits b.records → IsTimestamp b.base_timestamp × AllByRecursion IsTimestamp (timestamps b.base_timestamp b.records)
@@ -46,11 +46,11 @@ fits_of b n f1 f2 f3 f4 f5 some few records times e le = record {
   records = recursion_from_All RecordFits b.records records;
   base_timestamp = times.0;
   each_timestamp = times.1;
-  few_bytes = omega (arith, e, le, bytes_of b);
+  few_bytes = omega (arith, e, le, spelling_length b);
 }
 
 few_of : (b : Batch) (n : ℕ) → n ≡ length (records_spelling 0 b.records) → BatchFits b → 61 + n ≤ 1048576
-few_of b n e fits = omega (arith, e, bytes_of b, fits.few_bytes)
+few_of b n e fits = omega (arith, e, spelling_length b, fits.few_bytes)
 
 pub fits_iff : (b : Batch) (rs : List Record) (n : ℕ) → rs ≡ b.records → FitsSigned w64 b.base_offset → FitsSigned w32 b.leader_epoch → FitsSigned w64 b.producer_id → FitsSigned w16 b.producer_epoch → FitsSigned w32 b.base_sequence
     → 0 < length rs → length rs ≤ max_records → All RecordFits rs → IsTimestamp b.base_timestamp × AllByRecursion IsTimestamp (timestamps b.base_timestamp rs)

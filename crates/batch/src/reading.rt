@@ -29,7 +29,7 @@ fn with_front_of(length: i32) -> usize
 
 /// How many bytes the batch at the front takes.
 #[tactic(auto, unfolding(wire_spec::specs::BatchReading::size_at))]
-fn size_of(bytes: &[u8]) -> Result<usize, BatchFault>
+fn batch_size(bytes: &[u8]) -> Result<usize, BatchFault>
     ensures gives { result ≡ size_at bytes.now }
     ensures within { IfOk result (λ n. (61 ≤ n) × (n ≤ length bytes.now)) }
     ensures bytes { (i : ℕ) → slice_index bytes.now i < 256 }
@@ -172,7 +172,7 @@ fn batch_of(alloc: Global, mut bytes: Bytes) -> Result<(Batch, usize), BatchFaul
     ensures header { IfOk result (λ x. 61 ≤ x.1) }
     ensures bytes { (i : ℕ) → slice_index bytes i < 256 }
 {
-    let size = size_of(&bytes)?;
+    let size = batch_size(&bytes)?;
     bytes.truncate(size);
     let batch = whole_of(alloc, &bytes)?;
     Ok((batch, size))

@@ -7,11 +7,14 @@ use Rattle.std.proofs.lemmas.Int.{of_z-to_z}
 use Rattle.std.proofs.lemmas.Bool.{eqb-true, ne_eqb}
 use Rattle.machine_spec.specs.declared.instruction.Instruction.{Instruction}
 use Rattle.machine_spec.specs.declared.instruction.IsaFault.{IsaFault}
-use Rattle.machine_spec.specs.Image.{Fields, byte_at, fields_at, class_of, is_known, instruction_of, uses_of, has_registers, has_zeros, checked, read_slot, form_at, if_read, slot_after}
+use Rattle.machine_spec.specs.Opcodes.{Fields, uses_of}
+use Rattle.machine_spec.specs.Image.{byte_at, fields_at, read_slot, form_at, if_read, slot_after}
+use Rattle.machine_spec.proofs.Readings.{IsRead, read_parts}
+use Rattle.machine_spec.proofs.Slots.{slot_after_form}
 use Rattle.bpf_isa.specs.Code.{AreBytes}
 use Rattle.bpf_isa.specs.Spelling.{fields_bytes, spelling, HasRegisters}
-use Rattle.bpf_isa.proofs.Cases.{on_choice, zeros, numbers}
-use Rattle.bpf_isa.proofs.Fields.{IsSpelled, instruction_spelled}
+use Rattle.bpf_isa.proofs.Cases.{zeros, numbers}
+use Rattle.bpf_isa.proofs.Fields.{IsSpelled, filled_spelled}
 
 abbrev pub slot_bytes : List ℕ → ℕ → List ℕ
 slot_bytes image slot =
@@ -58,28 +61,12 @@ bytes_again image slot fits =
 
 -- ---- what was read
 
--- what an accepted slot has
-pub record IsRead (f : Fields) (i : Instruction) : Type 0 where
-  pub instruction : instruction_of f ≡ Some i
-  pub registers : has_registers (uses_of i) f ≡ true
-  pub unused : has_zeros (uses_of i) f ≡ true
-
 abbrev done : Instruction → Result Instruction IsaFault
 done i = Ok i
 
-checked_read : (slot : ℕ) (f : Fields) (o : Option Instruction) (i : Instruction) → instruction_of f ≡ o → checked slot f o ≡ done i → IsRead f i
-checked_read slot f None i is e =
-    on_choice (is_known f.opcode) _ _ (done i) (IsRead f i) e (λ _. λ e. absurd cc) (λ _. λ e. absurd cc)
-checked_read slot f (Some j) i is e =
-    on_choice (has_registers (uses_of j) f) _ _ (done i) (IsRead f i) e
-    (λ registers. λ e. on_choice (has_zeros (uses_of j) f) _ _ (done i) (IsRead f i) e
-    (λ unused. λ e. let same : j ≡ i = cc in rw (← same) (record { instruction = is; registers = registers; unused = unused }))
-    (λ _. λ e. absurd cc))
-    (λ _. λ e. absurd cc)
-
 pub slot_read : (image : List ℕ) (slot : ℕ) (i : Instruction) → read_slot image slot ≡ done i → IsRead (fields_at image slot) i
 unfolding read_slot
-slot_read image slot i e = checked_read slot (fields_at image slot) (instruction_of (fields_at image slot)) i refl e
+slot_read image slot i e = read_parts slot (fields_at image slot) i e
 
 pub form_read : (image : List ℕ) (slot : ℕ) (i : Instruction) → form_at image slot ≡ Some i → read_slot image slot ≡ done i
 form_read image slot i e =
@@ -93,23 +80,12 @@ same_bytes f i is = rw (is.opcode, is.dst, is.src, is.offset, is.imm) refl
 pub slot_spelled : (image : List ℕ) (slot : ℕ) (i : Instruction) → AreBytes image → read_slot image slot ≡ done i → slot_bytes image slot ≡ spelling i
 slot_spelled image slot i fits e =
     let read = slot_read image slot i e in
-    let is = instruction_spelled (fields_at image slot) i read.instruction (zeros (uses_of i) (fields_at image slot) read.unused) in
-    sym (bytes_again image slot fits) ∙ same_bytes (fields_at image slot) i is
-
--- no opcode of the profile is that of a 64-bit immediate
-class_some : (f : Fields) (i : Instruction) → instruction_of f ≡ Some i → 1 ≤ class_of f.opcode
-unfolding instruction_of
-class_some f i e =
-    on_choice (eqb (class_of f.opcode) 1) _ _ (Some i) (1 ≤ class_of f.opcode) e (λ is. λ _. omega (arith, eqb-true (class_of f.opcode) 1 is))
-    (λ _. λ e. on_choice (eqb (class_of f.opcode) 5) _ _ (Some i) (1 ≤ class_of f.opcode) e (λ is. λ _. omega (arith, eqb-true (class_of f.opcode) 5 is))
-    (λ _. λ e. on_choice (eqb (class_of f.opcode) 7) _ _ (Some i) (1 ≤ class_of f.opcode) e (λ is. λ _. omega (arith, eqb-true (class_of f.opcode) 7 is))
-    (λ _. λ e. absurd cc)))
+    let f = fields_at image slot in
+    let is = filled_spelled f read.template i read.opcode read.is_filled (zeros (uses_of read.template) f read.zeros) in
+    sym (bytes_again image slot fits) ∙ same_bytes f i is
 
 pub next_slot : (image : List ℕ) (slot : ℕ) (i : Instruction) → read_slot image slot ≡ done i → slot_after image slot ≡ slot + 1
-next_slot image slot i e =
-    let some = class_some (fields_at image slot) i (slot_read image slot i e).instruction in
-    let other : eqb (byte_at image slot 0) 0x18 ≡ false = ne_eqb _ _ (λ is. let low : byte_at image slot 0 % 8 ≡ 0 = ap (λ (n : ℕ). n % 8) is in omega (arith, some)) in
-    rw other refl
+next_slot image slot i e = slot_after_form image slot i (ap if_read e)
 
 -- ---- the bytes from a slot on
 
@@ -138,10 +114,11 @@ pub slot_registers : (image : List ℕ) (slot : ℕ) (i : Instruction) → read_
 slot_registers image slot i e =
     let f = fields_at image slot in
     let read = slot_read image slot i e in
-    let high = numbers (uses_of i) f read.registers in
-    let low = zeros (uses_of i) f read.unused in
-    let is = instruction_spelled f i read.instruction low in
+    let uses = uses_of read.template in
+    let high = numbers uses f read.registers in
+    let low = zeros uses f read.zeros in
+    let is = filled_spelled f read.template i read.opcode read.is_filled low in
     record {
-      dst = rw (← is.dst) (number_below (uses_of i).dst f.dst high.dst low.dst);
-      src = rw (← is.src) (number_below (uses_of i).src f.src high.src low.src);
+      dst = rw (← is.dst) (number_below uses.dst f.dst high.dst low.dst);
+      src = rw (← is.src) (number_below uses.src f.src high.src low.src);
     }

@@ -1,7 +1,7 @@
 -- Choices, one test after the other.
 use Rattle.std.proofs.Common.{◌≡◌, ℕ, ◌≤◌, Bool, true, false, ◌&&◌, ◌||◌, cond, eqb, ℤ, pos, negsuc, zero, suc, refl}
 use Rattle.std.proofs.lemmas.Bool.{and_parts, eqb-true, leb-true}
-use Rattle.machine_spec.specs.Image.{Fields, Uses, is_zero, has_register, has_registers, has_zeros}
+use Rattle.machine_spec.specs.Opcodes.{Fields, Uses, is_zero, has_register, has_registers, has_zeros}
 
 -- what follows from a choice follows on both ways
 pub on_choice : {A : Type 0} (b : Bool) (x y z : A) (P : Type 0) → cond b x y ≡ z → (b ≡ true → x ≡ z → P) → (b ≡ false → y ≡ z → P) → P

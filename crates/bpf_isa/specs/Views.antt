@@ -1,7 +1,7 @@
 -- The parts of a slot as the definitions of images name them.
 use Rattle.bpf_isa.specs.declared.slot.SlotFields.{SlotFields}
 use Rattle.bpf_isa.specs.declared.form.UsedFields.{UsedFields}
-use Rattle.machine_spec.specs.Image.{Fields, Uses}
+use Rattle.machine_spec.specs.Opcodes.{Fields, Uses}
 
 abbrev pub view : SlotFields → Fields
 view f = record { opcode = f.opcode; dst = f.dst; src = f.src; offset = f.offset; imm = f.imm }

@@ -8,74 +8,10 @@ ghost use Rattle.bpf_isa.specs.Spelling.{spelled_fields, fields_bytes, spelling,
 ghost use Rattle.bpf_isa.specs.Views.{view};
 
 use crate::code::Code;
+use crate::opcode::opcode_of;
 use crate::slot::SlotFields;
-use machine_spec::{Instruction, Operation, Size, Source, Test, Width};
+use machine_spec::{Instruction, Source};
 use std::alloc::{AllocError, Global};
-
-fn operation_code(operation: Operation) -> u8
-    ensures is { result ≡ spells.operation_code operation }
-    ensures is_small { result ≤ 13 }
-{
-    match operation {
-        Operation::Add => 0,
-    }
-}
-
-fn test_code(test: Test) -> u8
-    ensures is { result ≡ spells.test_code test }
-    ensures is_small { result ≤ 13 }
-{
-    match test {
-        Test::Equal => 1,
-        Test::Greater => 2,
-        Test::GreaterOrEqual => 3,
-        Test::NotEqual => 5,
-        Test::Less => 10,
-        Test::LessOrEqual => 11,
-    }
-}
-
-fn source_bit(source: Source) -> u8
-    ensures is { result ≡ spells.source_bit source }
-    ensures is_small { result ≤ 8 }
-{
-    match source {
-        Source::Register(_) => 8,
-        Source::Immediate(_) => 0,
-    }
-}
-
-/// An opcode of the arithmetic classes, by its code.
-fn arithmetic_opcode(width: Width, code: u8, source: Source) -> u8
-    requires { code ≤ 13 }
-    ensures { result ≡ spells.opcode_of code (spells.source_bit source) (spells.arithmetic_class width) }
-{
-    let class = match width {
-        Width::Bits64 => 7,
-    };
-    16 * code + (source_bit(source) + class)
-}
-
-/// An opcode of the conditional jumps.
-fn jump_opcode(width: Width, test: Test, source: Source) -> u8
-    ensures { result ≡ spells.opcode_of (spells.test_code test) (spells.source_bit source) (spells.jump_class width) }
-{
-    let class = match width {
-        Width::Bits64 => 5,
-    };
-    16 * test_code(test) + (source_bit(source) + class)
-}
-
-fn load_opcode(size: Size) -> u8
-    ensures { result ≡ spells.load_opcode size }
-{
-    match size {
-        Size::Word => 0x61,
-        Size::Half => 0x69,
-        Size::Byte => 0x71,
-        Size::Double => 0x79,
-    }
-}
 
 /// The fields of an instruction with a second operand.
 fn operand_fields(opcode: u8, dst: u8, source: Source, offset: i16) -> SlotFields
@@ -103,22 +39,18 @@ fn operand_fields(opcode: u8, dst: u8, source: Source, offset: i16) -> SlotField
 fn fields(instruction: Instruction) -> SlotFields
     ensures { view result ≡ spelled_fields instruction }
 {
+    let opcode = opcode_of(instruction);
     match instruction {
-        Instruction::Move(width, dst, source) => {
-            operand_fields(arithmetic_opcode(width, 11, source), dst, source, 0)
+        Instruction::Move(_, dst, source) => operand_fields(opcode, dst, source, 0),
+        Instruction::Compute(_, _, dst, source) => operand_fields(opcode, dst, source, 0),
+        Instruction::Load(_, dst, base, offset) => {
+            operand_fields(opcode, dst, Source::Register(base), offset)
         }
-        Instruction::Compute(width, operation, dst, source) => {
-            let opcode = arithmetic_opcode(width, operation_code(operation), source);
-            operand_fields(opcode, dst, source, 0)
+        Instruction::JumpIf(_, _, dst, source, offset) => {
+            operand_fields(opcode, dst, source, offset)
         }
-        Instruction::Load(size, dst, base, offset) => {
-            operand_fields(load_opcode(size), dst, Source::Register(base), offset)
-        }
-        Instruction::JumpIf(width, test, dst, source, offset) => {
-            operand_fields(jump_opcode(width, test, source), dst, source, offset)
-        }
-        Instruction::Call(number) => operand_fields(0x85, 0, Source::Immediate(number), 0),
-        Instruction::Exit => operand_fields(0x95, 0, Source::Immediate(0), 0),
+        Instruction::Call(number) => operand_fields(opcode, 0, Source::Immediate(number), 0),
+        Instruction::Exit => operand_fields(opcode, 0, Source::Immediate(0), 0),
     }
 }
 

@@ -1,7 +1,7 @@
-//! Which fields an instruction uses, and what the others hold.
+//! Which fields an instruction uses, and the instruction that a template makes of them.
 
 ghost use Rattle.std.specs.Prelude.{◌≡◌};
-ghost use Rattle.machine_spec.specs.Image as image;
+ghost use Rattle.machine_spec.specs.Opcodes as definitions;
 ghost use Rattle.bpf_isa.specs.Views.{view, view_uses};
 
 use crate::slot::SlotFields;
@@ -17,7 +17,7 @@ pub struct UsedFields {
 }
 
 fn source_uses(source: Source, offset: bool) -> UsedFields
-    ensures { view_uses result ≡ image.uses_source source offset }
+    ensures { view_uses result ≡ definitions.uses_source source offset }
 {
     match source {
         Source::Register(_) => UsedFields {
@@ -37,7 +37,7 @@ fn source_uses(source: Source, offset: bool) -> UsedFields
 
 /// The fields that an instruction uses.
 pub fn uses(instruction: Instruction) -> UsedFields
-    ensures { view_uses result ≡ image.uses_of instruction }
+    ensures { view_uses result ≡ definitions.uses_of instruction }
 {
     match instruction {
         Instruction::Move(_, _, source) => source_uses(source, false),
@@ -66,17 +66,48 @@ pub fn uses(instruction: Instruction) -> UsedFields
 
 /// Whether the register fields that are used name r0 to r10.
 pub fn has_registers(uses: UsedFields, fields: SlotFields) -> bool
-    ensures { result ≡ image.has_registers (view_uses uses) (view fields) }
+    ensures { result ≡ definitions.has_registers (view_uses uses) (view fields) }
 {
     (!uses.dst || fields.dst <= 10) && (!uses.src || fields.src <= 10)
 }
 
 /// Whether the fields that are not used are 0.
 pub fn has_zeros(uses: UsedFields, fields: SlotFields) -> bool
-    ensures { result ≡ image.has_zeros (view_uses uses) (view fields) }
+    ensures { result ≡ definitions.has_zeros (view_uses uses) (view fields) }
 {
     (uses.dst || fields.dst == 0)
         && (uses.src || fields.src == 0)
         && (uses.offset || fields.offset == 0)
         && (uses.imm || fields.imm == 0)
+}
+
+fn filled_source(source: Source, fields: SlotFields) -> Source
+    ensures { result ≡ definitions.filled_source source (view fields) }
+{
+    match source {
+        Source::Register(_) => Source::Register(fields.src),
+        Source::Immediate(_) => Source::Immediate(fields.imm),
+    }
+}
+
+/// A template with these fields in place of its own, if they stand for an instruction.
+pub fn filled(template: Instruction, fields: SlotFields) -> Option<Instruction>
+    ensures { result ≡ definitions.filled template (view fields) }
+{
+    let dst = fields.dst;
+    let offset = fields.offset;
+    Some(match template {
+        Instruction::Move(width, _, source) => {
+            Instruction::Move(width, dst, filled_source(source, fields))
+        }
+        Instruction::Compute(width, operation, _, source) => {
+            Instruction::Compute(width, operation, dst, filled_source(source, fields))
+        }
+        Instruction::Load(size, _, _, _) => Instruction::Load(size, dst, fields.src, offset),
+        Instruction::JumpIf(width, test, _, source, _) => {
+            Instruction::JumpIf(width, test, dst, filled_source(source, fields), offset)
+        }
+        Instruction::Call(_) => Instruction::Call(fields.imm),
+        Instruction::Exit => Instruction::Exit,
+    })
 }

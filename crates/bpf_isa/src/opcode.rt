@@ -1,132 +1,162 @@
-//! Which instruction an opcode stands for (RFC 9669, sections 3.3 to 5).
+//! Opcodes (RFC 9669, sections 3.3 to 5): that of each instruction, and the instruction of each.
 
-ghost use Rattle.std.specs.Prelude.{◌≡◌};
-ghost use Rattle.machine_spec.specs.Image as image;
+ghost use Rattle.std.specs.Prelude.{◌≡◌, ◌≤◌, ◌==◌, find};
+ghost use Rattle.machine_spec.specs.Opcodes as definitions;
+ghost use Rattle.machine_spec.specs.Opcodes.{opcode_of};
 ghost use Rattle.bpf_isa.specs.Views.{view};
 
 use crate::slot::SlotFields;
-use machine_spec::{Instruction, Operation, Size, Source, Test, Width};
+use machine_spec::{Instruction, Operation, Size, Source, TEMPLATES, Test, Width};
+
+fn arithmetic_class(width: Width) -> u8
+    ensures is { result ≡ definitions.arithmetic_class width }
+    ensures is_small { result ≤ 7 }
+{
+    match width {
+        Width::Bits64 => 7,
+    }
+}
+
+fn jump_class(width: Width) -> u8
+    ensures is { result ≡ definitions.jump_class width }
+    ensures is_small { result ≤ 7 }
+{
+    match width {
+        Width::Bits64 => 5,
+    }
+}
+
+fn operation_code(operation: Operation) -> u8
+    ensures is { result ≡ definitions.operation_code operation }
+    ensures is_small { result ≤ 13 }
+{
+    match operation {
+        Operation::Add => 0,
+    }
+}
+
+fn test_code(test: Test) -> u8
+    ensures is { result ≡ definitions.test_code test }
+    ensures is_small { result ≤ 13 }
+{
+    match test {
+        Test::Equal => 1,
+        Test::Greater => 2,
+        Test::GreaterOrEqual => 3,
+        Test::NotEqual => 5,
+        Test::Less => 10,
+        Test::LessOrEqual => 11,
+    }
+}
+
+fn size_bits(size: Size) -> u8
+    ensures is { result ≡ definitions.size_bits size }
+    ensures is_small { result ≤ 24 }
+{
+    match size {
+        Size::Word => 0,
+        Size::Half => 8,
+        Size::Byte => 16,
+        Size::Double => 24,
+    }
+}
+
+fn source_bit(source: Source) -> u8
+    ensures is { result ≡ definitions.source_bit source }
+    ensures is_small { result ≤ 8 }
+{
+    match source {
+        Source::Register(_) => 8,
+        Source::Immediate(_) => 0,
+    }
+}
+
+fn coded(code: u8, source: Source, class: u8) -> u8
+    requires code { code ≤ 13 }
+    requires class { class ≤ 7 }
+    ensures { result ≡ definitions.coded code source class }
+{
+    16 * code + (source_bit(source) + class)
+}
+
+/// The opcode of an instruction, whatever its fields.
+pub fn opcode_of(instruction: Instruction) -> u8
+    ensures { result ≡ opcode_of instruction }
+{
+    match instruction {
+        Instruction::Move(width, _, source) => coded(11, source, arithmetic_class(width)),
+        Instruction::Compute(width, operation, _, source) => {
+            coded(operation_code(operation), source, arithmetic_class(width))
+        }
+        Instruction::Load(size, _, _, _) => 0x61 + size_bits(size),
+        Instruction::JumpIf(width, test, _, source, _) => {
+            coded(test_code(test), source, jump_class(width))
+        }
+        Instruction::Call(_) => 0x85,
+        Instruction::Exit => 0x95,
+    }
+}
+
+/// The first of some instructions that has an opcode.
+fn first_with(opcode: u8, instructions: &[Instruction]) -> Option<Instruction>
+    ensures { result ≡ find (λ template. opcode_of template == opcode) instructions.now }
+{
+    for template in instructions {
+        if opcode_of(*template) == opcode {
+            return Some(*template);
+        }
+    }
+    None
+}
+
+/// Whether it is a call or a 64-bit immediate of another kind than the profile's.
+fn is_other_kind(fields: SlotFields) -> bool
+    ensures { result ≡ definitions.is_other_kind (view fields) }
+{
+    (fields.opcode == 0x18 || fields.opcode == 0x85) && fields.src != 0
+}
+
+/// The profile's instruction with the opcode of some fields, with 0 in its own.
+#[tactic(auto, unfolding(machine_spec::specs::Opcodes::template_of))]
+pub fn template_of(fields: SlotFields) -> Option<Instruction>
+    ensures { result ≡ definitions.template_of (view fields) }
+{
+    if is_other_kind(fields) {
+        None
+    } else {
+        first_with(fields.opcode, &TEMPLATES)
+    }
+}
 
 fn has_register_source(opcode: u8) -> bool
-    ensures { result ≡ image.has_register_source opcode }
+    ensures { result ≡ definitions.has_register_source opcode }
 {
     opcode / 8 % 2 == 1
 }
 
-fn source(fields: SlotFields) -> Source
-    ensures { result ≡ image.source_of (view fields) }
-{
-    if has_register_source(fields.opcode) {
-        Source::Register(fields.src)
-    } else {
-        Source::Immediate(fields.imm)
-    }
-}
-
-/// Class 1: loads.
-fn load(fields: SlotFields) -> Option<Instruction>
-    ensures { result ≡ image.load_of (view fields) }
-{
-    match fields.opcode {
-        0x61 => Some(Instruction::Load(Size::Word, fields.dst, fields.src, fields.offset)),
-        0x69 => Some(Instruction::Load(Size::Half, fields.dst, fields.src, fields.offset)),
-        0x71 => Some(Instruction::Load(Size::Byte, fields.dst, fields.src, fields.offset)),
-        0x79 => Some(Instruction::Load(Size::Double, fields.dst, fields.src, fields.offset)),
-        _ => None,
-    }
-}
-
-/// The test of a conditional jump, by the code in its opcode.
-fn test(code: u8) -> Option<Test>
-    ensures { result ≡ image.test_of code }
-{
-    match code {
-        1 => Some(Test::Equal),
-        2 => Some(Test::Greater),
-        3 => Some(Test::GreaterOrEqual),
-        5 => Some(Test::NotEqual),
-        10 => Some(Test::Less),
-        11 => Some(Test::LessOrEqual),
-        _ => None,
-    }
-}
-
-/// A conditional jump by an immediate.
-fn jump_if(fields: SlotFields) -> Option<Instruction>
-    ensures { result ≡ image.jump_by (view fields) (image.test_of (image.code_of fields.opcode)) }
-{
-    let test = test(fields.opcode / 16)?;
-    let source = Source::Immediate(fields.imm);
-    Some(Instruction::JumpIf(Width::Bits64, test, fields.dst, source, fields.offset))
-}
-
-/// Class 5: jumps, calls and the exit.
-fn jump(fields: SlotFields) -> Option<Instruction>
-    ensures { result ≡ image.jump_of (view fields) }
-{
-    if fields.opcode == 0x85 {
-        if fields.src == 0 {
-            Some(Instruction::Call(fields.imm))
-        } else {
-            None
-        }
-    } else if fields.opcode == 0x95 {
-        Some(Instruction::Exit)
-    } else if has_register_source(fields.opcode) {
-        None
-    } else {
-        jump_if(fields)
-    }
-}
-
-/// Class 7: 64-bit arithmetic.
-fn arithmetic(fields: SlotFields) -> Option<Instruction>
-    ensures { result ≡ image.arithmetic_of (view fields) }
-{
-    let source = source(fields);
-    match fields.opcode / 16 {
-        0 => Some(Instruction::Compute(Width::Bits64, Operation::Add, fields.dst, source)),
-        11 => Some(Instruction::Move(Width::Bits64, fields.dst, source)),
-        _ => None,
-    }
-}
-
-/// The instruction with these fields, if its opcode is of the profile.
-#[tactic(auto, unfolding(machine_spec::specs::Image::instruction_of))]
-pub fn instruction(fields: SlotFields) -> Option<Instruction>
-    ensures { result ≡ image.instruction_of (view fields) }
-{
-    match fields.opcode % 8 {
-        1 => load(fields),
-        5 => jump(fields),
-        7 => arithmetic(fields),
-        _ => None,
-    }
-}
-
 fn is_one_of(opcodes: &[u8], opcode: u8) -> bool
-    ensures { result ≡ image.is_one_of opcodes.now opcode }
+    ensures { result ≡ definitions.is_one_of opcodes.now opcode }
 {
     opcodes.iter().any(|known| *known == opcode)
 }
 
 fn is_arithmetic(opcode: u8) -> bool
-    ensures { result ≡ image.is_arithmetic opcode }
+    ensures { result ≡ definitions.is_arithmetic opcode }
 {
     let code = opcode / 16;
     code <= 12 && !(code == 8 && has_register_source(opcode))
 }
 
 fn is_conditional(opcode: u8) -> bool
-    ensures { result ≡ image.is_conditional opcode }
+    ensures { result ≡ definitions.is_conditional opcode }
 {
     matches!(opcode / 16, 1..=7 | 10..=13)
 }
 
 /// Whether a table of RFC 9669 has the opcode, be it of the profile or not.
-#[tactic(auto, unfolding(machine_spec::specs::Image::is_known))]
+#[tactic(auto, unfolding(machine_spec::specs::Opcodes::is_known))]
 pub fn is_known(opcode: u8) -> bool
-    ensures { result ≡ image.is_known opcode }
+    ensures { result ≡ definitions.is_known opcode }
 {
     match opcode % 8 {
         0 => is_one_of(&[0x18, 0x20, 0x28, 0x30, 0x40, 0x48, 0x50], opcode),

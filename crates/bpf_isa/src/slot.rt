@@ -33,37 +33,41 @@ fn fields(image: &[u8], slot: usize) -> SlotFields
     }
 }
 
-/// The instruction with these fields at a slot, or the first thing that is wrong with them.
+/// The instruction that a template makes of the fields of a slot, or the first thing that is wrong
+/// with them.
 fn accepted(
     slot: usize,
     fields: SlotFields,
-    instruction: Option<Instruction>,
+    template: Option<Instruction>,
 ) -> Result<Instruction, IsaFault>
-    ensures { result ≡ checked slot (view fields) instruction }
+    ensures { result ≡ checked slot (view fields) template }
 {
-    let Some(instruction) = instruction else {
+    let Some(template) = template else {
         return Err(if opcode::is_known(fields.opcode) {
             IsaFault::NotInProfile(slot)
         } else {
             IsaFault::Opcode(slot)
         });
     };
-    let uses = form::uses(instruction);
+    let uses = form::uses(template);
     if !form::has_registers(uses, fields) {
         return Err(IsaFault::Register(slot));
     }
     if !form::has_zeros(uses, fields) {
         return Err(IsaFault::Unused(slot));
     }
-    Ok(instruction)
+    match form::filled(template, fields) {
+        Some(instruction) => Ok(instruction),
+        None => Err(IsaFault::Unused(slot)),
+    }
 }
 
 /// The instruction at a slot, or why there is none.
-#[tactic(auto, unfolding(machine_spec::specs::Image::read_slot))]
+#[tactic(auto, unfolding(machine_spec::specs::Image::read_slot, machine_spec::specs::Image::read_fields))]
 pub fn read(image: &[u8], slot: usize) -> Result<Instruction, IsaFault>
     requires { slot < slot_count image.now }
     ensures { result ≡ read_slot image.now slot }
 {
     let fields = fields(image, slot);
-    accepted(slot, fields, opcode::instruction(fields))
+    accepted(slot, fields, opcode::template_of(fields))
 }

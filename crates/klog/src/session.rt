@@ -4,7 +4,7 @@ ghost use Rattle.std.specs.Prelude.{◌≡◌, ◌≢◌, ◌<◌, ◌≤◌, �
 ghost use Rattle.std.specs.IoError.{error_kind};
 ghost use Rattle.std.specs.declared.io.ErrorKind.TheVariants.{OutOfMemory};
 ghost use Rattle.klog.specs.declared.session.Unread.TheVariants as unread;
-ghost use Rattle.script.specs.Faults.{size_of, is_in_range};
+ghost use Rattle.script.specs.Faults.{text_size, is_in_range};
 ghost use Rattle.log_spec.specs.Logs.{FitsLog};
 ghost use Rattle.log_spec.specs.Worlds.{FitsEvent};
 
@@ -21,7 +21,7 @@ use std::alloc::{AllocError, Global};
 use std::collections::BTreeMap;
 use std::io;
 use std::io::{Read, Write};
-use wire_spec::Batch;
+use wire_spec::{Batch, MAX_KEY, MAX_VALUE, TIMESTAMP_END};
 
 /// What a script has done so far: its core, once `partitions` made it, and the last version that
 /// each name was loaded as.
@@ -204,9 +204,9 @@ impl Session {
         key: Option<Bytes>,
         value: Option<Bytes>,
     ) -> Result<(), Stop>
-        requires timestamp { timestamp < 2 ^ 62 }
-        requires key { size_of key ≤ 4096 }
-        requires value { size_of value ≤ 65536 }
+        requires timestamp { timestamp < TIMESTAMP_END }
+        requires key { text_size key ≤ MAX_KEY }
+        requires value { text_size value ≤ MAX_VALUE }
     {
         let batch = batch_of(self.alloc, timestamp, key, value)?;
         self.append(stdout, input, batch)

@@ -1,7 +1,7 @@
 -- What loading an image answers.
 use Rattle.std.specs.Prelude.{◌≡◌, ℕ, List, Option, None, Result, Ok, Err}
-use Rattle.log_spec.specs.declared.event.LoadFault.{LoadFault}
-use Rattle.log_spec.specs.Catalogue.{load_fault}
+use Rattle.verifier_spec.specs.declared.fault.LoadFault.{LoadFault}
+use Rattle.verifier_spec.specs.Loading.{load_fault}
 use Rattle.annotate.specs.Loads.{FaultIs}
 
 -- a program is accepted, or its refusal is told

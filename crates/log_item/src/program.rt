@@ -4,11 +4,11 @@ ghost use Rattle.machine_spec.specs.Meaning.{IsPlace, Means};
 ghost use Rattle.verifier_spec.specs.StandsFor.{IsWithinLimits};
 
 use bytes::Bytes;
-use log_spec::LoadFault;
 use machine_spec::{IsaFault, Outcome, Place};
 use notes::Verified;
 use std::alloc::{AllocError, Global};
 use std::marker::Model;
+use verifier_spec::LoadFault;
 use wire_spec::Record;
 
 /// A program that the verifier accepted, with its image. A clause sees the image.
@@ -43,7 +43,7 @@ impl Program {
     pub fn run(&self, alloc: Global, given: &Record, place: &Place) -> Result<Outcome, AllocError>
         requires limits { IsWithinLimits (record { given = given.now; place = place.now }) }
         requires place { IsPlace place.now }
-        ensures { IfOk result (λ outcome. (n : ℕ) × Means self.now (record { given = given.now; place = place.now }) outcome n) }
+        ensures { IfOk result (λ outcome. (n : ℕ) × Means (record { image = self.now }) (record { given = given.now; place = place.now }) outcome n) }
     {
         exec::run(alloc, &self.verified, given, place)
     }

@@ -1,15 +1,9 @@
 -- The catalogue: the images that were loaded, by name.
-use Rattle.std.specs.Prelude.{ℕ, zero, suc, ◌-◌, ◌^◌, Bool, ◌==◌, ◌&&◌, ◌||◌, not, nat_le, if◌then◌else◌, List, [], ◌∷◌, ◌++◌, length, slice_get, Option, Some, None, Result, Ok, Err}
+use Rattle.std.specs.Prelude.{ℕ, zero, suc, ◌-◌, ◌^◌, Bool, ◌==◌, ◌&&◌, ◌||◌, not, nat_le, if◌then◌else◌, List, [], ◌∷◌, ◌++◌, length, slice_get, Option, Some, None}
 use Rattle.std.specs.List.{list_all, list_any}
 use Rattle.std.specs.Str.{bytes_eq}
-use Rattle.machine_spec.specs.declared.instruction.IsaFault.{IsaFault}
-use Rattle.machine_spec.specs.declared.instruction.Placed.{Placed}
-use Rattle.machine_spec.specs.Image.{read_image}
-use Rattle.verifier_spec.specs.declared.fault.VerifyFault.{VerifyFault}
-use Rattle.verifier_spec.specs.Annotation.{fault_of}
-use Rattle.verifier_spec.specs.Forward.{passed_on}
-use Rattle.log_spec.specs.declared.event.LoadFault.{LoadFault}
-use Rattle.log_spec.specs.declared.event.LoadFault.TheVariants.{Isa, Verify}
+use Rattle.verifier_spec.specs.declared.fault.LoadFault.{LoadFault}
+use Rattle.verifier_spec.specs.Loading.{load_fault}
 use Rattle.log_spec.specs.declared.event.Refusal.{Refusal}
 use Rattle.log_spec.specs.declared.event.Refusal.TheVariants as refusal
 
@@ -51,18 +45,6 @@ is_name name = nat_le 1 (length name) && (nat_le (length name) 32 && list_all is
 
 abbrev pub most_names : ℕ
 most_names = 64
-
-abbrev pub verify_fault : Option VerifyFault → Option LoadFault
-verify_fault (Some fault) = Some (Verify fault)
-verify_fault None = None
-
-abbrev pub code_fault : Result (List Placed) IsaFault → Option LoadFault
-code_fault (Ok code) = verify_fault (fault_of code (passed_on code))
-code_fault (Err fault) = Some (Isa fault)
-
--- Why an image is no program that is accepted: it does not decode, or the notes that one pass finds are no annotation.
-unfoldable pub load_fault : List ℕ → Option LoadFault
-load_fault image = code_fault (read_image image)
 
 abbrev pub refused_load : Option LoadFault → Option Refusal
 refused_load (Some fault) = Some (refusal.Load fault)

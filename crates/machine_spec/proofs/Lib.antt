@@ -1,3 +1,4 @@
+pub mod Readings
 pub mod Meanings
 pub mod Results
 pub mod Runs

@@ -1,18 +1,20 @@
 -- Runs of small programs, worked out by computing: what the definitions say of them is what a reader expects.
-use Rattle.std.proofs.Common.{◌≡◌, ◌≢◌, ℕ, zero, suc, ◌+◌, List, [], ◌∷◌, ◌++◌, map, Option, Some, None, Err, refl, subst, pos}
+use Rattle.std.proofs.Common.{◌≡◌, ◌≢◌, ℕ, zero, suc, ◌+◌, Bool, true, false, List, [], ◌∷◌, ◌++◌, map, Option, Some, None, Err, refl, ap, subst, pos}
 use Rattle.machine_spec.specs.declared.instruction.Instruction.{Instruction}
-use Rattle.machine_spec.specs.declared.instruction.Instruction.TheVariants.{Move, Compute, Load, JumpIf, Call, Exit}
+use Rattle.machine_spec.specs.declared.instruction.Instruction.TheVariants.{Exit}
 use Rattle.machine_spec.specs.declared.instruction.Trap.{Trap}
 use Rattle.machine_spec.specs.declared.instruction.Trap.TheVariants as trap
 use Rattle.machine_spec.specs.declared.instruction.IsaFault.TheVariants as fault
 use Rattle.machine_spec.specs.declared.outcome.Emission.{Emission}
 use Rattle.machine_spec.specs.declared.outcome.Outcome.{Outcome}
 use Rattle.machine_spec.specs.declared.outcome.Outcome.TheVariants.{Kept, Rejected}
-use Rattle.machine_spec.specs.Image.{form_at, read_slot, instruction_of, is_known, first_slots, read_image}
+use Rattle.machine_spec.specs.Opcodes.{template_of, is_known}
+use Rattle.machine_spec.specs.Image.{Program, form_at, read_slot, read_fields, first_slots, read_image}
+use Rattle.machine_spec.specs.Summaries.{summary_of}
 use Rattle.machine_spec.specs.Machine.{Input, State, entry, after}
 use Rattle.machine_spec.specs.Traps.{trap_at}
 use Rattle.machine_spec.specs.Meaning.{Reaches, Means, IsTrapped, outcome_of}
-use Rattle.machine_spec.proofs.Meanings.{step_on}
+use Rattle.machine_spec.proofs.Meanings.{exit_is, other_than_exit, step_on}
 
 -- ---- computing a run
 
@@ -24,18 +26,17 @@ pub data Turn : Type 0 where
   Trapped : Trap → Turn
   Lost : Turn
 
+abbrev turn_at : Bool → Input → State → Instruction → Turn
+turn_at true input s i = Ends (outcome_of (s.registers 0) s.emitted)
+turn_at false input s i = Goes (after i input s)
+
 abbrev turn_by : Input → State → Option Trap → Option Instruction → Turn
 turn_by input s (Some told) form = Trapped told
 turn_by input s None None = Lost
-turn_by input s None (Some Exit) = Ends (outcome_of (s.registers 0) s.emitted)
-turn_by input s None (Some (Move a b c)) = Goes (after (Move a b c) input s)
-turn_by input s None (Some (Compute a b c d)) = Goes (after (Compute a b c d) input s)
-turn_by input s None (Some (Load a b c d)) = Goes (after (Load a b c d) input s)
-turn_by input s None (Some (JumpIf a b c d e)) = Goes (after (JumpIf a b c d e) input s)
-turn_by input s None (Some (Call a)) = Goes (after (Call a) input s)
+turn_by input s None (Some i) = turn_at (summary_of i).exits input s i
 
-abbrev turn : List ℕ → Input → State → Turn
-turn image input s = turn_by input s (trap_at image input s) (form_at image s.slot)
+abbrev turn : Program → Input → State → Turn
+turn program input s = turn_by input s (trap_at program input s) (form_at program.image s.slot)
 
 -- how a run ends, with the number of instructions that it completed
 pub data End : Type 0 where
@@ -49,87 +50,85 @@ run_by on n (Trapped told) = Some (Stopped told n)
 run_by on n Lost = None
 
 -- the end of a run from a state that is reached after n steps, if it has at most so many turns
-abbrev run_from : ℕ → List ℕ → Input → ℕ → State → Option End
-run_from zero image input n s = None
-run_from (suc turns) image input n s = run_by (run_from turns image input (n + 1)) n (turn image input s)
+abbrev run_from : ℕ → Program → Input → ℕ → State → Option End
+run_from zero program input n s = None
+run_from (suc turns) program input n s = run_by (run_from turns program input (n + 1)) n (turn program input s)
 
 abbrev pub run : ℕ → List ℕ → Input → Option End
-run turns image input = run_from turns image input 0 (entry input)
+run turns image input = run_from turns (record { image = image }) input 0 (entry input)
 
 -- ---- what is computed is what the program means
+
+ends_at : (exits : Bool) (input : Input) (s : State) (i : Instruction) (outcome : Outcome) → (summary_of i).exits ≡ exits → turn_at exits input s i ≡ Ends outcome
+    → (i ≡ Exit) × (outcome ≡ outcome_of (s.registers 0) s.emitted)
+ends_at true input s i outcome is e = (exit_is i is, cc)
+ends_at false input s i outcome is e = absurd cc
 
 ends_by : (input : Input) (s : State) (t : Option Trap) (form : Option Instruction) (outcome : Outcome) → turn_by input s t form ≡ Ends outcome
     → (t ≡ None) × (form ≡ Some Exit) × (outcome ≡ outcome_of (s.registers 0) s.emitted)
 ends_by input s (Some told) form outcome e = absurd cc
 ends_by input s None None outcome e = absurd cc
-ends_by input s None (Some Exit) outcome e = (refl, refl, cc)
-ends_by input s None (Some (Move a b c)) outcome e = absurd cc
-ends_by input s None (Some (Compute a b c d)) outcome e = absurd cc
-ends_by input s None (Some (Load a b c d)) outcome e = absurd cc
-ends_by input s None (Some (JumpIf a b c d f)) outcome e = absurd cc
-ends_by input s None (Some (Call a)) outcome e = absurd cc
+ends_by input s None (Some i) outcome e = let end = ends_at (summary_of i).exits input s i outcome refl e in (refl, ap Some end.0, end.1)
+
+never_trapped : (exits : Bool) (input : Input) (s : State) (i : Instruction) (told : Trap) → turn_at exits input s i ≡ Trapped told → ⊥
+never_trapped true input s i told e = cc
+never_trapped false input s i told e = cc
 
 trapped_by : (input : Input) (s : State) (t : Option Trap) (form : Option Instruction) (told : Trap) → turn_by input s t form ≡ Trapped told → t ≡ Some told
 trapped_by input s (Some other) form told e = cc
 trapped_by input s None None told e = absurd cc
-trapped_by input s None (Some Exit) told e = absurd cc
-trapped_by input s None (Some (Move a b c)) told e = absurd cc
-trapped_by input s None (Some (Compute a b c d)) told e = absurd cc
-trapped_by input s None (Some (Load a b c d)) told e = absurd cc
-trapped_by input s None (Some (JumpIf a b c d f)) told e = absurd cc
-trapped_by input s None (Some (Call a)) told e = absurd cc
+trapped_by input s None (Some i) told e = absurd (never_trapped (summary_of i).exits input s i told e)
 
 -- an instruction other than EXIT, and the state after it
 abbrev GoesOn : Input → State → Option Trap → Option Instruction → State → Type 0
 GoesOn input s t form next = (i : Instruction) × (t ≡ None) × (form ≡ Some i) × (i ≢ Exit) × (after i input s ≡ next)
 
+goes_at : (exits : Bool) (input : Input) (s : State) (i : Instruction) (next : State) → (summary_of i).exits ≡ exits → turn_at exits input s i ≡ Goes next → (i ≢ Exit) × (after i input s ≡ next)
+goes_at true input s i next is e = absurd cc
+goes_at false input s i next is e = (other_than_exit i is, cc)
+
 goes_by : (input : Input) (s : State) (t : Option Trap) (form : Option Instruction) (next : State) → turn_by input s t form ≡ Goes next → GoesOn input s t form next
 goes_by input s (Some told) form next e = absurd cc
 goes_by input s None None next e = absurd cc
-goes_by input s None (Some Exit) next e = absurd cc
-goes_by input s None (Some (Move a b c)) next e = (Move a b c, refl, refl, (λ p. absurd cc), cc)
-goes_by input s None (Some (Compute a b c d)) next e = (Compute a b c d, refl, refl, (λ p. absurd cc), cc)
-goes_by input s None (Some (Load a b c d)) next e = (Load a b c d, refl, refl, (λ p. absurd cc), cc)
-goes_by input s None (Some (JumpIf a b c d f)) next e = (JumpIf a b c d f, refl, refl, (λ p. absurd cc), cc)
-goes_by input s None (Some (Call a)) next e = (Call a, refl, refl, (λ p. absurd cc), cc)
+goes_by input s None (Some i) next e = let on = goes_at (summary_of i).exits input s i next refl e in (i, refl, refl, on.0, on.1)
 
-module _ (image : List ℕ) (input : Input) where
-  end_means : (n : ℕ) (s : State) (outcome : Outcome) → Reaches image input n s → turn image input s ≡ Ends outcome → Means image input outcome (n + 1)
+module _ (program : Program) (input : Input) where
+  end_means : (n : ℕ) (s : State) (outcome : Outcome) → Reaches program input n s → turn program input s ≡ Ends outcome → Means program input outcome (n + 1)
   end_means n s outcome chain e =
-      let end = ends_by input s (trap_at image input s) (form_at image s.slot) outcome e in
+      let end = ends_by input s (trap_at program input s) (form_at program.image s.slot) outcome e in
       record { steps = n; last = s; count = refl; chain = chain; end = record { form = end.1; no_trap = end.0; outcome_is = end.2 } }
 
-  goes_reaches : (n : ℕ) (s next : State) → Reaches image input n s → turn image input s ≡ Goes next → Reaches image input (n + 1) next
+  goes_reaches : (n : ℕ) (s next : State) → Reaches program input n s → turn program input s ≡ Goes next → Reaches program input (n + 1) next
   goes_reaches n s next chain e =
-      let on = goes_by input s (trap_at image input s) (form_at image s.slot) next e in
-      subst (Reaches image input (n + 1)) on.4 (step_on image input n s on.0 chain on.2 on.3 on.1)
+      let on = goes_by input s (trap_at program input s) (form_at program.image s.slot) next e in
+      subst (Reaches program input (n + 1)) on.4 (step_on program input n s on.0 chain on.2 on.3 on.1)
 
-  trap_stands : (n : ℕ) (s : State) (told : Trap) → Reaches image input n s → turn image input s ≡ Trapped told → IsTrapped image input told n
-  trap_stands n s told chain e = record { last = s; chain = chain; trap = trapped_by input s (trap_at image input s) (form_at image s.slot) told e }
+  trap_stands : (n : ℕ) (s : State) (told : Trap) → Reaches program input n s → turn program input s ≡ Trapped told → IsTrapped program input told n
+  trap_stands n s told chain e = record { last = s; chain = chain; trap = trapped_by input s (trap_at program input s) (form_at program.image s.slot) told e }
 
   -- what the definitions say of such an end
   abbrev pub IsEnd : End → Type 0
-  IsEnd (Out outcome n) = Means image input outcome n
-  IsEnd (Stopped told n) = IsTrapped image input told n
+  IsEnd (Out outcome n) = Means program input outcome n
+  IsEnd (Stopped told n) = IsTrapped program input told n
 
   end_is : (e f : End) → Some e ≡ Some f → e ≡ f
   end_is e f same = cc
 
-  ends_as : (turns n : ℕ) (s : State) (end : End) → Reaches image input n s
-      → ((next : State) → Reaches image input (n + 1) next → run_from turns image input (n + 1) next ≡ Some end → IsEnd end)
-      → (t : Turn) → turn image input s ≡ t → run_by (run_from turns image input (n + 1)) n t ≡ Some end → IsEnd end
+  ends_as : (turns n : ℕ) (s : State) (end : End) → Reaches program input n s
+      → ((next : State) → Reaches program input (n + 1) next → run_from turns program input (n + 1) next ≡ Some end → IsEnd end)
+      → (t : Turn) → turn program input s ≡ t → run_by (run_from turns program input (n + 1)) n t ≡ Some end → IsEnd end
   ends_as turns n s end chain later (Ends outcome) at e = subst IsEnd (end_is (Out outcome (n + 1)) end e) (end_means n s outcome chain at)
   ends_as turns n s end chain later (Goes next) at e = later next (goes_reaches n s next chain at) e
   ends_as turns n s end chain later (Trapped told) at e = subst IsEnd (end_is (Stopped told n) end e) (trap_stands n s told chain at)
   ends_as turns n s end chain later Lost at e = absurd cc
 
-  ends_from : (turns n : ℕ) (s : State) (end : End) → Reaches image input n s → run_from turns image input n s ≡ Some end → IsEnd end
+  ends_from : (turns n : ℕ) (s : State) (end : End) → Reaches program input n s → run_from turns program input n s ≡ Some end → IsEnd end
   ends_from zero n s end chain e = absurd cc
   ends_from (suc turns) n s end chain e =
-      ends_as turns n s end chain (λ next reaches later. ends_from turns (n + 1) next end reaches later) (turn image input s) refl e
+      ends_as turns n s end chain (λ next reaches later. ends_from turns (n + 1) next end reaches later) (turn program input s) refl e
 
   -- a computed outcome is the program's meaning, and a computed trap is the one that stops it
-  pub run_ends : (turns : ℕ) (end : End) → run turns image input ≡ Some end → IsEnd end
+  pub run_ends : (turns : ℕ) (end : End) → run turns program.image input ≡ Some end → IsEnd end
   run_ends turns end e = ends_from turns 0 (entry input) end refl e
 
 -- ---- instructions, as the bytes of their slots
@@ -168,27 +167,27 @@ repeated (suc n) bytes = bytes ++ repeated n bytes
 
 -- mov64 r0, 0; exit
 nothing_kept : run 9 (move_to 0 0 ++ exit) (of_value 1 None) ≡ Some (Out (Kept []) 2)
-unfolding read_slot instruction_of is_known first_slots trap_at after
+unfolding read_slot read_fields template_of is_known first_slots trap_at after
 nothing_kept = refl
 
 -- mov64 r1, 0; call 3; exit: the record goes to output 0
 record_forwarded : run 9 (move_to 1 0 ++ (call 3 ++ exit)) (of_value 1 (Some (118 ∷ []))) ≡ Some (Out (Kept (forwarded ∷ [])) 3)
-unfolding read_slot instruction_of is_known first_slots trap_at after
+unfolding read_slot read_fields template_of is_known first_slots trap_at after
 record_forwarded = refl
 
 -- mov64 r1, 9; call 3; exit: there is no output 9
 no_such_output : run 9 (move_to 1 9 ++ (call 3 ++ exit)) (of_value 2 None) ≡ Some (Out (Rejected 1) 3)
-unfolding read_slot instruction_of is_known first_slots trap_at after
+unfolding read_slot read_fields template_of is_known first_slots trap_at after
 no_such_output = refl
 
 -- the seventeenth emission is not added
 seventeenth_emission : run 40 (repeated 17 (move_to 1 0 ++ call 3) ++ exit) (of_value 1 None) ≡ Some (Out (Rejected 3) 35)
-unfolding read_slot instruction_of is_known first_slots trap_at after
+unfolding read_slot read_fields template_of is_known first_slots trap_at after
 seventeenth_emission = refl
 
 -- mov64 r0, -1; add64 r0, 6; exit: 64-bit sums wrap
 sum_wraps : run 9 ((0xb7 ∷ 0 ∷ 0 ∷ 0 ∷ 0xff ∷ 0xff ∷ 0xff ∷ 0xff ∷ []) ++ (slot 0x07 0 0 6 ++ exit)) (of_value 1 None) ≡ Some (Out (Rejected 5) 3)
-unfolding read_slot instruction_of is_known first_slots trap_at after
+unfolding read_slot read_fields template_of is_known first_slots trap_at after
 sum_wraps = refl
 
 -- mov64 r0, 0; jlt64 r2, 1, +1; ld8 r0, [r1+0]; exit: the value's first byte, if it has one
@@ -197,22 +196,22 @@ first_byte = move_to 0 0 ++ (slot 0xa5 2 1 1 ++ (slot 0x71 0x10 0 0 ++ exit))
 
 -- of the value 07
 first_byte_of_one : run 9 first_byte (of_value 1 (Some (7 ∷ []))) ≡ Some (Out (Rejected 7) 4)
-unfolding read_slot instruction_of is_known first_slots trap_at after
+unfolding read_slot read_fields template_of is_known first_slots trap_at after
 first_byte_of_one = refl
 
 -- of the empty value
 first_byte_of_empty : run 9 first_byte (of_value 1 (Some [])) ≡ Some (Out (Kept []) 3)
-unfolding read_slot instruction_of is_known first_slots trap_at after
+unfolding read_slot read_fields template_of is_known first_slots trap_at after
 first_byte_of_empty = refl
 
 -- of the null value
 first_byte_of_null : run 9 first_byte (of_value 1 None) ≡ Some (Out (Kept []) 3)
-unfolding read_slot instruction_of is_known first_slots trap_at after
+unfolding read_slot read_fields template_of is_known first_slots trap_at after
 first_byte_of_null = refl
 
 -- ld16 r0, [r1+1]; exit: the low byte stands first
 two_bytes : run 9 (slot 0x69 0x10 1 0 ++ exit) (of_value 1 (Some (9 ∷ 2 ∷ 1 ∷ []))) ≡ Some (Out (Rejected 258) 2)
-unfolding read_slot instruction_of is_known first_slots trap_at after
+unfolding read_slot read_fields template_of is_known first_slots trap_at after
 two_bytes = refl
 
 -- ---- jumps
@@ -233,84 +232,84 @@ jumps opcode = map (λ number. run 9 (jump_over opcode number) (of_value 1 (Some
 
 -- jeq64
 if_equal : jumps 0x15 ≡ not_taken ∷ taken ∷ not_taken ∷ []
-unfolding read_slot instruction_of is_known first_slots trap_at after
+unfolding read_slot read_fields template_of is_known first_slots trap_at after
 if_equal = refl
 
 -- jgt64
 if_greater : jumps 0x25 ≡ taken ∷ not_taken ∷ not_taken ∷ []
-unfolding read_slot instruction_of is_known first_slots trap_at after
+unfolding read_slot read_fields template_of is_known first_slots trap_at after
 if_greater = refl
 
 -- jge64
 if_greater_or_equal : jumps 0x35 ≡ taken ∷ taken ∷ not_taken ∷ []
-unfolding read_slot instruction_of is_known first_slots trap_at after
+unfolding read_slot read_fields template_of is_known first_slots trap_at after
 if_greater_or_equal = refl
 
 -- jne64
 if_not_equal : jumps 0x55 ≡ taken ∷ not_taken ∷ taken ∷ []
-unfolding read_slot instruction_of is_known first_slots trap_at after
+unfolding read_slot read_fields template_of is_known first_slots trap_at after
 if_not_equal = refl
 
 -- jlt64
 if_less : jumps 0xa5 ≡ not_taken ∷ not_taken ∷ taken ∷ []
-unfolding read_slot instruction_of is_known first_slots trap_at after
+unfolding read_slot read_fields template_of is_known first_slots trap_at after
 if_less = refl
 
 -- jle64
 if_less_or_equal : jumps 0xb5 ≡ not_taken ∷ taken ∷ taken ∷ []
-unfolding read_slot instruction_of is_known first_slots trap_at after
+unfolding read_slot read_fields template_of is_known first_slots trap_at after
 if_less_or_equal = refl
 
 -- mov64 r0, 1; jlt64 r2, -1, +1; mov64 r0, 0; exit: the immediate is sign-extended, and the test unsigned
 below_all_ones : run 9 (move_to 0 1 ++ ((0xa5 ∷ 2 ∷ 1 ∷ 0 ∷ 0xff ∷ 0xff ∷ 0xff ∷ 0xff ∷ []) ++ (move_to 0 0 ++ exit))) (of_value 1 None) ≡ taken
-unfolding read_slot instruction_of is_known first_slots trap_at after
+unfolding read_slot read_fields template_of is_known first_slots trap_at after
 below_all_ones = refl
 
 -- ---- traps
 
 -- no bytes at all
 past_the_end : run 9 [] (of_value 1 None) ≡ Some (Stopped trap.RanOff 0)
-unfolding read_slot instruction_of is_known first_slots trap_at after
+unfolding read_slot read_fields template_of is_known first_slots trap_at after
 past_the_end = refl
 
 -- mov64 r0, 0 alone
 no_exit : run 9 (move_to 0 0) (of_value 1 None) ≡ Some (Stopped trap.RanOff 1)
-unfolding read_slot instruction_of is_known first_slots trap_at after
+unfolding read_slot read_fields template_of is_known first_slots trap_at after
 no_exit = refl
 
 -- an opcode of no table
 no_instruction : run 9 (slot 0xff 0 0 0) (of_value 1 None) ≡ Some (Stopped trap.Form 0)
-unfolding read_slot instruction_of is_known first_slots trap_at after
+unfolding read_slot read_fields template_of is_known first_slots trap_at after
 no_instruction = refl
 
 -- exit alone: r0 holds nothing
 exit_alone : run 9 exit (of_value 1 None) ≡ Some (Stopped trap.Unset 0)
-unfolding read_slot instruction_of is_known first_slots trap_at after
+unfolding read_slot read_fields template_of is_known first_slots trap_at after
 exit_alone = refl
 
 -- add64 r1, r3: two addresses
 sum_of_addresses : run 9 (slot 0x0f 0x31 0 0 ++ exit) (of_value 1 None) ≡ Some (Stopped trap.WrongType 0)
-unfolding read_slot instruction_of is_known first_slots trap_at after
+unfolding read_slot read_fields template_of is_known first_slots trap_at after
 sum_of_addresses = refl
 
 -- mov64 r10, 0
 frame_written : run 9 (move_to 10 0 ++ exit) (of_value 1 None) ≡ Some (Stopped trap.Frame 0)
-unfolding read_slot instruction_of is_known first_slots trap_at after
+unfolding read_slot read_fields template_of is_known first_slots trap_at after
 frame_written = refl
 
 -- ld8 r0, [r1+0] of a null value
 value_too_short : run 9 (slot 0x71 0x10 0 0 ++ exit) (of_value 1 None) ≡ Some (Stopped trap.RecordBounds 0)
-unfolding read_slot instruction_of is_known first_slots trap_at after
+unfolding read_slot read_fields template_of is_known first_slots trap_at after
 value_too_short = refl
 
 -- ld64 r0, [r10-520]
 below_the_stack : run 9 ((0x79 ∷ 0xa0 ∷ 0xf8 ∷ 0xfd ∷ 0 ∷ 0 ∷ 0 ∷ 0 ∷ []) ++ exit) (of_value 1 None) ≡ Some (Stopped trap.StackBounds 0)
-unfolding read_slot instruction_of is_known first_slots trap_at after
+unfolding read_slot read_fields template_of is_known first_slots trap_at after
 below_the_stack = refl
 
 -- ld64 r0, [r10-8]
 stack_unset : run 9 ((0x79 ∷ 0xa0 ∷ 0xf8 ∷ 0xff ∷ 0 ∷ 0 ∷ 0 ∷ 0 ∷ []) ++ exit) (of_value 1 None) ≡ Some (Stopped trap.StackUnset 0)
-unfolding read_slot instruction_of is_known first_slots trap_at after
+unfolding read_slot read_fields template_of is_known first_slots trap_at after
 stack_unset = refl
 
 -- mov64 r0, 0; jeq64 r2, 0, -1; exit: back to itself, if the value is empty
@@ -318,82 +317,82 @@ abbrev jump_back : List ℕ
 jump_back = move_to 0 0 ++ ((0x15 ∷ 2 ∷ 0xff ∷ 0xff ∷ 0 ∷ 0 ∷ 0 ∷ 0 ∷ []) ++ exit)
 
 back : run 9 jump_back (of_value 1 None) ≡ Some (Stopped trap.Jump 1)
-unfolding read_slot instruction_of is_known first_slots trap_at after
+unfolding read_slot read_fields template_of is_known first_slots trap_at after
 back = refl
 
 -- a jump that is not taken has no trap
 back_not_taken : run 9 jump_back (of_value 1 (Some (7 ∷ []))) ≡ Some (Out (Kept []) 3)
-unfolding read_slot instruction_of is_known first_slots trap_at after
+unfolding read_slot read_fields template_of is_known first_slots trap_at after
 back_not_taken = refl
 
 -- jeq64 r2, 0, +1; exit: to the end of the image
 to_the_end : run 9 (slot 0x15 2 1 0 ++ exit) (of_value 1 None) ≡ Some (Stopped trap.Jump 0)
-unfolding read_slot instruction_of is_known first_slots trap_at after
+unfolding read_slot read_fields template_of is_known first_slots trap_at after
 to_the_end = refl
 
 -- the same with four bytes behind it: they are no whole slot
 to_a_cut_slot : run 9 (slot 0x15 2 1 0 ++ (exit ++ (0x95 ∷ 0 ∷ 0 ∷ 0 ∷ []))) (of_value 1 None) ≡ Some (Stopped trap.Jump 0)
-unfolding read_slot instruction_of is_known first_slots trap_at after
+unfolding read_slot read_fields template_of is_known first_slots trap_at after
 to_a_cut_slot = refl
 
 -- mov64 r0, 0 and four bytes behind it: the run falls off the image
 onto_a_cut_slot : run 9 (move_to 0 0 ++ (0x95 ∷ 0 ∷ 0 ∷ 0 ∷ [])) (of_value 1 None) ≡ Some (Stopped trap.RanOff 1)
-unfolding read_slot instruction_of is_known first_slots trap_at after
+unfolding read_slot read_fields template_of is_known first_slots trap_at after
 onto_a_cut_slot = refl
 
 -- jeq64 r2, 0, +1; a 64-bit immediate; exit: into the second slot of the wide instruction
 into_a_wide : run 9 (slot 0x15 2 1 0 ++ (slot 0x18 0 0 0 ++ (slot 0 0 0 0 ++ exit))) (of_value 1 None) ≡ Some (Stopped trap.Jump 0)
-unfolding read_slot instruction_of is_known first_slots trap_at after
+unfolding read_slot read_fields template_of is_known first_slots trap_at after
 into_a_wide = refl
 
 -- mov64 r0, r10; jeq64 r0, 0, +0; exit: a jump tests numbers alone
 address_tested : run 9 (slot 0xbf 0xa0 0 0 ++ (slot 0x15 0 0 0 ++ exit)) (of_value 1 None) ≡ Some (Stopped trap.WrongType 1)
-unfolding read_slot instruction_of is_known first_slots trap_at after
+unfolding read_slot read_fields template_of is_known first_slots trap_at after
 address_tested = refl
 
 -- call 99
 no_helper : run 9 (call 99 ++ exit) (of_value 1 None) ≡ Some (Stopped trap.Helper 0)
-unfolding read_slot instruction_of is_known first_slots trap_at after
+unfolding read_slot read_fields template_of is_known first_slots trap_at after
 no_helper = refl
 
 -- call 3 where r1 is still the value's address
 address_as_output : run 9 (call 3 ++ exit) (of_value 1 None) ≡ Some (Stopped trap.HelperArgument 0)
-unfolding read_slot instruction_of is_known first_slots trap_at after
+unfolding read_slot read_fields template_of is_known first_slots trap_at after
 address_as_output = refl
 
 -- mov64 r0, r1; exit
 address_at_exit : run 9 (slot 0xbf 0x10 0 0 ++ exit) (of_value 1 None) ≡ Some (Stopped trap.Exit 1)
-unfolding read_slot instruction_of is_known first_slots trap_at after
+unfolding read_slot read_fields template_of is_known first_slots trap_at after
 address_at_exit = refl
 
 -- ---- images
 
 -- no bytes
 empty_image : read_image [] ≡ Err fault.Size
-unfolding read_image read_slot instruction_of is_known first_slots
+unfolding read_image read_slot read_fields template_of is_known first_slots
 empty_image = refl
 
 -- 12 bytes
 cut_image : read_image (exit ++ (0 ∷ 0 ∷ 0 ∷ 0 ∷ [])) ≡ Err fault.Size
-unfolding read_image read_slot instruction_of is_known first_slots
+unfolding read_image read_slot read_fields template_of is_known first_slots
 cut_image = refl
 
 -- db is an opcode of a table, and outside the profile
 atomic_opcode : read_image (slot 0xdb 0 0 0) ≡ Err (fault.NotInProfile 0)
-unfolding read_image read_slot instruction_of is_known first_slots
+unfolding read_image read_slot read_fields template_of is_known first_slots
 atomic_opcode = refl
 
 -- ff is one of no table
 unknown_opcode : read_image (slot 0xff 0 0 0) ≡ Err (fault.Opcode 0)
-unfolding read_image read_slot instruction_of is_known first_slots
+unfolding read_image read_slot read_fields template_of is_known first_slots
 unknown_opcode = refl
 
 -- mov64 r11, 0
 register_eleven : read_image (move_to 11 0) ≡ Err (fault.Register 0)
-unfolding read_image read_slot instruction_of is_known first_slots
+unfolding read_image read_slot read_fields template_of is_known first_slots
 register_eleven = refl
 
 -- exit with an immediate
 unused_field : read_image (slot 0x95 0 0 1) ≡ Err (fault.Unused 0)
-unfolding read_image read_slot instruction_of is_known first_slots
+unfolding read_image read_slot read_fields template_of is_known first_slots
 unused_field = refl

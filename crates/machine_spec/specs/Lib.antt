@@ -1,6 +1,8 @@
+pub mod Opcodes
 pub mod Image
 pub mod Arithmetic
-pub mod Words
+pub mod Values
+pub mod Summaries
 pub mod Machine
 pub mod Traps
 pub mod Meaning

@@ -1,14 +1,21 @@
 //! The machine of RFC 9669 as klog profiles it: its instructions, its states and what a program
 //! means on a record.
 //!
-//! This crate has the types and the definitions that a reader must believe, and no function.
+//! This crate has the types and the definitions that a reader must believe. Its one function is
+//! `Summary::of`, which every crate above shares.
 #![tactic(auto)]
 
 mod instruction;
+mod limits;
+mod opcode;
 pub mod operation;
 mod outcome;
+mod summary;
 
 pub use instruction::{
     Helper, Instruction, IsaFault, Operation, Placed, Region, Size, Source, Test, Trap, Width,
 };
+pub use limits::{MAX_EMISSIONS, MAX_SLOTS, STACK_SIZE};
+pub use opcode::TEMPLATES;
 pub use outcome::{Emission, Emissions, Outcome, Place};
+pub use summary::{Condition, Direction, MemoryOperand, Operands, Summary};

@@ -2,6 +2,7 @@
 use Rattle.std.proofs.Common.{◌≡◌, ℕ, not, List, [], ◌∷◌, ap, ◌∙◌}
 use Rattle.std.specs.Prelude.{Option, Some, None}
 use Rattle.machine_spec.specs.declared.instruction.Placed.{Placed}
+use Rattle.machine_spec.specs.Summaries.{summary_of}
 use Rattle.machine_spec.specs.Traps.{first_of}
 use Rattle.verifier_spec.specs.declared.state.Abstract.{Abstract}
 use Rattle.verifier_spec.specs.declared.fault.Check.{Check}
@@ -30,4 +31,4 @@ pub check_told : (code : List Placed) (notes : Notes) (k : ℕ) (placed : Placed
     → failed_check placed.instruction s ≡ Some kind → first_of (reached_checks code notes k placed (Some s)) ≡ Some kind
 unfolding failed_check
 check_told code notes k placed s kind e =
-    first_of-told (checks placed.instruction s) ((not (are_edges_covered code notes k placed s), check.Notes) ∷ []) kind e
+    first_of-told (checks (summary_of placed.instruction) s) ((not (are_edges_covered code notes k placed s), check.Notes) ∷ []) kind e

@@ -1,13 +1,12 @@
 ghost use Rattle.std.specs.Prelude.{◌≡◌, ◌<◌, None};
 ghost use Rattle.std.specs.Option.{option_copied};
-ghost use Rattle.verifier_spec.specs.Checks.{failed_check, jump_of};
-ghost use Rattle.verifier_spec.specs.Annotation.{is_covered, is_edge_covered, target_note, are_edges_covered};
+ghost use Rattle.verifier_spec.specs.Checks.{failed_check};
+ghost use Rattle.verifier_spec.specs.Annotation.{is_covered, is_edge_covered, note_of, are_edges_covered};
 
 use crate::lookup::note_at;
-use crate::shape::{jump_of, target_of};
 use abstract_regs::State;
 use bpf_isa::Code;
-use machine_spec::Placed;
+use machine_spec::{MAX_SLOTS, Placed, Summary};
 
 /// Whether a state is within the one that an instruction has, if it has one.
 pub fn is_covered(state: &State, outer: Option<&State>) -> bool
@@ -29,21 +28,12 @@ fn is_edge_covered(brought: &Option<State>, outer: Option<&State>) -> bool
     }
 }
 
-/// The state of the instruction that a jump leads to.
-fn target_note<'a>(
-    code: &Code,
-    notes: &'a [Option<State>],
-    slot: usize,
-    jump: Option<i16>,
-) -> Option<&'a State>
-    requires { slot < 4096 }
-    ensures { option_copied result ≡ target_note code.now notes.now slot jump }
+/// The state of an instruction, by its number if it has one.
+fn note_of(notes: &[Option<State>], number: Option<usize>) -> Option<&State>
+    ensures { option_copied result ≡ note_of notes.now number }
 {
-    match jump {
-        Some(offset) => match target_of(code, slot, offset) {
-            Some(k) => note_at(notes, k),
-            None => None,
-        },
+    match number {
+        Some(k) => note_at(notes, k),
         None => None,
     }
 }
@@ -57,13 +47,14 @@ pub fn are_edges_covered(
     placed: Placed,
     state: &State,
 ) -> bool
-    requires number { k < 4096 }
-    requires slot { placed.slot < 4096 }
+    requires number { k < MAX_SLOTS }
+    requires slot { placed.slot < MAX_SLOTS }
     requires passed { failed_check placed.instruction state.now ≡ None }
     ensures { result ≡ are_edges_covered code.now notes.now k placed state.now }
 {
     let edges = state.transfer(placed.instruction);
     let next = note_at(notes, k + 1);
-    let target = target_note(code, notes, placed.slot, jump_of(placed.instruction));
+    let jump = Summary::of(placed.instruction).jump;
+    let target = note_of(notes, code.target(placed.slot, jump));
     is_edge_covered(&edges.next, next) && is_edge_covered(&edges.jump, target)
 }

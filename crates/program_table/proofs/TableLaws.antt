@@ -8,7 +8,8 @@ use Rattle.log_spec.specs.declared.event.Refusal.{Refusal}
 use Rattle.log_spec.specs.declared.event.Refusal.TheVariants as refusal
 use Rattle.std.specs.Arc.{arc_value}
 use Rattle.std.specs.Str.{bytes_eq}
-use Rattle.log_spec.specs.Catalogue.{Table, images_of, image_of, with_image, has_name, is_name, load_fault, load_refusal, refused_load, Entry as Loaded}
+use Rattle.verifier_spec.specs.Loading.{load_fault}
+use Rattle.log_spec.specs.Catalogue.{Table, images_of, image_of, with_image, has_name, is_name, load_refusal, refused_load, Entry as Loaded}
 use Rattle.program_table.specs.declared.table.Entry.{Entry}
 use Rattle.program_table.specs.Tables.{entry_view, table_view, version_of, RefusedAs}
 

@@ -3,19 +3,20 @@ ghost use Rattle.std.specs.List.{list_all};
 ghost use Rattle.program_table.specs.declared.table.Entry.{Entry};
 ghost use Rattle.std.specs.Arc.{arc_value};
 ghost use Rattle.std.specs.Str.{bytes_eq};
-ghost use Rattle.log_spec.specs.Catalogue.{load_fault, refused_load, images_of, image_of, has_name, is_name, is_name_byte, with_image};
+ghost use Rattle.verifier_spec.specs.Loading.{load_fault};
+ghost use Rattle.log_spec.specs.Catalogue.{refused_load, images_of, image_of, has_name, is_name, is_name_byte, with_image};
 ghost use Rattle.program_table.specs.Tables.{entry_view, table_view, LoadsInto, RefusedAs, version_of};
 ghost use Rattle.annotate.specs.Loads.{FaultIs};
 
 use crate::name::share_name;
 use bytes::Bytes;
 use log_item::Program;
-use log_spec::{LoadFault, Name, Refusal};
+use log_spec::{Name, Refusal};
 use machine_spec::IsaFault;
 use std::alloc::{AllocError, Global};
 use std::marker::Model;
 use std::sync::Arc;
-use verifier_spec::Check;
+use verifier_spec::{Check, LoadFault};
 
 /// How many names are loaded at most.
 const MOST_NAMES: usize = 64;

@@ -10,7 +10,7 @@ use Rattle.std.specs.Result.{OkIff, result_unwrap_or}
 use Rattle.std.proofs.lemmas.Str.Parse.{IsNumeralModel, numerals_by_value, tells_all_ascii_digits, parse_digits}
 use Rattle.std.proofs.lemmas.Bool.{and_parts, ltb-true}
 use Rattle.script.specs.Commands.{command_from}
-use Rattle.script.specs.Words.{texts, hex_digit, pair_of, before_bytes, hex_bytes, is_number, number_of}
+use Rattle.script.specs.Words.{texts, hex_digit, pair_of, before_bytes, hex_bytes, is_number, decimal_of}
 
 -- ---- numbers
 
@@ -30,7 +30,7 @@ pub parse-capped : {E : Type 0} (word : List ℕ) (r : Result ℕ E) → ParsesU
     → result_unwrap_or r (2 ^ 64 - 1) ≡ min (digits_value 10 word) (2 ^ 64 - 1)
 parse-capped word r h digits some = capped r (length word) (digits_value 10 word) some (parse_digits numerals 64 word r h digits)
 
-pub number-read : {E : Type 0} (word : List ℕ) (r : Result ℕ E) → ParsesUnsigned 64 10 word r → is_number word ≡ true → Some (result_unwrap_or r (2 ^ 64 - 1)) ≡ number_of word
+pub number-read : {E : Type 0} (word : List ℕ) (r : Result ℕ E) → ParsesUnsigned 64 10 word r → is_number word ≡ true → Some (result_unwrap_or r (2 ^ 64 - 1)) ≡ decimal_of word
 number-read word r h number =
     let start = and_parts (nat_lt 0 (length word)) (list_all is_ascii_digit word && ((length word == 1) || not (slice_index word 0 == 48))) number in
     let rest = and_parts (list_all is_ascii_digit word) ((length word == 1) || not (slice_index word 0 == 48)) start.1 in

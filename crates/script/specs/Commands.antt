@@ -6,7 +6,7 @@ use Rattle.script.specs.declared.command.Command.{Command}
 use Rattle.script.specs.declared.command.Command.TheVariants.{Partitions, Load, Deploy, Put, Append, Go}
 use Rattle.script.specs.declared.command.Source.{Source}
 use Rattle.script.specs.declared.command.Source.TheVariants.{Line, File}
-use Rattle.script.specs.Words.{words_of, word_at, number_of, bytes_of, hex_bytes}
+use Rattle.script.specs.Words.{words_of, word_at, decimal_of, spelled_bytes, hex_bytes}
 
 abbrev pub hex_source : Option (List ℕ) → List ℕ → Source
 hex_source (Some bytes) word = Line bytes
@@ -22,7 +22,7 @@ partitions_of _ _ _ = None
 
 -- `partitions I O CELLS`
 abbrev pub partitions_line : List (List ℕ) → Option Command
-partitions_line words = if length words == 4 then partitions_of (number_of (word_at words 1)) (number_of (word_at words 2)) (number_of (word_at words 3)) else None
+partitions_line words = if length words == 4 then partitions_of (decimal_of (word_at words 1)) (decimal_of (word_at words 2)) (decimal_of (word_at words 3)) else None
 
 -- `load NAME FILE`
 abbrev pub load_line : List (List ℕ) → Option Command
@@ -34,7 +34,7 @@ deploy_of None name = None
 
 -- `deploy I NAME`
 abbrev pub deploy_line : List (List ℕ) → Option Command
-deploy_line words = if length words == 3 then deploy_of (number_of (word_at words 1)) (word_at words 2) else None
+deploy_line words = if length words == 3 then deploy_of (decimal_of (word_at words 1)) (word_at words 2) else None
 
 abbrev pub put_of : Option ℕ → Option ℕ → Option (Option (List ℕ)) → Option (Option (List ℕ)) → Option Command
 put_of (Some input) (Some timestamp) (Some key) (Some value) = Some (Put input timestamp key value)
@@ -44,7 +44,7 @@ put_of _ _ _ _ = None
 abbrev pub put_line : List (List ℕ) → Option Command
 put_line words =
     if length words == 5
-    then put_of (number_of (word_at words 1)) (number_of (word_at words 2)) (bytes_of (word_at words 3)) (bytes_of (word_at words 4))
+    then put_of (decimal_of (word_at words 1)) (decimal_of (word_at words 2)) (spelled_bytes (word_at words 3)) (spelled_bytes (word_at words 4))
     else None
 
 abbrev pub append_of : Option ℕ → Source → Option Command
@@ -53,7 +53,7 @@ append_of None source = None
 
 -- `append I FILE`
 abbrev pub append_line : List (List ℕ) → Option Command
-append_line words = if length words == 3 then append_of (number_of (word_at words 1)) (source_of (word_at words 2)) else None
+append_line words = if length words == 3 then append_of (decimal_of (word_at words 1)) (source_of (word_at words 2)) else None
 
 -- `go`
 abbrev pub go_line : List (List ℕ) → Option Command

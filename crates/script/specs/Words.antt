@@ -25,8 +25,8 @@ abbrev pub is_number : List ℕ → Bool
 is_number word = nat_lt 0 (length word) && (list_all is_ascii_digit word && ((length word == 1) || not (slice_index word 0 == 48)))
 
 -- The whole number that a word spells. One past 2^64 - 1 counts as 2^64 - 1, which is past every limit.
-abbrev pub number_of : List ℕ → Option ℕ
-number_of word = if is_number word then Some (min (digits_value 10 word) (2 ^ 64 - 1)) else None
+abbrev pub decimal_of : List ℕ → Option ℕ
+decimal_of word = if is_number word then Some (min (digits_value 10 word) (2 ^ 64 - 1)) else None
 
 -- ---- bytes
 
@@ -55,5 +55,5 @@ some_bytes (Some bytes) = Some (Some bytes)
 some_bytes None = None
 
 -- the bytes that a word spells: `-` is null, `.` is no bytes, and others are hex pairs
-abbrev pub bytes_of : List ℕ → Option (Option (List ℕ))
-bytes_of word = if bytes_eq word (45 ∷ []) then Some None else if bytes_eq word (46 ∷ []) then Some (Some []) else some_bytes (hex_bytes word)
+abbrev pub spelled_bytes : List ℕ → Option (Option (List ℕ))
+spelled_bytes word = if bytes_eq word (45 ∷ []) then Some None else if bytes_eq word (46 ∷ []) then Some (Some []) else some_bytes (hex_bytes word)

@@ -1,11 +1,13 @@
 //! What is refused before anything is done.
 
 ghost use Rattle.std.specs.Prelude.{◌≡◌, true, IfNone};
-ghost use Rattle.script.specs.Faults.{size_of, is_in_order, is_in_range, fault_of};
+ghost use Rattle.script.specs.Faults.{text_size, is_in_order, is_in_range, fault_of};
 
 use crate::command::Command;
 use bytes::Bytes;
+use log_spec::MAX_CELLS;
 use thiserror::Error;
+use wire_spec::{MAX_KEY, MAX_VALUE, TIMESTAMP_END};
 
 /// What is wrong with a line.
 #[derive(Clone, Copy, Debug, PartialEq, Eq, Error)]
@@ -21,20 +23,8 @@ pub enum ScriptFault {
     Range,
 }
 
-/// How many cells a log has at most.
-const MOST_CELLS: u64 = 65536;
-
-/// Timestamps are below this, in milliseconds.
-const TIMESTAMP_END: u64 = 1 << 62;
-
-/// How many bytes a key has at most.
-const LONGEST_KEY: usize = 4096;
-
-/// How many bytes a value has at most.
-const LONGEST_VALUE: usize = 65536;
-
 fn size(bytes: &Option<Bytes>) -> usize
-    ensures { result ≡ size_of bytes.now }
+    ensures { result ≡ text_size bytes.now }
 {
     match bytes {
         None => 0,
@@ -60,10 +50,10 @@ fn is_in_range(command: &Command) -> bool
 {
     match command {
         Command::Partitions(inputs, outputs, cells) => {
-            *inputs == 1 && *outputs == 1 && *cells >= 1 && *cells <= MOST_CELLS
+            *inputs == 1 && *outputs == 1 && *cells >= 1 && *cells <= MAX_CELLS as u64
         }
         Command::Put(_, timestamp, key, value) => {
-            *timestamp < TIMESTAMP_END && size(key) <= LONGEST_KEY && size(value) <= LONGEST_VALUE
+            *timestamp < TIMESTAMP_END && size(key) <= MAX_KEY && size(value) <= MAX_VALUE
         }
         _ => true,
     }

@@ -1,7 +1,7 @@
 //! Bytes as words: pairs of lower-case hex digits.
 
 ghost use Rattle.std.specs.Prelude.{◌≡◌, ◌<◌, ◌++◌, IfOk, OnOk, option_map};
-ghost use Rattle.script.specs.Words.{hex_digit, pair_of, hex_bytes, bytes_of};
+ghost use Rattle.script.specs.Words.{hex_digit, pair_of, hex_bytes, spelled_bytes};
 
 use bytes::Bytes;
 use std::alloc::{AllocError, Global};
@@ -59,7 +59,7 @@ pub fn hex(alloc: Global, text: &[u8]) -> Result<Option<Bytes>, AllocError>
 
 /// The bytes that a word spells: `-` is null, `.` is no bytes, and others are hex pairs.
 pub fn bytes_word(alloc: Global, word: &str) -> Result<Option<Option<Bytes>>, AllocError>
-    ensures { IfOk result (λ bytes. bytes ≡ bytes_of word.now) }
+    ensures { IfOk result (λ bytes. bytes ≡ spelled_bytes word.now) }
 {
     if word == "-" {
         return Ok(Some(None));

@@ -3,7 +3,7 @@
 ghost use Rattle.std.specs.Prelude.{◌≡◌, ◌<◌, ◌^◌, length, map, IfOk, true, slice_index_or, []};
 ghost use Rattle.std.specs.List.{list_all};
 ghost use Rattle.std.specs.Char.{is_ascii_digit};
-ghost use Rattle.script.specs.Words.{words_of, is_number, number_of, texts, word_at};
+ghost use Rattle.script.specs.Words.{words_of, is_number, decimal_of, texts, word_at};
 
 use std::alloc::{AllocError, Global};
 
@@ -44,7 +44,7 @@ fn is_number(word: &[u8]) -> bool
 
 /// The whole number that a word spells; one past 2^64 - 1 counts as 2^64 - 1.
 pub fn number(word: &str) -> Option<u64>
-    ensures { result ≡ number_of word.now }
+    ensures { result ≡ decimal_of word.now }
 {
     if !is_number(word.as_bytes()) {
         return None;
@@ -54,7 +54,7 @@ pub fn number(word: &str) -> Option<u64>
 
 pub fn number_at(words: &[&str], place: usize) -> Option<u64>
     requires { place < length words.now }
-    ensures { result ≡ number_of (word_at (texts words.now) place) }
+    ensures { result ≡ decimal_of (word_at (texts words.now) place) }
 {
     number(word(words, place))
 }

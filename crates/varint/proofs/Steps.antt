@@ -6,7 +6,7 @@ use Rattle.std.specs.Prelude.{ℤ, FitsSigned}
 use Rattle.std.specs.Int.{w32, w64, cast_signed, cast_unsigned}
 use Rattle.std.proofs.lemmas.Int.{to_z-of_z}
 use Rattle.wire_spec.proofs.Varints.{zigzag-fits_32, groups_is, IsBase128-groups, worth, worth-128, worth-mono, Adds, adds, nine_groups}
-use Rattle.wire_spec.specs.Varint.{number_of, groups, zigzag}
+use Rattle.wire_spec.specs.Varint.{groups_value, groups, zigzag}
 
 -- a group of seven bits in its place
 pub shifted : (k b : ℕ) → k ≤ 8 → b < 128 → (b * 2 ^ (7 * k)) % 2 ^ 64 ≡ worth k b
@@ -31,7 +31,7 @@ pub record Sum (bytes : List ℕ) (at number digit : ℕ) : Type 0 where
   pub adds : Adds bytes at (number + (digit * 2 ^ (7 * at)) % 2 ^ 64)
   pub fits : number + (digit * 2 ^ (7 * at)) % 2 ^ 64 < 2 ^ 63
 
-pub sum_at : (bytes : List ℕ) (at number digit : ℕ) → at ≤ 8 → at < length bytes → number ≡ number_of (take at bytes) → number < worth at 1 → digit < 128 → digit ≡ get_or bytes at 0 % 128 → Sum bytes at number digit
+pub sum_at : (bytes : List ℕ) (at number digit : ℕ) → at ≤ 8 → at < length bytes → number ≡ groups_value (take at bytes) → number < worth at 1 → digit < 128 → digit ≡ get_or bytes at 0 % 128 → Sum bytes at number digit
 sum_at bytes at number digit few lt is below small e =
     let shift : (digit * 2 ^ (7 * at)) % 2 ^ 64 ≡ worth at digit = shifted at digit few small in
     let more : Adds bytes at (number + worth at digit) = adds bytes at number digit lt is below e in

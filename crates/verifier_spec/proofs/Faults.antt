@@ -4,6 +4,7 @@ use Rattle.std.specs.Prelude.{Option, Some, None, slice_get}
 use Rattle.std.specs.List.{list_any}
 use Rattle.std.proofs.lemmas.Bool.{cases_Bool, or_parts, and_parts, and_from, eqb-true, eq-eqb, cond-true, cond-false, not_from_true, not-false}
 use Rattle.machine_spec.specs.declared.instruction.Placed.{Placed}
+use Rattle.machine_spec.specs.Summaries.{summary_of}
 use Rattle.machine_spec.specs.Traps.{first_of}
 use Rattle.verifier_spec.specs.declared.state.Abstract.{Abstract}
 use Rattle.verifier_spec.specs.declared.fault.Check.{Check}
@@ -65,19 +66,19 @@ pub record Passes (code : List Placed) (notes : Notes) (k : ℕ) (placed : Place
 
 pub reached_pass : (code : List Placed) (notes : Notes) (k : ℕ) (placed : Placed) (note : Option Abstract)
     → first_of (reached_checks code notes k placed note) ≡ None
-    → (s : Abstract) → note ≡ Some s → (first_of (checks placed.instruction s) ≡ None) × (are_edges_covered code notes k placed s ≡ true)
+    → (s : Abstract) → note ≡ Some s → (first_of (checks (summary_of placed.instruction) s) ≡ None) × (are_edges_covered code notes k placed s ≡ true)
 reached_pass code notes k placed None h s e = cc
 reached_pass code notes k placed (Some t) h s e =
     let same : t ≡ s = cc in
-    let P : Abstract → Type 0 = λ u. (first_of (checks placed.instruction u) ≡ None) × (are_edges_covered code notes k placed u ≡ true) in
-    subst P same (last_passes (checks placed.instruction t) (are_edges_covered code notes k placed t) check.Notes h)
+    let P : Abstract → Type 0 = λ u. (first_of (checks (summary_of placed.instruction) u) ≡ None) × (are_edges_covered code notes k placed u ≡ true) in
+    subst P same (last_passes (checks (summary_of placed.instruction) t) (are_edges_covered code notes k placed t) check.Notes h)
 
 pub pass_reached : (code : List Placed) (notes : Notes) (k : ℕ) (placed : Placed) (note : Option Abstract)
-    → ((s : Abstract) → note ≡ Some s → (first_of (checks placed.instruction s) ≡ None) × (are_edges_covered code notes k placed s ≡ true))
+    → ((s : Abstract) → note ≡ Some s → (first_of (checks (summary_of placed.instruction) s) ≡ None) × (are_edges_covered code notes k placed s ≡ true))
     → first_of (reached_checks code notes k placed note) ≡ None
 pass_reached code notes k placed None h = refl
 pass_reached code notes k placed (Some t) h =
-    passes_last (checks placed.instruction t) (are_edges_covered code notes k placed t) check.Notes (h t refl).0 (h t refl).1
+    passes_last (checks (summary_of placed.instruction) t) (are_edges_covered code notes k placed t) check.Notes (h t refl).0 (h t refl).1
 
 pub passes_at : (code : List Placed) (notes : Notes) (k : ℕ) (placed : Placed) → failed_at code notes k placed ≡ None → Passes code notes k placed (note_at notes k)
 unfolding failed_at failed_check

@@ -22,5 +22,5 @@ pub mod Tighter
 pub mod Turns
 pub mod Whole
 pub mod Wider
-pub mod Words
+pub mod Values
 pub mod WorkedRanges

@@ -1,6 +1,6 @@
 -- Checks and transfer keep the order of states: of two states, one within the other, the first passes each check that
 -- the second passes, and what an edge brings from the first is within what it brings from the second.
-use Rattle.std.proofs.Common.{◌≡◌, ℕ, zero, suc, ◌+◌, ◌-◌, ◌<◌, ◌≤◌, ℤ, pos, negsuc, ◌+ℤ◌, neg_ℤ, ◌≤ℤ◌, true, false, List, [], ◌∷◌, length, get_or, Option, Some, None, unsigned_abs, refl, arith}
+use Rattle.std.proofs.Common.{◌≡◌, ℕ, zero, suc, ◌+◌, ◌-◌, ◌<◌, ◌≤◌, ℤ, pos, negsuc, ◌+ℤ◌, neg_ℤ, ◌≤ℤ◌, Bool, true, false, List, [], ◌∷◌, length, get_or, Option, Some, None, unsigned_abs, refl, arith}
 use Rattle.std.specs.List.{list_any}
 use Rattle.std.proofs.lemmas.Bool.{and_parts, and_from, or_parts, or_from, not-false, not_from_true}
 use Rattle.std.proofs.lemmas.Int.{ints}
@@ -12,7 +12,15 @@ use Rattle.machine_spec.specs.declared.instruction.Helper.{Helper}
 use Rattle.machine_spec.specs.declared.instruction.Helper.TheVariants.{EmitRecord}
 use Rattle.machine_spec.specs.declared.instruction.Instruction.{Instruction}
 use Rattle.machine_spec.specs.declared.instruction.Instruction.TheVariants.{Move, Compute, Load, JumpIf, Call, Exit}
-use Rattle.machine_spec.specs.Words.{byte_count}
+use Rattle.machine_spec.specs.declared.summary.Operands.{Operands}
+use Rattle.machine_spec.specs.declared.summary.Operands.TheVariants as operands
+use Rattle.machine_spec.specs.declared.summary.Direction.{Direction}
+use Rattle.machine_spec.specs.declared.summary.Direction.TheVariants as direction
+use Rattle.machine_spec.specs.declared.summary.MemoryOperand.{MemoryOperand}
+use Rattle.machine_spec.specs.declared.summary.Condition.{Condition}
+use Rattle.machine_spec.specs.declared.summary.Summary.{Summary}
+use Rattle.machine_spec.specs.Summaries.{summary_of}
+use Rattle.machine_spec.specs.Values.{byte_count}
 use Rattle.machine_spec.specs.Machine.{helper_of, stack_size}
 use Rattle.machine_spec.specs.Traps.{read_registers}
 use Rattle.verifier_spec.specs.declared.state.Abs.{Abs}
@@ -21,8 +29,8 @@ use Rattle.verifier_spec.specs.declared.state.StackSet.{StackSet}
 use Rattle.verifier_spec.specs.declared.state.Abstract.{Abstract}
 use Rattle.verifier_spec.specs.Kinds.{is_set, kind_at, is_unknown, is_address_kind, is_kind_within}
 use Rattle.verifier_spec.specs.States.{is_proper, is_within}
-use Rattle.verifier_spec.specs.Checks.{source_kind, reads_unknown, has_wrong_kind, reach_at, reach_of, is_reach_within, may_leave_record, may_leave_stack, are_set, may_read_unset, has_wrong_argument_kind, may_call_wrongly, may_exit_wrongly, failed_check}
-use Rattle.verifier_spec.specs.Transfer.{with_kind, loaded_kind, answer_kind, after_call_kinds, called_kinds, falls_to, jumps_to}
+use Rattle.verifier_spec.specs.Checks.{source_kind, reads_unknown, has_wrong_kinds, has_wrong_base_kind, has_wrong_condition_kind, reach_at, reach_of, is_reach_within, may_write_record, may_leave_record, may_leave_stack, are_set, may_read_unset, has_wrong_argument_kind, may_call_wrongly, may_exit_wrongly, failed_check}
+use Rattle.verifier_spec.specs.Transfer.{with_kind, loaded_kind, answer_kind, after_call_kinds, called_kinds, jump_edge, falls_to, jumps_to}
 use Rattle.verifier_spec.specs.Annotation.{is_edge_covered}
 use Rattle.verifier_spec.specs.Soundness.{KeepsOrder}
 use Rattle.verifier_spec.proofs.Order.{IsWithin, within_parts, within_from}
@@ -30,14 +38,14 @@ use Rattle.verifier_spec.proofs.Proper.{proper_parts}
 use Rattle.verifier_spec.proofs.Safety.{Passes, passes, failed_from, set_at}
 use Rattle.verifier_spec.proofs.Tighter.{tested_within}
 use Rattle.verifier_spec.proofs.Whole.{le_z-true, le-le_z, le_trans_z, negative, gap_is}
-use Rattle.verifier_spec.proofs.Wider.{narrower, other_kinds, kind_within_narrower, ordered_kind, ordered_source, kind_within, known_within, number_within, address_within, not_address_within, AreAddresses, addresses_within, can_within, computed_within, source_within, within_set}
+use Rattle.verifier_spec.proofs.Wider.{narrower, other_kinds, kind_within_narrower, ordered_kind, ordered_source, kind_within, known_within, number_within, address_within, AreAddresses, addresses_within, can_within, computed_within, source_within, within_set}
 
 -- ---- bytes of a region
 
 -- a part of what stays within a region does, and also within a longer one
-reach_within : (at : Region) (lo hi low high offset : ℤ) (size len longer : ℕ) → low ≤ℤ lo → hi ≤ℤ high → len ≤ longer
-    → is_reach_within (record { region = at; low = low +ℤ offset; high = high +ℤ offset; size = size }) len ≡ true → is_reach_within (record { region = at; low = lo +ℤ offset; high = hi +ℤ offset; size = size }) longer ≡ true
-reach_within at lo hi low high offset size len longer p q le h =
+reach_within : (d : Direction) (at : Region) (lo hi low high offset : ℤ) (size len longer : ℕ) → low ≤ℤ lo → hi ≤ℤ high → len ≤ longer
+    → is_reach_within (record { direction = d; region = at; low = low +ℤ offset; high = high +ℤ offset; size = size }) len ≡ true → is_reach_within (record { direction = d; region = at; low = lo +ℤ offset; high = hi +ℤ offset; size = size }) longer ≡ true
+reach_within d at lo hi low high offset size len longer p q le h =
     let t = and_parts _ _ h in
     let from = le_z-true (pos 0) (low +ℤ offset) t.0 in
     let to = le_z-true ((high +ℤ offset) +ℤ pos size) (pos len) t.1 in
@@ -85,26 +93,27 @@ answer_kept : (c : Abstract) (helper : Helper) → is_kind_within c (answer_kind
 answer_kept c EmitRecord = refl
 
 module _ (a b : Abstract) (w : IsWithin a b) (pa : is_proper a ≡ true) (pb : is_proper b ≡ true) where
-  record_within : (at : Region) (lo hi low high offset : ℤ) (size : ℕ) → low ≤ℤ lo → hi ≤ℤ high
-      → may_leave_record b (Some (record { region = at; low = low +ℤ offset; high = high +ℤ offset; size = size })) ≡ false → may_leave_record a (Some (record { region = at; low = lo +ℤ offset; high = hi +ℤ offset; size = size })) ≡ false
-  record_within region.Stack lo hi low high offset size p q c = refl
-  record_within region.Key lo hi low high offset size p q c = not_from_true _ (reach_within region.Key lo hi low high offset size b.key_min a.key_min p q w.key_min (not-false _ c))
-  record_within region.Value lo hi low high offset size p q c = not_from_true _ (reach_within region.Value lo hi low high offset size b.value_min a.value_min p q w.value_min (not-false _ c))
+  record_within : (d : Direction) (at : Region) (lo hi low high offset : ℤ) (size : ℕ) → low ≤ℤ lo → hi ≤ℤ high
+      → may_leave_record b (Some (record { direction = d; region = at; low = low +ℤ offset; high = high +ℤ offset; size = size })) ≡ false → may_leave_record a (Some (record { direction = d; region = at; low = lo +ℤ offset; high = hi +ℤ offset; size = size })) ≡ false
+  record_within d region.Stack lo hi low high offset size p q c = refl
+  record_within d region.Key lo hi low high offset size p q c = not_from_true _ (reach_within d region.Key lo hi low high offset size b.key_min a.key_min p q w.key_min (not-false _ c))
+  record_within d region.Value lo hi low high offset size p q c = not_from_true _ (reach_within d region.Value lo hi low high offset size b.value_min a.value_min p q w.value_min (not-false _ c))
 
-  stack_within : (at : Region) (lo hi low high offset : ℤ) (size : ℕ) → low ≤ℤ lo → hi ≤ℤ high
-      → may_leave_stack (Some (record { region = at; low = low +ℤ offset; high = high +ℤ offset; size = size })) ≡ false → may_leave_stack (Some (record { region = at; low = lo +ℤ offset; high = hi +ℤ offset; size = size })) ≡ false
-  stack_within region.Stack lo hi low high offset size p q c = not_from_true _ (reach_within region.Stack lo hi low high offset size stack_size stack_size p q (omega arith) (not-false _ c))
-  stack_within region.Key lo hi low high offset size p q c = refl
-  stack_within region.Value lo hi low high offset size p q c = refl
+  stack_within : (d : Direction) (at : Region) (lo hi low high offset : ℤ) (size : ℕ) → low ≤ℤ lo → hi ≤ℤ high
+      → may_leave_stack (Some (record { direction = d; region = at; low = low +ℤ offset; high = high +ℤ offset; size = size })) ≡ false → may_leave_stack (Some (record { direction = d; region = at; low = lo +ℤ offset; high = hi +ℤ offset; size = size })) ≡ false
+  stack_within d region.Stack lo hi low high offset size p q c = not_from_true _ (reach_within d region.Stack lo hi low high offset size stack_size stack_size p q (omega arith) (not-false _ c))
+  stack_within d region.Key lo hi low high offset size p q c = refl
+  stack_within d region.Value lo hi low high offset size p q c = refl
 
-  unset_within : (at : Region) (lo hi low high offset : ℤ) (size : ℕ) → low ≤ℤ lo → lo ≤ℤ hi → hi ≤ℤ high
-      → may_leave_stack (Some (record { region = at; low = low +ℤ offset; high = high +ℤ offset; size = size })) ≡ false
-      → may_read_unset b (Some (record { region = at; low = low +ℤ offset; high = high +ℤ offset; size = size })) ≡ false → may_read_unset a (Some (record { region = at; low = lo +ℤ offset; high = hi +ℤ offset; size = size })) ≡ false
-  unset_within region.Stack lo hi low high offset size p order q c u =
+  unset_within : (d : Direction) (at : Region) (lo hi low high offset : ℤ) (size : ℕ) → low ≤ℤ lo → lo ≤ℤ hi → hi ≤ℤ high
+      → may_leave_stack (Some (record { direction = d; region = at; low = low +ℤ offset; high = high +ℤ offset; size = size })) ≡ false
+      → may_read_unset b (Some (record { direction = d; region = at; low = low +ℤ offset; high = high +ℤ offset; size = size })) ≡ false → may_read_unset a (Some (record { direction = d; region = at; low = lo +ℤ offset; high = hi +ℤ offset; size = size })) ≡ false
+  unset_within direction.Write at lo hi low high offset size p order q c u = refl
+  unset_within direction.Read region.Stack lo hi low high offset size p order q c u =
       let t = and_parts _ _ (not-false _ c) in
       not_from_true _ (set_within a.set b.set (lo +ℤ offset) (hi +ℤ offset) (low +ℤ offset) (high +ℤ offset) size w.set (omega (arith, ints)) (omega (arith, ints)) (omega (arith, ints)) (le_z-true (pos 0) (low +ℤ offset) t.0) (le_z-true ((high +ℤ offset) +ℤ pos size) (pos stack_size) t.1) (not-false _ u))
-  unset_within region.Key lo hi low high offset size p order q c u = refl
-  unset_within region.Value lo hi low high offset size p order q c u = refl
+  unset_within direction.Read region.Key lo hi low high offset size p order q c u = refl
+  unset_within direction.Read region.Value lo hi low high offset size p order q c u = refl
 
   -- ---- the rows of the checks
 
@@ -114,89 +123,84 @@ module _ (a b : Abstract) (w : IsWithin a b) (pa : is_proper a ≡ true) (pb : i
       let p = or_parts _ _ c in
       or_from _ _ (known_within a (kind_at a r) (kind_at b r) (kind_within a b w pb r) p.0) (known_list rest p.1)
 
-  unset_kept : (i : Instruction) → reads_unknown i b ≡ false → reads_unknown i a ≡ false
-  unset_kept i c = known_list (read_registers i) c
+  unset_kept : (m : Summary) → reads_unknown m b ≡ false → reads_unknown m a ≡ false
+  unset_kept m c = known_list (read_registers m) c
 
-  type_kept : (i : Instruction) → has_wrong_kind i b ≡ false → has_wrong_kind i a ≡ false
-  type_kept (Move width dst source) c = refl
-  type_kept (Compute width operation dst source) c =
+  operands_kept : (takes : Operands) → has_wrong_kinds takes b ≡ false → has_wrong_kinds takes a ≡ false
+  operands_kept operands.Nothing c = refl
+  operands_kept (operands.Any source) c = refl
+  operands_kept (operands.Computed width operation dst source) c =
       not_from_true _ (can_within a b (narrower a b w) pa (kind_at a dst) (source_kind a source) (ordered_kind a dst pa) (ordered_source a source pa) (source_kind b source) (source_within a b source w pb)
       width operation (kind_at b dst) (kind_within a b w pb dst) (not-false _ c))
-  type_kept (Load size dst base offset) c = not_from_true _ (address_within a (kind_at a base) (kind_at b base) (kind_within a b w pb base) (not-false _ c))
-  type_kept (JumpIf width test dst source offset) c =
+
+  base_kept : (memory : Option MemoryOperand) → has_wrong_base_kind memory b ≡ false → has_wrong_base_kind memory a ≡ false
+  base_kept None c = refl
+  base_kept (Some m) c = not_from_true _ (address_within a (kind_at a m.base) (kind_at b m.base) (kind_within a b w pb m.base) (not-false _ c))
+
+  condition_kept : (condition : Option Condition) → has_wrong_condition_kind condition b ≡ false → has_wrong_condition_kind condition a ≡ false
+  condition_kept None c = refl
+  condition_kept (Some k) c =
       let p = and_parts _ _ (not-false _ c) in
-      not_from_true _ (and_from _ _ (number_within a (kind_at a dst) (kind_at b dst) (kind_within a b w pb dst) p.0) (number_within a (source_kind a source) (source_kind b source) (source_within a b source w pb) p.1))
-  type_kept (Call number) c = refl
-  type_kept Exit c = refl
+      not_from_true _ (and_from _ _ (number_within a (kind_at a k.dst) (kind_at b k.dst) (kind_within a b w pb k.dst) p.0) (number_within a (source_kind a k.source) (source_kind b k.source) (source_within a b k.source w pb) p.1))
 
   bases : (base : ℕ) → is_address_kind (kind_at b base) ≡ true → AreAddresses (kind_at a base) (kind_at b base)
   bases base is = addresses_within a (kind_at a base) (kind_at b base) (ordered_kind a base pa) (kind_within a b w pb base) is
 
-  record_bounds_kept : (i : Instruction) → has_wrong_kind i b ≡ false → may_leave_record b (reach_of i b) ≡ false → may_leave_record a (reach_of i a) ≡ false
-  record_bounds_kept (Move width dst source) k c = refl
-  record_bounds_kept (Compute width operation dst source) k c = refl
-  record_bounds_kept (Load size dst base offset) k c =
-      let x = bases base (not-false _ k) in
-      let c' : may_leave_record b (reach_at (abs.Addr x.at x.low x.high) offset size) ≡ false = rw x.outer at c in
-      rw x.inner (record_within x.at x.lo x.hi x.low x.high offset (byte_count size) x.from x.to c')
-  record_bounds_kept (JumpIf width test dst source offset) k c = refl
-  record_bounds_kept (Call number) k c = refl
-  record_bounds_kept Exit k c = refl
+  record_write_kept : (memory : Option MemoryOperand) → has_wrong_base_kind memory b ≡ false → may_write_record (reach_of memory b) ≡ false → may_write_record (reach_of memory a) ≡ false
+  record_write_kept None k c = refl
+  record_write_kept (Some m) k c =
+      let x = bases m.base (not-false _ k) in
+      let c' : may_write_record (reach_at m.direction (abs.Addr x.at x.low x.high) m.offset m.size) ≡ false = rw x.outer at c in
+      rw x.inner c'
 
-  stack_bounds_kept : (i : Instruction) → has_wrong_kind i b ≡ false → may_leave_stack (reach_of i b) ≡ false → may_leave_stack (reach_of i a) ≡ false
-  stack_bounds_kept (Move width dst source) k c = refl
-  stack_bounds_kept (Compute width operation dst source) k c = refl
-  stack_bounds_kept (Load size dst base offset) k c =
-      let x = bases base (not-false _ k) in
-      let c' : may_leave_stack (reach_at (abs.Addr x.at x.low x.high) offset size) ≡ false = rw x.outer at c in
-      rw x.inner (stack_within x.at x.lo x.hi x.low x.high offset (byte_count size) x.from x.to c')
-  stack_bounds_kept (JumpIf width test dst source offset) k c = refl
-  stack_bounds_kept (Call number) k c = refl
-  stack_bounds_kept Exit k c = refl
+  record_bounds_kept : (memory : Option MemoryOperand) → has_wrong_base_kind memory b ≡ false → may_leave_record b (reach_of memory b) ≡ false → may_leave_record a (reach_of memory a) ≡ false
+  record_bounds_kept None k c = refl
+  record_bounds_kept (Some m) k c =
+      let x = bases m.base (not-false _ k) in
+      let c' : may_leave_record b (reach_at m.direction (abs.Addr x.at x.low x.high) m.offset m.size) ≡ false = rw x.outer at c in
+      rw x.inner (record_within m.direction x.at x.lo x.hi x.low x.high m.offset (byte_count m.size) x.from x.to c')
 
-  stack_unset_kept : (i : Instruction) → has_wrong_kind i b ≡ false → may_leave_stack (reach_of i b) ≡ false → may_read_unset b (reach_of i b) ≡ false → may_read_unset a (reach_of i a) ≡ false
-  stack_unset_kept (Move width dst source) k c u = refl
-  stack_unset_kept (Compute width operation dst source) k c u = refl
-  stack_unset_kept (Load size dst base offset) k c u =
-      let x = bases base (not-false _ k) in
-      let c' : may_leave_stack (reach_at (abs.Addr x.at x.low x.high) offset size) ≡ false = rw x.outer at c in
-      let u' : may_read_unset b (reach_at (abs.Addr x.at x.low x.high) offset size) ≡ false = rw x.outer at u in
-      rw x.inner (unset_within x.at x.lo x.hi x.low x.high offset (byte_count size) x.from x.order x.to c' u')
-  stack_unset_kept (JumpIf width test dst source offset) k c u = refl
-  stack_unset_kept (Call number) k c u = refl
-  stack_unset_kept Exit k c u = refl
+  stack_bounds_kept : (memory : Option MemoryOperand) → has_wrong_base_kind memory b ≡ false → may_leave_stack (reach_of memory b) ≡ false → may_leave_stack (reach_of memory a) ≡ false
+  stack_bounds_kept None k c = refl
+  stack_bounds_kept (Some m) k c =
+      let x = bases m.base (not-false _ k) in
+      let c' : may_leave_stack (reach_at m.direction (abs.Addr x.at x.low x.high) m.offset m.size) ≡ false = rw x.outer at c in
+      rw x.inner (stack_within m.direction x.at x.lo x.hi x.low x.high m.offset (byte_count m.size) x.from x.to c')
+
+  stack_unset_kept : (memory : Option MemoryOperand) → has_wrong_base_kind memory b ≡ false → may_leave_stack (reach_of memory b) ≡ false → may_read_unset b (reach_of memory b) ≡ false → may_read_unset a (reach_of memory a) ≡ false
+  stack_unset_kept None k c u = refl
+  stack_unset_kept (Some m) k c u =
+      let x = bases m.base (not-false _ k) in
+      let c' : may_leave_stack (reach_at m.direction (abs.Addr x.at x.low x.high) m.offset m.size) ≡ false = rw x.outer at c in
+      let u' : may_read_unset b (reach_at m.direction (abs.Addr x.at x.low x.high) m.offset m.size) ≡ false = rw x.outer at u in
+      rw x.inner (unset_within m.direction x.at x.lo x.hi x.low x.high m.offset (byte_count m.size) x.from x.order x.to c' u')
 
   helper_kept : (helper : Option Helper) → has_wrong_argument_kind helper b ≡ false → has_wrong_argument_kind helper a ≡ false
   helper_kept None c = refl
   helper_kept (Some EmitRecord) c = not_from_true _ (number_within a (kind_at a 1) (kind_at b 1) (kind_within a b w pb 1) (not-false _ c))
 
-  argument_kept : (i : Instruction) → may_call_wrongly i b ≡ false → may_call_wrongly i a ≡ false
-  argument_kept (Move width dst source) c = refl
-  argument_kept (Compute width operation dst source) c = refl
-  argument_kept (Load size dst base offset) c = refl
-  argument_kept (JumpIf width test dst source offset) c = refl
-  argument_kept (Call number) c = helper_kept (helper_of number) c
-  argument_kept Exit c = refl
+  argument_kept : (call : Option ℤ) → may_call_wrongly call b ≡ false → may_call_wrongly call a ≡ false
+  argument_kept None c = refl
+  argument_kept (Some number) c = helper_kept (helper_of number) c
 
-  exit_kept : (i : Instruction) → reads_unknown i b ≡ false → may_exit_wrongly i b ≡ false → may_exit_wrongly i a ≡ false
-  exit_kept (Move width dst source) u c = refl
-  exit_kept (Compute width operation dst source) u c = refl
-  exit_kept (Load size dst base offset) u c = refl
-  exit_kept (JumpIf width test dst source offset) u c = refl
-  exit_kept (Call number) u c = refl
-  exit_kept Exit u c = not_address_within a (kind_at a 0) (kind_at b 0) (kind_within a b w pb 0) (or_parts _ _ u).0 c
+  exit_kept : (exits : Bool) → may_exit_wrongly exits b ≡ false → may_exit_wrongly exits a ≡ false
+  exit_kept false c = refl
+  exit_kept true c = not_from_true _ (number_within a (kind_at a 0) (kind_at b 0) (kind_within a b w pb 0) (not-false _ c))
 
-  passes_kept : (i : Instruction) → Passes i b → Passes i a
-  passes_kept i p = record {
+  passes_kept : (m : Summary) → Passes m b → Passes m a
+  passes_kept m p = record {
     frame = p.frame;
     helper = p.helper;
-    unset = unset_kept i p.unset;
-    type = type_kept i p.type;
-    record_bounds = record_bounds_kept i p.type p.record_bounds;
-    stack_bounds = stack_bounds_kept i p.type p.stack_bounds;
-    stack_unset = stack_unset_kept i p.type p.stack_bounds p.stack_unset;
-    argument = argument_kept i p.argument;
-    exit = exit_kept i p.unset p.exit;
+    unset = unset_kept m p.unset;
+    operands = operands_kept m.takes p.operands;
+    base = base_kept m.memory p.base;
+    condition = condition_kept m.condition p.condition;
+    record_write = record_write_kept m.memory p.base p.record_write;
+    record_bounds = record_bounds_kept m.memory p.base p.record_bounds;
+    stack_bounds = stack_bounds_kept m.memory p.base p.stack_bounds;
+    stack_unset = stack_unset_kept m.memory p.base p.stack_bounds p.stack_unset;
+    argument = argument_kept m.call p.argument;
+    exit = exit_kept m.exits p.exit;
   }
 
   -- ---- the edges
@@ -225,31 +229,31 @@ module _ (a b : Abstract) (w : IsWithin a b) (pa : is_proper a ≡ true) (pb : i
         set = w.set;
       })
 
-  falls_kept : (i : Instruction) → is_within a b ≡ true → Passes i b → is_edge_covered (falls_to i a) (falls_to i b) ≡ true
+  falls_kept : (i : Instruction) → is_within a b ≡ true → Passes (summary_of i) b → is_edge_covered (falls_to i a) (falls_to i b) ≡ true
   unfolding falls_to
   falls_kept (Move width dst source) h p = set_edge dst (source_kind a source) (source_kind b source) (source_within a b source w pb)
   falls_kept (Compute width operation dst source) h p =
       set_edge dst _ _
       (computed_within a b (narrower a b w) pa (kind_at a dst) (source_kind a source) (ordered_kind a dst pa) (ordered_source a source pa) (source_kind b source) (source_within a b source w pb)
-      width operation (kind_at b dst) (kind_within a b w pb dst) (not-false _ p.type))
+      width operation (kind_at b dst) (kind_within a b w pb dst) (not-false _ p.operands))
   falls_kept (Load size dst base offset) h p = set_edge dst (loaded_kind size) (loaded_kind size) (loaded_kept size)
-  falls_kept (JumpIf width test dst source offset) h p = tested_within a b w pa pb width test false dst source h (and_parts _ _ (not-false _ p.type)).0
+  falls_kept (JumpIf width test dst source offset) h p = tested_within a b w pa pb width test false dst source h (and_parts _ _ (not-false _ p.condition)).0
   falls_kept (Call number) h p = call_edge (helper_of number)
   falls_kept Exit h p = refl
 
-  jumps_kept : (i : Instruction) → is_within a b ≡ true → Passes i b → is_edge_covered (jumps_to i a) (jumps_to i b) ≡ true
+  edge_kept : (condition : Option Condition) (jump : Option ℤ) → is_within a b ≡ true → has_wrong_condition_kind condition b ≡ false → is_edge_covered (jump_edge condition jump a) (jump_edge condition jump b) ≡ true
+  edge_kept condition None h c = refl
+  edge_kept None (Some offset) h c = h
+  edge_kept (Some k) (Some offset) h c = tested_within a b w pa pb k.width k.test true k.dst k.source h (and_parts _ _ (not-false _ c)).0
+
+  jumps_kept : (i : Instruction) → is_within a b ≡ true → Passes (summary_of i) b → is_edge_covered (jumps_to i a) (jumps_to i b) ≡ true
   unfolding jumps_to
-  jumps_kept (Move width dst source) h p = refl
-  jumps_kept (Compute width operation dst source) h p = refl
-  jumps_kept (Load size dst base offset) h p = refl
-  jumps_kept (JumpIf width test dst source offset) h p = tested_within a b w pa pb width test true dst source h (and_parts _ _ (not-false _ p.type)).0
-  jumps_kept (Call number) h p = refl
-  jumps_kept Exit h p = refl
+  jumps_kept i h p = edge_kept (summary_of i).condition (summary_of i).jump h p.condition
 
 -- ---- the order is kept
 
 pub check_monotone : (i : Instruction) (a b : Abstract) → is_within a b ≡ true → is_proper a ≡ true → is_proper b ≡ true → failed_check i b ≡ None → failed_check i a ≡ None
-check_monotone i a b h pa pb pass = failed_from i a (passes_kept a b (within_parts a b h) pa pb i (passes i b pass))
+check_monotone i a b h pa pb pass = failed_from i a (passes_kept a b (within_parts a b h) pa pb (summary_of i) (passes i b pass))
 
 pub falls_monotone : (i : Instruction) (a b : Abstract) → is_within a b ≡ true → is_proper a ≡ true → is_proper b ≡ true → failed_check i b ≡ None
     → is_edge_covered (falls_to i a) (falls_to i b) ≡ true

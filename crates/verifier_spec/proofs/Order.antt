@@ -3,7 +3,7 @@ use Rattle.std.proofs.Common.{◌≡◌, ℕ, zero, suc, ◌<◌, ◌≤◌, Boo
 use Rattle.std.proofs.lemmas.Bool.{and_parts, and_from, leb-true, le-leb, false≢true, cases_lt, cases_eq}
 use Rattle.machine_spec.specs.declared.instruction.Region.{Region}
 use Rattle.machine_spec.specs.declared.instruction.Region.TheVariants as region
-use Rattle.machine_spec.specs.Words.{Word, Nothing, Number, Address}
+use Rattle.machine_spec.specs.Values.{Value, Nothing, Number, Address}
 use Rattle.machine_spec.specs.Machine.{Input, State}
 use Rattle.verifier_spec.specs.declared.state.Abs.{Abs}
 use Rattle.verifier_spec.specs.declared.state.Abs.TheVariants as abs
@@ -13,7 +13,7 @@ use Rattle.verifier_spec.specs.States.{each_below, is_proper, is_within}
 use Rattle.verifier_spec.specs.StandsFor.{HasKind, StandsFor}
 use Rattle.verifier_spec.proofs.Proper.{unknown_past}
 use Rattle.verifier_spec.proofs.Whole.{le_z-true, le_trans_z}
-use Rattle.verifier_spec.proofs.Words.{HasLengths, lengths}
+use Rattle.verifier_spec.proofs.Values.{HasLengths, lengths}
 
 -- ---- tests of every number below one
 
@@ -84,7 +84,7 @@ region_is region.Key region.Value h = absurd (false≢true h)
 region_is region.Value region.Stack h = absurd (false≢true h)
 region_is region.Value region.Key h = absurd (false≢true h)
 
-pub kind_holds : (input : Input) (a : Abstract) (j k : Abs) (word : Word) → HasLengths input a → is_kind_within a j k ≡ true → HasKind input j word → HasKind input k word
+pub kind_holds : (input : Input) (a : Abstract) (j k : Abs) (word : Value) → HasLengths input a → is_kind_within a j k ≡ true → HasKind input j word → HasKind input k word
 kind_holds input a j abs.None word l w h = tt
 kind_holds input a abs.None (abs.Num lo hi) word l w h = absurd (false≢true w)
 kind_holds input a abs.None (abs.Len r) word l w h = absurd (false≢true w)

@@ -9,7 +9,7 @@ use Rattle.machine_spec.specs.declared.instruction.Width.{Width}
 use Rattle.machine_spec.specs.declared.instruction.Width.TheVariants.{Bits64}
 use Rattle.machine_spec.specs.declared.instruction.Operation.{Operation}
 use Rattle.machine_spec.specs.declared.instruction.Operation.TheVariants.{Add}
-use Rattle.machine_spec.specs.Words.{Word, Nothing, Number, Address, number_of, result_of}
+use Rattle.machine_spec.specs.Values.{Value, Nothing, Number, Address, number_of, result_of}
 use Rattle.machine_spec.specs.Machine.{Input}
 use Rattle.verifier_spec.specs.declared.state.Abs.{Abs}
 use Rattle.verifier_spec.specs.declared.state.Abs.TheVariants as abs
@@ -20,7 +20,7 @@ use Rattle.verifier_spec.specs.Checks.{is_one_sign, can_move, can_compute_kinds}
 use Rattle.verifier_spec.specs.Transfer.{any_number, computed_range, on_ranges, moved, computed_kind}
 use Rattle.verifier_spec.specs.StandsFor.{HasKind}
 use Rattle.verifier_spec.proofs.Proper.{num_order, addr_order, lengths_order}
-use Rattle.verifier_spec.proofs.Words.{HasLengths, IsNumber, at_number}
+use Rattle.verifier_spec.proofs.Values.{HasLengths, IsNumber, at_number}
 
 -- ---- numbers
 
@@ -75,7 +75,7 @@ sum_proper al ah bl bh a b =
 
 -- ---- any operation that a kind allows
 
-two_numbers : (input : Input) (a : Abstract) (j k : Abs) (x y : Word) → IsNumber a j x → IsNumber a k y → HasKind input (on_ranges Bits64 Add (range_of a j) (range_of a k)) (result_of Bits64 Add x y)
+two_numbers : (input : Input) (a : Abstract) (j k : Abs) (x y : Value) → IsNumber a j x → IsNumber a k y → HasKind input (on_ranges Bits64 Add (range_of a j) (range_of a k)) (result_of Bits64 Add x y)
 two_numbers input a j k x y m n = rw (m.is, n.is, m.range, n.range) (sum_in input m.lo m.hi n.lo n.hi m.n n.n m.low m.high n.low n.high)
 
 pub number_if_moves : (a : Abstract) (low high : ℤ) (k : Abs) → can_move low high (range_of a k) ≡ true → is_number_kind k ≡ true
@@ -84,7 +84,7 @@ number_if_moves a low high (abs.Num lo hi) h = refl
 number_if_moves a low high (abs.Len r) h = refl
 number_if_moves a low high (abs.Addr r lo hi) h = h
 
-address_and_number : (input : Input) (a : Abstract) (at : Region) (low high : ℤ) (k : Abs) (x y : Word) → can_move low high (range_of a k) ≡ true → HasKind input (abs.Addr at low high) x
+address_and_number : (input : Input) (a : Abstract) (at : Region) (low high : ℤ) (k : Abs) (x y : Value) → can_move low high (range_of a k) ≡ true → HasKind input (abs.Addr at low high) x
     → IsNumber a k y → HasKind input (moved at low high (range_of a k)) (result_of Bits64 Add x y)
 address_and_number input a at low high k Nothing y can h n = absurd h
 address_and_number input a at low high k (Number m) y can h n = absurd h
@@ -93,7 +93,7 @@ address_and_number input a at low high k (Address r offset) y can h n =
     rw (n.is, n.range, ← h.0) (moved_in input at low high offset n.lo n.hi n.n can' h.1 h.2 n.low n.high)
 
 -- what an operation makes of words is of the kind that it makes of their kinds
-pub compute_holds : (input : Input) (a : Abstract) (width : Width) (operation : Operation) (j k : Abs) (x y : Word) → HasLengths input a → can_compute_kinds a width operation j k ≡ true
+pub compute_holds : (input : Input) (a : Abstract) (width : Width) (operation : Operation) (j k : Abs) (x y : Value) → HasLengths input a → can_compute_kinds a width operation j k ≡ true
     → HasKind input j x → HasKind input k y → HasKind input (computed_kind a width operation j k) (result_of width operation x y)
 compute_holds input a Bits64 Add abs.None k x y l can hx hy = absurd (false≢true can)
 compute_holds input a Bits64 Add (abs.Num lo hi) k x y l can hx hy =

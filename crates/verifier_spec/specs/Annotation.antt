@@ -1,8 +1,8 @@
 -- Annotations: lists of abstract states that are closed under a program's edges and pass its checks.
 use Rattle.std.specs.Prelude.{◌≡◌, ℕ, zero, suc, ◌+◌, ℤ, Bool, true, false, ◌==◌, ◌&&◌, not, if◌then◌else◌, List, [], ◌∷◌, ◌++◌, length, slice_get, Option, Some, None}
 use Rattle.machine_spec.specs.declared.instruction.Placed.{Placed}
-use Rattle.machine_spec.specs.Image.{number_at}
-use Rattle.machine_spec.specs.Machine.{jump_target}
+use Rattle.machine_spec.specs.Summaries.{summary_of}
+use Rattle.machine_spec.specs.Image.{target_of}
 use Rattle.machine_spec.specs.Traps.{first_of}
 use Rattle.verifier_spec.specs.declared.state.Abstract.{Abstract}
 use Rattle.verifier_spec.specs.declared.fault.Check.{Check}
@@ -32,20 +32,16 @@ abbrev pub is_edge_covered : Option Abstract → Option Abstract → Bool
 is_edge_covered None outer = true
 is_edge_covered (Some s) outer = is_covered s outer
 
--- the note at the instruction that begins at a slot
+-- the note at an instruction, by its number if it has one
 abbrev pub note_of : Notes → Option ℕ → Option Abstract
 note_of notes (Some k) = note_at notes k
 note_of notes None = None
-
-abbrev pub target_note : List Placed → Notes → ℕ → Option ℤ → Option Abstract
-target_note code notes slot (Some offset) = note_of notes (number_at code (jump_target slot offset))
-target_note code notes slot None = None
 
 -- the edges of instruction number k from a state
 abbrev pub are_edges_covered : List Placed → Notes → ℕ → Placed → Abstract → Bool
 are_edges_covered code notes k placed s =
     is_edge_covered (falls_to placed.instruction s) (note_at notes (k + 1))
-    && is_edge_covered (jumps_to placed.instruction s) (target_note code notes placed.slot (jump_of placed.instruction))
+    && is_edge_covered (jumps_to placed.instruction s) (note_of notes (target_of code placed.slot (jump_of placed.instruction)))
 
 -- A list of abstract states is an annotation of a code.
 pub record IsAnnotation (code : List Placed) (notes : Notes) : Type 0 where
@@ -67,7 +63,7 @@ pub record IsAnnotation (code : List Placed) (notes : Notes) : Type 0 where
 -- of a reached instruction, after the checks of its shape: its checks, then its edges
 abbrev pub reached_checks : List Placed → Notes → ℕ → Placed → Option Abstract → List (Bool × Check)
 reached_checks code notes k placed None = []
-reached_checks code notes k placed (Some s) = checks placed.instruction s ++ (not (are_edges_covered code notes k placed s), check.Notes) ∷ []
+reached_checks code notes k placed (Some s) = checks (summary_of placed.instruction) s ++ (not (are_edges_covered code notes k placed s), check.Notes) ∷ []
 
 -- the first check that instruction number k fails
 unfoldable pub failed_at : List Placed → Notes → ℕ → Placed → Option Check

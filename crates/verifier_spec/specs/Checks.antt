@@ -11,14 +11,20 @@ use Rattle.machine_spec.specs.declared.instruction.Operation.TheVariants.{Add}
 use Rattle.machine_spec.specs.declared.instruction.Source.{Source}
 use Rattle.machine_spec.specs.declared.instruction.Source.TheVariants.{Register, Immediate}
 use Rattle.machine_spec.specs.declared.instruction.Instruction.{Instruction}
-use Rattle.machine_spec.specs.declared.instruction.Instruction.TheVariants.{Move, Compute, Load, JumpIf, Call, Exit}
 use Rattle.machine_spec.specs.declared.instruction.Helper.{Helper}
 use Rattle.machine_spec.specs.declared.instruction.Helper.TheVariants.{EmitRecord}
 use Rattle.machine_spec.specs.declared.instruction.Placed.{Placed}
-use Rattle.machine_spec.specs.Image.{number_at}
-use Rattle.machine_spec.specs.Words.{byte_count}
-use Rattle.machine_spec.specs.Machine.{helper_of, jump_target, stack_size}
-use Rattle.machine_spec.specs.Traps.{writes_frame, calls_no_helper, read_registers, is_stack, first_of}
+use Rattle.machine_spec.specs.declared.summary.Operands.{Operands}
+use Rattle.machine_spec.specs.declared.summary.Operands.TheVariants as operands
+use Rattle.machine_spec.specs.declared.summary.Direction.{Direction}
+use Rattle.machine_spec.specs.declared.summary.MemoryOperand.{MemoryOperand}
+use Rattle.machine_spec.specs.declared.summary.Condition.{Condition}
+use Rattle.machine_spec.specs.declared.summary.Summary.{Summary}
+use Rattle.machine_spec.specs.Summaries.{summary_of}
+use Rattle.machine_spec.specs.Image.{target_of}
+use Rattle.machine_spec.specs.Values.{byte_count}
+use Rattle.machine_spec.specs.Machine.{helper_of, stack_size}
+use Rattle.machine_spec.specs.Traps.{writes_frame, calls_no_helper, read_registers, is_read, is_stack, first_of}
 use Rattle.verifier_spec.specs.declared.state.Abs.{Abs}
 use Rattle.verifier_spec.specs.declared.state.Abs.TheVariants as abs
 use Rattle.verifier_spec.specs.declared.state.StackSet.{StackSet}
@@ -32,8 +38,8 @@ abbrev pub source_kind : Abstract → Source → Abs
 source_kind s (Register r) = kind_at s r
 source_kind s (Immediate imm) = abs.Num (cast_unsigned w64 imm) (cast_unsigned w64 imm)
 
-abbrev pub reads_unknown : Instruction → Abstract → Bool
-reads_unknown i s = list_any (λ r. is_unknown (kind_at s r)) (read_registers i)
+abbrev pub reads_unknown : Summary → Abstract → Bool
+reads_unknown m s = list_any (λ r. is_unknown (kind_at s r)) (read_registers m)
 
 -- ---- kinds
 
@@ -55,40 +61,46 @@ can_compute_kinds s width operation (abs.Num _ _) b = is_number_kind b
 can_compute_kinds s width operation (abs.Len _) b = is_number_kind b
 can_compute_kinds s Bits64 Add (abs.Addr _ low high) b = can_move low high (range_of s b)
 
-abbrev pub has_wrong_kind : Instruction → Abstract → Bool
-has_wrong_kind (Move _ _ _) s = false
-has_wrong_kind (Compute width operation dst source) s = not (can_compute_kinds s width operation (kind_at s dst) (source_kind s source))
-has_wrong_kind (Load _ _ base _) s = not (is_address_kind (kind_at s base))
-has_wrong_kind (JumpIf _ _ dst source _) s = not (is_number_kind (kind_at s dst) && is_number_kind (source_kind s source))
-has_wrong_kind (Call _) s = false
-has_wrong_kind Exit s = false
+abbrev pub has_wrong_kinds : Operands → Abstract → Bool
+has_wrong_kinds operands.Nothing s = false
+has_wrong_kinds (operands.Any _) s = false
+has_wrong_kinds (operands.Computed width operation dst source) s = not (can_compute_kinds s width operation (kind_at s dst) (source_kind s source))
+
+abbrev pub has_wrong_base_kind : Option MemoryOperand → Abstract → Bool
+has_wrong_base_kind (Some m) s = not (is_address_kind (kind_at s m.base))
+has_wrong_base_kind None s = false
+
+abbrev pub has_wrong_condition_kind : Option Condition → Abstract → Bool
+has_wrong_condition_kind (Some c) s = not (is_number_kind (kind_at s c.dst) && is_number_kind (source_kind s c.source))
+has_wrong_condition_kind None s = false
 
 -- ---- memory
 
--- The bytes that an instruction may read: size bytes from some place from low to high.
+-- The bytes that an instruction may read or write: size bytes from some place from low to high.
 pub record Reach : Type 0 where
+  pub direction : Direction
   pub region : Region
   pub low : ℤ
   pub high : ℤ
   pub size : ℕ
 
-abbrev pub reach_at : Abs → ℤ → Size → Option Reach
-reach_at (abs.Addr region lo hi) offset size = Some (record { region = region; low = lo +ℤ offset; high = hi +ℤ offset; size = byte_count size })
-reach_at abs.None offset size = None
-reach_at (abs.Num _ _) offset size = None
-reach_at (abs.Len _) offset size = None
+abbrev pub reach_at : Direction → Abs → ℤ → Size → Option Reach
+reach_at direction (abs.Addr region lo hi) offset size = Some (record { direction = direction; region = region; low = lo +ℤ offset; high = hi +ℤ offset; size = byte_count size })
+reach_at direction abs.None offset size = None
+reach_at direction (abs.Num _ _) offset size = None
+reach_at direction (abs.Len _) offset size = None
 
-abbrev pub reach_of : Instruction → Abstract → Option Reach
-reach_of (Load size _ base offset) s = reach_at (kind_at s base) offset size
-reach_of (Move _ _ _) s = None
-reach_of (Compute _ _ _ _) s = None
-reach_of (JumpIf _ _ _ _ _) s = None
-reach_of (Call _) s = None
-reach_of Exit s = None
+abbrev pub reach_of : Option MemoryOperand → Abstract → Option Reach
+reach_of (Some m) s = reach_at m.direction (kind_at s m.base) m.offset m.size
+reach_of None s = None
 
 -- all of them lie in the first so many bytes of the region
 abbrev pub is_reach_within : Reach → ℕ → Bool
 is_reach_within reach len = int_le (pos 0) reach.low && int_le (reach.high +ℤ pos reach.size) (pos len)
+
+abbrev pub may_write_record : Option Reach → Bool
+may_write_record (Some reach) = not (is_read reach.direction) && not (is_stack reach.region)
+may_write_record None = false
 
 -- not within the bytes that this record's key or value is known to have
 abbrev pub may_leave_record : Abstract → Option Reach → Bool
@@ -109,7 +121,7 @@ abbrev pub reach_length : Reach → ℕ
 reach_length reach = unsigned_abs (reach.high +ℤ neg_ℤ reach.low) + reach.size
 
 abbrev pub may_read_unset : Abstract → Option Reach → Bool
-may_read_unset s (Some reach) = if is_stack reach.region then not (are_set s.set (unsigned_abs reach.low) (reach_length reach)) else false
+may_read_unset s (Some reach) = if is_read reach.direction && is_stack reach.region then not (are_set s.set (unsigned_abs reach.low) (reach_length reach)) else false
 may_read_unset s None = false
 
 -- ---- calls and the exit
@@ -118,76 +130,59 @@ abbrev pub has_wrong_argument_kind : Option Helper → Abstract → Bool
 has_wrong_argument_kind (Some EmitRecord) s = not (is_number_kind (kind_at s 1))
 has_wrong_argument_kind None s = false
 
-abbrev pub may_call_wrongly : Instruction → Abstract → Bool
-may_call_wrongly (Call number) s = has_wrong_argument_kind (helper_of number) s
-may_call_wrongly (Move _ _ _) s = false
-may_call_wrongly (Compute _ _ _ _) s = false
-may_call_wrongly (Load _ _ _ _) s = false
-may_call_wrongly (JumpIf _ _ _ _ _) s = false
-may_call_wrongly Exit s = false
+abbrev pub may_call_wrongly : Option ℤ → Abstract → Bool
+may_call_wrongly (Some number) s = has_wrong_argument_kind (helper_of number) s
+may_call_wrongly None s = false
 
-abbrev pub may_exit_wrongly : Instruction → Abstract → Bool
-may_exit_wrongly Exit s = is_address_kind (kind_at s 0)
-may_exit_wrongly (Move _ _ _) s = false
-may_exit_wrongly (Compute _ _ _ _) s = false
-may_exit_wrongly (Load _ _ _ _) s = false
-may_exit_wrongly (JumpIf _ _ _ _ _) s = false
-may_exit_wrongly (Call _) s = false
+-- r0 is a number at the exit
+abbrev pub may_exit_wrongly : Bool → Abstract → Bool
+may_exit_wrongly true s = not (is_number_kind (kind_at s 0))
+may_exit_wrongly false s = false
 
--- ---- the checks of an instruction in a state
+-- ---- which check
 
-abbrev pub checks : Instruction → Abstract → List (Bool × Check)
-checks i s =
-    (writes_frame i, check.Frame)
-    ∷ (calls_no_helper i, check.Helper)
-    ∷ (reads_unknown i s, check.Unset)
-    ∷ (has_wrong_kind i s, check.WrongType)
-    ∷ (may_leave_record s (reach_of i s), check.RecordBounds)
-    ∷ (may_leave_stack (reach_of i s), check.StackBounds)
-    ∷ (may_read_unset s (reach_of i s), check.StackUnset)
-    ∷ (may_call_wrongly i s, check.HelperArg)
-    ∷ (may_exit_wrongly i s, check.Exit)
+abbrev pub checks : Summary → Abstract → List (Bool × Check)
+checks m s =
+    (writes_frame m.writes, check.Frame)
+    ∷ (calls_no_helper m.call, check.Helper)
+    ∷ (reads_unknown m s, check.Unset)
+    ∷ (has_wrong_kinds m.takes s, check.WrongType)
+    ∷ (has_wrong_base_kind m.memory s, check.WrongType)
+    ∷ (has_wrong_condition_kind m.condition s, check.WrongType)
+    ∷ (may_write_record (reach_of m.memory s), check.ReadOnly)
+    ∷ (may_leave_record s (reach_of m.memory s), check.RecordBounds)
+    ∷ (may_leave_stack (reach_of m.memory s), check.StackBounds)
+    ∷ (may_read_unset s (reach_of m.memory s), check.StackUnset)
+    ∷ (may_call_wrongly m.call s, check.HelperArg)
+    ∷ (may_exit_wrongly m.exits s, check.Exit)
     ∷ []
 
 -- the first check that fails, if one does
 unfoldable pub failed_check : Instruction → Abstract → Option Check
-failed_check i s = first_of (checks i s)
+failed_check i s = first_of (checks (summary_of i) s)
 
 -- ---- the checks of every instruction, reached or not
 
 abbrev pub jump_of : Instruction → Option ℤ
-jump_of (JumpIf _ _ _ _ offset) = Some offset
-jump_of (Move _ _ _) = None
-jump_of (Compute _ _ _ _) = None
-jump_of (Load _ _ _ _) = None
-jump_of (Call _) = None
-jump_of Exit = None
+jump_of i = (summary_of i).jump
 
 -- a jump forward whose target is outside the image or the second slot of a wide instruction
 abbrev pub leads_nowhere : List Placed → ℕ → Option ℤ → Bool
-leads_nowhere code slot (Some offset) = if int_lt offset (pos 0) then false else is_none (number_at code (jump_target slot offset))
+leads_nowhere code slot (Some offset) = if int_lt offset (pos 0) then false else is_none (target_of code slot (Some offset))
 leads_nowhere code slot None = false
 
 abbrev pub leads_back : Option ℤ → Bool
 leads_back (Some offset) = int_lt offset (pos 0)
 leads_back None = false
 
-abbrev pub is_exit : Instruction → Bool
-is_exit Exit = true
-is_exit (Move _ _ _) = false
-is_exit (Compute _ _ _ _) = false
-is_exit (Load _ _ _ _) = false
-is_exit (JumpIf _ _ _ _ _) = false
-is_exit (Call _) = false
-
 -- the last instruction is no EXIT
-abbrev pub runs_off : List Placed → ℕ → Instruction → Bool
-runs_off code k i = (k + 1 == length code) && not (is_exit i)
+abbrev pub runs_off : List Placed → ℕ → Bool → Bool
+runs_off code k exits = (k + 1 == length code) && not exits
 
 -- of instruction number k
 abbrev pub shape_checks : List Placed → ℕ → Placed → List (Bool × Check)
 shape_checks code k placed =
     (leads_nowhere code placed.slot (jump_of placed.instruction), check.JumpTarget)
     ∷ (leads_back (jump_of placed.instruction), check.BackJump)
-    ∷ (runs_off code k placed.instruction, check.RunsOff)
+    ∷ (runs_off code k (summary_of placed.instruction).exits, check.RunsOff)
     ∷ []

@@ -1,8 +1,7 @@
 -- The notes that one pass in code order finds: each instruction has the state that the first edge brings to it.
 use Rattle.std.specs.Prelude.{ℕ, ◌+◌, ℤ, if◌then◌else◌, List, [], ◌∷◌, length, slice_set, replicate, Option, Some, None, is_none}
 use Rattle.machine_spec.specs.declared.instruction.Placed.{Placed}
-use Rattle.machine_spec.specs.Image.{number_at}
-use Rattle.machine_spec.specs.Machine.{jump_target}
+use Rattle.machine_spec.specs.Image.{target_of}
 use Rattle.verifier_spec.specs.declared.state.Abstract.{Abstract}
 use Rattle.verifier_spec.specs.declared.fault.Check.{Check}
 use Rattle.verifier_spec.specs.States.{entry_state}
@@ -15,10 +14,6 @@ abbrev pub brought : Notes → Option ℕ → Option Abstract → Notes
 brought notes None state = notes
 brought notes (Some k) None = notes
 brought notes (Some k) (Some s) = if is_none (note_at notes k) then slice_set notes k (Some s) else notes
-
-abbrev pub target_of : List Placed → ℕ → Option ℤ → Option ℕ
-target_of code slot (Some offset) = number_at code (jump_target slot offset)
-target_of code slot None = None
 
 -- both edges of an instruction from a state, the one to the next instruction first
 abbrev pub both_brought : List Placed → Notes → ℕ → Placed → Abstract → Notes

@@ -8,3 +8,4 @@ pub mod Forward
 pub mod StandsFor
 pub mod Run
 pub mod Soundness
+pub mod Loading

@@ -1,11 +1,11 @@
 -- What the checks and the transfer of an instruction promise: soundness against the machine, and that they keep the
 -- order of abstract states.
-use Rattle.std.specs.Prelude.{◌≡◌, ℕ, ◌<◌, Bool, true, false, List, Option, Some, None}
+use Rattle.std.specs.Prelude.{◌≡◌, ℕ, ◌<◌, Bool, true, false, List, ◌&&◌, Option, Some, None, is_some}
 use Rattle.machine_spec.specs.declared.instruction.Instruction.{Instruction}
-use Rattle.machine_spec.specs.declared.instruction.Instruction.TheVariants.{Move, Compute, Load, JumpIf, Call, Exit}
-use Rattle.machine_spec.specs.Image.{form_at}
-use Rattle.machine_spec.specs.Words.{operand, is_taken}
+use Rattle.machine_spec.specs.Summaries.{summary_of}
+use Rattle.machine_spec.specs.Image.{Program, form_at}
 use Rattle.machine_spec.specs.Machine.{Input, State}
+use Rattle.machine_spec.specs.Traps.{is_met}
 use Rattle.machine_spec.specs.Meaning.{Step}
 use Rattle.verifier_spec.specs.declared.state.Abstract.{Abstract}
 use Rattle.verifier_spec.specs.States.{is_proper}
@@ -20,12 +20,7 @@ pub record AreBytes (s : State) : Type 0 where
 
 -- a state takes the jump that an instruction is
 abbrev pub takes_jump : Instruction → State → Bool
-takes_jump (JumpIf width test dst source offset) s = is_taken width test (s.registers dst) (operand s.registers source)
-takes_jump (Move _ _ _) s = false
-takes_jump (Compute _ _ _ _) s = false
-takes_jump (Load _ _ _ _) s = false
-takes_jump (Call _) s = false
-takes_jump Exit s = false
+takes_jump i s = is_some (summary_of i).jump && is_met (summary_of i).condition s.registers
 
 -- the abstract state along the edge to a jump's target, or along the one to the next instruction
 abbrev pub edge_of : Bool → Instruction → Abstract → Option Abstract
@@ -35,7 +30,7 @@ edge_of false i a = falls_to i a
 -- Transfer is sound at an instruction: where an abstract state holds of the machine's before a step, the edge of that
 -- step brings an abstract state, which is in its ranges and holds of the machine's after the step.
 pub record IsSoundAt (i : Instruction) (a : Abstract) : Type 0 where
-  pub edge : (image : List ℕ) (input : Input) (before next : State) → HasBytes input → AreBytes before → StandsFor input a before → form_at image before.slot ≡ Some i → Step image input before next
+  pub edge : (program : Program) (input : Input) (before next : State) → HasBytes input → AreBytes before → StandsFor input a before → form_at program.image before.slot ≡ Some i → Step program input before next
       → (b : Abstract) × (edge_of (takes_jump i before) i a ≡ Some b) × StandsFor input b next × (is_proper b ≡ true)
 
 -- The order of two abstract states is kept at an instruction: the inner one passes the checks, and each edge brings from

@@ -16,7 +16,9 @@ use Rattle.machine_spec.specs.declared.instruction.Instruction.{Instruction}
 use Rattle.machine_spec.specs.declared.instruction.Instruction.TheVariants.{Move, Compute, Load, JumpIf, Call, Exit}
 use Rattle.machine_spec.specs.declared.instruction.Helper.{Helper}
 use Rattle.machine_spec.specs.declared.instruction.Helper.TheVariants.{EmitRecord}
-use Rattle.machine_spec.specs.Words.{byte_count}
+use Rattle.machine_spec.specs.declared.summary.Condition.{Condition}
+use Rattle.machine_spec.specs.Summaries.{summary_of}
+use Rattle.machine_spec.specs.Values.{byte_count}
 use Rattle.machine_spec.specs.Machine.{helper_of}
 use Rattle.verifier_spec.specs.declared.state.Abs.{Abs}
 use Rattle.verifier_spec.specs.declared.state.Abs.TheVariants as abs
@@ -125,6 +127,11 @@ tested s width test taken dst (Register _) = Some s
 tested s width test taken dst (Immediate imm) =
     with_range s dst (kind_at s dst) (narrowed_range width test taken (range_of s (kind_at s dst)) (cast_unsigned w64 imm))
 
+-- where a jump's condition is met
+abbrev pub met_edge : Option Condition → Abstract → Option Abstract
+met_edge (Some c) s = tested s c.width c.test true c.dst c.source
+met_edge None s = Some s
+
 -- ---- calls
 
 abbrev pub answer_kind : Helper → Abs
@@ -149,11 +156,11 @@ falls_to (JumpIf width test dst source offset) s = tested s width test false dst
 falls_to (Call number) s = called_kinds (helper_of number) s
 falls_to Exit s = None
 
+-- along the edge of a jump that is taken
+abbrev pub jump_edge : Option Condition → Option ℤ → Abstract → Option Abstract
+jump_edge condition (Some _) s = met_edge condition s
+jump_edge condition None s = None
+
 -- the state at the target of a jump that is taken, or none
 unfoldable pub jumps_to : Instruction → Abstract → Option Abstract
-jumps_to (JumpIf width test dst source offset) s = tested s width test true dst source
-jumps_to (Move _ _ _) s = None
-jumps_to (Compute _ _ _ _) s = None
-jumps_to (Load _ _ _ _) s = None
-jumps_to (Call _) s = None
-jumps_to Exit s = None
+jumps_to i s = jump_edge (summary_of i).condition (summary_of i).jump s

@@ -1,3 +1,4 @@
+use machine_spec::IsaFault;
 use thiserror::Error;
 
 /// Why the verifier refuses an instruction.
@@ -56,4 +57,15 @@ pub enum Check {
 pub struct VerifyFault {
     pub pc: usize,
     pub kind: Check,
+}
+
+/// Why a program is not loaded.
+#[derive(Clone, Copy, Debug, PartialEq, Eq, Drop, Error)]
+pub enum LoadFault {
+    /// The image is not one of the profile's instructions.
+    #[error("{0}")]
+    Isa(IsaFault),
+    /// The verifier refuses the program.
+    #[error("{0}")]
+    Verify(VerifyFault),
 }

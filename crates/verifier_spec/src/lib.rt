@@ -8,6 +8,6 @@ mod fault;
 mod interval;
 mod state;
 
-pub use fault::{Check, VerifyFault};
+pub use fault::{Check, LoadFault, VerifyFault};
 pub use interval::Interval;
 pub use state::{Abs, Abstract, StackSet};

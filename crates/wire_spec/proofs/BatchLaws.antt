@@ -21,7 +21,7 @@ use Rattle.wire_spec.specs.Checksum.{checksum}
 use Rattle.wire_spec.specs.RecordSpelling.{RecordFits, record_spelling}
 use Rattle.wire_spec.specs.RecordReading.{record_at}
 use Rattle.wire_spec.specs.BatchSpelling.{max_batch, max_records, timestamps, greatest, IsTimestamp, signed, records_spelling, covered, enclosed, batch_spelling, BatchFits}
-use Rattle.wire_spec.specs.BatchReading.{◌>>=◌, number_at, signed_at, base_offset, batch_length, leader_epoch, magic, crc, attributes, last_offset_delta, base_timestamp, max_timestamp, producer_id, producer_epoch, base_sequence, record_count, with_front, size_of, is_miscounted, is_timestamp, is_mistimed, record_or, records_at, count_at, timed_at, whole_at, size_at, batch_at}
+use Rattle.wire_spec.specs.BatchReading.{◌>>=◌, number_at, signed_at, base_offset, batch_length, leader_epoch, magic, crc, attributes, last_offset_delta, base_timestamp, max_timestamp, producer_id, producer_epoch, base_sequence, record_count, with_front, batch_size, is_miscounted, is_timestamp, is_mistimed, record_or, records_at, count_at, timed_at, whole_at, size_at, batch_at}
 use Rattle.wire_spec.proofs.Varints.{IsBytes, IsBytes-drop, IsBytes-take}
 use Rattle.wire_spec.proofs.Checksums.{checksum-lt}
 use Rattle.wire_spec.proofs.RecordLaws.{record_takes, record_again, one_record}
@@ -323,13 +323,13 @@ unfolding size_at
 size_taken bytes n e =
     let a = guard_ok (ltb (length bytes) 12) faults.Short _ n e in
     let b = guard_ok (int_lt (batch_length bytes) (pos 49)) faults.Length _ n a.1 in
-    let c = guard_ok (ltb max_batch (size_of bytes)) faults.TooLarge _ n b.1 in
-    let d = guard_ok (ltb (length bytes) (size_of bytes)) faults.Short (done (size_of bytes)) n c.1 in
+    let c = guard_ok (ltb max_batch (batch_size bytes)) faults.TooLarge _ n b.1 in
+    let d = guard_ok (ltb (length bytes) (batch_size bytes)) faults.Short (done (batch_size bytes)) n c.1 in
     let long = long_enough (number_at w32 8 bytes) b.0 in
-    let size : size_of bytes ≡ number_at w32 8 bytes + 12 = ap with_front long.0 in
-    let same : size_of bytes ≡ n = ok_is (size_of bytes) n d.1 in
-    let most : size_of bytes ≤ max_batch = ltb-false max_batch (size_of bytes) c.0 in
-    let there : size_of bytes ≤ length bytes = ltb-false (length bytes) (size_of bytes) d.0 in
+    let size : batch_size bytes ≡ number_at w32 8 bytes + 12 = ap with_front long.0 in
+    let same : batch_size bytes ≡ n = ok_is (batch_size bytes) n d.1 in
+    let most : batch_size bytes ≤ max_batch = ltb-false max_batch (batch_size bytes) c.0 in
+    let there : batch_size bytes ≤ length bytes = ltb-false (length bytes) (batch_size bytes) d.0 in
     let whole : number_at w32 8 bytes + 12 ≡ n = sym size ∙ same in
     let least : 49 ≤ number_at w32 8 bytes = long.1 in
     record {

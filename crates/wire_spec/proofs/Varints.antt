@@ -10,7 +10,7 @@ use Rattle.std.specs.Prelude.{IfOk, FitsSigned}
 use Rattle.std.specs.Int.{w32, w64}
 use Rattle.wire_spec.specs.declared.fault.VarintFault.{VarintFault}
 use Rattle.wire_spec.specs.declared.fault.VarintFault.TheVariants.{Short, Long, NotShortest}
-use Rattle.wire_spec.specs.Varint.{zigzag, unzigzag, IsBase128, IsVarint, IsVarlong, groups, varint, varlong, number_of, last_place, read_to, read_base128, read_signed, read_varint, read_varlong}
+use Rattle.wire_spec.specs.Varint.{zigzag, unzigzag, IsBase128, IsVarint, IsVarlong, groups, varint, varlong, groups_value, last_place, read_to, read_base128, read_signed, read_varint, read_varlong}
 
 -- ---- The zigzag number
 
@@ -62,7 +62,7 @@ pub record EndsAt (bytes : List ℕ) (last : ℕ) : Type 0 where
 pub record Parts (form : List ℕ) (n last : ℕ) : Type 0 where
   pub size : length form ≡ suc last
   pub ends : EndsAt form last
-  pub number : number_of form ≡ n
+  pub number : groups_value form ≡ n
   pub low : worth last (get_or form last 0) ≤ n
   pub high : n < worth last (get_or form last 0 + 1)
   pub nonzero : 0 < n → 0 < get_or form last 0
@@ -93,7 +93,7 @@ Parts-of (b ∷ c ∷ bs) n h =
     let low : worth last (get_or (c ∷ bs) last 0) ≤ h.2 = p.low in
     let high : h.2 < worth last (get_or (c ∷ bs) last 0 + 1) = p.high in
     let positive : 0 < get_or (c ∷ bs) last 0 = p.nonzero h.3 in
-    let number : number_of (c ∷ bs) ≡ h.2 = p.number in (
+    let number : groups_value (c ∷ bs) ≡ h.2 = p.number in (
       suc last,
       record {
         size = ap suc p.size;
@@ -207,12 +207,12 @@ worth-mono (suc j) x y h = omega (arith, worth-mono j x y h)
 EndsAt-tail : (b : ℕ) (bs : List ℕ) (last : ℕ) → EndsAt (b ∷ bs) (suc last) → EndsAt bs last
 EndsAt-tail b bs last e = record { within = omega (arith, e.within); before = λ k lt. e.before (suc k) (omega arith); ends = e.ends }
 
-number_of-pos : (last : ℕ) (bytes : List ℕ) → EndsAt bytes last → 0 < get_or bytes last 0 → 0 < number_of (take (suc last) bytes)
-number_of-pos last [] e h = absurd (omega (arith, e.within))
-number_of-pos zero (b ∷ bs) e h = let below : b < 128 = e.ends in omega arith
-number_of-pos (suc last) (b ∷ bs) e h = omega (arith, number_of-pos last bs (EndsAt-tail b bs last e) h)
+groups_value-pos : (last : ℕ) (bytes : List ℕ) → EndsAt bytes last → 0 < get_or bytes last 0 → 0 < groups_value (take (suc last) bytes)
+groups_value-pos last [] e h = absurd (omega (arith, e.within))
+groups_value-pos zero (b ∷ bs) e h = let below : b < 128 = e.ends in omega arith
+groups_value-pos (suc last) (b ∷ bs) e h = omega (arith, groups_value-pos last bs (EndsAt-tail b bs last e) h)
 
-pub IsBase128-from_ends : (last : ℕ) (bytes : List ℕ) → IsBytes bytes → EndsAt bytes last → (0 < last → 0 < get_or bytes last 0) → IsBase128 (take (suc last) bytes) (number_of (take (suc last) bytes))
+pub IsBase128-from_ends : (last : ℕ) (bytes : List ℕ) → IsBytes bytes → EndsAt bytes last → (0 < last → 0 < get_or bytes last 0) → IsBase128 (take (suc last) bytes) (groups_value (take (suc last) bytes))
 IsBase128-from_ends last [] fits e some = absurd (omega (arith, e.within))
 IsBase128-from_ends zero (b ∷ bs) fits e some = let below : b < 128 = e.ends in (below, omega arith)
 IsBase128-from_ends (suc last) (b ∷ bs) fits e some =
@@ -220,7 +220,7 @@ IsBase128-from_ends (suc last) (b ∷ bs) fits e some =
     let positive : 0 < get_or bs last 0 = some (omega arith) in
     let first : 128 ≤ b = e.before 0 (omega arith) in
     let byte : b < 256 = fits 0 in
-    IsBase128-more b (take (suc last) bs) (number_of (take (suc (suc last)) (b ∷ bs))) (number_of (take (suc last) bs)) first byte (number_of-pos last bs inner positive) (omega arith) (IsBase128-from_ends last bs (IsBytes-rest b bs fits) inner (λ q. positive))
+    IsBase128-more b (take (suc last) bs) (groups_value (take (suc (suc last)) (b ∷ bs))) (groups_value (take (suc last) bs)) first byte (groups_value-pos last bs inner positive) (omega arith) (IsBase128-from_ends last bs (IsBytes-rest b bs fits) inner (λ q. positive))
 
 -- ---- The place of the last byte
 
@@ -270,7 +270,7 @@ guard_ok true d r y e = absurd cc
 guard_ok false d r y e = (refl, e)
 
 pub read_to_ok : (most top : ℕ) (bytes : List ℕ) (last : ℕ) → (last ≡ most - 1 → get_or bytes last 0 ≤ top) → (0 < last → 0 < get_or bytes last 0)
-    → read_to most top bytes (Some last) ≡ Ok (number_of (take (last + 1) bytes), last + 1)
+    → read_to most top bytes (Some last) ≡ Ok (groups_value (take (last + 1) bytes), last + 1)
 read_to_ok most top bytes last narrow some =
     let first : (eqb last (most - 1) && ltb top (get_or bytes last 0)) ≡ false = and_no (eqb last (most - 1)) (ltb top (get_or bytes last 0)) (λ e. le-ltb top (get_or bytes last 0) (narrow (eqb-true last (most - 1) e))) in
     let second : (ltb 0 last && eqb (get_or bytes last 0) 0) ≡ false = and_no (ltb 0 last) (eqb (get_or bytes last 0) 0) (λ e. ne_eqb (get_or bytes last 0) 0 (λ z. absurd (omega (arith, z, some (ltb-true 0 last e))))) in
@@ -280,14 +280,14 @@ read_to_ok most top bytes last narrow some =
 pub record ReadTo (most top : ℕ) (bytes : List ℕ) (last n used : ℕ) : Type 0 where
   pub narrow : last ≡ most - 1 → get_or bytes last 0 ≤ top
   pub some : 0 < last → 0 < get_or bytes last 0
-  pub number : number_of (take (last + 1) bytes) ≡ n
+  pub number : groups_value (take (last + 1) bytes) ≡ n
   pub size : last + 1 ≡ used
 
 ReadTo-from : (most top : ℕ) (bytes : List ℕ) (last n used : ℕ) → read_to most top bytes (Some last) ≡ Ok (n, used) → ReadTo most top bytes last n used
 ReadTo-from most top bytes last n used e =
-    let a = guard_ok (eqb last (most - 1) && ltb top (get_or bytes last 0)) Long (cond (ltb 0 last && eqb (get_or bytes last 0) 0) (Err NotShortest) (Ok (number_of (take (last + 1) bytes), last + 1))) (n, used) e in
-    let b = guard_ok (ltb 0 last && eqb (get_or bytes last 0) 0) NotShortest (Ok (number_of (take (last + 1) bytes), last + 1)) (n, used) a.1 in
-    let same : ◌≡◌ {A = ℕ × ℕ} (number_of (take (last + 1) bytes), last + 1) (n, used) = cc (b.1) in
+    let a = guard_ok (eqb last (most - 1) && ltb top (get_or bytes last 0)) Long (cond (ltb 0 last && eqb (get_or bytes last 0) 0) (Err NotShortest) (Ok (groups_value (take (last + 1) bytes), last + 1))) (n, used) e in
+    let b = guard_ok (ltb 0 last && eqb (get_or bytes last 0) 0) NotShortest (Ok (groups_value (take (last + 1) bytes), last + 1)) (n, used) a.1 in
+    let same : ◌≡◌ {A = ℕ × ℕ} (groups_value (take (last + 1) bytes), last + 1) (n, used) = cc (b.1) in
     record {
       narrow = λ h. ltb-false top (get_or bytes last 0) (from_and_no (eqb last (most - 1)) (ltb top (get_or bytes last 0)) a.0 (eq-eqb last (most - 1) h));
       some = λ h. let ne : get_or bytes last 0 ≡ 0 → ⊥ = eqb-false (get_or bytes last 0) 0 (from_and_no (ltb 0 last) (eqb (get_or bytes last 0) 0) b.0 (lt-ltb 0 last h)) in elim (cases_lt 0 (get_or bytes last 0)) [ inl lt ↦ lt | inr le ↦ absurd (ne (omega arith)) ];
@@ -368,11 +368,11 @@ Taken-from most top limit wide bytes n used None fits place e = absurd (none_rea
 Taken-from most top limit wide bytes n used (Some last) fits place e =
     let ends = EndsAt-from most bytes last place in
     let r = ReadTo-from most top bytes last n used e in
-    let form : IsBase128 (take (suc last) bytes) (number_of (take (suc last) bytes)) = IsBase128-from_ends last bytes fits ends.0 r.some in
+    let form : IsBase128 (take (suc last) bytes) (groups_value (take (suc last) bytes)) = IsBase128-from_ends last bytes fits ends.0 r.some in
     let size : suc last ≡ used = omega (arith, r.size) in
     let plus : last + 1 ≡ suc last = omega arith in
-    let number : number_of (take (suc last) bytes) ≡ n = subst (λ (k : ℕ). number_of (take k bytes) ≡ n) plus r.number in
-    let formed : IsBase128 (take used bytes) n = subst (λ (m : ℕ). IsBase128 (take used bytes) m) number (subst (λ (k : ℕ). IsBase128 (take k bytes) (number_of (take (suc last) bytes))) size form) in
+    let number : groups_value (take (suc last) bytes) ≡ n = subst (λ (k : ℕ). groups_value (take k bytes) ≡ n) plus r.number in
+    let formed : IsBase128 (take used bytes) n = subst (λ (m : ℕ). IsBase128 (take used bytes) m) number (subst (λ (k : ℕ). IsBase128 (take k bytes) (groups_value (take (suc last) bytes))) size form) in
     record {
       within = omega (arith, ends.0.within);
       form = formed;
@@ -487,24 +487,24 @@ pub worth-128 : (j x : ℕ) → worth j (128 * x) ≡ 128 * worth j x
 worth-128 zero x = refl
 worth-128 (suc j) x = omega (arith, worth-128 j x)
 
-pub number_of-take : (at : ℕ) (bytes : List ℕ) → at < length bytes → number_of (take (suc at) bytes) ≡ number_of (take at bytes) + worth at (get_or bytes at 0 % 128)
-number_of-take at [] lt = absurd (omega arith)
-number_of-take zero (b ∷ bs) lt = omega arith
-number_of-take (suc at) (b ∷ bs) lt = omega (arith, number_of-take at bs (omega arith))
+pub groups_value-take : (at : ℕ) (bytes : List ℕ) → at < length bytes → groups_value (take (suc at) bytes) ≡ groups_value (take at bytes) + worth at (get_or bytes at 0 % 128)
+groups_value-take at [] lt = absurd (omega arith)
+groups_value-take zero (b ∷ bs) lt = omega arith
+groups_value-take (suc at) (b ∷ bs) lt = omega (arith, groups_value-take at bs (omega arith))
 
 -- the number of the bytes up to a place, when the byte there was added
 pub record Adds (bytes : List ℕ) (at number : ℕ) : Type 0 where
-  pub number_is : number ≡ number_of (take (at + 1) bytes)
+  pub number_is : number ≡ groups_value (take (at + 1) bytes)
   pub below : number < worth (at + 1) 1
 
-pub adds : (bytes : List ℕ) (at number digit : ℕ) → at < length bytes → number ≡ number_of (take at bytes) → number < worth at 1 → digit ≡ get_or bytes at 0 % 128 → Adds bytes at (number + worth at digit)
+pub adds : (bytes : List ℕ) (at number digit : ℕ) → at < length bytes → number ≡ groups_value (take at bytes) → number < worth at 1 → digit ≡ get_or bytes at 0 % 128 → Adds bytes at (number + worth at digit)
 adds bytes at number digit lt is below e =
     let plus : suc at ≡ at + 1 = omega arith in
-    let more : number + worth at digit ≡ number_of (take (suc at) bytes) = rw e (omega (arith, number_of-take at bytes lt)) in
+    let more : number + worth at digit ≡ groups_value (take (suc at) bytes) = rw e (omega (arith, groups_value-take at bytes lt)) in
     let top : worth at digit + worth at 1 ≤ 128 * worth at 1 = omega (arith, worth-mono at (digit + 1) 128 (omega arith), worth-128 at 1, worth-add at digit 1) in
     let small : number + worth at digit < worth (suc at) 1 = omega arith in
     record {
-      number_is = subst (λ (k : ℕ). number + worth at digit ≡ number_of (take k bytes)) plus more;
+      number_is = subst (λ (k : ℕ). number + worth at digit ≡ groups_value (take k bytes)) plus more;
       below = subst (λ (k : ℕ). number + worth at digit < worth k 1) plus small;
     }
 
@@ -513,7 +513,7 @@ pub nine_groups : (k n : ℕ) → k ≤ 9 → n < worth k 1 → n < 2 ^ 63
 nine_groups k n le lt = omega (arith, worth-le k 9 1 le (omega arith))
 
 pub reads_at : (most top : ℕ) (bytes : List ℕ) (at number : ℕ) → EndsAt bytes at → at < most → (at ≡ most - 1 → get_or bytes at 0 ≤ top) → (0 < at → 0 < get_or bytes at 0)
-    → number ≡ number_of (take (at + 1) bytes) → Ok (number, at + 1) ≡ read_base128 most top bytes
+    → number ≡ groups_value (take (at + 1) bytes) → Ok (number, at + 1) ≡ read_base128 most top bytes
 reads_at most top bytes at number ends lt narrow some is =
     sym (ap (read_to most top bytes) (last_place_is most bytes at ends lt) ∙ read_to_ok most top bytes at narrow some ∙ rw (← is) refl)
 

@@ -4,6 +4,7 @@ use Rattle.std.specs.Prelude.{ℕ, zero, suc, ◌+◌, ◌^◌, ℤ, pos, negsuc
 use Rattle.std.specs.List.{list_all}
 use Rattle.std.specs.Int.{Width, w16, w32, w64, from_be_bytes, cast_signed}
 use Rattle.std.specs.Ordering.{int_eq}
+use Rattle.wire_spec.specs.declared.limits.TheConstants.{TIMESTAMP_END}
 use Rattle.wire_spec.specs.declared.fault.BatchFault.{BatchFault}
 use Rattle.wire_spec.specs.declared.fault.BatchFault.TheVariants as faults
 use Rattle.wire_spec.specs.declared.record.Record.{Record}
@@ -65,8 +66,8 @@ abbrev pub with_front : ℤ → ℕ
 with_front (pos n) = n + 12
 with_front (negsuc n) = 0
 
-abbrev pub size_of : List ℕ → ℕ
-size_of bytes = with_front (batch_length bytes)
+abbrev pub batch_size : List ℕ → ℕ
+batch_size bytes = with_front (batch_length bytes)
 
 -- ---- What is wrong with the bytes
 
@@ -78,7 +79,7 @@ is_miscounted bytes =
 
 -- a whole number of milliseconds from 0 to 2 ^ 62 - 1
 abbrev pub is_timestamp : ℤ → Bool
-is_timestamp t = int_le (pos 0) t && int_lt t (pos (2 ^ 62))
+is_timestamp t = int_le (pos 0) t && int_lt t (pos TIMESTAMP_END)
 
 -- the base timestamp or a record's is out of range, or the greatest one is another
 abbrev pub is_mistimed : List ℕ → List Record → Bool
@@ -144,9 +145,9 @@ unfoldable pub size_at : List ℕ → Result ℕ BatchFault
 size_at bytes =
     if nat_lt (length bytes) 12 then Err faults.Short
     else if int_lt (batch_length bytes) (pos 49) then Err faults.Length
-    else if nat_lt max_batch (size_of bytes) then Err faults.TooLarge
-    else if nat_lt (length bytes) (size_of bytes) then Err faults.Short
-    else Ok (size_of bytes)
+    else if nat_lt max_batch (batch_size bytes) then Err faults.TooLarge
+    else if nat_lt (length bytes) (batch_size bytes) then Err faults.Short
+    else Ok (batch_size bytes)
 
 -- the batch at the front of the bytes, and how many of them it takes
 unfoldable pub batch_at : List ℕ → Result (Batch × ℕ) BatchFault

@@ -52,9 +52,9 @@ varlong z = groups 10 (zigzag z)
 -- ---- Reading
 
 -- the number that groups of seven bits stand for, whatever their top bits are
-abbrev pub number_of : List ℕ → ℕ
-number_of [] = 0
-number_of (b ∷ bs) = b % 128 + 128 * number_of bs
+abbrev pub groups_value : List ℕ → ℕ
+groups_value [] = 0
+groups_value (b ∷ bs) = b % 128 + 128 * groups_value bs
 
 -- the place of the first byte without the top bit, among the first bytes, at most that many
 abbrev pub last_place : ℕ → List ℕ → Option ℕ
@@ -67,7 +67,7 @@ read_to most top bytes None = if nat_lt (length bytes) most then Err Short else 
 read_to most top bytes (Some last) =
     if (last == most - 1) && nat_lt top (slice_index bytes last) then Err Long
     else if nat_lt 0 last && (slice_index bytes last == 0) then Err NotShortest
-    else Ok (number_of (take (last + 1) bytes), last + 1)
+    else Ok (groups_value (take (last + 1) bytes), last + 1)
 
 abbrev pub read_base128 : ℕ → ℕ → List ℕ → Result (ℕ × ℕ) VarintFault
 read_base128 most top bytes = read_to most top bytes (last_place most bytes)

@@ -9,4 +9,5 @@ mod rows;
 
 pub use crate::events::{World, run};
 pub use crate::limits::fits_log;
-pub use log_spec::{Event, LoadFault, Name, Refusal, Reply, Row};
+pub use log_spec::{Event, Name, Refusal, Reply, Row};
+pub use verifier_spec::LoadFault;

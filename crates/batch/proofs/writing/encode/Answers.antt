@@ -4,7 +4,7 @@ use Rattle.std.proofs.lemmas.List.{take_at}
 use Rattle.wire_spec.specs.declared.record.Record.{Record}
 use Rattle.wire_spec.specs.Checksum.{checksum}
 use Rattle.wire_spec.specs.BatchSpelling.{records_spelling, covered}
-use Rattle.batch.proofs.WithinLimits.{bytes_of}
+use Rattle.batch.proofs.WithinLimits.{spelling_length}
 use Rattle.batch.proofs.Written.{front_of, spelled_is, sealed_length, front_long}
 use Rattle.batch.proofs.writing.encode.Goals as goal
 
@@ -13,7 +13,7 @@ put_front-requires-clause-most c =
     let b = c.args.batch.now in
     let same : c.as_slice.result.now ≡ b.records = search rules in
     let size : c.records_len-size.result ≡ length (records_spelling 0 b.records) = c.records_len-size.ensures.size ∙ ap (λ (rs : List Record). length (records_spelling 0 rs)) same in
-    omega (arith, size, bytes_of b, c.requires.few_bytes)
+    omega (arith, size, spelling_length b, c.requires.few_bytes)
 
 pub returns : goal.returns
 returns c =

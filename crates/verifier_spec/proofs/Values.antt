@@ -3,7 +3,7 @@ use Rattle.std.proofs.Common.{◌≡◌, ℕ, ◌≤◌, ℤ, ◌≤ℤ◌, true
 use Rattle.std.proofs.lemmas.Bool.{false≢true}
 use Rattle.machine_spec.specs.declared.instruction.Region.{Region}
 use Rattle.machine_spec.specs.declared.instruction.Region.TheVariants as region
-use Rattle.machine_spec.specs.Words.{Word, Nothing, Number, Address}
+use Rattle.machine_spec.specs.Values.{Value, Nothing, Number, Address}
 use Rattle.machine_spec.specs.Machine.{Input, State, length_of}
 use Rattle.verifier_spec.specs.declared.state.Abs.{Abs}
 use Rattle.verifier_spec.specs.declared.state.Abs.TheVariants as abs
@@ -30,7 +30,7 @@ pub lengths : (input : Input) (a : Abstract) (s : State) → StandsFor input a s
 lengths input a s h = record { low = low_of input a s h; high = high_of input a s h }
 
 -- a number in the range of its kind
-pub record IsNumber (a : Abstract) (kind : Abs) (word : Word) : Type 0 where
+pub record IsNumber (a : Abstract) (kind : Abs) (word : Value) : Type 0 where
   pub n : ℕ
   pub lo : ℕ
   pub hi : ℕ
@@ -40,7 +40,7 @@ pub record IsNumber (a : Abstract) (kind : Abs) (word : Word) : Type 0 where
   pub high : n ≤ hi
 
 -- an address in the range of its kind
-pub record IsAddress (kind : Abs) (word : Word) : Type 0 where
+pub record IsAddress (kind : Abs) (word : Value) : Type 0 where
   pub at : Region
   pub offset : ℤ
   pub lo : ℤ
@@ -50,7 +50,7 @@ pub record IsAddress (kind : Abs) (word : Word) : Type 0 where
   pub low : lo ≤ℤ offset
   pub high : offset ≤ℤ hi
 
-pub at_number : (input : Input) (a : Abstract) (kind : Abs) (word : Word) → HasLengths input a → is_number_kind kind ≡ true → HasKind input kind word → IsNumber a kind word
+pub at_number : (input : Input) (a : Abstract) (kind : Abs) (word : Value) → HasLengths input a → is_number_kind kind ≡ true → HasKind input kind word → IsNumber a kind word
 at_number input a abs.None word l k h = absurd (false≢true k)
 at_number input a (abs.Num lo hi) (Number n) l k h = record { n = n; lo = lo; hi = hi; is = refl; range = refl; low = h.0; high = h.1 }
 at_number input a (abs.Num lo hi) Nothing l k h = absurd h
@@ -61,7 +61,7 @@ at_number input a (abs.Len r) Nothing l k h = absurd h
 at_number input a (abs.Len r) (Address at offset) l k h = absurd h
 at_number input a (abs.Addr r lo hi) word l k h = absurd (false≢true k)
 
-pub at_address : (input : Input) (kind : Abs) (word : Word) → is_address_kind kind ≡ true → HasKind input kind word → IsAddress kind word
+pub at_address : (input : Input) (kind : Abs) (word : Value) → is_address_kind kind ≡ true → HasKind input kind word → IsAddress kind word
 at_address input abs.None word k h = absurd (false≢true k)
 at_address input (abs.Num lo hi) word k h = absurd (false≢true k)
 at_address input (abs.Len r) word k h = absurd (false≢true k)
