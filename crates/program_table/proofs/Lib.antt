@@ -1,1 +1,2 @@
+pub mod KeptTables
 pub mod TableLaws

@@ -1,11 +1,11 @@
-ghost use Rattle.std.specs.Prelude.{◌≡◌, List, IfErr, ℕ, ◌<◌, ◌≤◌, ◌+◌, length, Some, None, [], ◌∷◌, ◌++◌, option_map, MatchOption, OnOk, OnErr, IfOk, string_bytes, false, true, map, slice_get, slice_set, take, IfNone, IfSome, slice_index_or};
+ghost use Rattle.std.specs.Prelude.{◌≡◌, List, IfErr, ℕ, ◌<◌, ◌≤◌, ◌+◌, ◌^◌, length, Some, None, [], ◌∷◌, ◌++◌, option_map, MatchOption, OnOk, OnErr, IfOk, string_bytes, false, true, map, slice_get, slice_set, take, IfNone, IfSome, slice_index_or};
 ghost use Rattle.std.specs.List.{list_all};
 ghost use Rattle.program_table.specs.declared.table.Entry.{Entry};
 ghost use Rattle.std.specs.Arc.{arc_value};
 ghost use Rattle.std.specs.Str.{bytes_eq};
 ghost use Rattle.verifier_spec.specs.Loading.{load_fault};
 ghost use Rattle.log_spec.specs.Catalogue.{refused_load, images_of, image_of, has_name, is_name, is_name_byte, with_image};
-ghost use Rattle.program_table.specs.Tables.{entry_view, table_view, LoadsInto, RefusedAs, version_of};
+ghost use Rattle.program_table.specs.Tables.{entry_view, table_view, LatestIs, LoadsInto, RefusedAs, version_of};
 ghost use Rattle.annotate.specs.Loads.{FaultIs};
 
 use crate::name::share_name;
@@ -42,11 +42,13 @@ pub struct Table {
 
 impl Model for Table {
     ghost use Rattle.log_spec.specs.Catalogue.{Table as Loads};
-    ghost use Rattle.program_table.specs.Tables.{table_view};
+    ghost use Rattle.program_table.specs.Tables.{table_view, IsTable};
 
     ghost Value = { Loads };
 
-    ghost view = { λ c. table_view c.entries.items };
+    ghost view = { λ t. table_view t.entries.items };
+
+    ghost invariant = { λ t. IsTable (table_view t.entries.items) };
 }
 
 fn is_name_char(byte: u8) -> bool
@@ -222,6 +224,24 @@ impl Table {
         }
     }
 
+    /// The last version of a name with its program, if the name is loaded.
+    pub fn latest(&self, name: &Name) -> Option<(u32, &Arc<Program>)>
+        ensures { LatestIs (images_of self.now name.now) (option_map (λ found. (found.0, arc_value found.1.now)) result) }
+    {
+        match place_of(&self.entries, name) {
+            None => None,
+            Some(place) => last_program(&self.entries[place].programs),
+        }
+    }
+
+    /// Another owner of the same programs.
+    pub fn again(&self, alloc: Global) -> Result<Table, AllocError>
+        ensures { IfOk result (λ table. table ≡ self.now) }
+    {
+        let entries = copies_of_entries(alloc, &self.entries)?;
+        Ok(Table { entries })
+    }
+
     /// The program that was loaded as a version of a name, if one was.
     pub fn version(&self, name: &Name, version: u32) -> Option<&Arc<Program>>
         ensures { option_map (λ program. arc_value program.now) result ≡ image_of self.now name.now version }
@@ -245,4 +265,46 @@ fn program_at(programs: &[Arc<Program>], version: u32) -> Option<&Arc<Program>>
         return None;
     }
     Some(&programs[number])
+}
+
+/// The last of a name's programs with its version.
+fn last_program(programs: &[Arc<Program>]) -> Option<(u32, &Arc<Program>)>
+    requires { length programs.now < 2 ^ 32 }
+    ensures { LatestIs (map (λ program. arc_value program) programs.now) (option_map (λ found. (found.0, arc_value found.1.now)) result) }
+{
+    if programs.is_empty() {
+        return None;
+    }
+    Some((programs.len() as u32, &programs[programs.len() - 1]))
+}
+
+fn copies_of_programs(
+    alloc: Global,
+    programs: &[Arc<Program>],
+) -> Result<Vec<Arc<Program>>, AllocError>
+    ensures { IfOk result (λ copies. map (λ program. arc_value program) copies.items ≡ map (λ program. arc_value program) programs.now) }
+{
+    let mut copies = Vec::with_capacity(alloc, programs.len())?;
+    for program in programs {
+        copies.push(Arc::try_clone(program)?)?;
+    }
+    Ok(copies)
+}
+
+fn copy_of_entry(alloc: Global, entry: &Entry) -> Result<Entry, AllocError>
+    ensures { IfOk result (λ copy. entry_view copy ≡ entry_view entry.now) }
+{
+    let name = share_name(alloc, &entry.name)?;
+    let programs = copies_of_programs(alloc, &entry.programs)?;
+    Ok(Entry { name, programs })
+}
+
+fn copies_of_entries(alloc: Global, entries: &[Entry]) -> Result<Vec<Entry>, AllocError>
+    ensures { IfOk result (λ copies. table_view copies.items ≡ table_view entries.now) }
+{
+    let mut copies = Vec::with_capacity(alloc, entries.len())?;
+    for entry in entries {
+        copies.push(copy_of_entry(alloc, entry)?)?;
+    }
+    Ok(copies)
 }
