@@ -8,4 +8,4 @@ mod rows;
 
 pub use crate::item::item_rows;
 pub use crate::origin::Origin;
-pub use crate::rows::{ItemRows, OutputRows};
+pub use crate::rows::ItemRows;

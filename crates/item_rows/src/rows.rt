@@ -39,7 +39,7 @@ impl OutputRows {
     }
 
     /// The rows.
-    fn as_slice(&self) -> &[Row]
+    pub(crate) fn as_slice(&self) -> &[Row]
         ensures { result.now ≡ self.now }
     {
         self.list.as_slice()
