@@ -8,7 +8,8 @@ use Rattle.std.proofs.lemmas.List.{length-append, length-map}
 use Rattle.std.specs.Arc.{arc_value}
 use Rattle.log_spec.specs.declared.event.Refusal.{Refusal}
 use Rattle.log_spec.specs.declared.event.Refusal.TheVariants as refusal
-use Rattle.log_spec.specs.Catalogue.{Table, Entry as Loaded, images_of, has_name, is_name, with_image, load_fault, refused_load, load_refusal}
+use Rattle.log_spec.specs.Catalogue.{Table, Entry as Loaded, images_of, has_name, is_name, with_image, refused_load, load_refusal}
+use Rattle.verifier_spec.specs.Loading.{load_fault}
 use Rattle.program_table.specs.declared.table.Entry.{Entry}
 use Rattle.program_table.specs.Tables.{table_view, IsTable, LoadsInto}
 
