@@ -1,0 +1,169 @@
+//! Measures how fast threads append to logs. Given how many turns to take, it fills logs of several
+//! sizes by one, two and four producers and prints what an append took in the best turn; given
+//! nothing, it prints nothing.
+#![tactic(auto)]
+
+ghost use Rattle.std.specs.Prelude.{◌≡◌, ◌≤◌};
+ghost use Rattle.log_spec.specs.Logs.{FitsLog};
+ghost use Rattle.broker.specs.Layouts.{IsNamed, IsCount};
+
+use broker::{Broker, Parts};
+use bytes::Bytes;
+use part_log::{LoggedBatch, Names};
+use std::alloc::{AllocError, Global};
+use std::io::ErrorKind;
+use std::marker::Brand;
+use std::num::nearest_u64_to_f64;
+use std::rt::Clock;
+use std::sync::Wait;
+use std::thread::Threads;
+use std::time::{Duration, Instant};
+use std::{env, io, thread};
+use wire_spec::{Batch, Headers, Record, Records};
+
+const MOST_CELLS: usize = 65_536;
+
+/// A batch of one record of 64 bytes.
+fn batch_of(alloc: Global) -> Result<Batch, AllocError> {
+    let value = vec![in alloc; b'v'; 64]?;
+    let given = Record {
+        timestamp_delta: 0,
+        key: None,
+        value: Some(Bytes::from_vec(value)?),
+        headers: Headers {
+            list: Vec::new(alloc),
+        },
+    };
+    let mut list = Vec::new(alloc);
+    list.push(given)?;
+    Ok(Batch {
+        base_offset: 0,
+        leader_epoch: 0,
+        base_timestamp: 1_700_000_000_000,
+        producer_id: -1,
+        producer_epoch: -1,
+        base_sequence: -1,
+        records: Records { list },
+    })
+}
+
+/// The batch, where a log takes it.
+fn if_fits(batch: Batch) -> Option<LoggedBatch> {
+    let fits = batch::fits(&batch);
+    if fits {
+        Some(LoggedBatch::new(batch))
+    } else {
+        None
+    }
+}
+
+/// Appends until the log is full; how many appends that were.
+fn fill<Id: Names, R: Wait>(
+    rt: &R,
+    alloc: Global,
+    broker: &Broker<Id>,
+    input: usize,
+    logged: &LoggedBatch,
+) -> u64 {
+    let mut count = 0u64;
+    for _ in 0..MOST_CELLS {
+        let Ok(batch) = batch::share(alloc, logged.batch()) else {
+            break;
+        };
+        if broker.append(rt, alloc, input, batch).is_err() {
+            break;
+        }
+        count = count.wrapping_add(1);
+    }
+    count
+}
+
+/// How long the producers took, and how often they appended.
+fn turn<Id: Names + Send + Sync, R: Threads + Wait + Clock + Sync>(
+    rt: &R,
+    alloc: Global,
+    parts: Parts,
+    producers: usize,
+    logged: &LoggedBatch,
+) -> io::Result<(Duration, u64)>
+    requires cells { IsNamed Id.cells parts.cells }
+    requires outputs { parts.outputs ≡ Id.outputs }
+{
+    let made: Broker<Id> = Broker::new(alloc, parts)?;
+    let broker = &made;
+    let inputs = broker.inputs();
+    let producer = move |number: usize| -> u64 { fill(rt, alloc, broker, number % inputs, logged) };
+    let start = Instant::now(rt)?;
+    let counts = thread::map_indices(rt, alloc, producers, &producer)?;
+    let took = start.elapsed(rt)?;
+    let mut all = 0u64;
+    for count in &counts {
+        all = all.wrapping_add(*count);
+    }
+    Ok((took, all))
+}
+
+fn new_turn<R: Threads + Wait + Clock + Sync>(
+    rt: &R,
+    alloc: Global,
+    inputs: usize,
+    cells: usize,
+    producers: usize,
+    logged: &LoggedBatch,
+) -> io::Result<(Duration, u64)>
+    requires inputs { IsCount inputs }
+    requires cells { (1 ≤ cells) × (cells ≤ 65536) }
+{
+    let parts = Parts::new(alloc, inputs, 1, cells)?;
+    turn::<Brand, R>(rt, alloc, parts, producers, logged)
+}
+
+/// The shortest of so many turns, and what an append took in it.
+fn measure<R: Threads + Wait + Clock + Print + Sync>(
+    rt: &R,
+    alloc: Global,
+    inputs: usize,
+    cells: usize,
+    producers: usize,
+    turns: u32,
+) -> io::Result<()>
+    requires inputs { IsCount inputs }
+    requires cells { (1 ≤ cells) × (cells ≤ 65536) }
+{
+    let Some(logged) = if_fits(batch_of(alloc)?) else {
+        return Err(ErrorKind::InvalidData.into());
+    };
+    let mut shortest = Duration::MAX;
+    let mut appends = 0u64;
+    for _ in 0..turns {
+        let (took, count) = new_turn(rt, alloc, inputs, cells, producers, &logged)?;
+        shortest = shortest.min(took);
+        appends = count;
+    }
+    let nanos = shortest.as_secs_f64() * 1_000_000_000.0 / nearest_u64_to_f64(appends);
+    println!(rt;
+        "{producers} producers, {inputs} logs of {cells:6} cells: {nanos:7.1} ns an append, {:7.3} million appends/s",
+        1_000.0 / nanos
+    )
+}
+
+fn measure_all<R: Threads + Wait + Clock + Print + Sync>(
+    rt: &R,
+    alloc: Global,
+    turns: u32,
+) -> io::Result<()> {
+    measure(rt, alloc, 1, 1_000, 1, turns)?;
+    measure(rt, alloc, 1, 10_000, 1, turns)?;
+    measure(rt, alloc, 1, MOST_CELLS, 1, turns)?;
+    measure(rt, alloc, 2, MOST_CELLS, 2, turns)?;
+    measure(rt, alloc, 4, MOST_CELLS, 4, turns)?;
+    measure(rt, alloc, 1, MOST_CELLS, 2, turns)?;
+    measure(rt, alloc, 1, MOST_CELLS, 4, turns)
+}
+
+fn main(rt: HostRuntime) -> io::Result<()> {
+    match env::args(&rt)?.nth(1) {
+        Some(turns) => measure_all(&rt, rt.alloc(), turns.parse::<u32>().unwrap_or(20)),
+        None => Ok(()),
+    }
+}

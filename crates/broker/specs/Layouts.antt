@@ -1,0 +1,22 @@
+-- What a broker is made of.
+use Rattle.std.specs.Prelude.{◌≡◌, ℕ, ◌≤◌, List, length, Some, slice_get}
+
+-- the names of the cells of each input partition, and how many output partitions there are
+pub record Layout : Type 0 where
+  pub cells : List (List ℕ)
+  pub outputs : ℕ
+
+abbrev pub layout : List (List ℕ) → ℕ → Layout
+layout cells outputs = record { cells = cells; outputs = outputs }
+
+-- how many partitions there may be
+abbrev pub IsCount : ℕ → Type 0
+IsCount n = (1 ≤ n) × (n ≤ 64)
+
+-- the cells of each input partition have the names that are given to them
+abbrev pub IsNamed : (ℕ → List ℕ) → List (List ℕ) → Type 0
+IsNamed names cells = (input : ℕ) (here : List ℕ) → slice_get cells input ≡ Some here → here ≡ names input
+
+-- the log at each place is that of the input partition with this number
+abbrev pub IsNumbered : List ℕ → Type 0
+IsNumbered logs = (input partition : ℕ) → slice_get logs input ≡ Some partition → partition ≡ input

@@ -1,0 +1,9 @@
+//! Tests of logs that threads share, by the public calls of `part_log` and `broker`.
+#![tactic(auto)]
+
+#[cfg(test)]
+mod fixtures;
+#[cfg(test)]
+mod logs;
+#[cfg(test)]
+mod threads;

@@ -1,0 +1,207 @@
+ghost use Rattle.std.specs.Prelude.{◌≡◌, ◌<◌, ◌≤◌, length};
+ghost use Rattle.broker.specs.Layouts.{IsNamed};
+
+use crate::fixtures::batch_of;
+use broker::{Broker, BrokerFault, Parts};
+use part_log::{Item, LogFault, Names, Receipt, Trail};
+use std::alloc::{AllocError, Global};
+use std::marker::Brand;
+use std::process::Abort;
+use std::sync::Wait;
+use std::test::Fail;
+use std::thread;
+use std::thread::Threads;
+
+const INPUTS: usize = 4;
+
+const PRODUCERS: usize = 8;
+
+const CELLS: usize = 65_536;
+
+const READS: usize = 1_000_000;
+
+/// What a receipt said of a batch.
+#[derive(Clone, Copy, Drop)]
+struct Taken {
+    index: usize,
+    base: u64,
+    timestamp: i64,
+}
+
+/// What a thread did: what its receipts said, or how many items it read and their records.
+#[derive(Drop)]
+struct Report {
+    input: usize,
+    taken: Vec<Taken>,
+    items: usize,
+    records: u64,
+}
+
+#[test]
+fn producers_and_readers_share_logs(rt: HostRuntime) -> Result<(), Fail> {
+    let alloc = rt.alloc();
+    share::<Brand, _>(&rt, alloc, Parts::new(alloc, INPUTS, 1, CELLS)?)
+}
+
+fn share<Id: Names + Send + Sync, R: Threads + Wait + Abort + Sync>(
+    rt: &R,
+    alloc: Global,
+    parts: Parts,
+) -> Result<(), Fail>
+    requires cells { IsNamed Id.cells parts.cells }
+    requires outputs { parts.outputs ≡ Id.outputs }
+{
+    let broker: Broker<Id> = Broker::new(alloc, parts)?;
+    let reports = run_all(rt, alloc, &broker)?;
+    let mut taken = 0usize;
+    for input in 0..INPUTS {
+        let items = items_of(rt, alloc, &broker, input).ok_or("a log that can be read")?;
+        assert_eq!(rt; items.len(), CELLS);
+        for report in &reports {
+            let report = report.as_ref().ok_or("a thread that ends well")?;
+            if report.input == input {
+                assert!(rt; is_in(report, &items));
+                taken = taken.wrapping_add(report.taken.len());
+            }
+        }
+    }
+    assert_eq!(rt; taken, INPUTS * CELLS);
+    Ok(())
+}
+
+fn run_all<Id: Names + Send + Sync, R: Threads + Wait + Sync>(
+    rt: &R,
+    alloc: Global,
+    broker: &Broker<Id>,
+) -> Result<Vec<Option<Report>>, AllocError> {
+    let one = move |number: usize| -> Option<Report> {
+        if number < PRODUCERS {
+            produce(rt, alloc, broker, number)
+        } else {
+            consume(alloc, broker, number % INPUTS)
+        }
+    };
+    thread::map_indices(rt, alloc, PRODUCERS + INPUTS, &one)
+}
+
+/// Appends until the log is full, and reads back what each receipt is of.
+fn produce<Id: Names, R: Wait>(
+    rt: &R,
+    alloc: Global,
+    broker: &Broker<Id>,
+    number: usize,
+) -> Option<Report> {
+    let input = number % INPUTS;
+    let first = ((number % PRODUCERS) as i64).wrapping_mul(1_000_000);
+    let mut taken = Vec::new(alloc);
+    for turn in 0..CELLS {
+        let timestamp = first.wrapping_add(turn as i64);
+        let batch = batch_of(alloc, turn % 3 + 1, timestamp)?;
+        match broker.append(rt, alloc, input, batch) {
+            Ok(receipt) => {
+                if timestamp_of(broker, &receipt.with_item(), receipt.index()) != Some(timestamp) {
+                    return None;
+                }
+                let one = Taken {
+                    index: receipt.index(),
+                    base: receipt.base(),
+                    timestamp,
+                };
+                taken.push(one).ok()?;
+            }
+            Err(BrokerFault::Log(LogFault::Full)) => break,
+            Err(_) => return None,
+        }
+    }
+    Some(Report {
+        input,
+        taken,
+        items: 0,
+        records: 0,
+    })
+}
+
+/// The timestamp of a batch that a trail knows.
+fn timestamp_of<Id: Names>(broker: &Broker<Id>, trail: &Trail<Id>, index: usize) -> Option<i64> {
+    let input = trail.partition();
+    if input >= broker.inputs() || index >= trail.len() {
+        return None;
+    }
+    let mut note = trail.note(index);
+    match broker.read(input, index, &mut note) {
+        Some(Item::Batch(logged)) => Some(logged.batch().base_timestamp),
+        Some(_) => None,
+        None => unreachable!(),
+    }
+}
+
+/// Reads the items in order as they come, at most a million times.
+fn consume<Id: Names>(alloc: Global, broker: &Broker<Id>, input: usize) -> Option<Report> {
+    if input >= broker.inputs() {
+        return None;
+    }
+    let mut items = 0;
+    let mut records = 0u64;
+    for _ in 0..READS {
+        if items >= broker.cells(input) {
+            break;
+        }
+        let mut note = broker.note(input, items);
+        match broker.read(input, items, &mut note) {
+            Some(item) => {
+                records = records.wrapping_add(item.records());
+                items += 1;
+            }
+            None => thread::yield_now(),
+        }
+    }
+    Some(Report {
+        input,
+        taken: Vec::new(alloc),
+        items,
+        records,
+    })
+}
+
+/// The batches of a log in order: the records before each, and its timestamp; at the end all records.
+fn items_of<Id: Names, R: Wait>(
+    rt: &R,
+    alloc: Global,
+    broker: &Broker<Id>,
+    input: usize,
+) -> Option<Vec<Taken>> {
+    let trail = broker.trail(rt, input).ok()?;
+    let mut base = 0u64;
+    let mut items = Vec::new(alloc);
+    for index in 0..trail.len() {
+        let mut note = trail.note(index);
+        let item = broker.read(input, index, &mut note)?;
+        let timestamp = timestamp_of(broker, &trail, index)?;
+        let one = Taken {
+            index,
+            base,
+            timestamp,
+        };
+        items.push(one).ok()?;
+        base = base.wrapping_add(item.records());
+    }
+    Some(items)
+}
+
+/// Whether the log has what a thread was told: each batch where its receipt says and with its base,
+/// and so many records in the items that were read.
+fn is_in(report: &Report, items: &[Taken]) -> bool {
+    let told = report.taken.iter().all(|taken| has(items, taken));
+    let read = match items.get(report.items) {
+        Some(next) => next.base == report.records,
+        None => true,
+    };
+    told && read
+}
+
+fn has(items: &[Taken], taken: &Taken) -> bool {
+    match items.get(taken.index) {
+        Some(item) => item.base == taken.base && item.timestamp == taken.timestamp,
+        None => false,
+    }
+}
