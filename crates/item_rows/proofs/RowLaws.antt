@@ -75,7 +75,7 @@ emissions_more place number emissions emission one two three count first second 
         ap (λ (rs : List Row). rs ++ later) is ∙ (ap (λ (rs : List Row). rows_to q place 0 emissions ++ rs) are ∙ sym more')
 
 -- the rows of what a run ends with
-pub outcome_rows : (image : List ℕ) (place : Place) (given : Record) (outcome : Outcome) (n : ℕ) (one two : List (List Row)) → Means image (record { given = given; place = place }) outcome n
+pub outcome_rows : (image : List ℕ) (place : Place) (given : Record) (outcome : Outcome) (n : ℕ) (one two : List (List Row)) → Means (record { image = image }) (record { given = given; place = place }) outcome n
     → Adds one two (λ q here. here ≡ rows_of q place outcome) → Adds one two (λ q here. IsRecordRows q (Some image) place given here)
 outcome_rows image place given outcome n one two means adds =
     adds_as one two (λ q here. here ≡ rows_of q place outcome) (λ q here. IsRecordRows q (Some image) place given here) adds (λ q here is. (outcome, n, means, is))
