@@ -1,0 +1,62 @@
+#!/usr/bin/env python3
+"""Prints the table of docs/PROVING.md: for each crate its lines, its tests, its must-fail edits and, where asked for, the
+processor seconds of its proof from nothing.
+
+    tools/crate_table.py            lines, tests and edits alone, in a second
+    tools/crate_table.py --prove    also proves each crate in a fresh clone of what is committed, by one job, lowest first
+"""
+import glob, os, re, resource, subprocess, sys, tempfile
+
+TOP = subprocess.run(["git", "rev-parse", "--show-toplevel"], capture_output=True, text=True, check=True).stdout.strip()
+
+
+def crates():
+    """The crates with the libraries of the repository that each uses, lowest first."""
+    uses = {}
+    for line in open(f"{TOP}/crates.txt", encoding="utf-8"):
+        name, colon, libraries = line.partition("#")[0].partition(":")
+        if colon:
+            uses[name.split()[0]] = libraries.split()
+    order = []
+
+    def visit(name):
+        if name in uses and name not in order:
+            for it in uses[name]:
+                visit(it)
+            order.append(name)
+
+    for name in uses:
+        visit(name)
+    return order
+
+
+def lines(crate, part, ending):
+    return sum(open(it, encoding="utf-8").read().count("\n") for it in glob.glob(f"{TOP}/crates/{crate}/{part}/**/*{ending}", recursive=True))
+
+
+def tests(crate):
+    return sum(len(re.findall(r"^\s*#\[test\]", open(it, encoding="utf-8").read(), re.M)) for it in glob.glob(f"{TOP}/crates/{crate}/src/**/*.rt", recursive=True))
+
+
+def seconds(clone, crate):
+    before = resource.getrusage(resource.RUSAGE_CHILDREN)
+    words = ["rt", "check", "--jobs", "1"] + ["--test"] * (tests(crate) > 0)
+    ran = subprocess.run(words, cwd=f"{clone}/crates/{crate}", stdout=subprocess.DEVNULL, stderr=subprocess.DEVNULL)
+    after = resource.getrusage(resource.RUSAGE_CHILDREN)
+    took = after.ru_utime + after.ru_stime - before.ru_utime - before.ru_stime
+    return f"{took:.0f}" if ran.returncode == 0 else "not proved"
+
+
+def main():
+    prove = sys.argv[1:] == ["--prove"]
+    print("| crate | code | specs | proofs | seconds | tests | edits |\n|---|---|---|---|---|---|---|")
+    with tempfile.TemporaryDirectory() as room:
+        if prove:
+            subprocess.run(["git", "clone", "-q", TOP, f"{room}/clone"], check=True)
+        for crate in crates():
+            took = seconds(f"{room}/clone", crate) if prove else ""
+            edits = len(glob.glob(f"{TOP}/crates/{crate}/must-fail/*.edit"))
+            print(f"| `{crate}` | {lines(crate, 'src', '.rt')} | {lines(crate, 'specs', '.antt')} | {lines(crate, 'proofs', '.antt')} | {took} | {tests(crate) or ''} | {edits or ''} |", flush=True)
+
+
+main()
