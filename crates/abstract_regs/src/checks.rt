@@ -8,8 +8,8 @@ ghost use Rattle.verifier_spec.specs.Checks.{reads_unknown, is_one_sign, can_mov
 
 use crate::{kinds, stack_set};
 use machine_spec::{
-    Condition, Direction, Helper, Instruction, MemoryOperand, Operands, Operation, Region, Size,
-    Source, Summary, Width,
+    Condition, Direction, Helper, Instruction, MemoryOperand, Operands, Operation, Region,
+    STACK_SIZE, Size, Source, Summary, Width,
 };
 use verifier_spec::{Abs, Abstract, Check};
 
@@ -18,9 +18,6 @@ const FRAME: u8 = 10;
 
 /// The first number that is negative where it is read as signed: 2^63.
 const FIRST_NEGATIVE: u64 = 9_223_372_036_854_775_808;
-
-/// How many bytes the stack has.
-const STACK_SIZE: u32 = 512;
 
 // ---- registers that are written, helpers that there are
 
@@ -313,7 +310,7 @@ fn access_leaves_stack(m: MemoryOperand, base: Abs) -> bool
     match base {
         Abs::Addr(region, low, high) => {
             is_stack(region)
-                && !is_reach_within(low, high, m.offset, byte_count(m.size), STACK_SIZE)
+                && !is_reach_within(low, high, m.offset, byte_count(m.size), STACK_SIZE as u32)
         }
         Abs::None => false,
         Abs::Num(_, _) => false,

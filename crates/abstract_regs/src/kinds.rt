@@ -4,7 +4,7 @@ ghost use Rattle.verifier_spec.specs.Kinds.{kind_at, least, greatest, range_of, 
 ghost use Rattle.verifier_spec.specs.States.{is_proper};
 ghost use Rattle.verifier_spec.specs.Checks.{source_kind};
 
-use machine_spec::{Region, Source};
+use machine_spec::{Region, STACK_SIZE, Source};
 use verifier_spec::{Abs, Abstract};
 
 /// The kind with a number; past r10, none.
@@ -54,7 +54,7 @@ pub fn least(state: &Abstract, region: Region) -> u32
     ensures { result ≡ least state.now region }
 {
     match region {
-        Region::Stack => 512,
+        Region::Stack => STACK_SIZE as u32,
         Region::Key => state.key_min,
         Region::Value => state.value_min,
     }
@@ -65,7 +65,7 @@ pub fn greatest(state: &Abstract, region: Region) -> u32
     ensures { result ≡ greatest state.now region }
 {
     match region {
-        Region::Stack => 512,
+        Region::Stack => STACK_SIZE as u32,
         Region::Key => state.key_max,
         Region::Value => state.value_max,
     }

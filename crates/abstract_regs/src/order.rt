@@ -4,7 +4,7 @@ ghost use Rattle.verifier_spec.specs.Kinds.{is_set, kind_at, same_region, is_kin
 ghost use Rattle.verifier_spec.specs.States.{each_below, is_within};
 
 use crate::kinds;
-use machine_spec::Region;
+use machine_spec::{Region, STACK_SIZE};
 use verifier_spec::{Abs, Abstract, StackSet};
 
 fn same_region(a: Region, b: Region) -> bool
@@ -94,7 +94,7 @@ fn are_registers_within(inner: &Abstract, outer: &Abstract) -> bool
 
 /// Whether each place of the second set is in the first: each word of eight has its bits.
 fn are_words_within(inner: &[u64; 8], outer: &[u64; 8]) -> bool
-    ensures { result ≡ each_below 512 (λ place.
+    ensures { result ≡ each_below STACK_SIZE (λ place.
         not (bit_at (slice_index outer.now (place / 64)) (place % 64) == 1)
         || (bit_at (slice_index inner.now (place / 64)) (place % 64) == 1)) }
 {
@@ -107,7 +107,7 @@ fn are_words_within(inner: &[u64; 8], outer: &[u64; 8]) -> bool
 }
 
 fn is_set_within(inner: &StackSet, outer: &StackSet) -> bool
-    ensures { result ≡ each_below 512 (λ place. not (is_set outer.now place) || is_set inner.now place) }
+    ensures { result ≡ each_below STACK_SIZE (λ place. not (is_set outer.now place) || is_set inner.now place) }
 {
     are_words_within(&inner.words, &outer.words)
 }

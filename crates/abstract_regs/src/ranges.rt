@@ -5,15 +5,16 @@ ghost use Rattle.verifier_spec.specs.States.{is_proper};
 
 use machine_spec::Region;
 use verifier_spec::{Abs, Abstract};
+use wire_spec::{MAX_KEY, MAX_VALUE};
 
 /// The furthest that an address's offset may be from 0, either way: 2^32 bytes.
 const FURTHEST: i64 = 4_294_967_296;
 
 /// The greatest length of a key, in bytes.
-pub const KEY_LIMIT: u32 = 4096;
+pub const KEY_LIMIT: u32 = MAX_KEY as u32;
 
 /// The greatest length of a value, in bytes.
-pub const VALUE_LIMIT: u32 = 65_536;
+pub const VALUE_LIMIT: u32 = MAX_VALUE as u32;
 
 fn is_record_region(region: Region) -> bool
     ensures { result ≡ is_record_region region }

@@ -3,6 +3,7 @@ ghost use Rattle.std.specs.Int.{bit_at};
 ghost use Rattle.verifier_spec.specs.Kinds.{is_set};
 ghost use Rattle.verifier_spec.specs.Checks.{are_set};
 
+use machine_spec::STACK_SIZE;
 use verifier_spec::StackSet;
 
 fn bit_of(word: u64, place: u64) -> bool
@@ -14,9 +15,9 @@ fn bit_of(word: u64, place: u64) -> bool
 
 fn bit_in(words: &[u64; 8], place: u64) -> bool
     ensures bit { result ≡ (bit_at (slice_index words.now (place / 64)) (place % 64) == 1) }
-    ensures inside { result ≡ true → place < 512 }
+    ensures inside { result ≡ true → place < STACK_SIZE }
 {
-    if place < 512 {
+    if place < STACK_SIZE as u64 {
         bit_of(words[(place / 64) as usize], place % 64)
     } else {
         false
@@ -26,7 +27,7 @@ fn bit_in(words: &[u64; 8], place: u64) -> bool
 /// Whether a place is in the set.
 pub fn is_set(set: &StackSet, place: u64) -> bool
     ensures bit { result ≡ is_set set.now place }
-    ensures inside { result ≡ true → place < 512 }
+    ensures inside { result ≡ true → place < STACK_SIZE }
 {
     bit_in(&set.words, place)
 }

@@ -6,7 +6,7 @@ ghost use Rattle.verifier_spec.specs.Checks.{failed_check};
 ghost use Rattle.verifier_spec.specs.Transfer.{falls_to, jumps_to};
 
 use crate::{checks, kinds, order, ranges, transfer};
-use machine_spec::{Instruction, Region};
+use machine_spec::{Instruction, Region, STACK_SIZE};
 use std::marker::Model;
 use verifier_spec::{Abs, Abstract, Check, StackSet};
 
@@ -87,7 +87,7 @@ impl State {
                     Abs::None,
                     Abs::None,
                     Abs::None,
-                    Abs::Addr(Region::Stack, 512, 512),
+                    Abs::Addr(Region::Stack, STACK_SIZE as i64, STACK_SIZE as i64),
                 ],
                 key_min: 0,
                 key_max: ranges::KEY_LIMIT,

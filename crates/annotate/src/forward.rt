@@ -6,7 +6,7 @@ ghost use Rattle.verifier_spec.specs.Checks.{failed_check};
 
 use abstract_regs::State;
 use bpf_isa::Code;
-use machine_spec::{Placed, Summary};
+use machine_spec::{MAX_SLOTS, Placed, Summary};
 use std::alloc::{AllocError, Global};
 
 /// The state of an instruction, if it is reached.
@@ -47,8 +47,8 @@ fn pass_one(
     placed: Placed,
     note: Option<State>,
 )
-    requires slot { placed.slot < 4096 }
-    requires number { k < 4096 }
+    requires slot { placed.slot < MAX_SLOTS }
+    requires number { k < MAX_SLOTS }
     ensures { states.new ≡ passed_one code.now states.old k placed note }
 {
     if let Some(state) = note {
@@ -60,8 +60,8 @@ fn pass_one(
 
 /// Both edges of an instruction, the one to the next instruction first.
 fn bring_both(code: &Code, states: &mut [Option<State>], k: usize, placed: Placed, state: State)
-    requires slot { placed.slot < 4096 }
-    requires number { k < 4096 }
+    requires slot { placed.slot < MAX_SLOTS }
+    requires number { k < MAX_SLOTS }
     requires passes { failed_check placed.instruction state ≡ None }
     ensures { states.new ≡ both_brought code.now states.old k placed state }
 {

@@ -3,15 +3,13 @@ ghost use Rattle.std.specs.Ordering.{int_eq};
 ghost use Rattle.wire_spec.specs.BatchReading.{is_timestamp as timestamp_test};
 ghost use Rattle.batch.specs.Latest.{when_timestamp, latest_of};
 
-use wire_spec::{Batch, Record};
-
-const END_OF_TIME: i64 = 1 << 62;
+use wire_spec::{Batch, Record, TIMESTAMP_END};
 
 /// Whether this is a timestamp: 0 to 2^62 - 1 milliseconds.
 pub fn is_timestamp(time: i64) -> bool
     ensures { result ≡ timestamp_test time }
 {
-    0 <= time && time < END_OF_TIME
+    0 <= time && time < TIMESTAMP_END as i64
 }
 
 /// Whether two timestamps are the same.

@@ -3,7 +3,7 @@ ghost use Rattle.machine_spec.specs.Image.{number_at, jump_target, target_of};
 ghost use Rattle.bpf_isa.specs.Code.{HasImage};
 ghost use Rattle.bpf_isa.specs.Spelling.{HasRegisters};
 
-use machine_spec::{Instruction, Placed};
+use machine_spec::{Instruction, MAX_SLOTS, Placed};
 use std::marker::Model;
 
 /// The instructions of an image, in order, each with the slot that it begins at. A clause sees
@@ -30,7 +30,7 @@ impl Model for Code {
 /// The slot that a jump leads to.
 #[tactic(auto, using(machine_spec::proofs::Slots::forward_target, machine_spec::proofs::Slots::back_target))]
 fn jump_target(slot: usize, offset: i32) -> Option<usize>
-    requires { slot < 4096 }
+    requires { slot < MAX_SLOTS }
     ensures { result ≡ jump_target slot offset }
 {
     if offset < 0 {
@@ -45,7 +45,7 @@ impl Code {
     pub fn len(&self) -> usize
         ensures is_length { result ≡ length self.now }
         ensures is_positive { 0 < result }
-        ensures is_small { result ≤ 4096 }
+        ensures is_small { result ≤ MAX_SLOTS }
         ensures has_image { HasImage self.now }
     {
         self.placed.len()
@@ -55,7 +55,7 @@ impl Code {
     pub fn get(&self, k: usize) -> Placed
         requires { k < length self.now }
         ensures is_at { slice_get self.now k ≡ Some result }
-        ensures is_small { result.slot < 4096 }
+        ensures is_small { result.slot < MAX_SLOTS }
         ensures has_registers { HasRegisters result.instruction }
     {
         self.placed[k]
@@ -74,7 +74,7 @@ impl Code {
     pub fn slot(&self, k: usize) -> usize
         requires { k < length self.now }
         ensures is_at { option_map (λ p. p.slot) (slice_get self.now k) ≡ Some result }
-        ensures is_small { result < 4096 }
+        ensures is_small { result < MAX_SLOTS }
     {
         self.get(k).slot
     }
@@ -90,7 +90,7 @@ impl Code {
     /// The number of the instruction that a jump from a slot leads to, if it leads to one. A jump
     /// back leads nowhere.
     pub fn target(&self, slot: usize, jump: Option<i32>) -> Option<usize>
-        requires { slot < 4096 }
+        requires { slot < MAX_SLOTS }
         ensures is_target { result ≡ target_of self.now slot jump }
         ensures is_within { IfSome result (λ k. k < length self.now) }
     {

@@ -7,7 +7,7 @@ ghost use Rattle.bpf_isa.specs.Code.{Answers, IsTable};
 
 use crate::code::Code;
 use crate::slot;
-use machine_spec::{Instruction, IsaFault, Placed};
+use machine_spec::{Instruction, IsaFault, MAX_SLOTS, Placed};
 use std::alloc::{AllocError, Global};
 
 /// Whether an image has 1 to 4,096 slots and nothing after them.
@@ -15,7 +15,7 @@ fn has_size(image: &[u8]) -> bool
     ensures { result ≡ definitions.has_size image.now }
 {
     let slots = image.len() / 8;
-    image.len() % 8 == 0 && 1 <= slots && slots <= 4096
+    image.len() % 8 == 0 && 1 <= slots && slots <= MAX_SLOTS
 }
 
 /// Appends the instruction of the next slot.
@@ -25,7 +25,7 @@ fn push(
     instruction: Instruction,
 ) -> Result<(), AllocError>
     requires table { IsTable placed.old.items numbers.old.items }
-    requires is_within { length placed.old.items < 4096 }
+    requires is_within { length placed.old.items < MAX_SLOTS }
     ensures code { OnOk result (placed.new.items ≡ placed.old.items ++ record { slot = length numbers.old.items; instruction = instruction } ∷ []) }
     ensures slots { OnOk result (length numbers.new.items ≡ length numbers.old.items + 1) }
     ensures table { OnOk result (IsTable placed.new.items numbers.new.items) }

@@ -3,17 +3,9 @@ ghost use Rattle.std.specs.Str.{is_utf8};
 ghost use Rattle.wire_spec.specs.RecordSpelling.{RecordFits, HeaderFits};
 
 use bytes::Bytes;
-use wire_spec::{Header, Headers, Record};
-
-pub const MAX_KEY: usize = 4096;
-
-pub const MAX_VALUE: usize = 65536;
-
-pub const MAX_HEADERS: usize = 16;
-
-pub const MAX_HEADER_KEY: usize = 255;
-
-pub const MAX_HEADER_VALUE: usize = 4096;
+use wire_spec::{
+    Header, Headers, MAX_HEADER_KEY, MAX_HEADER_VALUE, MAX_HEADERS, MAX_KEY, MAX_VALUE, Record,
+};
 
 fn is_within(part: &Option<Bytes>, limit: usize) -> bool
     ensures { IsTrue result ↔ IfSome part.now (λ b. length b ≤ limit) }

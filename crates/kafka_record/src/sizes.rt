@@ -6,7 +6,7 @@ ghost use Rattle.wire_spec.specs.RecordSpelling.{HeaderFits, RecordFits, nullabl
 use crate::limits::slice_of;
 use bytes::Bytes;
 use varint::{len32, len64};
-use wire_spec::{Header, Record};
+use wire_spec::{Header, MAX_HEADERS, MAX_VALUE, Record};
 
 /// How many bytes a length takes, and what it is the length of.
 fn string_len(len: usize) -> usize
@@ -18,7 +18,7 @@ fn string_len(len: usize) -> usize
 }
 
 fn nullable_len(part: &Option<Bytes>) -> usize
-    requires { IfSome part.now (λ b. length b ≤ 65536) }
+    requires { IfSome part.now (λ b. length b ≤ MAX_VALUE) }
     ensures { result ≡ length (nullable part.now) }
 {
     match part {
@@ -36,7 +36,7 @@ fn header_len(one: &Header) -> usize
 }
 
 fn headers_len(headers: &[Header]) -> usize
-    requires few { length headers.now ≤ 16 }
+    requires few { length headers.now ≤ MAX_HEADERS }
     requires fit { All HeaderFits headers.now }
     ensures size { result ≡ length (flat_map header headers.now) }
     ensures small { result ≤ 4361 * length headers.now }

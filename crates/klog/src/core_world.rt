@@ -11,9 +11,9 @@ ghost use Rattle.klog.specs.One.{IsOne, put_batch};
 
 use batch::{BatchFault, decode};
 use bytes::Bytes;
-use log_spec::{Event, Refusal, Reply, Row};
+use log_spec::{Event, MAX_CELLS, Refusal, Reply, Row};
 use std::alloc::{AllocError, Global};
-use wire_spec::{Batch, Headers, Record, Records};
+use wire_spec::{Batch, Headers, MAX_KEY, MAX_VALUE, Record, Records, TIMESTAMP_END};
 use world::World;
 
 /// A core of one input and one output partition.
@@ -30,7 +30,7 @@ impl Core {
     /// A core whose log has so many cells.
     pub fn new(alloc: Global, cells: usize) -> Core
         requires some { 1 ≤ cells }
-        requires most { cells ≤ 65536 }
+        requires most { cells ≤ MAX_CELLS }
         ensures { result.world ≡ new_world 1 1 cells }
     {
         let world = World::new(alloc, 1, 1, cells);
@@ -76,9 +76,9 @@ pub fn batch_of(
     key: Option<Bytes>,
     value: Option<Bytes>,
 ) -> Result<Batch, AllocError>
-    requires timestamp { timestamp < 2 ^ 62 }
-    requires key { size_of key ≤ 4096 }
-    requires value { size_of value ≤ 65536 }
+    requires timestamp { timestamp < TIMESTAMP_END }
+    requires key { size_of key ≤ MAX_KEY }
+    requires value { size_of value ≤ MAX_VALUE }
     ensures batch { IfOk result (λ batch. batch ≡ put_batch timestamp key value) }
     ensures fits { IfOk result FitsLog }
 {

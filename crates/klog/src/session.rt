@@ -21,7 +21,7 @@ use std::alloc::{AllocError, Global};
 use std::collections::BTreeMap;
 use std::io;
 use std::io::{Read, Write};
-use wire_spec::Batch;
+use wire_spec::{Batch, MAX_KEY, MAX_VALUE, TIMESTAMP_END};
 
 /// What a script has done so far: its core, once `partitions` made it, and the last version that
 /// each name was loaded as.
@@ -204,9 +204,9 @@ impl Session {
         key: Option<Bytes>,
         value: Option<Bytes>,
     ) -> Result<(), Stop>
-        requires timestamp { timestamp < 2 ^ 62 }
-        requires key { size_of key ≤ 4096 }
-        requires value { size_of value ≤ 65536 }
+        requires timestamp { timestamp < TIMESTAMP_END }
+        requires key { size_of key ≤ MAX_KEY }
+        requires value { size_of value ≤ MAX_VALUE }
     {
         let batch = batch_of(self.alloc, timestamp, key, value)?;
         self.append(stdout, input, batch)

@@ -6,6 +6,7 @@
 #![tactic(auto)]
 
 mod instruction;
+mod limits;
 mod opcode;
 mod outcome;
 mod summary;
@@ -13,6 +14,7 @@ mod summary;
 pub use instruction::{
     Helper, Instruction, IsaFault, Operation, Placed, Region, Size, Source, Test, Trap, Width,
 };
+pub use limits::{MAX_EMISSIONS, MAX_SLOTS, STACK_SIZE};
 pub use opcode::TEMPLATES;
 pub use outcome::{Emission, Emissions, Outcome, Place};
 pub use summary::{Condition, Direction, MemoryOperand, Operands, Summary};

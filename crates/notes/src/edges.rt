@@ -6,7 +6,7 @@ ghost use Rattle.verifier_spec.specs.Annotation.{is_covered, is_edge_covered, no
 use crate::lookup::note_at;
 use abstract_regs::State;
 use bpf_isa::Code;
-use machine_spec::{Placed, Summary};
+use machine_spec::{MAX_SLOTS, Placed, Summary};
 
 /// Whether a state is within the one that an instruction has, if it has one.
 pub fn is_covered(state: &State, outer: Option<&State>) -> bool
@@ -47,8 +47,8 @@ pub fn are_edges_covered(
     placed: Placed,
     state: &State,
 ) -> bool
-    requires number { k < 4096 }
-    requires slot { placed.slot < 4096 }
+    requires number { k < MAX_SLOTS }
+    requires slot { placed.slot < MAX_SLOTS }
     requires passed { failed_check placed.instruction state.now ≡ None }
     ensures { result ≡ are_edges_covered code.now notes.now k placed state.now }
 {

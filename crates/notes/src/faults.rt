@@ -9,7 +9,7 @@ use crate::lookup::note_at;
 use crate::shape::failed_shape;
 use abstract_regs::State;
 use bpf_isa::Code;
-use machine_spec::Placed;
+use machine_spec::{MAX_SLOTS, Placed};
 use verifier_spec::{Check, VerifyFault};
 
 /// The first check that an instruction fails in a state: its own, and then that its edges are
@@ -22,8 +22,8 @@ fn failed_reached(
     placed: Placed,
     state: &State,
 ) -> Option<Check>
-    requires number { k < 4096 }
-    requires slot { placed.slot < 4096 }
+    requires number { k < MAX_SLOTS }
+    requires slot { placed.slot < MAX_SLOTS }
     ensures failed { result ≡ first_of (reached_checks code.now notes.now k placed (Some state.now)) }
     ensures proper { is_proper state.now ≡ true }
 {
@@ -40,8 +40,8 @@ fn failed_reached(
 /// The first check that the instruction with this number fails: of its shape, and then, where it
 /// is reached, in its state.
 fn failed_at(code: &Code, notes: &[Option<State>], k: usize, placed: Placed) -> Option<Check>
-    requires number { k < 4096 }
-    requires slot { placed.slot < 4096 }
+    requires number { k < MAX_SLOTS }
+    requires slot { placed.slot < MAX_SLOTS }
     ensures failed { result ≡ failed_at code.now notes.now k placed }
     ensures proper { IfNone result (IsProperAt notes.now k) }
 {

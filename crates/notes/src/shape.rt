@@ -3,11 +3,11 @@ ghost use Rattle.machine_spec.specs.Traps.{first_of};
 ghost use Rattle.verifier_spec.specs.Checks.{leads_nowhere, leads_back, runs_off, shape_checks};
 
 use bpf_isa::Code;
-use machine_spec::{Placed, Summary};
+use machine_spec::{MAX_SLOTS, Placed, Summary};
 use verifier_spec::Check;
 
 fn leads_nowhere(code: &Code, slot: usize, jump: Option<i32>) -> bool
-    requires { slot < 4096 }
+    requires { slot < MAX_SLOTS }
     ensures { result ≡ leads_nowhere code.now slot jump }
 {
     match jump {
@@ -26,7 +26,7 @@ fn leads_back(jump: Option<i32>) -> bool
 }
 
 fn runs_off(code: &Code, k: usize, exits: bool) -> bool
-    requires { k < 4096 }
+    requires { k < MAX_SLOTS }
     ensures { result ≡ runs_off code.now k exits }
 {
     k + 1 == code.len() && !exits
@@ -35,8 +35,8 @@ fn runs_off(code: &Code, k: usize, exits: bool) -> bool
 /// The first check of its shape that the instruction with this number fails: where its jump
 /// leads, and that the last instruction is an exit. They are of every instruction, reached or not.
 pub fn failed_shape(code: &Code, k: usize, placed: Placed) -> Option<Check>
-    requires number { k < 4096 }
-    requires slot { placed.slot < 4096 }
+    requires number { k < MAX_SLOTS }
+    requires slot { placed.slot < MAX_SLOTS }
     ensures { result ≡ first_of (shape_checks code.now k placed) }
 {
     let summary = Summary::of(placed.instruction);

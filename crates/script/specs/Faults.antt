@@ -1,5 +1,7 @@
 -- Which commands are refused before anything is done.
-use Rattle.std.specs.Prelude.{ℕ, ◌^◌, Bool, true, not, ◌&&◌, ◌==◌, nat_lt, nat_le, if◌then◌else◌, List, length, Option, Some, None}
+use Rattle.std.specs.Prelude.{ℕ, Bool, true, not, ◌&&◌, ◌==◌, nat_lt, nat_le, if◌then◌else◌, List, length, Option, Some, None}
+use Rattle.wire_spec.specs.declared.limits.TheConstants.{MAX_KEY, MAX_VALUE, TIMESTAMP_END}
+use Rattle.log_spec.specs.declared.limits.TheConstants.{MAX_CELLS}
 use Rattle.script.specs.declared.command.Command.{Command}
 use Rattle.script.specs.declared.command.Command.TheVariants.{Partitions, Load, Deploy, Put, Append, Go}
 use Rattle.script.specs.declared.fault.ScriptFault.{ScriptFault}
@@ -22,10 +24,10 @@ size_of (Some bytes) = length bytes
 -- One input and one output partition, 1 to 65536 cells; timestamps below 2^62, keys of at most 4096 bytes and values of at
 -- most 65536.
 abbrev pub is_in_range : Command → Bool
-is_in_range (Partitions inputs outputs cells) = (inputs == 1) && ((outputs == 1) && (nat_le 1 cells && nat_le cells 65536))
+is_in_range (Partitions inputs outputs cells) = (inputs == 1) && ((outputs == 1) && (nat_le 1 cells && nat_le cells MAX_CELLS))
 is_in_range (Load name source) = true
 is_in_range (Deploy input name) = true
-is_in_range (Put input timestamp key value) = nat_lt timestamp (2 ^ 62) && (nat_le (size_of key) 4096 && nat_le (size_of value) 65536)
+is_in_range (Put input timestamp key value) = nat_lt timestamp TIMESTAMP_END && (nat_le (size_of key) MAX_KEY && nat_le (size_of value) MAX_VALUE)
 is_in_range (Append input source) = true
 is_in_range Go = true
 

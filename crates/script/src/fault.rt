@@ -5,7 +5,9 @@ ghost use Rattle.script.specs.Faults.{size_of, is_in_order, is_in_range, fault_o
 
 use crate::command::Command;
 use bytes::Bytes;
+use log_spec::MAX_CELLS;
 use thiserror::Error;
+use wire_spec::{MAX_KEY, MAX_VALUE, TIMESTAMP_END};
 
 /// What is wrong with a line.
 #[derive(Clone, Copy, Debug, PartialEq, Eq, Error)]
@@ -20,18 +22,6 @@ pub enum ScriptFault {
     #[error("S3 Range")]
     Range,
 }
-
-/// How many cells a log has at most.
-const MOST_CELLS: u64 = 65536;
-
-/// Timestamps are below this, in milliseconds.
-const TIMESTAMP_END: u64 = 1 << 62;
-
-/// How many bytes a key has at most.
-const LONGEST_KEY: usize = 4096;
-
-/// How many bytes a value has at most.
-const LONGEST_VALUE: usize = 65536;
 
 fn size(bytes: &Option<Bytes>) -> usize
     ensures { result ≡ size_of bytes.now }
@@ -60,10 +50,10 @@ fn is_in_range(command: &Command) -> bool
 {
     match command {
         Command::Partitions(inputs, outputs, cells) => {
-            *inputs == 1 && *outputs == 1 && *cells >= 1 && *cells <= MOST_CELLS
+            *inputs == 1 && *outputs == 1 && *cells >= 1 && *cells <= MAX_CELLS as u64
         }
         Command::Put(_, timestamp, key, value) => {
-            *timestamp < TIMESTAMP_END && size(key) <= LONGEST_KEY && size(value) <= LONGEST_VALUE
+            *timestamp < TIMESTAMP_END && size(key) <= MAX_KEY && size(value) <= MAX_VALUE
         }
         _ => true,
     }

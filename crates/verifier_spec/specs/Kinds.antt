@@ -1,8 +1,10 @@
 -- Kinds of registers, what they stand for, and their order.
 use Rattle.std.specs.Prelude.{ℕ, ◌/◌, ◌%◌, ◌^◌, pos, neg_ℤ, Bool, true, false, ◌==◌, ◌&&◌, nat_lt, nat_le, int_le, slice_index, slice_index_or, Option, Some, None}
 use Rattle.std.specs.Int.{bit_at}
+use Rattle.wire_spec.specs.declared.limits.TheConstants.{MAX_KEY, MAX_VALUE}
 use Rattle.machine_spec.specs.declared.instruction.Region.{Region}
 use Rattle.machine_spec.specs.declared.instruction.Region.TheVariants as region
+use Rattle.machine_spec.specs.Machine.{stack_size}
 use Rattle.verifier_spec.specs.declared.state.Abs.{Abs}
 use Rattle.verifier_spec.specs.declared.state.Abs.TheVariants as abs
 use Rattle.verifier_spec.specs.declared.state.StackSet.{StackSet}
@@ -18,21 +20,21 @@ kind_at s r = slice_index_or s.registers r abs.None
 
 -- how long a region is at least, and at most; the stack has 512 bytes
 abbrev pub least : Abstract → Region → ℕ
-least s region.Stack = 512
+least s region.Stack = stack_size
 least s region.Key = s.key_min
 least s region.Value = s.value_min
 
 abbrev pub greatest : Abstract → Region → ℕ
-greatest s region.Stack = 512
+greatest s region.Stack = stack_size
 greatest s region.Key = s.key_max
 greatest s region.Value = s.value_max
 
 -- the greatest key and value that a record has
 abbrev pub key_limit : ℕ
-key_limit = 4096
+key_limit = MAX_KEY
 
 abbrev pub value_limit : ℕ
-value_limit = 65536
+value_limit = MAX_VALUE
 
 -- the numbers that a kind stands for, from the first to the second, if it stands for numbers
 abbrev pub range_of : Abstract → Abs → Option (ℕ × ℕ)

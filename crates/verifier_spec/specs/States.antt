@@ -2,6 +2,7 @@
 use Rattle.std.specs.Prelude.{ℕ, zero, suc, pos, Bool, true, ◌==◌, ◌&&◌, ◌||◌, not, nat_le, [], ◌∷◌, length}
 use Rattle.std.specs.List.{list_all}
 use Rattle.machine_spec.specs.declared.instruction.Region.TheVariants as region
+use Rattle.machine_spec.specs.Machine.{stack_size}
 use Rattle.verifier_spec.specs.declared.state.Abs.TheVariants as abs
 use Rattle.verifier_spec.specs.declared.state.StackSet.{StackSet}
 use Rattle.verifier_spec.specs.declared.state.Abstract.{Abstract}
@@ -25,7 +26,7 @@ is_within inner outer =
     each_below 11 (λ r. is_kind_within inner (kind_at inner r) (kind_at outer r))
     && (nat_le outer.key_min inner.key_min && (nat_le inner.key_max outer.key_max
     && (nat_le outer.value_min inner.value_min && (nat_le inner.value_max outer.value_max
-    && each_below 512 (λ place. not (is_set outer.set place) || is_set inner.set place)))))
+    && each_below stack_size (λ place. not (is_set outer.set place) || is_set inner.set place)))))
 
 abbrev pub no_places : StackSet
 no_places = record { words = 0 ∷ 0 ∷ 0 ∷ 0 ∷ 0 ∷ 0 ∷ 0 ∷ 0 ∷ [] }
@@ -36,7 +37,7 @@ abbrev pub entry_state : Abstract
 entry_state = record {
   registers =
       abs.None ∷ abs.Addr region.Value (pos 0) (pos 0) ∷ abs.Len region.Value ∷ abs.Addr region.Key (pos 0) (pos 0) ∷ abs.Len region.Key
-      ∷ abs.Num 0 3 ∷ abs.None ∷ abs.None ∷ abs.None ∷ abs.None ∷ abs.Addr region.Stack (pos 512) (pos 512) ∷ [];
+      ∷ abs.Num 0 3 ∷ abs.None ∷ abs.None ∷ abs.None ∷ abs.None ∷ abs.Addr region.Stack (pos stack_size) (pos stack_size) ∷ [];
   key_min = 0;
   key_max = key_limit;
   value_min = 0;

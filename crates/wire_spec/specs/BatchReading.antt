@@ -4,6 +4,7 @@ use Rattle.std.specs.Prelude.{ℕ, zero, suc, ◌+◌, ◌^◌, ℤ, pos, negsuc
 use Rattle.std.specs.List.{list_all}
 use Rattle.std.specs.Int.{Width, w16, w32, w64, from_be_bytes, cast_signed}
 use Rattle.std.specs.Ordering.{int_eq}
+use Rattle.wire_spec.specs.declared.limits.TheConstants.{TIMESTAMP_END}
 use Rattle.wire_spec.specs.declared.fault.BatchFault.{BatchFault}
 use Rattle.wire_spec.specs.declared.fault.BatchFault.TheVariants as faults
 use Rattle.wire_spec.specs.declared.record.Record.{Record}
@@ -78,7 +79,7 @@ is_miscounted bytes =
 
 -- a whole number of milliseconds from 0 to 2 ^ 62 - 1
 abbrev pub is_timestamp : ℤ → Bool
-is_timestamp t = int_le (pos 0) t && int_lt t (pos (2 ^ 62))
+is_timestamp t = int_le (pos 0) t && int_lt t (pos TIMESTAMP_END)
 
 -- the base timestamp or a record's is out of range, or the greatest one is another
 abbrev pub is_mistimed : List ℕ → List Record → Bool

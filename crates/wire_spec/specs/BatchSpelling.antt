@@ -3,6 +3,7 @@
 use Rattle.std.specs.Prelude.{ℕ, suc, ◌+◌, ◌-◌, ◌^◌, ◌<◌, ◌≤◌, ℤ, pos, ◌+ℤ◌, ◌≤ℤ◌, ◌<ℤ◌, List, [], ◌∷◌, ◌++◌, length, map, fold, FitsSigned}
 use Rattle.std.specs.List.{AllByRecursion}
 use Rattle.std.specs.Int.{Width, w16, w32, w64, to_be_bytes, cast_unsigned, int_max}
+use Rattle.wire_spec.specs.declared.limits.TheConstants.{TIMESTAMP_END}
 use Rattle.wire_spec.specs.declared.record.Record.{Record}
 use Rattle.wire_spec.specs.declared.record.Batch.{Batch}
 use Rattle.wire_spec.specs.Checksum.{checksum}
@@ -27,7 +28,7 @@ abbrev pub greatest : List ℤ → ℤ
 greatest ts = fold int_max (pos 0) ts
 
 abbrev pub IsTimestamp : ℤ → Type 0
-IsTimestamp t = (pos 0 ≤ℤ t) × (t <ℤ pos (2 ^ 62))
+IsTimestamp t = (pos 0 ≤ℤ t) × (t <ℤ pos TIMESTAMP_END)
 
 -- ---- The bytes
 

@@ -2,6 +2,7 @@
 use Rattle.std.specs.Prelude.{ℕ, ◌≤◌, ℤ, pos, negsuc, List, ◌∷◌, ◌++◌, length, Option, Some, None, IfSome, FitsSigned, IsUtf8}
 use Rattle.std.specs.List.{flat_map, AllByRecursion}
 use Rattle.std.specs.Int.{w64}
+use Rattle.wire_spec.specs.declared.limits.TheConstants.{MAX_KEY, MAX_VALUE, MAX_HEADERS, MAX_HEADER_KEY, MAX_HEADER_VALUE}
 use Rattle.wire_spec.specs.declared.record.Header.{Header}
 use Rattle.wire_spec.specs.declared.record.Record.{Record}
 use Rattle.wire_spec.specs.Varint.{varint, varlong}
@@ -9,19 +10,19 @@ use Rattle.wire_spec.specs.Varint.{varint, varlong}
 -- ---- The limits, in bytes (and headers)
 
 abbrev pub max_key : ℕ
-max_key = 4096
+max_key = MAX_KEY
 
 abbrev pub max_value : ℕ
-max_value = 65536
+max_value = MAX_VALUE
 
 abbrev pub max_headers : ℕ
-max_headers = 16
+max_headers = MAX_HEADERS
 
 abbrev pub max_header_key : ℕ
-max_header_key = 255
+max_header_key = MAX_HEADER_KEY
 
 abbrev pub max_header_value : ℕ
-max_header_value = 4096
+max_header_value = MAX_HEADER_VALUE
 
 -- a header that has a spelling
 pub record HeaderFits (h : Header) : Type 0 where

@@ -5,7 +5,11 @@
 #![tactic(auto)]
 
 mod fault;
+mod limits;
 mod record;
 
 pub use fault::{BatchFault, VarintFault};
+pub use limits::{
+    MAX_HEADER_KEY, MAX_HEADER_VALUE, MAX_HEADERS, MAX_KEY, MAX_VALUE, TIMESTAMP_END,
+};
 pub use record::{Batch, Header, Headers, Record, Records};

@@ -15,7 +15,7 @@ use log_spec::Row;
 use machine_spec::{Emission, Outcome, Place};
 use std::alloc::{AllocError, Global};
 use std::sync::Arc;
-use wire_spec::{Batch, Record};
+use wire_spec::{Batch, Record, TIMESTAMP_END};
 
 /// An emission as a row.
 fn row(place: &Place, number: usize, emission: Emission) -> Row
@@ -93,9 +93,9 @@ fn record_rows(
 /// A record's timestamp in milliseconds.
 fn timestamp(batch: &Batch, given: &Record) -> u64
     requires from { pos 0 ≤ℤ timestamp_of batch.now given.now }
-    requires to { timestamp_of batch.now given.now <ℤ pos (2 ^ 62) }
+    requires to { timestamp_of batch.now given.now <ℤ pos TIMESTAMP_END }
     ensures value { result ≡ unsigned_abs (timestamp_of batch.now given.now) }
-    ensures small { result < 2 ^ 62 }
+    ensures small { result < TIMESTAMP_END }
 {
     (batch.base_timestamp + given.timestamp_delta) as u64
 }
