@@ -1,4 +1,6 @@
 pub mod Readings
 pub mod Meanings
+pub mod Results
 pub mod Runs
 pub mod Slots
+pub mod WorkedNumbers

@@ -1,5 +1,6 @@
 pub mod Opcodes
 pub mod Image
+pub mod Arithmetic
 pub mod Words
 pub mod Summaries
 pub mod Machine

@@ -2,12 +2,17 @@ pub mod Annotations
 pub mod Edges
 pub mod Faults
 pub mod Immediates
+pub mod Intervals
 pub mod Loads
 pub mod Monotone
 pub mod Narrowing
+pub mod NarrowedRanges
 pub mod Order
 pub mod Premises
 pub mod Proper
+pub mod RangesMonotone
+pub mod RangesProper
+pub mod RangesSound
 pub mod Registers
 pub mod Safety
 pub mod Sound
@@ -18,3 +23,4 @@ pub mod Turns
 pub mod Whole
 pub mod Wider
 pub mod Words
+pub mod WorkedRanges

@@ -1,3 +1,4 @@
+pub mod Intervals
 pub mod Kinds
 pub mod States
 pub mod Checks

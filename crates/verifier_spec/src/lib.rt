@@ -5,7 +5,9 @@
 #![tactic(auto)]
 
 mod fault;
+mod interval;
 mod state;
 
 pub use fault::{Check, LoadFault, VerifyFault};
+pub use interval::Interval;
 pub use state::{Abs, Abstract, StackSet};

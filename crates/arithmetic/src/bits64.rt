@@ -1,0 +1,191 @@
+//! Operations on 64 bits.
+ghost use Rattle.std.specs.Prelude.{◌≡◌};
+ghost use Rattle.machine_spec.specs.Arithmetic.{number_of, changed_number, holds};
+
+use crate::low::{low_8, low_16, low_32};
+use machine_spec::{Change, ExtendedWidth, Operation, Test, Width};
+
+#[inline(always)]
+pub fn add(a: u64, b: u64) -> u64
+    ensures { result ≡ number_of Width.Bits64 Operation.Add a b }
+{
+    a.wrapping_add(b)
+}
+
+#[inline(always)]
+pub fn sub(a: u64, b: u64) -> u64
+    ensures { result ≡ number_of Width.Bits64 Operation.Sub a b }
+{
+    a.wrapping_sub(b)
+}
+
+#[inline(always)]
+pub fn mul(a: u64, b: u64) -> u64
+    ensures { result ≡ number_of Width.Bits64 Operation.Mul a b }
+{
+    a.wrapping_mul(b)
+}
+
+/// The quotient, or 0 of a division by 0.
+#[inline(always)]
+pub fn div(a: u64, b: u64) -> u64
+    ensures { result ≡ number_of Width.Bits64 Operation.Div a b }
+{
+    if b == 0 { 0 } else { a / b }
+}
+
+/// The quotient rounded toward 0, or 0 of a division by 0. That of the least number by -1 wraps.
+#[inline(always)]
+pub fn signed_div(a: u64, b: u64) -> u64
+    ensures { result ≡ number_of Width.Bits64 Operation.SignedDiv a b }
+{
+    if b == 0 {
+        return 0;
+    }
+    a.cast_signed()
+        .wrapping_div(b.cast_signed())
+        .cast_unsigned()
+}
+
+#[inline(always)]
+pub fn or(a: u64, b: u64) -> u64
+    ensures { result ≡ number_of Width.Bits64 Operation.Or a b }
+{
+    a | b
+}
+
+#[inline(always)]
+pub fn and(a: u64, b: u64) -> u64
+    ensures { result ≡ number_of Width.Bits64 Operation.And a b }
+{
+    a & b
+}
+
+/// The count is taken modulo 64, here and in the other shifts.
+#[inline(always)]
+pub fn left_shift(a: u64, b: u64) -> u64
+    ensures { result ≡ number_of Width.Bits64 Operation.LeftShift a b }
+{
+    a << (b % 64)
+}
+
+#[inline(always)]
+pub fn right_shift(a: u64, b: u64) -> u64
+    ensures { result ≡ number_of Width.Bits64 Operation.RightShift a b }
+{
+    a >> (b % 64)
+}
+
+/// The remainder, or `a` of a division by 0.
+#[inline(always)]
+pub fn remainder(a: u64, b: u64) -> u64
+    ensures { result ≡ number_of Width.Bits64 Operation.Mod a b }
+{
+    if b == 0 { a } else { a % b }
+}
+
+/// The remainder with the sign of `a`, or `a` of a division by 0.
+#[inline(always)]
+pub fn signed_remainder(a: u64, b: u64) -> u64
+    ensures { result ≡ number_of Width.Bits64 Operation.SignedMod a b }
+{
+    if b == 0 {
+        return a;
+    }
+    a.cast_signed()
+        .wrapping_rem(b.cast_signed())
+        .cast_unsigned()
+}
+
+#[inline(always)]
+pub fn xor(a: u64, b: u64) -> u64
+    ensures { result ≡ number_of Width.Bits64 Operation.Xor a b }
+{
+    a ^ b
+}
+
+#[inline(always)]
+pub fn arithmetic_right_shift(a: u64, b: u64) -> u64
+    ensures { result ≡ number_of Width.Bits64 Operation.ArithmeticRightShift a b }
+{
+    (a.cast_signed() >> (b % 64)).cast_unsigned()
+}
+
+/// An operation on two numbers.
+pub fn compute(operation: Operation, a: u64, b: u64) -> u64
+    ensures { result ≡ number_of Width.Bits64 operation a b }
+{
+    match operation {
+        Operation::Add => add(a, b),
+        Operation::Sub => sub(a, b),
+        Operation::Mul => mul(a, b),
+        Operation::Div => div(a, b),
+        Operation::SignedDiv => signed_div(a, b),
+        Operation::Or => or(a, b),
+        Operation::And => and(a, b),
+        Operation::LeftShift => left_shift(a, b),
+        Operation::RightShift => right_shift(a, b),
+        Operation::Mod => remainder(a, b),
+        Operation::SignedMod => signed_remainder(a, b),
+        Operation::Xor => xor(a, b),
+        Operation::ArithmeticRightShift => arithmetic_right_shift(a, b),
+    }
+}
+
+#[inline(always)]
+pub fn negate(a: u64) -> u64
+    ensures { result ≡ changed_number (Change.Negate Width.Bits64) a }
+{
+    0u64.wrapping_sub(a)
+}
+
+#[inline(always)]
+pub fn sign_extend_8(a: u64) -> u64
+    ensures { result ≡ changed_number (Change.SignExtend Width.Bits64 ExtendedWidth.Bits8) a }
+{
+    i64::from(low_8(a).cast_signed()).cast_unsigned()
+}
+
+#[inline(always)]
+pub fn sign_extend_16(a: u64) -> u64
+    ensures { result ≡ changed_number (Change.SignExtend Width.Bits64 ExtendedWidth.Bits16) a }
+{
+    i64::from(low_16(a).cast_signed()).cast_unsigned()
+}
+
+#[inline(always)]
+pub fn sign_extend_32(a: u64) -> u64
+    ensures { result ≡ changed_number (Change.SignExtend Width.Bits64 ExtendedWidth.Bits32) a }
+{
+    i64::from(low_32(a).cast_signed()).cast_unsigned()
+}
+
+/// The low bits, read as signed.
+pub fn sign_extend(part: ExtendedWidth, a: u64) -> u64
+    ensures { result ≡ changed_number (Change.SignExtend Width.Bits64 part) a }
+{
+    match part {
+        ExtendedWidth::Bits8 => sign_extend_8(a),
+        ExtendedWidth::Bits16 => sign_extend_16(a),
+        ExtendedWidth::Bits32 => sign_extend_32(a),
+    }
+}
+
+/// Whether a test of two numbers holds.
+pub fn test(test: Test, a: u64, b: u64) -> bool
+    ensures { result ≡ holds Width.Bits64 test a b }
+{
+    match test {
+        Test::Equal => a == b,
+        Test::NotEqual => a != b,
+        Test::Greater => a > b,
+        Test::GreaterOrEqual => a >= b,
+        Test::Less => a < b,
+        Test::LessOrEqual => a <= b,
+        Test::AnyBit => a & b != 0,
+        Test::SignedGreater => a.cast_signed() > b.cast_signed(),
+        Test::SignedGreaterOrEqual => a.cast_signed() >= b.cast_signed(),
+        Test::SignedLess => a.cast_signed() < b.cast_signed(),
+        Test::SignedLessOrEqual => a.cast_signed() <= b.cast_signed(),
+    }
+}

@@ -1,0 +1,136 @@
+ghost use Rattle.std.specs.Prelude.{◌≡◌, ◌≤◌, true, false, IfSome};
+ghost use Rattle.verifier_spec.specs.Intervals.{if_any, equal_to, different_from, above, at_least, at_most, below, narrowed_64, narrowed};
+
+use machine_spec::{Test, Width};
+use verifier_spec::Interval;
+
+fn if_any(low: u64, high: u64) -> Option<Interval>
+    ensures { result ≡ if_any low high }
+{
+    if low <= high {
+        Some(Interval { low, high })
+    } else {
+        None
+    }
+}
+
+fn equal_to(x: Interval, constant: u64) -> Option<Interval>
+    ensures { result ≡ equal_to x constant }
+{
+    if_any(x.low.max(constant), x.high.min(constant))
+}
+
+fn different_from(x: Interval, constant: u64) -> Option<Interval>
+    requires { x.low ≤ x.high }
+    ensures { result ≡ different_from x constant }
+{
+    if x.low == constant {
+        above(x, constant)
+    } else if x.high == constant {
+        if_any(x.low, x.high.saturating_sub(1))
+    } else {
+        Some(x)
+    }
+}
+
+fn above(x: Interval, constant: u64) -> Option<Interval>
+    ensures { result ≡ above x constant }
+{
+    if constant < x.high {
+        if_any(x.low.max(constant + 1), x.high)
+    } else {
+        None
+    }
+}
+
+fn at_least(x: Interval, constant: u64) -> Option<Interval>
+    ensures { result ≡ at_least x constant }
+{
+    if_any(x.low.max(constant), x.high)
+}
+
+fn at_most(x: Interval, constant: u64) -> Option<Interval>
+    ensures { result ≡ at_most x constant }
+{
+    if_any(x.low, x.high.min(constant))
+}
+
+fn below(x: Interval, constant: u64) -> Option<Interval>
+    ensures { result ≡ below x constant }
+{
+    if constant == 0 {
+        None
+    } else {
+        at_most(x, constant - 1)
+    }
+}
+
+fn taken(test: Test, x: Interval, constant: u64) -> Option<Interval>
+    requires { x.low ≤ x.high }
+    ensures { result ≡ narrowed_64 test true x constant }
+{
+    match test {
+        Test::Equal => equal_to(x, constant),
+        Test::NotEqual => different_from(x, constant),
+        Test::Greater => above(x, constant),
+        Test::GreaterOrEqual => at_least(x, constant),
+        Test::Less => below(x, constant),
+        Test::LessOrEqual => at_most(x, constant),
+        Test::AnyBit
+        | Test::SignedGreater
+        | Test::SignedGreaterOrEqual
+        | Test::SignedLess
+        | Test::SignedLessOrEqual => Some(x),
+    }
+}
+
+fn not_taken(test: Test, x: Interval, constant: u64) -> Option<Interval>
+    requires { x.low ≤ x.high }
+    ensures { result ≡ narrowed_64 test false x constant }
+{
+    match test {
+        Test::Equal => different_from(x, constant),
+        Test::NotEqual => equal_to(x, constant),
+        Test::Greater => at_most(x, constant),
+        Test::GreaterOrEqual => below(x, constant),
+        Test::Less => at_least(x, constant),
+        Test::LessOrEqual => above(x, constant),
+        Test::AnyBit
+        | Test::SignedGreater
+        | Test::SignedGreaterOrEqual
+        | Test::SignedLess
+        | Test::SignedLessOrEqual => Some(x),
+    }
+}
+
+fn edge(width: Width, test: Test, along: bool, x: Interval, constant: u64) -> Option<Interval>
+    requires { x.low ≤ x.high }
+    ensures { result ≡ narrowed width test along x constant }
+{
+    match width {
+        Width::Bits32 => Some(x),
+        Width::Bits64 => {
+            if along {
+                taken(test, x, constant)
+            } else {
+                not_taken(test, x, constant)
+            }
+        }
+    }
+}
+
+/// What a jump against a constant leaves of an interval where it is taken, or where it is not; none
+/// where no number is left.
+pub fn narrowed(
+    width: Width,
+    test: Test,
+    along: bool,
+    x: Interval,
+    constant: u64,
+) -> Option<Interval>
+    requires { x.low ≤ x.high }
+    ensures narrowed { result ≡ narrowed width test along x constant }
+    ensures inside { IfSome result (λ part. (x.low ≤ part.low) × ((part.low ≤ part.high) × (part.high ≤ x.high))) }
+{
+    edge(width, test, along, x, constant)
+}

@@ -1,0 +1,220 @@
+-- What a conditional jump by a constant leaves of an interval has every number that goes along the edge, is in the
+-- interval, and keeps the order of intervals.
+use Rattle.std.proofs.Common.{◌≡◌, ℕ, zero, suc, ◌+◌, ◌-◌, ◌<◌, ◌≤◌, min, max, Bool, true, false, ◌==◌, nat_le, if◌then◌else◌, Option, Some, None, refl, arith}
+use Rattle.std.proofs.lemmas.Bool.{cond_both, cond-true, eqb-true, eqb-false, ltb-true, ltb-false, leb-true, leb-false, le-leb, not-true, not-false}
+use Rattle.machine_spec.specs.declared.operation.Width.{Width}
+use Rattle.machine_spec.specs.declared.operation.Width.TheVariants.{Bits32, Bits64}
+use Rattle.machine_spec.specs.declared.operation.Test.{Test}
+use Rattle.machine_spec.specs.declared.operation.Test.TheVariants.{Equal, NotEqual, Greater, GreaterOrEqual, Less, LessOrEqual, AnyBit, SignedGreater, SignedGreaterOrEqual, SignedLess, SignedLessOrEqual}
+use Rattle.machine_spec.specs.Arithmetic.{compares, holds}
+use Rattle.verifier_spec.specs.declared.interval.Interval.{Interval}
+use Rattle.verifier_spec.specs.Intervals.{from_to, IsIn, IsPartOf, if_any, equal_to, different_from, above, at_least, at_most, below, narrowed_64, narrowed}
+
+-- ---- a part with a number in it
+
+-- an edge has an interval that is part of another and has a number in it
+pub record IsPartWith (n : ℕ) (outer : Interval) (edge : Option Interval) : Type 0 where
+  pub part : Interval
+  pub is : edge ≡ Some part
+  pub has : IsIn n part
+  pub inside : IsPartOf part outer
+
+module _ (x : Interval) (n : ℕ) (has : IsIn n x) where
+  any_part : (low high : ℕ) → low ≤ n → n ≤ high → x.low ≤ low → high ≤ x.high → IsPartWith n x (if_any low high)
+  any_part low high low_n n_high inner_low inner_high =
+      let some : nat_le low high ≡ true = le-leb low high (omega arith) in
+      record {
+        part = from_to low high;
+        is = cond-true (nat_le low high) (Some (from_to low high)) None some;
+        has = record { low = low_n; high = n_high };
+        inside = record { low = inner_low; high = inner_high };
+      }
+
+  whole_part : IsPartWith n x (Some x)
+  whole_part = record { part = x; is = refl; has = has; inside = record { low = omega arith; high = omega arith } }
+
+  equal_part : (c : ℕ) → n ≡ c → IsPartWith n x (equal_to x c)
+  equal_part c e = any_part (max x.low c) (min x.high c) (omega arith) (omega arith) (omega arith) (omega arith)
+
+  different_part : (c : ℕ) → (n ≡ c → ⊥) → IsPartWith n x (different_from x c)
+  different_part c d =
+      cond_both (x.low == c) (if_any (x.low + 1) x.high) (if x.high == c then if_any x.low (x.high - 1) else Some x) (IsPartWith n x)
+      (λ e. let is = eqb-true x.low c e in any_part (x.low + 1) x.high (omega arith) has.high (omega arith) (omega arith))
+      (λ e. cond_both (x.high == c) (if_any x.low (x.high - 1)) (Some x) (IsPartWith n x)
+      (λ f. let is = eqb-true x.high c f in any_part x.low (x.high - 1) has.low (omega arith) (omega arith) (omega arith))
+      (λ f. whole_part))
+
+  above_part : (c : ℕ) → c < n → IsPartWith n x (above x c)
+  above_part c h = any_part (max x.low (c + 1)) x.high (omega arith) has.high (omega arith) (omega arith)
+
+  at_least_part : (c : ℕ) → c ≤ n → IsPartWith n x (at_least x c)
+  at_least_part c h = any_part (max x.low c) x.high (omega arith) has.high (omega arith) (omega arith)
+
+  at_most_part : (c : ℕ) → n ≤ c → IsPartWith n x (at_most x c)
+  at_most_part c h = any_part x.low (min x.high c) has.low (omega arith) (omega arith) (omega arith)
+
+  below_part : (c : ℕ) → n < c → IsPartWith n x (below x c)
+  below_part zero h = absurd (omega arith)
+  below_part (suc c) h = at_most_part c (omega arith)
+
+  part_64 : (test : Test) (taken : Bool) (c : ℕ) → compares Bits64 test n c ≡ taken → IsPartWith n x (narrowed_64 test taken x c)
+  part_64 Equal true c h = equal_part c (eqb-true n c h)
+  part_64 Equal false c h = different_part c (eqb-false n c h)
+  part_64 NotEqual true c h = different_part c (eqb-false n c (not-true (n == c) h))
+  part_64 NotEqual false c h = equal_part c (eqb-true n c (not-false (n == c) h))
+  part_64 Greater true c h = above_part c (ltb-true c n h)
+  part_64 Greater false c h = at_most_part c (ltb-false c n h)
+  part_64 GreaterOrEqual true c h = at_least_part c (leb-true c n h)
+  part_64 GreaterOrEqual false c h = below_part c (leb-false c n h)
+  part_64 Less true c h = below_part c (ltb-true n c h)
+  part_64 Less false c h = at_least_part c (ltb-false n c h)
+  part_64 LessOrEqual true c h = at_most_part c (leb-true n c h)
+  part_64 LessOrEqual false c h = above_part c (leb-false n c h)
+  part_64 AnyBit _ c h = whole_part
+  part_64 SignedGreater _ c h = whole_part
+  part_64 SignedGreaterOrEqual _ c h = whole_part
+  part_64 SignedLess _ c h = whole_part
+  part_64 SignedLessOrEqual _ c h = whole_part
+
+  -- A number is in what its edge leaves: where the test holds, that of the jump, else that of the next instruction.
+  pub narrowed_part : (width : Width) (test : Test) (taken : Bool) (c : ℕ) → holds width test n c ≡ taken → IsPartWith n x (narrowed width test taken x c)
+  narrowed_part Bits32 test taken c h = whole_part
+  narrowed_part Bits64 test taken c h = part_64 test taken c h
+
+-- ---- order
+
+-- what one edge has is in what another has, also where it has nothing
+abbrev pub IsEdgeWithin : Option Interval → Option Interval → Type 0
+IsEdgeWithin None outer = Unit {0}
+IsEdgeWithin (Some inner) None = ⊥
+IsEdgeWithin (Some inner) (Some outer) = IsPartOf inner outer
+
+any_within : (inner_low inner_high low high : ℕ) → (inner_low ≤ inner_high → (low ≤ inner_low) × (inner_high ≤ high)) → IsEdgeWithin (if_any inner_low inner_high) (if_any low high)
+any_within inner_low inner_high low high h =
+    cond_both (nat_le inner_low inner_high) (Some (from_to inner_low inner_high)) None (λ edge. IsEdgeWithin edge (if_any low high))
+    (λ e. let order = leb-true inner_low inner_high e in
+    let parts = h order in
+    let some : nat_le low high ≡ true = le-leb low high (omega arith) in
+    let same = cond-true (nat_le low high) (Some (from_to low high)) None some in
+    rw same (record { low = parts.0; high = parts.1 }))
+    (λ e. tt)
+
+module _ (x a : Interval) (inside : IsPartOf x a) (order : x.low ≤ x.high) where
+  equal_within : (c : ℕ) → IsEdgeWithin (equal_to x c) (equal_to a c)
+  equal_within c = any_within (max x.low c) (min x.high c) (max a.low c) (min a.high c) (λ h. (omega arith, omega arith))
+
+  above_within : (c : ℕ) → IsEdgeWithin (above x c) (above a c)
+  above_within c = any_within (max x.low (c + 1)) x.high (max a.low (c + 1)) a.high (λ h. (omega arith, omega arith))
+
+  at_least_within : (c : ℕ) → IsEdgeWithin (at_least x c) (at_least a c)
+  at_least_within c = any_within (max x.low c) x.high (max a.low c) a.high (λ h. (omega arith, omega arith))
+
+  at_most_within : (c : ℕ) → IsEdgeWithin (at_most x c) (at_most a c)
+  at_most_within c = any_within x.low (min x.high c) a.low (min a.high c) (λ h. (omega arith, omega arith))
+
+  below_within : (c : ℕ) → IsEdgeWithin (below x c) (below a c)
+  below_within zero = tt
+  below_within (suc c) = at_most_within c
+
+  all_within : (low high : ℕ) → low ≤ x.low → x.high ≤ high → IsEdgeWithin (Some x) (if_any low high)
+  all_within low high p q =
+      let some : nat_le low high ≡ true = le-leb low high (omega arith) in
+      let same = cond-true (nat_le low high) (Some (from_to low high)) None some in
+      rw same (record { low = p; high = q })
+
+  -- the three forms of an interval without c
+  different_cases : (c : ℕ) (outer : Option Interval) → (x.low ≡ c → IsEdgeWithin (if_any (x.low + 1) x.high) outer) → ((x.low ≡ c → ⊥) → x.high ≡ c → IsEdgeWithin (if_any x.low (x.high - 1)) outer)
+      → ((x.low ≡ c → ⊥) → (x.high ≡ c → ⊥) → IsEdgeWithin (Some x) outer) → IsEdgeWithin (different_from x c) outer
+  different_cases c outer at_low at_high at_none =
+      cond_both (x.low == c) (if_any (x.low + 1) x.high) (if x.high == c then if_any x.low (x.high - 1) else Some x) (λ edge. IsEdgeWithin edge outer)
+      (λ e. at_low (eqb-true x.low c e))
+      (λ e. cond_both (x.high == c) (if_any x.low (x.high - 1)) (Some x) (λ edge. IsEdgeWithin edge outer) (λ f. at_high (eqb-false x.low c e) (eqb-true x.high c f))
+      (λ f. at_none (eqb-false x.low c e) (eqb-false x.high c f)))
+
+  different_within : (c : ℕ) → IsEdgeWithin (different_from x c) (different_from a c)
+  different_within c =
+      cond_both (a.low == c) (if_any (a.low + 1) a.high) (if a.high == c then if_any a.low (a.high - 1) else Some a) (λ edge. IsEdgeWithin (different_from x c) edge)
+      (λ e. let first = eqb-true a.low c e in
+      different_cases c (if_any (a.low + 1) a.high) (λ p. any_within (x.low + 1) x.high (a.low + 1) a.high (λ h. (omega arith, omega arith)))
+      (λ p q. any_within x.low (x.high - 1) (a.low + 1) a.high (λ h. (omega arith, omega arith))) (λ p q. all_within (a.low + 1) a.high (omega arith) inside.high))
+      (λ e. cond_both (a.high == c) (if_any a.low (a.high - 1)) (Some a) (λ edge. IsEdgeWithin (different_from x c) edge)
+      (λ f. let last = eqb-true a.high c f in
+      different_cases c (if_any a.low (a.high - 1)) (λ p. any_within (x.low + 1) x.high a.low (a.high - 1) (λ h. (omega arith, omega arith)))
+      (λ p q. any_within x.low (x.high - 1) a.low (a.high - 1) (λ h. (omega arith, omega arith))) (λ p q. all_within a.low (a.high - 1) inside.low (omega arith)))
+      (λ f. different_cases c (Some a) (λ p. part_within (x.low + 1) x.high (omega arith) (omega arith)) (λ p q. part_within x.low (x.high - 1) (omega arith) (omega arith)) (λ p q. inside)))
+    where
+      part_within : (low high : ℕ) → a.low ≤ low → high ≤ a.high → IsEdgeWithin (if_any low high) (Some a)
+      part_within low high p q = cond_both (nat_le low high) (Some (from_to low high)) None (λ edge. IsEdgeWithin edge (Some a)) (λ e. record { low = p; high = q }) (λ e. tt)
+
+  within_64 : (test : Test) (taken : Bool) (c : ℕ) → IsEdgeWithin (narrowed_64 test taken x c) (narrowed_64 test taken a c)
+  within_64 Equal true c = equal_within c
+  within_64 Equal false c = different_within c
+  within_64 NotEqual true c = different_within c
+  within_64 NotEqual false c = equal_within c
+  within_64 Greater true c = above_within c
+  within_64 Greater false c = at_most_within c
+  within_64 GreaterOrEqual true c = at_least_within c
+  within_64 GreaterOrEqual false c = below_within c
+  within_64 Less true c = below_within c
+  within_64 Less false c = at_least_within c
+  within_64 LessOrEqual true c = at_most_within c
+  within_64 LessOrEqual false c = above_within c
+  within_64 AnyBit _ c = inside
+  within_64 SignedGreater _ c = inside
+  within_64 SignedGreaterOrEqual _ c = inside
+  within_64 SignedLess _ c = inside
+  within_64 SignedLessOrEqual _ c = inside
+
+  -- An edge of an interval within another leaves what is within what that edge leaves of the other, or nothing.
+  pub narrowed_within : (width : Width) (test : Test) (taken : Bool) (c : ℕ) → IsEdgeWithin (narrowed width test taken x c) (narrowed width test taken a c)
+  narrowed_within Bits32 test taken c = inside
+  narrowed_within Bits64 test taken c = within_64 test taken c
+
+-- ---- what an edge has is an interval with a number, and part of the one that it narrows
+
+abbrev pub IsEdgeOf : Interval → Option Interval → Type 0
+IsEdgeOf x None = Unit {0}
+IsEdgeOf x (Some part) = (part.low ≤ part.high) × IsPartOf part x
+
+module _ (x : Interval) (order : x.low ≤ x.high) where
+  any_edge : (low high : ℕ) → x.low ≤ low → high ≤ x.high → IsEdgeOf x (if_any low high)
+  any_edge low high p q =
+      cond_both (nat_le low high) (Some (from_to low high)) None (IsEdgeOf x) (λ e. (leb-true low high e, record { low = p; high = q })) (λ e. tt)
+
+  whole_edge : IsEdgeOf x (Some x)
+  whole_edge = (order, record { low = omega arith; high = omega arith })
+
+  different_edge : (c : ℕ) → IsEdgeOf x (different_from x c)
+  different_edge c =
+      cond_both (x.low == c) (if_any (x.low + 1) x.high) (if x.high == c then if_any x.low (x.high - 1) else Some x) (IsEdgeOf x) (λ e. any_edge (x.low + 1) x.high (omega arith) (omega arith))
+      (λ e. cond_both (x.high == c) (if_any x.low (x.high - 1)) (Some x) (IsEdgeOf x) (λ f. any_edge x.low (x.high - 1) (omega arith) (omega arith)) (λ f. whole_edge))
+
+  at_most_edge : (c : ℕ) → IsEdgeOf x (at_most x c)
+  at_most_edge c = any_edge x.low (min x.high c) (omega arith) (omega arith)
+
+  below_edge : (c : ℕ) → IsEdgeOf x (below x c)
+  below_edge zero = tt
+  below_edge (suc c) = at_most_edge c
+
+  edge_64 : (test : Test) (taken : Bool) (c : ℕ) → IsEdgeOf x (narrowed_64 test taken x c)
+  edge_64 Equal true c = any_edge (max x.low c) (min x.high c) (omega arith) (omega arith)
+  edge_64 Equal false c = different_edge c
+  edge_64 NotEqual true c = different_edge c
+  edge_64 NotEqual false c = any_edge (max x.low c) (min x.high c) (omega arith) (omega arith)
+  edge_64 Greater true c = any_edge (max x.low (c + 1)) x.high (omega arith) (omega arith)
+  edge_64 Greater false c = at_most_edge c
+  edge_64 GreaterOrEqual true c = any_edge (max x.low c) x.high (omega arith) (omega arith)
+  edge_64 GreaterOrEqual false c = below_edge c
+  edge_64 Less true c = below_edge c
+  edge_64 Less false c = any_edge (max x.low c) x.high (omega arith) (omega arith)
+  edge_64 LessOrEqual true c = at_most_edge c
+  edge_64 LessOrEqual false c = any_edge (max x.low (c + 1)) x.high (omega arith) (omega arith)
+  edge_64 AnyBit _ c = whole_edge
+  edge_64 SignedGreater _ c = whole_edge
+  edge_64 SignedGreaterOrEqual _ c = whole_edge
+  edge_64 SignedLess _ c = whole_edge
+  edge_64 SignedLessOrEqual _ c = whole_edge
+
+  pub narrowed_proper : (width : Width) (test : Test) (taken : Bool) (c : ℕ) → IsEdgeOf x (narrowed width test taken x c)
+  narrowed_proper Bits32 test taken c = whole_edge
+  narrowed_proper Bits64 test taken c = edge_64 test taken c
