@@ -105,7 +105,7 @@ moved_in input operation at low high offset range n can low_le le_high has =
     let m = moved_parts operation low high range can in
     (refl, add_le low offset _ _ low_le (displacement_low operation range n m.sign has), add_le offset high _ _ le_high (displacement_high operation range n m.sign has))
 
-moved_proper : (operation : Operation) (at : Region) (low high : ℤ) (range : Interval) → can_move operation low high (Some range) ≡ true → low ≤ℤ high → range.low ≤ range.high
+pub moved_proper : (operation : Operation) (at : Region) (low high : ℤ) (range : Interval) → can_move operation low high (Some range) ≡ true → low ≤ℤ high → range.low ≤ range.high
     → is_proper_kind (moved_address operation at low high (Some range)) ≡ true
 moved_proper operation at low high range can le order =
     let m = moved_parts operation low high range can in
