@@ -7,11 +7,13 @@ ghost use Rattle.wire_spec.specs.RecordReading.{varint_at, varlong_at, bytes_at,
 ghost use Rattle.kafka_record.specs.Gives.{Gives};
 
 use crate::RecordFault;
-use crate::limits::{MAX_HEADER_KEY, MAX_HEADER_VALUE, MAX_HEADERS, MAX_KEY, MAX_VALUE, is_text};
+use crate::limits::is_text;
 use bytes::Bytes;
 use std::alloc::Global;
 use varint::{read32, read64};
-use wire_spec::{Header, Headers, Record};
+use wire_spec::{
+    Header, Headers, MAX_HEADER_KEY, MAX_HEADER_VALUE, MAX_HEADERS, MAX_KEY, MAX_VALUE, Record,
+};
 
 /// The varint at a place, and the place after it.
 #[inline(always)]
