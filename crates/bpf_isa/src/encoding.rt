@@ -77,7 +77,7 @@ fn extended_bits(part: ExtendedWidth) -> i16
 }
 
 fn change_fields(change: Change, dst: u8, src: u8) -> SlotFields
-    ensures { view result ≡ spells.spelled_change change dst src }
+    ensures { view result ≡ spelled_fields (Instruction.Unary change dst src) }
 {
     let opcode = change_opcode(change);
     match change {
