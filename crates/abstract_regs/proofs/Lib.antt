@@ -1,6 +1,5 @@
 pub mod ReadParts
 pub mod Sets
-pub mod Intervals
 pub mod Proper
 pub mod Moves
 pub mod Calls

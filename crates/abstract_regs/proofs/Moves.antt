@@ -1,34 +1,40 @@
 -- An address that is moved stays in its range.
-use Rattle.std.proofs.Common.{◌≡◌, ◌≤◌, ◌<◌, ◌^◌, ℕ, ◌&&◌, true, Some, arith, pos, neg_ℤ, ◌+ℤ◌, ◌≤ℤ◌, ℤ, int_le, inl, inr}
-use Rattle.std.specs.Int.{w64, cast_signed}
-use Rattle.std.proofs.lemmas.Int.{ints}
-use Rattle.std.proofs.lemmas.Bool.{and_parts, or_cases, leb-true, ltb-true}
+use Rattle.std.proofs.Common.{◌≡◌, ◌≤◌, true, Some, pos, neg_ℤ, ◌+ℤ◌, ◌≤ℤ◌, ℤ, arith, FitsSigned}
+use Rattle.std.proofs.lemmas.Bool.{and_parts, and_from}
+use Rattle.std.proofs.lemmas.Int.{ints, to_z-of_z}
+use Rattle.std.specs.Int.{w64, cast_signed, cast_unsigned}
+use Rattle.machine_spec.specs.declared.operation.Operation.{Operation}
 use Rattle.machine_spec.specs.declared.instruction.Region.{Region}
+use Rattle.verifier_spec.specs.declared.interval.Interval.{Interval}
 use Rattle.verifier_spec.specs.declared.state.Abs.TheVariants as abs
 use Rattle.verifier_spec.specs.Kinds.{is_proper_kind, furthest}
-use Rattle.verifier_spec.specs.Checks.{is_one_sign, can_move}
-
--- numbers of one sign are in order where they are read as signed
-pub signed_order : (a b : ℕ) → a ≤ b → b < 2 ^ 64 → is_one_sign a b ≡ true → cast_signed w64 a ≤ℤ cast_signed w64 b
-signed_order a b ordered fits one = elim (or_cases _ _ one) [
-  | inl below ↦ (let h : b < 2 ^ 63 = ltb-true _ _ below in grind (arith, ints))
-  | inr above ↦ (let h : 2 ^ 63 ≤ a = leb-true _ _ above in grind (arith, ints))
-]
+use Rattle.verifier_spec.specs.Checks.{least_displacement, greatest_displacement, can_move}
+use Rattle.verifier_spec.specs.Transfer.{moved_address}
+use Rattle.verifier_spec.proofs.Proper.{addr_order}
+use Rattle.verifier_spec.proofs.Sums.{moved_proper}
+use Rattle.verifier_spec.proofs.Whole.{le_z-true, le-le_z}
 
 -- the ends of an address after a move
-pub record Bounds (low high : ℤ) (range : ℕ × ℕ) : Type 0 where
-  pub from : neg_ℤ (pos furthest) ≤ℤ (low +ℤ cast_signed w64 range.0)
-  pub order : (low +ℤ cast_signed w64 range.0) ≤ℤ (high +ℤ cast_signed w64 range.1)
-  pub to : (high +ℤ cast_signed w64 range.1) ≤ℤ pos furthest
+pub record Bounds (operation : Operation) (low high : ℤ) (range : Interval) : Type 0 where
+  pub from : neg_ℤ (pos furthest) ≤ℤ (low +ℤ least_displacement operation range)
+  pub order : (low +ℤ least_displacement operation range) ≤ℤ (high +ℤ greatest_displacement operation range)
+  pub to : (high +ℤ greatest_displacement operation range) ≤ℤ pos furthest
 
-pub moved_bounds : (region : Region) (low high : ℤ) (range : ℕ × ℕ) → is_proper_kind (abs.Addr region low high) ≡ true → range.0 ≤ range.1 → range.1 < 2 ^ 64 → can_move low high (Some range) ≡ true → Bounds low high range
-moved_bounds region low high range proper ordered fits can =
-    let p = and_parts (int_le (neg_ℤ (pos furthest)) low) (int_le low high && int_le high (pos furthest)) proper in
-    let q = and_parts (int_le low high) (int_le high (pos furthest)) p.1 in
-    let first = low +ℤ cast_signed w64 range.0 in
-    let last = high +ℤ cast_signed w64 range.1 in
-    let m = and_parts (is_one_sign range.0 range.1) (int_le (neg_ℤ (pos furthest)) first && int_le last (pos furthest)) can in
-    let n = and_parts (int_le (neg_ℤ (pos furthest)) first) (int_le last (pos furthest)) m.1 in
-    let s = signed_order range.0 range.1 ordered fits m.0 in
-    let i : low ≤ℤ high = grind (arith, ints) in
-    record { from = grind (arith, ints); order = omega (arith, ints); to = grind (arith, ints) }
+pub moved_kind_proper : (operation : Operation) (region : Region) (low high : ℤ) (range : Interval) → is_proper_kind (abs.Addr region low high) ≡ true → range.low ≤ range.high
+    → can_move operation low high (Some range) ≡ true → is_proper_kind (moved_address operation region low high (Some range)) ≡ true
+moved_kind_proper operation region low high range proper ordered can = moved_proper operation region low high range can (addr_order region low high proper) ordered
+
+pub moved_bounds : (operation : Operation) (region : Region) (low high : ℤ) (range : Interval) → is_proper_kind (abs.Addr region low high) ≡ true → range.low ≤ range.high
+    → can_move operation low high (Some range) ≡ true → Bounds operation low high range
+moved_bounds operation region low high range proper ordered can =
+    let p = and_parts _ _ (moved_kind_proper operation region low high range proper ordered can) in
+    let q = and_parts _ _ p.1 in
+    record { from = le_z-true _ _ p.0; order = le_z-true _ _ q.0; to = le_z-true _ _ q.1 }
+
+-- such ends as 64 bits
+pub ends_proper : (region : Region) (low high : ℤ) → neg_ℤ (pos furthest) ≤ℤ low → low ≤ℤ high → high ≤ℤ pos furthest
+    → is_proper_kind (abs.Addr region (cast_signed w64 (cast_unsigned w64 low)) (cast_signed w64 (cast_unsigned w64 high))) ≡ true
+ends_proper region low high from order to =
+    let first : FitsSigned w64 low = omega (arith, ints) in
+    let last : FitsSigned w64 high = omega (arith, ints) in
+    rw (to_z-of_z w64 low first, to_z-of_z w64 high last) (and_from _ _ (le-le_z (neg_ℤ (pos furthest)) low from) (and_from _ _ (le-le_z low high order) (le-le_z high (pos furthest) to)))

@@ -5,6 +5,7 @@ use Rattle.std.proofs.lemmas.List.{length-set}
 use Rattle.std.specs.List.{list_all}
 use Rattle.machine_spec.specs.declared.instruction.Region.{Region}
 use Rattle.machine_spec.specs.declared.instruction.Region.TheVariants as region
+use Rattle.verifier_spec.specs.declared.interval.Interval.{Interval}
 use Rattle.verifier_spec.specs.declared.state.Abs.{Abs}
 use Rattle.verifier_spec.specs.declared.state.Abs.TheVariants as abs
 use Rattle.verifier_spec.specs.declared.state.Abstract.{Abstract}
@@ -65,8 +66,8 @@ with_kind_proper s r kind proper one =
 -- ---- the numbers of a kind
 
 -- an interval's ends are in order
-abbrev pub Ordered : Option (ℕ × ℕ) → Type 0
-Ordered range = IfSome range (λ r. r.0 ≤ r.1)
+abbrev pub Ordered : Option Interval → Type 0
+Ordered range = IfSome range (λ r. r.low ≤ r.high)
 
 pub least_most : (s : Abstract) (region : Region) → is_proper s ≡ true → least s region ≤ greatest s region
 least_most s region.Stack proper = omega arith
@@ -86,7 +87,7 @@ greatest_limit s region.Stack proper = omega arith
 greatest_limit s region.Key proper = let h : s.key_max ≤ key_limit = leb-true _ _ (proper_parts s proper).key_most in omega arith
 greatest_limit s region.Value proper = leb-true _ _ (proper_parts s proper).value_most
 
-pub with_length_proper : (s : Abstract) (region : Region) (range : ℕ × ℕ) → is_proper s ≡ true → range.0 ≤ range.1 → range.1 ≤ greatest s region → is_proper (with_length s region range) ≡ true
+pub with_length_proper : (s : Abstract) (region : Region) (range : Interval) → is_proper s ≡ true → range.low ≤ range.high → range.high ≤ greatest s region → is_proper (with_length s region range) ≡ true
 with_length_proper s region.Stack range proper ordered most = proper
 with_length_proper s region.Key range proper ordered most =
     let p = proper_parts s proper in

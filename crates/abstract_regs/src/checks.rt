@@ -1,17 +1,18 @@
 ghost use Rattle.std.specs.Prelude.{◌≡◌, ◌+◌, pos, neg_ℤ, ◌+ℤ◌, ◌&&◌, int_le, unsigned_abs};
 ghost use Rattle.std.specs.List.{list_any};
-ghost use Rattle.machine_spec.specs.Values.{byte_count};
+ghost use Rattle.machine_spec.specs.Arithmetic.{signed};
+ghost use Rattle.machine_spec.specs.Values.{moves_address, is_subtraction, byte_count};
 ghost use Rattle.machine_spec.specs.Machine.{helper_of};
 ghost use Rattle.machine_spec.specs.Traps.{writes_frame, calls_no_helper, source_registers, operand_registers, base_registers, condition_registers, call_registers, helper_registers, is_read, is_stack};
 ghost use Rattle.verifier_spec.specs.Kinds.{kind_at, is_unknown, furthest};
-ghost use Rattle.verifier_spec.specs.Checks.{reads_unknown, is_one_sign, can_move, can_compute_kinds, has_wrong_kinds, has_wrong_base_kind, has_wrong_condition_kind, reach_at, reach_of, may_write_record, may_leave_record, may_leave_stack, may_read_unset, has_wrong_argument_kind, may_call_wrongly, may_exit_wrongly, failed_check};
+ghost use Rattle.verifier_spec.specs.Checks.{reads_unknown, is_one_sign, least_displacement, greatest_displacement, can_move, can_compute_kinds, has_wrong_kinds, has_wrong_base_kind, has_wrong_condition_kind, reach_at, reach_of, may_write_record, may_leave_record, may_leave_stack, may_read_unset, has_wrong_argument_kind, may_call_wrongly, may_exit_wrongly, failed_check};
 
 use crate::{kinds, stack_set};
 use machine_spec::{
     Condition, Direction, Helper, Instruction, MemoryOperand, Operands, Operation, Region,
     STACK_SIZE, Size, Source, Summary, Width,
 };
-use verifier_spec::{Abs, Abstract, Check};
+use verifier_spec::{Abs, Abstract, Check, Interval};
 
 /// The register that is never written, the stack's end.
 const FRAME: u8 = 10;
@@ -82,6 +83,7 @@ fn is_unknown_operand(state: &Abstract, takes: Operands) -> bool
     match takes {
         Operands::Nothing => false,
         Operands::Any(source) => is_unknown_source(state, source),
+        Operands::Number(_, source) => is_unknown_source(state, source),
         Operands::Computed(_, _, dst, source) => {
             is_unknown_at(state, dst) || is_unknown_source(state, source)
         }
@@ -128,32 +130,111 @@ fn reads_unknown(summary: Summary, state: &Abstract) -> bool
 
 // ---- kinds that an instruction takes
 
-fn is_one_sign(lo: u64, hi: u64) -> bool
-    ensures { result ≡ is_one_sign lo hi }
+fn is_one_sign(range: Interval) -> bool
+    ensures { result ≡ is_one_sign range }
 {
-    hi < FIRST_NEGATIVE || FIRST_NEGATIVE <= lo
+    range.high < FIRST_NEGATIVE || FIRST_NEGATIVE <= range.low
 }
 
-/// The sum of any two, in as many bits as it needs.
-fn sum(at: i64, by: i64) -> i128
-    ensures { result ≡ at +ℤ by }
+fn is_subtraction(operation: Operation) -> bool
+    ensures { result ≡ is_subtraction operation }
 {
-    at as i128 + by as i128
+    match operation {
+        Operation::Sub => true,
+        Operation::Add
+        | Operation::Mul
+        | Operation::Div
+        | Operation::SignedDiv
+        | Operation::Or
+        | Operation::And
+        | Operation::LeftShift
+        | Operation::RightShift
+        | Operation::Mod
+        | Operation::SignedMod
+        | Operation::Xor
+        | Operation::ArithmeticRightShift => false,
+    }
 }
 
-fn are_near(low: i128, high: i128) -> bool
-    ensures { result ≡ (int_le (neg_ℤ (pos furthest)) low && int_le high (pos furthest)) }
+/// Whether an operation moves an address by a number.
+fn moves_address(width: Width, operation: Operation) -> bool
+    ensures { result ≡ moves_address width operation }
 {
-    -4_294_967_296 <= low && high <= 4_294_967_296
+    match width {
+        Width::Bits32 => false,
+        Width::Bits64 => match operation {
+            Operation::Add | Operation::Sub => true,
+            Operation::Mul
+            | Operation::Div
+            | Operation::SignedDiv
+            | Operation::Or
+            | Operation::And
+            | Operation::LeftShift
+            | Operation::RightShift
+            | Operation::Mod
+            | Operation::SignedMod
+            | Operation::Xor
+            | Operation::ArithmeticRightShift => false,
+        },
+    }
 }
 
-fn can_move(low: i64, high: i64, range: Option<(u64, u64)>) -> bool
-    ensures { result ≡ can_move low high range }
+/// A number read as signed, in as many bits as its negative needs.
+fn signed(number: u64) -> i128
+    ensures { result ≡ signed Width.Bits64 number }
+{
+    i128::from(number.cast_signed())
+}
+
+fn negative(number: u64) -> i128
+    ensures { result ≡ neg_ℤ (signed Width.Bits64 number) }
+{
+    -i128::from(number.cast_signed())
+}
+
+/// The least displacement that an operation makes of a number of an interval.
+pub fn least_displacement(operation: Operation, range: Interval) -> i128
+    ensures { result ≡ least_displacement operation range }
+{
+    if is_subtraction(operation) {
+        negative(range.high)
+    } else {
+        signed(range.low)
+    }
+}
+
+/// The greatest displacement that an operation makes of a number of an interval.
+pub fn greatest_displacement(operation: Operation, range: Interval) -> i128
+    ensures { result ≡ greatest_displacement operation range }
+{
+    if is_subtraction(operation) {
+        negative(range.low)
+    } else {
+        signed(range.high)
+    }
+}
+
+/// Whether a displaced offset is within the range of an address, from its low end on.
+fn is_after_least(at: i64, operation: Operation, range: Interval) -> bool
+    ensures { result ≡ int_le (neg_ℤ (pos furthest)) (at +ℤ least_displacement operation range) }
+{
+    -4_294_967_296 - i128::from(at) <= least_displacement(operation, range)
+}
+
+fn is_before_greatest(at: i64, operation: Operation, range: Interval) -> bool
+    ensures { result ≡ int_le (at +ℤ greatest_displacement operation range) (pos furthest) }
+{
+    greatest_displacement(operation, range) <= 4_294_967_296 - i128::from(at)
+}
+
+fn can_move(operation: Operation, low: i64, high: i64, range: Option<Interval>) -> bool
+    ensures { result ≡ can_move operation low high range }
 {
     match range {
-        Some((least, most)) => {
-            is_one_sign(least, most)
-                && are_near(sum(low, least.cast_signed()), sum(high, most.cast_signed()))
+        Some(range) => {
+            is_one_sign(range)
+                && (is_after_least(low, operation, range)
+                    && is_before_greatest(high, operation, range))
         }
         None => false,
     }
@@ -166,9 +247,10 @@ fn can_compute(state: &Abstract, width: Width, operation: Operation, to: Abs, by
         Abs::None => false,
         Abs::Num(_, _) => kinds::is_number(by),
         Abs::Len(_) => kinds::is_number(by),
-        Abs::Addr(_, low, high) => match (width, operation) {
-            (Width::Bits64, Operation::Add) => can_move(low, high, kinds::range_of(state, by)),
-        },
+        Abs::Addr(_, low, high) => {
+            moves_address(width, operation)
+                && can_move(operation, low, high, kinds::range_of(state, by))
+        }
     }
 }
 
@@ -178,12 +260,15 @@ fn has_wrong_kinds(takes: Operands, state: &Abstract) -> bool
     match takes {
         Operands::Nothing => false,
         Operands::Any(_) => false,
+        Operands::Number(width, source) => {
+            !kinds::is_number(kinds::source_kind(state, width, source))
+        }
         Operands::Computed(width, operation, dst, source) => !can_compute(
             state,
             width,
             operation,
             kinds::kind_at(state, dst),
-            kinds::source_kind(state, source),
+            kinds::source_kind(state, width, source),
         ),
     }
 }
@@ -203,7 +288,7 @@ fn has_wrong_condition_kind(condition: Option<Condition>, state: &Abstract) -> b
     match condition {
         Some(c) => {
             !(kinds::is_number(kinds::kind_at(state, c.dst))
-                && kinds::is_number(kinds::source_kind(state, c.source)))
+                && kinds::is_number(kinds::source_kind(state, c.width, c.source)))
         }
         None => false,
     }

@@ -1,11 +1,11 @@
 ghost use Rattle.std.specs.Prelude.{◌≡◌, ◌≤◌, true, IfSome, slice_index_or};
-ghost use Rattle.std.specs.Int.{w64, cast_unsigned};
+ghost use Rattle.machine_spec.specs.Values.{immediate};
 ghost use Rattle.verifier_spec.specs.Kinds.{kind_at, least, greatest, range_of, is_unknown, is_number_kind, is_address_kind, is_proper_kind};
 ghost use Rattle.verifier_spec.specs.States.{is_proper};
 ghost use Rattle.verifier_spec.specs.Checks.{source_kind};
 
-use machine_spec::{Region, STACK_SIZE, Source};
-use verifier_spec::{Abs, Abstract};
+use machine_spec::{Region, STACK_SIZE, Source, Width};
+use verifier_spec::{Abs, Abstract, Interval};
 
 /// The kind with a number; past r10, none.
 pub fn kind_of(kinds: &[Abs; 11], register: usize) -> Abs
@@ -27,23 +27,25 @@ pub fn kind_at(state: &Abstract, register: u8) -> Abs
     kind_of(&state.registers, register as usize)
 }
 
-/// An immediate, sign-extended to 64 bits and read unsigned (RFC 9669, section 4.1).
-pub fn constant(immediate: i32) -> u64
-    ensures { result ≡ cast_unsigned w64 immediate }
+/// The bits of an immediate in a width, read unsigned (RFC 9669, section 4.1).
+pub fn constant(width: Width, constant: i32) -> u64
+    ensures { result ≡ immediate width constant }
 {
-    let wide = immediate as i64;
-    wide.cast_unsigned()
+    match width {
+        Width::Bits32 => u64::from(constant.cast_unsigned()),
+        Width::Bits64 => i64::from(constant).cast_unsigned(),
+    }
 }
 
 /// What a state knows of the second operand.
-pub fn source_kind(state: &Abstract, source: Source) -> Abs
-    ensures kind { result ≡ source_kind state.now source }
+pub fn source_kind(state: &Abstract, width: Width, source: Source) -> Abs
+    ensures kind { result ≡ source_kind state.now width source }
     ensures proper { is_proper state.now ≡ true → is_proper_kind result ≡ true }
 {
     match source {
         Source::Register(register) => kind_at(state, register),
         Source::Immediate(immediate) => {
-            let number = constant(immediate);
+            let number = constant(width, immediate);
             Abs::Num(number, number)
         }
     }
@@ -71,16 +73,19 @@ pub fn greatest(state: &Abstract, region: Region) -> u32
     }
 }
 
-/// The least and the greatest number that a kind stands for, if it stands for numbers.
+/// The numbers that a kind stands for, if it stands for numbers.
 #[tactic(auto, using(crate::proofs::Proper::range_ordered))]
-pub fn range_of(state: &Abstract, kind: Abs) -> Option<(u64, u64)>
+pub fn range_of(state: &Abstract, kind: Abs) -> Option<Interval>
     ensures range { result ≡ range_of state.now kind }
-    ensures ordered { is_proper state.now ≡ true → is_proper_kind kind ≡ true → IfSome result (λ r. r.0 ≤ r.1) }
+    ensures ordered { is_proper state.now ≡ true → is_proper_kind kind ≡ true → IfSome result (λ r. r.low ≤ r.high) }
 {
     match kind {
         Abs::None => None,
-        Abs::Num(lo, hi) => Some((lo, hi)),
-        Abs::Len(region) => Some((least(state, region) as u64, greatest(state, region) as u64)),
+        Abs::Num(low, high) => Some(Interval { low, high }),
+        Abs::Len(region) => Some(Interval {
+            low: least(state, region) as u64,
+            high: greatest(state, region) as u64,
+        }),
         Abs::Addr(_, _, _) => None,
     }
 }

@@ -5,7 +5,6 @@
 mod checks;
 mod kinds;
 mod laws;
-mod narrowing;
 mod order;
 mod ranges;
 mod stack_set;

@@ -1,15 +1,15 @@
 ghost use Rattle.std.specs.Prelude.{◌≡◌, ◌≤◌, pos, neg_ℤ, ◌+ℤ◌, ◌≤ℤ◌, true, None, Some, IfSome, slice_set};
-ghost use Rattle.std.specs.Int.{w64, cast_signed};
+ghost use Rattle.verifier_spec.specs.Intervals.{from_to};
 ghost use Rattle.verifier_spec.specs.Kinds.{kind_at, greatest, range_of, is_proper_kind, furthest};
 ghost use Rattle.verifier_spec.specs.States.{is_proper};
 ghost use Rattle.verifier_spec.specs.Checks.{can_move, can_compute_kinds, source_kind, failed_check};
-ghost use Rattle.verifier_spec.specs.Transfer.{with_kind, computed_range, on_ranges, moved, computed_kind, loaded_kind, with_length, with_range, narrowed_range, tested, answer_kind, after_call_kinds, called_kinds, met_edge, jump_edge, falls_to, jumps_to};
+ghost use Rattle.verifier_spec.specs.Transfer.{with_kind, numbers, on_ranges, moved_address, moved_kind, computed_kind, changed_kind, loaded_kind, with_length, with_range, narrowed_range, tested, answer_kind, after_call_kinds, called_kinds, met_edge, jump_edge, falls_to, jumps_to};
 
-use crate::{checks, kinds, narrowing};
+use crate::{checks, kinds};
 use machine_spec::{
-    Condition, Helper, Instruction, Operation, Region, Size, Source, Summary, Test, Width,
+    Change, Condition, Helper, Instruction, Operation, Region, Size, Source, Summary, Test, Width,
 };
-use verifier_spec::{Abs, Abstract};
+use verifier_spec::{Abs, Abstract, Interval};
 
 // ---- a register's kind
 
@@ -42,78 +42,82 @@ fn with_kind(state: &Abstract, register: u8, kind: Abs) -> Abstract
 
 // ---- arithmetic
 
-fn computed_range(width: Width, operation: Operation, a: (u64, u64), b: (u64, u64)) -> Abs
-    requires first { a.0 ≤ a.1 }
-    requires second { b.0 ≤ b.1 }
-    ensures range { result ≡ computed_range width operation a b }
+/// The numbers of an interval.
+fn numbers(range: Interval) -> Abs
+    requires { range.low ≤ range.high }
+    ensures kind { result ≡ numbers range }
     ensures proper { is_proper_kind result ≡ true }
 {
-    match (width, operation) {
-        (Width::Bits64, Operation::Add) => match a.1.checked_add(b.1) {
-            Some(most) => Abs::Num(a.0 + b.0, most),
-            None => Abs::Num(0, u64::MAX),
-        },
-    }
-}
-
-fn moved_by(at: i64, number: u64) -> i64
-    requires from { neg_ℤ (pos furthest) ≤ℤ (at +ℤ cast_signed w64 number) }
-    requires to { (at +ℤ cast_signed w64 number) ≤ℤ pos furthest }
-    ensures { result ≡ at +ℤ cast_signed w64 number }
-{
-    at + number.cast_signed()
-}
-
-fn moved(region: Region, low: i64, high: i64, least: u64, most: u64) -> Abs
-    requires address { is_proper_kind (Abs.Addr region low high) ≡ true }
-    requires range { least ≤ most }
-    requires can { can_move low high (Some (least, most)) ≡ true }
-    ensures moved { result ≡ moved region low high (Some (least, most)) }
-    ensures proper { is_proper_kind result ≡ true }
-{
-    Abs::Addr(region, moved_by(low, least), moved_by(high, most))
+    Abs::Num(range.low, range.high)
 }
 
 /// An operation on an interval and the numbers of another kind.
-fn on_ranges(width: Width, operation: Operation, a: (u64, u64), b: Option<(u64, u64)>) -> Abs
-    requires first { a.0 ≤ a.1 }
-    requires second { IfSome b (λ r. r.0 ≤ r.1) }
+fn on_ranges(width: Width, operation: Operation, a: Interval, b: Option<Interval>) -> Abs
+    requires first { a.low ≤ a.high }
+    requires second { IfSome b (λ r. r.low ≤ r.high) }
     ensures kind { result ≡ on_ranges width operation (Some a) b }
     ensures proper { is_proper_kind result ≡ true }
 {
     match b {
-        Some(range) => computed_range(width, operation, a, range),
+        Some(range) => numbers(intervals::result_range(width, operation, a, range)),
         None => Abs::None,
     }
+}
+
+fn moved_by(at: i64, by: i128) -> i64
+    requires from { neg_ℤ (pos furthest) ≤ℤ (at +ℤ by) }
+    requires to { (at +ℤ by) ≤ℤ pos furthest }
+    ensures { result ≡ at +ℤ by }
+{
+    (at as i128 + by) as i64
+}
+
+fn moved(operation: Operation, region: Region, low: i64, high: i64, range: Interval) -> Abs
+    requires address { is_proper_kind (Abs.Addr region low high) ≡ true }
+    requires range { range.low ≤ range.high }
+    requires can { can_move operation low high (Some range) ≡ true }
+    ensures moved { result ≡ moved_address operation region low high (Some range) }
+    ensures proper { is_proper_kind result ≡ true }
+{
+    let least = checks::least_displacement(operation, range);
+    let greatest = checks::greatest_displacement(operation, range);
+    Abs::Addr(region, moved_by(low, least), moved_by(high, greatest))
 }
 
 #[tactic(auto, using(crate::proofs::Proper::least_most))]
-fn length_range(state: &Abstract, region: Region) -> (u64, u64)
+fn length_range(state: &Abstract, region: Region) -> Interval
     requires { is_proper state.now ≡ true }
     ensures range { Some result ≡ range_of state.now (Abs.Len region) }
-    ensures most { result.1 ≡ greatest state.now region }
-    ensures ordered { result.0 ≤ result.1 }
+    ensures most { result.high ≡ greatest state.now region }
+    ensures ordered { result.low ≤ result.high }
 {
-    (
-        kinds::least(state, region) as u64,
-        kinds::greatest(state, region) as u64,
-    )
+    Interval {
+        low: kinds::least(state, region) as u64,
+        high: kinds::greatest(state, region) as u64,
+    }
 }
 
-fn address_sum(state: &Abstract, region: Region, low: i64, high: i64, by: Abs) -> Abs
+fn moved_address(
+    state: &Abstract,
+    operation: Operation,
+    region: Region,
+    ends: (i64, i64),
+    by: Abs,
+) -> Abs
     requires state { is_proper state.now ≡ true }
-    requires address { is_proper_kind (Abs.Addr region low high) ≡ true }
+    requires address { is_proper_kind (Abs.Addr region ends.0 ends.1) ≡ true }
     requires number { is_proper_kind by ≡ true }
-    requires can { can_move low high (range_of state.now by) ≡ true }
-    ensures moved { result ≡ moved region low high (range_of state.now by) }
+    requires can { can_move operation ends.0 ends.1 (range_of state.now by) ≡ true }
+    ensures moved { result ≡ moved_address operation region ends.0 ends.1 (range_of state.now by) }
     ensures proper { is_proper_kind result ≡ true }
 {
     match kinds::range_of(state, by) {
-        Some((least, most)) => moved(region, low, high, least, most),
+        Some(range) => moved(operation, region, ends.0, ends.1, range),
         None => Abs::None,
     }
 }
 
+#[tactic(auto, using(crate::proofs::Passes::moves_parts))]
 fn computed_kind(state: &Abstract, width: Width, operation: Operation, to: Abs, by: Abs) -> Abs
     requires state { is_proper state.now ≡ true }
     requires first { is_proper_kind to ≡ true }
@@ -124,16 +128,47 @@ fn computed_kind(state: &Abstract, width: Width, operation: Operation, to: Abs, 
 {
     match to {
         Abs::None => Abs::None,
-        Abs::Num(lo, hi) => on_ranges(width, operation, (lo, hi), kinds::range_of(state, by)),
+        Abs::Num(low, high) => on_ranges(
+            width,
+            operation,
+            Interval { low, high },
+            kinds::range_of(state, by),
+        ),
         Abs::Len(region) => on_ranges(
             width,
             operation,
             length_range(state, region),
             kinds::range_of(state, by),
         ),
-        Abs::Addr(region, low, high) => match (width, operation) {
-            (Width::Bits64, Operation::Add) => address_sum(state, region, low, high, by),
+        Abs::Addr(region, low, high) => moved_address(state, operation, region, (low, high), by),
+    }
+}
+
+/// What a move of a width moves of a value.
+fn moved_kind(state: &Abstract, width: Width, kind: Abs) -> Abs
+    requires state { is_proper state.now ≡ true }
+    requires kind { is_proper_kind kind ≡ true }
+    ensures kind { result ≡ moved_kind state.now width kind }
+    ensures proper { is_proper_kind result ≡ true }
+{
+    match width {
+        Width::Bits32 => match kinds::range_of(state, kind) {
+            Some(range) => numbers(intervals::cut(Width::Bits32, range)),
+            None => Abs::None,
         },
+        Width::Bits64 => kind,
+    }
+}
+
+fn changed_kind(state: &Abstract, change: Change, kind: Abs) -> Abs
+    requires state { is_proper state.now ≡ true }
+    requires kind { is_proper_kind kind ≡ true }
+    ensures kind { result ≡ changed_kind state.now change kind }
+    ensures proper { is_proper_kind result ≡ true }
+{
+    match kinds::range_of(state, kind) {
+        Some(range) => numbers(intervals::changed_range(change, range)),
+        None => Abs::None,
     }
 }
 
@@ -157,7 +192,7 @@ fn with_length(state: &Abstract, region: Region, least: u32, most: u32) -> Abstr
     requires state { is_proper state.now ≡ true }
     requires range { least ≤ most }
     requires inside { most ≤ greatest state.now region }
-    ensures changed { result ≡ with_length state.now region (least, most) }
+    ensures changed { result ≡ with_length state.now region (from_to least most) }
     ensures proper { is_proper result ≡ true }
 {
     let mut changed = *state;
@@ -180,15 +215,15 @@ fn length_edge(
     state: &Abstract,
     register: u8,
     region: Region,
-    narrow: Option<(u64, u64)>,
+    narrow: Option<Interval>,
 ) -> Option<Abstract>
     requires state { is_proper state.now ≡ true }
-    requires range { IfSome narrow (λ r. (r.0 ≤ r.1) × (r.1 ≤ greatest state.now region)) }
+    requires range { IfSome narrow (λ r. (r.low ≤ r.high) × (r.high ≤ greatest state.now region)) }
     ensures edge { result ≡ with_range state.now register (Abs.Len region) narrow }
     ensures proper { IfSome result (λ s. is_proper s ≡ true) }
 {
     match narrow {
-        Some((least, most)) => Some(with_length(state, region, least as u32, most as u32)),
+        Some(part) => Some(with_length(state, region, part.low as u32, part.high as u32)),
         None => None,
     }
 }
@@ -209,18 +244,17 @@ fn edge_of(
 {
     match kind {
         Abs::None => Some(*state),
-        Abs::Num(lo, hi) => match narrowing::narrowed(test.0, test.1, along, (lo, hi), constant) {
-            Some((least, most)) => Some(with_kind(state, register, Abs::Num(least, most))),
-            None => None,
-        },
+        Abs::Num(low, high) => {
+            let range = Interval { low, high };
+            match intervals::narrowed(test.0, test.1, along, range, constant) {
+                Some(part) => Some(with_kind(state, register, numbers(part))),
+                None => None,
+            }
+        }
         Abs::Len(region) => {
-            let lengths = length_range(state, region);
-            length_edge(
-                state,
-                register,
-                region,
-                narrowing::narrowed(test.0, test.1, along, lengths, constant),
-            )
+            let range = length_range(state, region);
+            let narrow = intervals::narrowed(test.0, test.1, along, range, constant);
+            length_edge(state, register, region, narrow)
         }
         Abs::Addr(_, _, _) => Some(*state),
     }
@@ -245,7 +279,7 @@ fn tested(
             along,
             register,
             kinds::kind_at(state, register),
-            kinds::constant(immediate),
+            kinds::constant(test.0, immediate),
         ),
     }
 }
@@ -309,11 +343,11 @@ fn computed(
     requires state { is_proper state.now ≡ true }
     requires passes { failed_check (Instruction.Compute width operation register source) state.now ≡ None }
     ensures edge { result ≡ with_kind state.now register
-        (computed_kind state.now width operation (kind_at state.now register) (source_kind state.now source)) }
+        (computed_kind state.now width operation (kind_at state.now register) (source_kind state.now width source)) }
     ensures proper { is_proper result ≡ true }
 {
     let to = kinds::kind_at(state, register);
-    let by = kinds::source_kind(state, source);
+    let by = kinds::source_kind(state, width, source);
     with_kind(
         state,
         register,
@@ -331,11 +365,16 @@ pub fn falls_to(instruction: Instruction, state: &Abstract) -> Option<Abstract>
     ensures proper { IfSome result (λ s. is_proper s ≡ true) }
 {
     match instruction {
-        Instruction::Move(_, dst, source) => {
-            Some(with_kind(state, dst, kinds::source_kind(state, source)))
+        Instruction::Move(width, dst, source) => {
+            let kind = kinds::source_kind(state, width, source);
+            Some(with_kind(state, dst, moved_kind(state, width, kind)))
         }
         Instruction::Compute(width, operation, dst, source) => {
             Some(computed(state, width, operation, dst, source))
+        }
+        Instruction::Unary(change, dst, src) => {
+            let kind = kinds::kind_at(state, src);
+            Some(with_kind(state, dst, changed_kind(state, change, kind)))
         }
         Instruction::Load(size, dst, _, _) => Some(with_kind(state, dst, loaded_kind(size))),
         Instruction::JumpIf(width, test, dst, source, _) => {

@@ -3,7 +3,7 @@ ghost use Rattle.std.specs.Prelude.{◌≡◌};
 ghost use Rattle.machine_spec.specs.Arithmetic.{number_of, changed_number, holds};
 
 use crate::low::{low_8, low_16, low_32};
-use machine_spec::operation::{Change, ExtendedWidth, Operation, Test, Width};
+use machine_spec::{Change, ExtendedWidth, Operation, Test, Width};
 
 #[inline(always)]
 pub fn add(a: u64, b: u64) -> u64

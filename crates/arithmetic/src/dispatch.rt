@@ -2,9 +2,7 @@ ghost use Rattle.std.specs.Prelude.{◌≡◌};
 ghost use Rattle.machine_spec.specs.Arithmetic.{number_of, ordered, changed_number, holds};
 
 use crate::{bits32, bits64, order};
-use machine_spec::operation::{
-    ByteOrder, Change, ExtendedWidth, Operation, SwappedWidth, Test, Width,
-};
+use machine_spec::{ByteOrder, Change, ExtendedWidth, Operation, SwappedWidth, Test, Width};
 
 /// An operation on two numbers.
 pub fn compute(width: Width, operation: Operation, a: u64, b: u64) -> u64

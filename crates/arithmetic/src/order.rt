@@ -3,7 +3,7 @@ ghost use Rattle.std.specs.Prelude.{◌≡◌};
 ghost use Rattle.machine_spec.specs.Arithmetic.{ordered};
 
 use crate::low::{low_16, low_32};
-use machine_spec::operation::{ByteOrder, SwappedWidth};
+use machine_spec::{ByteOrder, SwappedWidth};
 
 /// The low bits, and 0 above them.
 #[inline(always)]

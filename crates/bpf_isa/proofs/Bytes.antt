@@ -14,7 +14,7 @@ use Rattle.machine_spec.proofs.Slots.{slot_after_form}
 use Rattle.bpf_isa.specs.Code.{AreBytes}
 use Rattle.bpf_isa.specs.Spelling.{fields_bytes, spelling, HasRegisters}
 use Rattle.bpf_isa.proofs.Cases.{zeros, numbers}
-use Rattle.bpf_isa.proofs.Fields.{IsSpelled, filled_spelled}
+use Rattle.bpf_isa.proofs.Fields.{IsSpelled, filled_spelled, filled_reads}
 
 abbrev pub slot_bytes : List ℕ → ℕ → List ℕ
 slot_bytes image slot =
@@ -118,7 +118,6 @@ slot_registers image slot i e =
     let high = numbers uses f read.registers in
     let low = zeros uses f read.zeros in
     let is = filled_spelled f read.template i read.opcode read.is_filled low in
-    record {
-      dst = rw (← is.dst) (number_below uses.dst f.dst high.dst low.dst);
-      src = rw (← is.src) (number_below uses.src f.src high.src low.src);
-    }
+    let dst = number_below uses.dst f.dst high.dst low.dst in
+    let src = number_below uses.src f.src high.src low.src in
+    record { dst = rw (← is.dst) dst; src = rw (← is.src) src; changed = filled_reads f dst src read.template i read.is_filled }

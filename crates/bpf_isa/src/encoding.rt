@@ -1,6 +1,7 @@
 //! From code to its image.
 
-ghost use Rattle.std.specs.Prelude.{◌≡◌, ◌≤◌, ◌++◌, IfOk, OnOk, List, ℕ};
+ghost use Rattle.std.specs.Prelude.{◌≡◌, ◌≤◌, ◌++◌, IfOk, OnOk, List, ℕ, pos};
+ghost use Rattle.machine_spec.specs.Arithmetic.{swapped_bits, extended_bits};
 ghost use Rattle.machine_spec.specs.Image.{IsCodeOf};
 ghost use Rattle.bpf_isa.specs.Code.{AreBytes};
 ghost use Rattle.bpf_isa.specs.Spelling as spells;
@@ -8,9 +9,9 @@ ghost use Rattle.bpf_isa.specs.Spelling.{spelled_fields, fields_bytes, spelling,
 ghost use Rattle.bpf_isa.specs.Views.{view};
 
 use crate::code::Code;
-use crate::opcode::opcode_of;
+use crate::opcode::{change_opcode, opcode_of};
 use crate::slot::SlotFields;
-use machine_spec::{Instruction, Source};
+use machine_spec::{Change, ExtendedWidth, Instruction, Operation, Source, SwappedWidth};
 use std::alloc::{AllocError, Global};
 
 /// The fields of an instruction with a second operand.
@@ -35,6 +36,61 @@ fn operand_fields(opcode: u8, dst: u8, source: Source, offset: i16) -> SlotField
     }
 }
 
+/// The offset that selects a signed quotient or remainder.
+fn operation_offset(operation: Operation) -> i16
+    ensures { result ≡ spells.operation_offset operation }
+{
+    match operation {
+        Operation::SignedDiv | Operation::SignedMod => 1,
+        Operation::Add
+        | Operation::Sub
+        | Operation::Mul
+        | Operation::Div
+        | Operation::Or
+        | Operation::And
+        | Operation::LeftShift
+        | Operation::RightShift
+        | Operation::Mod
+        | Operation::Xor
+        | Operation::ArithmeticRightShift => 0,
+    }
+}
+
+fn swapped_bits(width: SwappedWidth) -> i32
+    ensures { result ≡ pos (swapped_bits width) }
+{
+    match width {
+        SwappedWidth::Bits16 => 16,
+        SwappedWidth::Bits32 => 32,
+        SwappedWidth::Bits64 => 64,
+    }
+}
+
+fn extended_bits(part: ExtendedWidth) -> i16
+    ensures { result ≡ pos (extended_bits part) }
+{
+    match part {
+        ExtendedWidth::Bits8 => 8,
+        ExtendedWidth::Bits16 => 16,
+        ExtendedWidth::Bits32 => 32,
+    }
+}
+
+fn change_fields(change: Change, dst: u8, src: u8) -> SlotFields
+    ensures { view result ≡ spelled_fields (Instruction.Unary change dst src) }
+{
+    let opcode = change_opcode(change);
+    match change {
+        Change::Negate(_) => operand_fields(opcode, dst, Source::Immediate(0), 0),
+        Change::Order(_, width) => {
+            operand_fields(opcode, dst, Source::Immediate(swapped_bits(width)), 0)
+        }
+        Change::SignExtend(_, part) => {
+            operand_fields(opcode, dst, Source::Register(src), extended_bits(part))
+        }
+    }
+}
+
 /// The fields of an instruction; those that it does not use are 0.
 fn fields(instruction: Instruction) -> SlotFields
     ensures { view result ≡ spelled_fields instruction }
@@ -42,7 +98,10 @@ fn fields(instruction: Instruction) -> SlotFields
     let opcode = opcode_of(instruction);
     match instruction {
         Instruction::Move(_, dst, source) => operand_fields(opcode, dst, source, 0),
-        Instruction::Compute(_, _, dst, source) => operand_fields(opcode, dst, source, 0),
+        Instruction::Compute(_, operation, dst, source) => {
+            operand_fields(opcode, dst, source, operation_offset(operation))
+        }
+        Instruction::Unary(change, dst, src) => change_fields(change, dst, src),
         Instruction::Load(_, dst, base, offset) => {
             operand_fields(opcode, dst, Source::Register(base), offset)
         }

@@ -5,7 +5,9 @@ ghost use Rattle.machine_spec.specs.Opcodes as definitions;
 ghost use Rattle.bpf_isa.specs.Views.{view, view_uses};
 
 use crate::slot::SlotFields;
-use machine_spec::{Instruction, Source};
+use machine_spec::{
+    ByteOrder, Change, ExtendedWidth, Instruction, Operation, Source, SwappedWidth, Width,
+};
 
 /// The fields beside the opcode that an instruction uses.
 #[derive(Clone, Copy)]
@@ -35,13 +37,68 @@ fn source_uses(source: Source, offset: bool) -> UsedFields
     }
 }
 
+fn is_register(source: Source) -> bool
+    ensures { result ≡ definitions.is_register source }
+{
+    match source {
+        Source::Register(_) => true,
+        Source::Immediate(_) => false,
+    }
+}
+
+/// Whether an operation is a quotient or a remainder, which has a signed form.
+fn has_signed_form(operation: Operation) -> bool
+    ensures { result ≡ definitions.has_signed_form operation }
+{
+    match operation {
+        Operation::Div | Operation::SignedDiv | Operation::Mod | Operation::SignedMod => true,
+        Operation::Add
+        | Operation::Sub
+        | Operation::Mul
+        | Operation::Or
+        | Operation::And
+        | Operation::LeftShift
+        | Operation::RightShift
+        | Operation::Xor
+        | Operation::ArithmeticRightShift => false,
+    }
+}
+
+fn change_uses(change: Change) -> UsedFields
+    ensures { view_uses result ≡ definitions.change_uses change }
+{
+    match change {
+        Change::Negate(_) => UsedFields {
+            dst: true,
+            src: false,
+            offset: false,
+            imm: false,
+        },
+        Change::Order(_, _) => UsedFields {
+            dst: true,
+            src: false,
+            offset: false,
+            imm: true,
+        },
+        Change::SignExtend(_, _) => UsedFields {
+            dst: true,
+            src: true,
+            offset: true,
+            imm: false,
+        },
+    }
+}
+
 /// The fields that an instruction uses.
 pub fn uses(instruction: Instruction) -> UsedFields
     ensures { view_uses result ≡ definitions.uses_of instruction }
 {
     match instruction {
-        Instruction::Move(_, _, source) => source_uses(source, false),
-        Instruction::Compute(_, _, _, source) => source_uses(source, false),
+        Instruction::Move(_, _, source) => source_uses(source, is_register(source)),
+        Instruction::Compute(_, operation, _, source) => {
+            source_uses(source, has_signed_form(operation))
+        }
+        Instruction::Unary(change, _, _) => change_uses(change),
         Instruction::Load(_, _, _, _) => UsedFields {
             dst: true,
             src: true,
@@ -90,24 +147,166 @@ fn filled_source(source: Source, fields: SlotFields) -> Source
     }
 }
 
+/// The unsigned operation at offset 0, the signed one at offset 1.
+fn signed_where(unsigned: Operation, signed: Operation, offset: i16) -> Option<Operation>
+    ensures { result ≡ definitions.signed_where unsigned signed offset }
+{
+    match offset {
+        0 => Some(unsigned),
+        1 => Some(signed),
+        _ => None,
+    }
+}
+
+/// The operation that an offset selects.
+fn selected(operation: Operation, offset: i16) -> Option<Operation>
+    ensures { result ≡ definitions.selected operation offset }
+{
+    match operation {
+        Operation::Div | Operation::SignedDiv => {
+            signed_where(Operation::Div, Operation::SignedDiv, offset)
+        }
+        Operation::Mod | Operation::SignedMod => {
+            signed_where(Operation::Mod, Operation::SignedMod, offset)
+        }
+        Operation::Add
+        | Operation::Sub
+        | Operation::Mul
+        | Operation::Or
+        | Operation::And
+        | Operation::LeftShift
+        | Operation::RightShift
+        | Operation::Xor
+        | Operation::ArithmeticRightShift => Some(operation),
+    }
+}
+
+/// How many bits an offset has a move extend.
+fn extended_by(offset: i16) -> Option<ExtendedWidth>
+    ensures { result ≡ definitions.extended_by offset }
+{
+    if offset == 8 {
+        Some(ExtendedWidth::Bits8)
+    } else if offset == 16 {
+        Some(ExtendedWidth::Bits16)
+    } else if offset == 32 {
+        Some(ExtendedWidth::Bits32)
+    } else {
+        None
+    }
+}
+
+/// The move that extends so many bits; one of 32 bits extends fewer.
+fn extending(width: Width, dst: u8, src: u8, part: Option<ExtendedWidth>) -> Option<Instruction>
+    ensures { result ≡ definitions.extending width dst src part }
+{
+    let part = part?;
+    match (width, part) {
+        (Width::Bits32, ExtendedWidth::Bits32) => None,
+        (_, _) => Some(Instruction::Unary(Change::SignExtend(width, part), dst, src)),
+    }
+}
+
+/// A move from a register, which an offset may have extend some bits.
+fn moving(width: Width, dst: u8, src: u8, offset: i16) -> Option<Instruction>
+    ensures { result ≡ definitions.moving width dst src offset }
+{
+    if offset == 0 {
+        Some(Instruction::Move(width, dst, Source::Register(src)))
+    } else {
+        extending(width, dst, src, extended_by(offset))
+    }
+}
+
+/// How many bits an immediate has a byte order keep.
+fn swapped_by(imm: i32) -> Option<SwappedWidth>
+    ensures { result ≡ definitions.swapped_by imm }
+{
+    if imm == 16 {
+        Some(SwappedWidth::Bits16)
+    } else if imm == 32 {
+        Some(SwappedWidth::Bits32)
+    } else if imm == 64 {
+        Some(SwappedWidth::Bits64)
+    } else {
+        None
+    }
+}
+
+fn computing(
+    width: Width,
+    dst: u8,
+    source: Source,
+    operation: Option<Operation>,
+) -> Option<Instruction>
+    ensures { result ≡ definitions.computing width dst source operation }
+{
+    match operation {
+        Some(operation) => Some(Instruction::Compute(width, operation, dst, source)),
+        None => None,
+    }
+}
+
+fn ordering(order: ByteOrder, dst: u8, width: Option<SwappedWidth>) -> Option<Instruction>
+    ensures { result ≡ definitions.ordering order dst width }
+{
+    match width {
+        Some(width) => Some(Instruction::Unary(Change::Order(order, width), dst, dst)),
+        None => None,
+    }
+}
+
+fn changing(change: Change, fields: SlotFields) -> Option<Instruction>
+    ensures { result ≡ definitions.changing change (view fields) }
+{
+    match change {
+        Change::Negate(width) => Some(Instruction::Unary(
+            Change::Negate(width),
+            fields.dst,
+            fields.dst,
+        )),
+        Change::Order(order, _) => ordering(order, fields.dst, swapped_by(fields.imm)),
+        Change::SignExtend(width, _) => moving(width, fields.dst, fields.src, fields.offset),
+    }
+}
+
+fn filled_move(width: Width, source: Source, fields: SlotFields) -> Option<Instruction>
+    ensures { result ≡ definitions.filled_move width source (view fields) }
+{
+    match source {
+        Source::Register(_) => moving(width, fields.dst, fields.src, fields.offset),
+        Source::Immediate(_) => Some(Instruction::Move(
+            width,
+            fields.dst,
+            Source::Immediate(fields.imm),
+        )),
+    }
+}
+
 /// A template with these fields in place of its own, if they stand for an instruction.
 pub fn filled(template: Instruction, fields: SlotFields) -> Option<Instruction>
     ensures { result ≡ definitions.filled template (view fields) }
 {
     let dst = fields.dst;
     let offset = fields.offset;
-    Some(match template {
-        Instruction::Move(width, _, source) => {
-            Instruction::Move(width, dst, filled_source(source, fields))
-        }
-        Instruction::Compute(width, operation, _, source) => {
-            Instruction::Compute(width, operation, dst, filled_source(source, fields))
-        }
-        Instruction::Load(size, _, _, _) => Instruction::Load(size, dst, fields.src, offset),
-        Instruction::JumpIf(width, test, _, source, _) => {
-            Instruction::JumpIf(width, test, dst, filled_source(source, fields), offset)
-        }
-        Instruction::Call(_) => Instruction::Call(fields.imm),
-        Instruction::Exit => Instruction::Exit,
-    })
+    match template {
+        Instruction::Move(width, _, source) => filled_move(width, source, fields),
+        Instruction::Compute(width, operation, _, source) => computing(
+            width,
+            dst,
+            filled_source(source, fields),
+            selected(operation, offset),
+        ),
+        Instruction::Unary(change, _, _) => changing(change, fields),
+        Instruction::Load(size, _, _, _) => Some(Instruction::Load(size, dst, fields.src, offset)),
+        Instruction::JumpIf(width, test, _, source, _) => Some(Instruction::JumpIf(
+            width,
+            test,
+            dst,
+            filled_source(source, fields),
+            offset,
+        )),
+        Instruction::Call(_) => Some(Instruction::Call(fields.imm)),
+        Instruction::Exit => Some(Instruction::Exit),
+    }
 }

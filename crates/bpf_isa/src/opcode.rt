@@ -6,13 +6,16 @@ ghost use Rattle.machine_spec.specs.Opcodes.{opcode_of};
 ghost use Rattle.bpf_isa.specs.Views.{view};
 
 use crate::slot::SlotFields;
-use machine_spec::{Instruction, Operation, Size, Source, TEMPLATES, Test, Width};
+use machine_spec::{
+    ByteOrder, Change, Instruction, Operation, Size, Source, TEMPLATES, Test, Width,
+};
 
 fn arithmetic_class(width: Width) -> u8
     ensures is { result ≡ definitions.arithmetic_class width }
     ensures is_small { result ≤ 7 }
 {
     match width {
+        Width::Bits32 => 4,
         Width::Bits64 => 7,
     }
 }
@@ -22,6 +25,7 @@ fn jump_class(width: Width) -> u8
     ensures is_small { result ≤ 7 }
 {
     match width {
+        Width::Bits32 => 6,
         Width::Bits64 => 5,
     }
 }
@@ -32,6 +36,18 @@ fn operation_code(operation: Operation) -> u8
 {
     match operation {
         Operation::Add => 0,
+        Operation::Sub => 1,
+        Operation::Mul => 2,
+        Operation::Div => 3,
+        Operation::SignedDiv => 3,
+        Operation::Or => 4,
+        Operation::And => 5,
+        Operation::LeftShift => 6,
+        Operation::RightShift => 7,
+        Operation::Mod => 9,
+        Operation::SignedMod => 9,
+        Operation::Xor => 10,
+        Operation::ArithmeticRightShift => 12,
     }
 }
 
@@ -43,9 +59,14 @@ fn test_code(test: Test) -> u8
         Test::Equal => 1,
         Test::Greater => 2,
         Test::GreaterOrEqual => 3,
+        Test::AnyBit => 4,
         Test::NotEqual => 5,
+        Test::SignedGreater => 6,
+        Test::SignedGreaterOrEqual => 7,
         Test::Less => 10,
         Test::LessOrEqual => 11,
+        Test::SignedLess => 12,
+        Test::SignedLessOrEqual => 13,
     }
 }
 
@@ -79,6 +100,27 @@ fn coded(code: u8, source: Source, class: u8) -> u8
     16 * code + (source_bit(source) + class)
 }
 
+fn order_opcode(order: ByteOrder) -> u8
+    ensures { result ≡ definitions.order_opcode order }
+{
+    match order {
+        ByteOrder::LittleEndian => 0xd4,
+        ByteOrder::BigEndian => 0xdc,
+        ByteOrder::Swapped => 0xd7,
+    }
+}
+
+/// The opcode of a change of one number.
+pub fn change_opcode(change: Change) -> u8
+    ensures { result ≡ definitions.change_opcode change }
+{
+    match change {
+        Change::Negate(width) => coded(8, Source::Immediate(0), arithmetic_class(width)),
+        Change::Order(order, _) => order_opcode(order),
+        Change::SignExtend(width, _) => coded(11, Source::Register(0), arithmetic_class(width)),
+    }
+}
+
 /// The opcode of an instruction, whatever its fields.
 pub fn opcode_of(instruction: Instruction) -> u8
     ensures { result ≡ opcode_of instruction }
@@ -88,6 +130,7 @@ pub fn opcode_of(instruction: Instruction) -> u8
         Instruction::Compute(width, operation, _, source) => {
             coded(operation_code(operation), source, arithmetic_class(width))
         }
+        Instruction::Unary(change, _, _) => change_opcode(change),
         Instruction::Load(size, _, _, _) => 0x61 + size_bits(size),
         Instruction::JumpIf(width, test, _, source, _) => {
             coded(test_code(test), source, jump_class(width))

@@ -1,7 +1,7 @@
 ghost use Rattle.std.specs.Prelude.{◌≡◌, ◌≤◌, true, false, IfSome};
 ghost use Rattle.verifier_spec.specs.Intervals.{if_any, equal_to, different_from, above, at_least, at_most, below, narrowed_64, narrowed};
 
-use machine_spec::operation::{Test, Width};
+use machine_spec::{Test, Width};
 use verifier_spec::Interval;
 
 fn if_any(low: u64, high: u64) -> Option<Interval>

@@ -3,7 +3,7 @@ ghost use Rattle.machine_spec.specs.Arithmetic.{limit, changed_bits, swapped_bit
 ghost use Rattle.verifier_spec.specs.Intervals.{bit_length, of_same_bits, quotients, remainders, shifted_left, shifted_right, computed_range, result_range, changed_range};
 
 use crate::widths::{cut, is_non_negative, shift_by, unless_wrapping, whole};
-use machine_spec::operation::{Change, ExtendedWidth, Operation, SwappedWidth, Width};
+use machine_spec::{Change, ExtendedWidth, Operation, SwappedWidth, Width};
 use verifier_spec::Interval;
 
 fn sums(width: Width, x: Interval, y: Interval) -> Interval

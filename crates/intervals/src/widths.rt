@@ -2,7 +2,7 @@ ghost use Rattle.std.specs.Prelude.{◌≡◌, ◌≤◌, ◌<◌, ◌%◌};
 ghost use Rattle.machine_spec.specs.Arithmetic.{bit_count, limit};
 ghost use Rattle.verifier_spec.specs.Intervals.{whole, cut, unless_wrapping, is_non_negative};
 
-use machine_spec::operation::Width;
+use machine_spec::Width;
 use verifier_spec::Interval;
 
 /// Every number of a width.

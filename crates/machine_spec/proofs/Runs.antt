@@ -1,5 +1,5 @@
 -- Runs of small programs, worked out by computing: what the definitions say of them is what a reader expects.
-use Rattle.std.proofs.Common.{◌≡◌, ◌≢◌, ℕ, zero, suc, ◌+◌, Bool, true, false, List, [], ◌∷◌, ◌++◌, map, Option, Some, None, Err, refl, ap, subst, pos}
+use Rattle.std.proofs.Common.{◌≡◌, ◌≢◌, ℕ, zero, suc, ◌+◌, ◌-◌, ◌/◌, ◌%◌, ◌^◌, Bool, true, false, List, [], ◌∷◌, ◌++◌, map, Option, Some, None, Err, refl, ap, subst, pos}
 use Rattle.machine_spec.specs.declared.instruction.Instruction.{Instruction}
 use Rattle.machine_spec.specs.declared.instruction.Instruction.TheVariants.{Exit}
 use Rattle.machine_spec.specs.declared.instruction.Trap.{Trap}
@@ -214,6 +214,107 @@ two_bytes : run 9 (slot 0x69 0x10 1 0 ++ exit) (of_value 1 (Some (9 ∷ 2 ∷ 1 
 unfolding read_slot read_fields template_of is_known first_slots trap_at after
 two_bytes = refl
 
+-- ---- arithmetic
+
+-- an instruction on r0, whose immediate is given by its bytes
+abbrev on_r0 : ℕ → ℕ → List ℕ → List ℕ
+on_r0 opcode offset imm = (opcode ∷ 0 ∷ offset ∷ 0 ∷ []) ++ imm
+
+abbrev minus_two : List ℕ
+minus_two = 0xfe ∷ 0xff ∷ 0xff ∷ 0xff ∷ []
+
+abbrev small : ℕ → List ℕ
+small n = n ∷ 0 ∷ 0 ∷ 0 ∷ []
+
+-- r0 after mov64 r0, -2 and an instruction, if it is not 0
+abbrev of_minus_two : List ℕ → Option End
+of_minus_two instruction = run 9 (on_r0 0xb7 0 minus_two ++ (instruction ++ exit)) (of_value 1 None)
+
+-- add32 r0, 6: the sum of the low halves wraps at 32 bits, and the upper half becomes 0
+sum_of_32_bits : of_minus_two (on_r0 0x04 0 (small 6)) ≡ Some (Out (Rejected 4) 3)
+unfolding read_slot read_fields template_of is_known first_slots trap_at after
+sum_of_32_bits = refl
+
+-- sub64 r0, 1
+difference_wraps : of_minus_two (on_r0 0x17 0 (small 1)) ≡ Some (Out (Rejected (2 ^ 64 - 3)) 3)
+unfolding read_slot read_fields template_of is_known first_slots trap_at after
+difference_wraps = refl
+
+-- mov32 r0, -2
+moved_low_half : of_minus_two (on_r0 0xb4 0 minus_two) ≡ Some (Out (Rejected (2 ^ 32 - 2)) 3)
+unfolding read_slot read_fields template_of is_known first_slots trap_at after
+moved_low_half = refl
+
+-- div64 r0, 3
+unsigned_quotient : of_minus_two (on_r0 0x37 0 (small 3)) ≡ Some (Out (Rejected ((2 ^ 64 - 2) / 3)) 3)
+unfolding read_slot read_fields template_of is_known first_slots trap_at after
+unsigned_quotient = refl
+
+-- sdiv64 r0, -2
+signed_quotient : of_minus_two (on_r0 0x37 1 minus_two) ≡ Some (Out (Rejected 1) 3)
+unfolding read_slot read_fields template_of is_known first_slots trap_at after
+signed_quotient = refl
+
+-- mod32 r0, 5
+unsigned_remainder : of_minus_two (on_r0 0x94 0 (small 5)) ≡ Some (Out (Rejected ((2 ^ 32 - 2) % 5)) 3)
+unfolding read_slot read_fields template_of is_known first_slots trap_at after
+unsigned_remainder = refl
+
+-- mod32 r0, 0 keeps the low half alone
+remainder_by_zero : of_minus_two (on_r0 0x94 0 (small 0)) ≡ Some (Out (Rejected (2 ^ 32 - 2)) 3)
+unfolding read_slot read_fields template_of is_known first_slots trap_at after
+remainder_by_zero = refl
+
+-- smod64 r0, 5
+signed_remainder : of_minus_two (on_r0 0x97 1 (small 5)) ≡ Some (Out (Rejected (2 ^ 64 - 2)) 3)
+unfolding read_slot read_fields template_of is_known first_slots trap_at after
+signed_remainder = refl
+
+-- lsh64 r0, 65: the count is taken modulo 64
+count_of_64 : of_minus_two (on_r0 0x67 0 (small 65)) ≡ Some (Out (Rejected (2 ^ 64 - 4)) 3)
+unfolding read_slot read_fields template_of is_known first_slots trap_at after
+count_of_64 = refl
+
+-- arsh32 r0, 1
+sign_kept : of_minus_two (on_r0 0xc4 0 (small 1)) ≡ Some (Out (Rejected (2 ^ 32 - 1)) 3)
+unfolding read_slot read_fields template_of is_known first_slots trap_at after
+sign_kept = refl
+
+-- neg64 r0
+negative : of_minus_two (on_r0 0x87 0 (small 0)) ≡ Some (Out (Rejected 2) 3)
+unfolding read_slot read_fields template_of is_known first_slots trap_at after
+negative = refl
+
+-- le16 r0
+low_bytes : of_minus_two (on_r0 0xd4 0 (small 16)) ≡ Some (Out (Rejected 0xfffe) 3)
+unfolding read_slot read_fields template_of is_known first_slots trap_at after
+low_bytes = refl
+
+-- be16 r0
+big_endian : of_minus_two (on_r0 0xdc 0 (small 16)) ≡ Some (Out (Rejected 0xfeff) 3)
+unfolding read_slot read_fields template_of is_known first_slots trap_at after
+big_endian = refl
+
+-- swap64 r0
+swapped_bytes : of_minus_two (on_r0 0xd7 0 (small 64)) ≡ Some (Out (Rejected 0xfeff_ffff_ffff_ffff) 3)
+unfolding read_slot read_fields template_of is_known first_slots trap_at after
+swapped_bytes = refl
+
+-- movsx32.8 r0, r0
+extended_in_32 : of_minus_two (on_r0 0xbc 8 (small 0)) ≡ Some (Out (Rejected (2 ^ 32 - 2)) 3)
+unfolding read_slot read_fields template_of is_known first_slots trap_at after
+extended_in_32 = refl
+
+-- movsx64.32 r0, r0
+extended_in_64 : of_minus_two (on_r0 0xbf 32 (small 0)) ≡ Some (Out (Rejected (2 ^ 64 - 2)) 3)
+unfolding read_slot read_fields template_of is_known first_slots trap_at after
+extended_in_64 = refl
+
+-- mov64 r3, r1; add64 r3, 2; sub64 r3, 1; ld8 r0, [r3+0]; exit: the value's second byte
+second_byte : run 9 (slot 0xbf 0x13 0 0 ++ (slot 0x07 3 0 2 ++ (slot 0x17 3 0 1 ++ (slot 0x71 0x30 0 0 ++ exit)))) (of_value 1 (Some (7 ∷ 8 ∷ 9 ∷ []))) ≡ Some (Out (Rejected 8) 5)
+unfolding read_slot read_fields template_of is_known first_slots trap_at after
+second_byte = refl
+
 -- ---- jumps
 
 -- mov64 r0, 1; a jump over the next by r2 and a number; mov64 r0, 0; exit: rejected by 1 where the jump is taken
@@ -291,6 +392,31 @@ exit_alone = refl
 sum_of_addresses : run 9 (slot 0x0f 0x31 0 0 ++ exit) (of_value 1 None) ≡ Some (Stopped trap.WrongType 0)
 unfolding read_slot read_fields template_of is_known first_slots trap_at after
 sum_of_addresses = refl
+
+-- mov32 r0, r1: half of an address
+half_of_an_address : run 9 (slot 0xbc 0x10 0 0 ++ exit) (of_value 1 None) ≡ Some (Stopped trap.WrongType 0)
+unfolding read_slot read_fields template_of is_known first_slots trap_at after
+half_of_an_address = refl
+
+-- add32 r1, 1
+sum_of_half_an_address : run 9 (slot 0x04 1 0 1 ++ exit) (of_value 1 None) ≡ Some (Stopped trap.WrongType 0)
+unfolding read_slot read_fields template_of is_known first_slots trap_at after
+sum_of_half_an_address = refl
+
+-- sub64 r2, r1: an address is not taken from a number
+number_less_an_address : run 9 (slot 0x1f 0x12 0 0 ++ exit) (of_value 1 None) ≡ Some (Stopped trap.WrongType 0)
+unfolding read_slot read_fields template_of is_known first_slots trap_at after
+number_less_an_address = refl
+
+-- mul64 r1, 2
+product_of_an_address : run 9 (slot 0x27 1 0 2 ++ exit) (of_value 1 None) ≡ Some (Stopped trap.WrongType 0)
+unfolding read_slot read_fields template_of is_known first_slots trap_at after
+product_of_an_address = refl
+
+-- neg64 r1
+negated_address : run 9 (slot 0x87 1 0 0 ++ exit) (of_value 1 None) ≡ Some (Stopped trap.WrongType 0)
+unfolding read_slot read_fields template_of is_known first_slots trap_at after
+negated_address = refl
 
 -- mov64 r10, 0
 frame_written : run 9 (move_to 10 0 ++ exit) (of_value 1 None) ≡ Some (Stopped trap.Frame 0)
@@ -396,3 +522,28 @@ register_eleven = refl
 unused_field : read_image (slot 0x95 0 0 1) ≡ Err (fault.Unused 0)
 unfolding read_image read_slot read_fields template_of is_known first_slots
 unused_field = refl
+
+-- div64 with an offset that is neither 0 nor 1
+no_such_quotient : read_image (slot 0x37 0 2 1) ≡ Err (fault.Unused 0)
+unfolding read_image read_slot read_fields template_of is_known first_slots
+no_such_quotient = refl
+
+-- add64 with an offset
+sum_with_an_offset : read_image (slot 0x07 0 1 1) ≡ Err (fault.Unused 0)
+unfolding read_image read_slot read_fields template_of is_known first_slots
+sum_with_an_offset = refl
+
+-- movsx32 of 32 bits
+no_such_extension : read_image (slot 0xbc 0 32 0) ≡ Err (fault.Unused 0)
+unfolding read_image read_slot read_fields template_of is_known first_slots
+no_such_extension = refl
+
+-- le of 8 bits
+no_such_order : read_image (slot 0xd4 0 0 8) ≡ Err (fault.Unused 0)
+unfolding read_image read_slot read_fields template_of is_known first_slots
+no_such_order = refl
+
+-- neg64 with a register for its source is in no table
+negated_source : read_image (slot 0x8f 0 0 0) ≡ Err (fault.Opcode 0)
+unfolding read_image read_slot read_fields template_of is_known first_slots
+negated_source = refl

@@ -1,3 +1,4 @@
+use crate::{Change, Operation, Test, Width};
 use thiserror::Error;
 
 /// What an address lies in: the program's stack, the record's key or the record's value.
@@ -17,29 +18,6 @@ pub enum Size {
     Double,
 }
 
-/// How many low bits of its operands an operation or a test works on.
-#[derive(Clone, Copy, Debug, PartialEq, Eq)]
-pub enum Width {
-    Bits64,
-}
-
-/// An arithmetic operation (RFC 9669, section 4.1).
-#[derive(Clone, Copy, Debug, PartialEq, Eq)]
-pub enum Operation {
-    Add,
-}
-
-/// The test of a conditional jump; the orders are unsigned (RFC 9669, section 4.3).
-#[derive(Clone, Copy, Debug, PartialEq, Eq)]
-pub enum Test {
-    Equal,
-    NotEqual,
-    Greater,
-    GreaterOrEqual,
-    Less,
-    LessOrEqual,
-}
-
 /// The second operand: a register, or the immediate of the instruction.
 #[derive(Clone, Copy, Debug, PartialEq, Eq)]
 pub enum Source {
@@ -54,6 +32,9 @@ pub enum Instruction {
     Move(Width, u8, Source),
     /// dst = dst OPERATION source. Fields: width, operation, dst, source.
     Compute(Width, Operation, u8, Source),
+    /// dst = the change of src; a negation and a byte order change dst itself. Fields: change, dst,
+    /// src.
+    Unary(Change, u8, u8),
     /// dst = the bytes at base + offset, zero-extended. Fields: size, dst, base, offset in bytes.
     Load(Size, u8, u8, i16),
     /// Where dst TEST source holds, the slot after this one plus the offset is next. Fields:

@@ -8,14 +8,13 @@
 mod instruction;
 mod limits;
 mod opcode;
-pub mod operation;
+mod operation;
 mod outcome;
 mod summary;
 
-pub use instruction::{
-    Helper, Instruction, IsaFault, Operation, Placed, Region, Size, Source, Test, Trap, Width,
-};
+pub use instruction::{Helper, Instruction, IsaFault, Placed, Region, Size, Source, Trap};
 pub use limits::{MAX_EMISSIONS, MAX_SLOTS, STACK_SIZE};
 pub use opcode::TEMPLATES;
+pub use operation::{ByteOrder, Change, ExtendedWidth, Operation, SwappedWidth, Test, Width};
 pub use outcome::{Emission, Emissions, Outcome, Place};
 pub use summary::{Condition, Direction, MemoryOperand, Operands, Summary};

@@ -1,15 +1,51 @@
-use crate::{Instruction, Operation, Size, Source, Test, Width};
+use crate::{ByteOrder, Change, Instruction, Operation, Size, Source, SwappedWidth, Test, Width};
 
 const REGISTER: Source = Source::Register(0);
 
 const IMMEDIATE: Source = Source::Immediate(0);
 
-/// The instruction of each opcode of the profile, with 0 in its fields (RFC 9669, sections 4 and 5).
-pub const TEMPLATES: [Instruction; 16] = [
+/// The instruction of each opcode of the profile, with 0 in its fields (RFC 9669, sections 4 and 5);
+/// where an opcode is that of several, the first of them.
+pub const TEMPLATES: [Instruction; 65] = [
     Instruction::Load(Size::Byte, 0, 0, 0),
     Instruction::Load(Size::Half, 0, 0, 0),
     Instruction::Load(Size::Word, 0, 0, 0),
     Instruction::Load(Size::Double, 0, 0, 0),
+    Instruction::Compute(Width::Bits32, Operation::Add, 0, IMMEDIATE),
+    Instruction::Compute(Width::Bits32, Operation::Add, 0, REGISTER),
+    Instruction::Compute(Width::Bits32, Operation::Sub, 0, IMMEDIATE),
+    Instruction::Compute(Width::Bits32, Operation::Sub, 0, REGISTER),
+    Instruction::Compute(Width::Bits32, Operation::Mul, 0, IMMEDIATE),
+    Instruction::Compute(Width::Bits32, Operation::Mul, 0, REGISTER),
+    Instruction::Compute(Width::Bits32, Operation::Div, 0, IMMEDIATE),
+    Instruction::Compute(Width::Bits32, Operation::Div, 0, REGISTER),
+    Instruction::Compute(Width::Bits32, Operation::Or, 0, IMMEDIATE),
+    Instruction::Compute(Width::Bits32, Operation::Or, 0, REGISTER),
+    Instruction::Compute(Width::Bits32, Operation::And, 0, IMMEDIATE),
+    Instruction::Compute(Width::Bits32, Operation::And, 0, REGISTER),
+    Instruction::Compute(Width::Bits32, Operation::LeftShift, 0, IMMEDIATE),
+    Instruction::Compute(Width::Bits32, Operation::LeftShift, 0, REGISTER),
+    Instruction::Compute(Width::Bits32, Operation::RightShift, 0, IMMEDIATE),
+    Instruction::Compute(Width::Bits32, Operation::RightShift, 0, REGISTER),
+    Instruction::Compute(Width::Bits32, Operation::Mod, 0, IMMEDIATE),
+    Instruction::Compute(Width::Bits32, Operation::Mod, 0, REGISTER),
+    Instruction::Compute(Width::Bits32, Operation::Xor, 0, IMMEDIATE),
+    Instruction::Compute(Width::Bits32, Operation::Xor, 0, REGISTER),
+    Instruction::Compute(Width::Bits32, Operation::ArithmeticRightShift, 0, IMMEDIATE),
+    Instruction::Compute(Width::Bits32, Operation::ArithmeticRightShift, 0, REGISTER),
+    Instruction::Unary(Change::Negate(Width::Bits32), 0, 0),
+    Instruction::Move(Width::Bits32, 0, IMMEDIATE),
+    Instruction::Move(Width::Bits32, 0, REGISTER),
+    Instruction::Unary(
+        Change::Order(ByteOrder::LittleEndian, SwappedWidth::Bits16),
+        0,
+        0,
+    ),
+    Instruction::Unary(
+        Change::Order(ByteOrder::BigEndian, SwappedWidth::Bits16),
+        0,
+        0,
+    ),
     Instruction::JumpIf(Width::Bits64, Test::Equal, 0, IMMEDIATE, 0),
     Instruction::JumpIf(Width::Bits64, Test::NotEqual, 0, IMMEDIATE, 0),
     Instruction::JumpIf(Width::Bits64, Test::Greater, 0, IMMEDIATE, 0),
@@ -20,6 +56,32 @@ pub const TEMPLATES: [Instruction; 16] = [
     Instruction::Exit,
     Instruction::Compute(Width::Bits64, Operation::Add, 0, IMMEDIATE),
     Instruction::Compute(Width::Bits64, Operation::Add, 0, REGISTER),
+    Instruction::Compute(Width::Bits64, Operation::Sub, 0, IMMEDIATE),
+    Instruction::Compute(Width::Bits64, Operation::Sub, 0, REGISTER),
+    Instruction::Compute(Width::Bits64, Operation::Mul, 0, IMMEDIATE),
+    Instruction::Compute(Width::Bits64, Operation::Mul, 0, REGISTER),
+    Instruction::Compute(Width::Bits64, Operation::Div, 0, IMMEDIATE),
+    Instruction::Compute(Width::Bits64, Operation::Div, 0, REGISTER),
+    Instruction::Compute(Width::Bits64, Operation::Or, 0, IMMEDIATE),
+    Instruction::Compute(Width::Bits64, Operation::Or, 0, REGISTER),
+    Instruction::Compute(Width::Bits64, Operation::And, 0, IMMEDIATE),
+    Instruction::Compute(Width::Bits64, Operation::And, 0, REGISTER),
+    Instruction::Compute(Width::Bits64, Operation::LeftShift, 0, IMMEDIATE),
+    Instruction::Compute(Width::Bits64, Operation::LeftShift, 0, REGISTER),
+    Instruction::Compute(Width::Bits64, Operation::RightShift, 0, IMMEDIATE),
+    Instruction::Compute(Width::Bits64, Operation::RightShift, 0, REGISTER),
+    Instruction::Compute(Width::Bits64, Operation::Mod, 0, IMMEDIATE),
+    Instruction::Compute(Width::Bits64, Operation::Mod, 0, REGISTER),
+    Instruction::Compute(Width::Bits64, Operation::Xor, 0, IMMEDIATE),
+    Instruction::Compute(Width::Bits64, Operation::Xor, 0, REGISTER),
+    Instruction::Compute(Width::Bits64, Operation::ArithmeticRightShift, 0, IMMEDIATE),
+    Instruction::Compute(Width::Bits64, Operation::ArithmeticRightShift, 0, REGISTER),
+    Instruction::Unary(Change::Negate(Width::Bits64), 0, 0),
     Instruction::Move(Width::Bits64, 0, IMMEDIATE),
     Instruction::Move(Width::Bits64, 0, REGISTER),
+    Instruction::Unary(
+        Change::Order(ByteOrder::Swapped, SwappedWidth::Bits16),
+        0,
+        0,
+    ),
 ];

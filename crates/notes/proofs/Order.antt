@@ -1,5 +1,5 @@
 -- The order in which an instruction's checks are told: its shape's, its own in its state, and its edges.
-use Rattle.std.proofs.Common.{◌≡◌, ℕ, not, List, [], ◌∷◌, ap, ◌∙◌}
+use Rattle.std.proofs.Common.{◌≡◌, ℕ, Bool, true, false, if◌then◌else◌, not, refl, List, [], ◌∷◌, ap, ◌∙◌}
 use Rattle.std.specs.Prelude.{Option, Some, None}
 use Rattle.machine_spec.specs.declared.instruction.Placed.{Placed}
 use Rattle.machine_spec.specs.Summaries.{summary_of}
@@ -32,3 +32,14 @@ pub check_told : (code : List Placed) (notes : Notes) (k : ℕ) (placed : Placed
 unfolding failed_check
 check_told code notes k placed s kind e =
     first_of-told (checks (summary_of placed.instruction) s) ((not (are_edges_covered code notes k placed s), check.Notes) ∷ []) kind e
+
+-- and then an edge that leads where no note covers it
+pub edges_told : (code : List Placed) (notes : Notes) (k : ℕ) (placed : Placed) (s : Abstract) (covered : Bool) → failed_check placed.instruction s ≡ None → are_edges_covered code notes k placed s ≡ covered
+    → first_of (reached_checks code notes k placed (Some s)) ≡ (if covered then None else Some check.Notes)
+unfolding failed_check
+edges_told code notes k placed s covered e is =
+    first_of-append (checks (summary_of placed.instruction) s) ((not (are_edges_covered code notes k placed s), check.Notes) ∷ []) e ∙ ap (λ b. first_of ((not b, check.Notes) ∷ [])) is ∙ last covered
+  where
+    last : (b : Bool) → first_of ((not b, check.Notes) ∷ []) ≡ (if b then None else Some check.Notes)
+    last true = refl
+    last false = refl

@@ -1,7 +1,6 @@
 pub mod Annotations
 pub mod Edges
 pub mod Faults
-pub mod Immediates
 pub mod Intervals
 pub mod Loads
 pub mod Monotone

@@ -4,6 +4,7 @@ use Rattle.std.proofs.Common.{◌≡◌, ℕ, zero, suc, ◌+◌, ◌-◌, ◌<�
 use Rattle.std.specs.List.{list_any}
 use Rattle.std.proofs.lemmas.Bool.{and_parts, and_from, or_parts, or_from, not-false, not_from_true}
 use Rattle.std.proofs.lemmas.Int.{ints}
+use Rattle.machine_spec.specs.declared.operation.Width.TheVariants.{Bits32, Bits64}
 use Rattle.machine_spec.specs.declared.instruction.Region.{Region}
 use Rattle.machine_spec.specs.declared.instruction.Region.TheVariants as region
 use Rattle.machine_spec.specs.declared.instruction.Size.{Size}
@@ -11,7 +12,7 @@ use Rattle.machine_spec.specs.declared.instruction.Size.TheVariants as size
 use Rattle.machine_spec.specs.declared.instruction.Helper.{Helper}
 use Rattle.machine_spec.specs.declared.instruction.Helper.TheVariants.{EmitRecord}
 use Rattle.machine_spec.specs.declared.instruction.Instruction.{Instruction}
-use Rattle.machine_spec.specs.declared.instruction.Instruction.TheVariants.{Move, Compute, Load, JumpIf, Call, Exit}
+use Rattle.machine_spec.specs.declared.instruction.Instruction.TheVariants.{Move, Compute, Unary, Load, JumpIf, Call, Exit}
 use Rattle.machine_spec.specs.declared.summary.Operands.{Operands}
 use Rattle.machine_spec.specs.declared.summary.Operands.TheVariants as operands
 use Rattle.machine_spec.specs.declared.summary.Direction.{Direction}
@@ -30,15 +31,15 @@ use Rattle.verifier_spec.specs.declared.state.Abstract.{Abstract}
 use Rattle.verifier_spec.specs.Kinds.{is_set, kind_at, is_unknown, is_address_kind, is_kind_within}
 use Rattle.verifier_spec.specs.States.{is_proper, is_within}
 use Rattle.verifier_spec.specs.Checks.{source_kind, reads_unknown, has_wrong_kinds, has_wrong_base_kind, has_wrong_condition_kind, reach_at, reach_of, is_reach_within, may_write_record, may_leave_record, may_leave_stack, are_set, may_read_unset, has_wrong_argument_kind, may_call_wrongly, may_exit_wrongly, failed_check}
-use Rattle.verifier_spec.specs.Transfer.{with_kind, loaded_kind, answer_kind, after_call_kinds, called_kinds, jump_edge, falls_to, jumps_to}
+use Rattle.verifier_spec.specs.Transfer.{with_kind, moved_kind, changed_kind, loaded_kind, answer_kind, after_call_kinds, called_kinds, jump_edge, falls_to, jumps_to}
 use Rattle.verifier_spec.specs.Annotation.{is_edge_covered}
 use Rattle.verifier_spec.specs.Soundness.{KeepsOrder}
 use Rattle.verifier_spec.proofs.Order.{IsWithin, within_parts, within_from}
-use Rattle.verifier_spec.proofs.Proper.{proper_parts}
+use Rattle.verifier_spec.proofs.Proper.{proper_parts, proper_kind, source_proper}
 use Rattle.verifier_spec.proofs.Safety.{Passes, passes, failed_from, set_at}
 use Rattle.verifier_spec.proofs.Tighter.{tested_within}
 use Rattle.verifier_spec.proofs.Whole.{le_z-true, le-le_z, le_trans_z, negative, gap_is}
-use Rattle.verifier_spec.proofs.Wider.{narrower, other_kinds, kind_within_narrower, ordered_kind, ordered_source, kind_within, known_within, number_within, address_within, AreAddresses, addresses_within, can_within, computed_within, source_within, within_set}
+use Rattle.verifier_spec.proofs.Wider.{narrower, other_kinds, kind_within_narrower, kind_within, known_within, number_within, address_within, AreAddresses, addresses_within, ranges_within, can_within, computed_within, changed_within, low_half_within, source_within, within_set}
 
 -- ---- bytes of a region
 
@@ -129,9 +130,12 @@ module _ (a b : Abstract) (w : IsWithin a b) (pa : is_proper a ≡ true) (pb : i
   operands_kept : (takes : Operands) → has_wrong_kinds takes b ≡ false → has_wrong_kinds takes a ≡ false
   operands_kept operands.Nothing c = refl
   operands_kept (operands.Any source) c = refl
+  operands_kept (operands.Number width source) c =
+      not_from_true _ (number_within a (source_kind a width source) (source_kind b width source) (source_within a b width source w pb) (not-false _ c))
   operands_kept (operands.Computed width operation dst source) c =
-      not_from_true _ (can_within a b (narrower a b w) pa (kind_at a dst) (source_kind a source) (ordered_kind a dst pa) (ordered_source a source pa) (source_kind b source) (source_within a b source w pb)
-      width operation (kind_at b dst) (kind_within a b w pb dst) (not-false _ c))
+      not_from_true _
+      (can_within a b (narrower a b w) pa pb width operation (kind_at a dst) (source_kind a width source) (source_kind b width source) (proper_kind a dst pa) (source_proper a width source pa) (source_proper b width source pb) (source_within a b width source w pb)
+      (kind_at b dst) (proper_kind b dst pb) (kind_within a b w pb dst) (not-false _ c))
 
   base_kept : (memory : Option MemoryOperand) → has_wrong_base_kind memory b ≡ false → has_wrong_base_kind memory a ≡ false
   base_kept None c = refl
@@ -141,10 +145,10 @@ module _ (a b : Abstract) (w : IsWithin a b) (pa : is_proper a ≡ true) (pb : i
   condition_kept None c = refl
   condition_kept (Some k) c =
       let p = and_parts _ _ (not-false _ c) in
-      not_from_true _ (and_from _ _ (number_within a (kind_at a k.dst) (kind_at b k.dst) (kind_within a b w pb k.dst) p.0) (number_within a (source_kind a k.source) (source_kind b k.source) (source_within a b k.source w pb) p.1))
+      not_from_true _ (and_from _ _ (number_within a (kind_at a k.dst) (kind_at b k.dst) (kind_within a b w pb k.dst) p.0) (number_within a (source_kind a k.width k.source) (source_kind b k.width k.source) (source_within a b k.width k.source w pb) p.1))
 
   bases : (base : ℕ) → is_address_kind (kind_at b base) ≡ true → AreAddresses (kind_at a base) (kind_at b base)
-  bases base is = addresses_within a (kind_at a base) (kind_at b base) (ordered_kind a base pa) (kind_within a b w pb base) is
+  bases base is = addresses_within a (kind_at a base) (kind_at b base) (proper_kind a base pa) (kind_within a b w pb base) is
 
   record_write_kept : (memory : Option MemoryOperand) → has_wrong_base_kind memory b ≡ false → may_write_record (reach_of memory b) ≡ false → may_write_record (reach_of memory a) ≡ false
   record_write_kept None k c = refl
@@ -231,11 +235,19 @@ module _ (a b : Abstract) (w : IsWithin a b) (pa : is_proper a ≡ true) (pb : i
 
   falls_kept : (i : Instruction) → is_within a b ≡ true → Passes (summary_of i) b → is_edge_covered (falls_to i a) (falls_to i b) ≡ true
   unfolding falls_to
-  falls_kept (Move width dst source) h p = set_edge dst (source_kind a source) (source_kind b source) (source_within a b source w pb)
+  falls_kept (Move Bits64 dst source) h p = set_edge dst (source_kind a Bits64 source) (source_kind b Bits64 source) (source_within a b Bits64 source w pb)
+  falls_kept (Move Bits32 dst source) h p =
+      let j = source_kind a Bits32 source in
+      let k = source_kind b Bits32 source in
+      let ranges = ranges_within a b (narrower a b w) pa pb j k (source_proper a Bits32 source pa) (source_proper b Bits32 source pb) (source_within a b Bits32 source w pb) (not-false _ p.operands) in
+      set_edge dst (moved_kind a Bits32 j) (moved_kind b Bits32 k) (low_half_within a b j k ranges)
   falls_kept (Compute width operation dst source) h p =
       set_edge dst _ _
-      (computed_within a b (narrower a b w) pa (kind_at a dst) (source_kind a source) (ordered_kind a dst pa) (ordered_source a source pa) (source_kind b source) (source_within a b source w pb)
-      width operation (kind_at b dst) (kind_within a b w pb dst) (not-false _ p.operands))
+      (computed_within a b (narrower a b w) pa pb width operation (kind_at a dst) (source_kind a width source) (source_kind b width source) (proper_kind a dst pa) (source_proper a width source pa) (source_proper b width source pb) (source_within a b width source w pb)
+      (kind_at b dst) (proper_kind b dst pb) (kind_within a b w pb dst) (not-false _ p.operands))
+  falls_kept (Unary change dst src) h p =
+      let ranges = ranges_within a b (narrower a b w) pa pb (kind_at a src) (kind_at b src) (proper_kind a src pa) (proper_kind b src pb) (kind_within a b w pb src) (not-false _ p.operands) in
+      set_edge dst (changed_kind a change (kind_at a src)) (changed_kind b change (kind_at b src)) (changed_within a b change (kind_at a src) (kind_at b src) ranges)
   falls_kept (Load size dst base offset) h p = set_edge dst (loaded_kind size) (loaded_kind size) (loaded_kept size)
   falls_kept (JumpIf width test dst source offset) h p = tested_within a b w pa pb width test false dst source h (and_parts _ _ (not-false _ p.condition)).0
   falls_kept (Call number) h p = call_edge (helper_of number)

@@ -1,14 +1,23 @@
 -- The ranges of abstract states, part by part, and what keeps them.
-use Rattle.std.proofs.Common.{◌≡◌, ℕ, zero, suc, ◌^◌, ◌<◌, ◌≤◌, ℤ, ◌≤ℤ◌, true, List, [], ◌∷◌, length, get_or, set, refl, ◌∙◌, arith, length-set}
+use Rattle.std.proofs.Common.{◌≡◌, ℕ, zero, suc, ◌^◌, ◌<◌, ◌≤◌, ℤ, ◌≤ℤ◌, true, List, [], ◌∷◌, length, get_or, set, Some, refl, sym, subst, ◌∙◌, arith, length-set}
 use Rattle.std.specs.List.{list_all}
-use Rattle.std.proofs.lemmas.Bool.{and_parts, and_from, leb-true, le-leb, ltb-true, eqb-true, eq-eqb}
+use Rattle.std.proofs.lemmas.Bool.{and_parts, and_from, leb-true, le-leb, ltb-true, lt-ltb, eqb-true, eq-eqb, false≢true}
+use Rattle.std.proofs.lemmas.Option.{same_Some, none-some}
 use Rattle.std.proofs.lemmas.List.{get_or_past}
+use Rattle.machine_spec.specs.declared.operation.Width.{Width}
+use Rattle.machine_spec.specs.declared.operation.Width.TheVariants.{Bits32, Bits64}
+use Rattle.machine_spec.specs.declared.instruction.Source.{Source}
+use Rattle.machine_spec.specs.declared.instruction.Source.TheVariants.{Register, Immediate}
 use Rattle.machine_spec.specs.declared.instruction.Region.{Region}
 use Rattle.machine_spec.specs.declared.instruction.Region.TheVariants as region
+use Rattle.machine_spec.specs.Values.{immediate}
+use Rattle.verifier_spec.specs.declared.interval.Interval.{Interval}
 use Rattle.verifier_spec.specs.declared.state.Abs.{Abs}
 use Rattle.verifier_spec.specs.declared.state.Abs.TheVariants as abs
 use Rattle.verifier_spec.specs.declared.state.Abstract.{Abstract}
-use Rattle.verifier_spec.specs.Kinds.{kind_at, least, greatest, is_proper_kind, key_limit, value_limit}
+use Rattle.verifier_spec.specs.Intervals.{from_to, IsRangeOf}
+use Rattle.verifier_spec.specs.Checks.{source_kind}
+use Rattle.verifier_spec.specs.Kinds.{kind_at, least, greatest, range_of, is_number_kind, is_proper_kind, key_limit, value_limit}
 use Rattle.verifier_spec.specs.States.{is_proper}
 use Rattle.verifier_spec.specs.Transfer.{with_kind}
 use Rattle.verifier_spec.proofs.Whole.{le_z-true}
@@ -92,3 +101,44 @@ pub lengths_order : (a : Abstract) (at : Region) → is_proper a ≡ true → le
 lengths_order a region.Stack h = omega arith
 lengths_order a region.Key h = (proper_parts a h).key_order
 lengths_order a region.Value h = (proper_parts a h).value_order
+
+-- ---- the numbers of a kind
+
+lengths_limited : (a : Abstract) (at : Region) → is_proper a ≡ true → greatest a at < 2 ^ 64
+lengths_limited a region.Stack h = omega arith
+lengths_limited a region.Key h = omega (arith, (proper_parts a h).key_limited)
+lengths_limited a region.Value h = omega (arith, (proper_parts a h).value_limited)
+
+-- the numbers that a kind stands for, which are of 64 bits
+pub record HasRange (a : Abstract) (kind : Abs) : Type 0 where
+  pub range : Interval
+  pub is : range_of a kind ≡ Some range
+  pub proper : IsRangeOf Bits64 range
+
+pub range_at : (a : Abstract) (kind : Abs) → is_proper a ≡ true → is_proper_kind kind ≡ true → is_number_kind kind ≡ true → HasRange a kind
+range_at a abs.None p q k = absurd (false≢true k)
+range_at a (abs.Num lo hi) p q k = record { range = from_to lo hi; is = refl; proper = record { order = num_order lo hi q; limited = num_limit lo hi q } }
+range_at a (abs.Len r) p q k = record { range = from_to (least a r) (greatest a r); is = refl; proper = record { order = lengths_order a r p; limited = lengths_limited a r p } }
+range_at a (abs.Addr r lo hi) p q k = absurd (false≢true k)
+
+number_if_ranged : (a : Abstract) (kind : Abs) (range : Interval) → range_of a kind ≡ Some range → is_number_kind kind ≡ true
+number_if_ranged a abs.None range e = absurd (none-some range e)
+number_if_ranged a (abs.Num lo hi) range e = refl
+number_if_ranged a (abs.Len r) range e = refl
+number_if_ranged a (abs.Addr r lo hi) range e = absurd (none-some range e)
+
+pub proper_range : (a : Abstract) (kind : Abs) (range : Interval) → is_proper a ≡ true → is_proper_kind kind ≡ true → range_of a kind ≡ Some range → IsRangeOf Bits64 range
+proper_range a kind range p q e =
+    let r = range_at a kind p q (number_if_ranged a kind range e) in
+    subst (IsRangeOf Bits64) (same_Some r.range range (sym r.is ∙ e)) r.proper
+
+-- an immediate is of 64 bits
+immediate_limited : (width : Width) (imm : ℤ) → immediate width imm < 2 ^ 64
+immediate_limited Bits32 imm = omega arith
+immediate_limited Bits64 imm = omega arith
+
+pub source_proper : (a : Abstract) (width : Width) (source : Source) → is_proper a ≡ true → is_proper_kind (source_kind a width source) ≡ true
+source_proper a width (Register r) p = proper_kind a r p
+source_proper a width (Immediate imm) p =
+    let c = immediate width imm in
+    and_from _ _ (le-leb c c (omega arith)) (lt-ltb c (2 ^ 64) (immediate_limited width imm))

@@ -5,9 +5,11 @@ use Rattle.machine_spec.specs.declared.instruction.Region.{Region}
 use Rattle.machine_spec.specs.declared.instruction.Region.TheVariants as region
 use Rattle.machine_spec.specs.Values.{Value, Nothing, Number, Address}
 use Rattle.machine_spec.specs.Machine.{Input, State, length_of}
+use Rattle.verifier_spec.specs.declared.interval.Interval.{Interval}
 use Rattle.verifier_spec.specs.declared.state.Abs.{Abs}
 use Rattle.verifier_spec.specs.declared.state.Abs.TheVariants as abs
 use Rattle.verifier_spec.specs.declared.state.Abstract.{Abstract}
+use Rattle.verifier_spec.specs.Intervals.{from_to, IsIn}
 use Rattle.verifier_spec.specs.Kinds.{least, greatest, range_of, is_number_kind, is_address_kind}
 use Rattle.verifier_spec.specs.StandsFor.{HasKind, StandsFor}
 
@@ -32,12 +34,10 @@ lengths input a s h = record { low = low_of input a s h; high = high_of input a 
 -- a number in the range of its kind
 pub record IsNumber (a : Abstract) (kind : Abs) (word : Value) : Type 0 where
   pub n : ℕ
-  pub lo : ℕ
-  pub hi : ℕ
+  pub range : Interval
   pub is : word ≡ Number n
-  pub range : range_of a kind ≡ Some (lo, hi)
-  pub low : lo ≤ n
-  pub high : n ≤ hi
+  pub ranged : range_of a kind ≡ Some range
+  pub has : IsIn n range
 
 -- an address in the range of its kind
 pub record IsAddress (kind : Abs) (word : Value) : Type 0 where
@@ -52,11 +52,11 @@ pub record IsAddress (kind : Abs) (word : Value) : Type 0 where
 
 pub at_number : (input : Input) (a : Abstract) (kind : Abs) (word : Value) → HasLengths input a → is_number_kind kind ≡ true → HasKind input kind word → IsNumber a kind word
 at_number input a abs.None word l k h = absurd (false≢true k)
-at_number input a (abs.Num lo hi) (Number n) l k h = record { n = n; lo = lo; hi = hi; is = refl; range = refl; low = h.0; high = h.1 }
+at_number input a (abs.Num lo hi) (Number n) l k h = record { n = n; range = from_to lo hi; is = refl; ranged = refl; has = record { low = h.0; high = h.1 } }
 at_number input a (abs.Num lo hi) Nothing l k h = absurd h
 at_number input a (abs.Num lo hi) (Address at offset) l k h = absurd h
 at_number input a (abs.Len r) (Number n) l k h =
-    record { n = n; lo = least a r; hi = greatest a r; is = refl; range = refl; low = omega (arith, l.low r, h); high = omega (arith, l.high r, h) }
+    record { n = n; range = from_to (least a r) (greatest a r); is = refl; ranged = refl; has = record { low = omega (arith, l.low r, h); high = omega (arith, l.high r, h) } }
 at_number input a (abs.Len r) Nothing l k h = absurd h
 at_number input a (abs.Len r) (Address at offset) l k h = absurd h
 at_number input a (abs.Addr r lo hi) word l k h = absurd (false≢true k)

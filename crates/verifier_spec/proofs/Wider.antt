@@ -1,25 +1,28 @@
 -- Kinds and ranges of a state that is within another.
-use Rattle.std.proofs.Common.{◌≡◌, ℕ, zero, suc, ◌+◌, ◌-◌, ◌^◌, ◌<◌, ◌≤◌, ℤ, ◌+ℤ◌, ◌≤ℤ◌, true, false, nat_lt, List, [], ◌∷◌, length, get_or, set, Some, refl, sym, ap, ◌∙◌, subst, ⊎_elim, arith}
-use Rattle.std.specs.Int.{w64, cast_signed, cast_unsigned}
-use Rattle.std.proofs.lemmas.Bool.{and_parts, and_from, cond_both, cond-true, leb-true, le-leb, ltb-true, lt-ltb, or_cases, or_left, or_right, cases_lt, false≢true}
+use Rattle.std.proofs.Common.{◌≡◌, ℕ, zero, suc, ◌^◌, ◌<◌, ◌≤◌, ℤ, ◌+ℤ◌, ◌≤ℤ◌, true, false, List, [], ◌∷◌, length, get_or, set, Some, refl, sym, ap, ◌∙◌, subst, ⊎_elim, arith}
+use Rattle.std.proofs.lemmas.Bool.{and_parts, and_from, leb-true, le-leb, ltb-true, lt-ltb, or_cases, or_left, or_right, cases_lt, false≢true}
+use Rattle.machine_spec.specs.declared.operation.Width.{Width}
+use Rattle.machine_spec.specs.declared.operation.Width.TheVariants.{Bits32, Bits64}
+use Rattle.machine_spec.specs.declared.operation.Operation.{Operation}
+use Rattle.machine_spec.specs.declared.operation.Change.{Change}
 use Rattle.machine_spec.specs.declared.instruction.Region.{Region}
 use Rattle.machine_spec.specs.declared.instruction.Region.TheVariants as region
-use Rattle.machine_spec.specs.declared.instruction.Width.{Width}
-use Rattle.machine_spec.specs.declared.instruction.Width.TheVariants.{Bits64}
-use Rattle.machine_spec.specs.declared.instruction.Operation.{Operation}
-use Rattle.machine_spec.specs.declared.instruction.Operation.TheVariants.{Add}
 use Rattle.machine_spec.specs.declared.instruction.Source.{Source}
 use Rattle.machine_spec.specs.declared.instruction.Source.TheVariants.{Register, Immediate}
+use Rattle.machine_spec.specs.Values.{immediate, moves_address}
+use Rattle.verifier_spec.specs.declared.interval.Interval.{Interval}
 use Rattle.verifier_spec.specs.declared.state.Abs.{Abs}
 use Rattle.verifier_spec.specs.declared.state.Abs.TheVariants as abs
 use Rattle.verifier_spec.specs.declared.state.Abstract.{Abstract}
+use Rattle.verifier_spec.specs.Intervals.{from_to, IsPartOf, IsRangeOf}
 use Rattle.verifier_spec.specs.Kinds.{kind_at, least, greatest, range_of, is_unknown, is_number_kind, is_address_kind, is_proper_kind, is_kind_within, same_region}
 use Rattle.verifier_spec.specs.States.{is_proper}
-use Rattle.verifier_spec.specs.Checks.{source_kind, is_one_sign, can_move, can_compute_kinds}
-use Rattle.verifier_spec.specs.Transfer.{with_kind, any_number, computed_range, on_ranges, moved, computed_kind}
+use Rattle.verifier_spec.specs.Checks.{source_kind, is_one_sign, least_displacement, greatest_displacement, can_move, can_compute_kinds}
+use Rattle.verifier_spec.specs.Transfer.{with_kind, numbers, on_ranges, moved_address, moved_kind, computed_kind, changed_kind}
 use Rattle.verifier_spec.proofs.Order.{IsWithin, region_is}
-use Rattle.verifier_spec.proofs.Proper.{proper_parts, proper_kind, unknown_past, num_order, addr_order, lengths_order}
-use Rattle.verifier_spec.proofs.Sums.{moved_parts, one_sign_le, number_if_moves}
+use Rattle.verifier_spec.proofs.Proper.{proper_parts, unknown_past, addr_order, proper_range}
+use Rattle.verifier_spec.proofs.RangesMonotone.{cut_part, result_part, changed_part}
+use Rattle.verifier_spec.proofs.Sums.{least_part, greatest_part, moved_parts, number_if_moves}
 use Rattle.verifier_spec.proofs.Whole.{le_z-true, le-le_z, le_trans_z, add_le}
 
 -- ---- lengths
@@ -111,54 +114,46 @@ not_address_within a (abs.Num l m) (abs.Len q) h u n = refl
 not_address_within a (abs.Len r) (abs.Len q) h u n = refl
 not_address_within a (abs.Addr r l m) (abs.Len q) h u n = absurd (false≢true h)
 
--- a kind's interval is in order
-abbrev pub IsOrdered : Abs → Type 0
-IsOrdered abs.None = Unit {0}
-IsOrdered (abs.Num lo hi) = lo ≤ hi
-IsOrdered (abs.Len at) = Unit {0}
-IsOrdered (abs.Addr at lo hi) = lo ≤ℤ hi
-
-proper_ordered : (k : Abs) → is_proper_kind k ≡ true → IsOrdered k
-proper_ordered abs.None p = tt
-proper_ordered (abs.Num lo hi) p = num_order lo hi p
-proper_ordered (abs.Len at) p = tt
-proper_ordered (abs.Addr at lo hi) p = addr_order at lo hi p
-
-pub ordered_kind : (a : Abstract) (r : ℕ) → is_proper a ≡ true → IsOrdered (kind_at a r)
-ordered_kind a r p = proper_ordered (kind_at a r) (proper_kind a r p)
-
-pub ordered_source : (a : Abstract) (source : Source) → is_proper a ≡ true → IsOrdered (source_kind a source)
-ordered_source a (Register r) p = ordered_kind a r p
-ordered_source a (Immediate imm) p = omega arith
-
 -- the numbers of two kinds, of which those of the first are among those of the second
 pub record AreRanges (a b : Abstract) (j k : Abs) : Type 0 where
-  pub lo : ℕ
-  pub hi : ℕ
-  pub low : ℕ
-  pub high : ℕ
-  pub inner : range_of a j ≡ Some (lo, hi)
-  pub outer : range_of b k ≡ Some (low, high)
-  pub order : lo ≤ hi
-  pub from : low ≤ lo
-  pub to : hi ≤ high
+  pub inner : Interval
+  pub outer : Interval
+  pub inner_is : range_of a j ≡ Some inner
+  pub outer_is : range_of b k ≡ Some outer
+  pub inner_range : IsRangeOf Bits64 inner
+  pub outer_range : IsRangeOf Bits64 outer
+  pub part : IsPartOf inner outer
 
-pub ranges_within : (a b : Abstract) (j k : Abs) → IsNarrower a b → is_proper a ≡ true → IsOrdered j → is_kind_within a j k ≡ true → is_number_kind k ≡ true → AreRanges a b j k
-ranges_within a b j abs.None n p q h u = absurd (false≢true u)
-ranges_within a b j (abs.Addr r lo hi) n p q h u = absurd (false≢true u)
-ranges_within a b abs.None (abs.Num lo hi) n p q h u = absurd (false≢true h)
-ranges_within a b abs.None (abs.Len r) n p q h u = absurd (false≢true h)
-ranges_within a b (abs.Num l m) (abs.Num lo hi) n p q h u =
-    let t = and_parts _ _ h in
-    record { lo = l; hi = m; low = lo; high = hi; inner = refl; outer = refl; order = q; from = leb-true lo l t.0; to = leb-true m hi t.1 }
-ranges_within a b (abs.Num l m) (abs.Len r) n p q h u = absurd (false≢true h)
-ranges_within a b (abs.Len r) (abs.Num lo hi) n p q h u =
-    let t = and_parts _ _ h in
-    record { lo = least a r; hi = greatest a r; low = lo; high = hi; inner = refl; outer = refl; order = lengths_order a r p; from = leb-true lo (least a r) t.0; to = leb-true (greatest a r) hi t.1 }
-ranges_within a b (abs.Len r) (abs.Len q) n p pj h u =
-    record { lo = least a r; hi = greatest a r; low = least b r; high = greatest b r; inner = refl; outer = ap (λ x. Some (least b x, greatest b x)) (sym (region_is r q h)); order = lengths_order a r p; from = n.low r; to = n.high r }
-ranges_within a b (abs.Addr r l m) (abs.Num lo hi) n p q h u = absurd (false≢true h)
-ranges_within a b (abs.Addr r l m) (abs.Len g) n p q h u = absurd (false≢true h)
+module _ (a b : Abstract) (n : IsNarrower a b) (pa : is_proper a ≡ true) (pb : is_proper b ≡ true) where
+  are_ranges : (j k : Abs) (inner outer : Interval) → is_proper_kind j ≡ true → is_proper_kind k ≡ true → range_of a j ≡ Some inner → range_of b k ≡ Some outer → IsPartOf inner outer → AreRanges a b j k
+  are_ranges j k inner outer pj pk i o part = record {
+    inner = inner;
+    outer = outer;
+    inner_is = i;
+    outer_is = o;
+    inner_range = proper_range a j inner pa pj i;
+    outer_range = proper_range b k outer pb pk o;
+    part = part;
+  }
+
+  pub ranges_within : (j k : Abs) → is_proper_kind j ≡ true → is_proper_kind k ≡ true → is_kind_within a j k ≡ true → is_number_kind k ≡ true → AreRanges a b j k
+  ranges_within j abs.None pj pk h u = absurd (false≢true u)
+  ranges_within j (abs.Addr r lo hi) pj pk h u = absurd (false≢true u)
+  ranges_within abs.None (abs.Num lo hi) pj pk h u = absurd (false≢true h)
+  ranges_within abs.None (abs.Len r) pj pk h u = absurd (false≢true h)
+  ranges_within (abs.Num l m) (abs.Num lo hi) pj pk h u =
+      let t = and_parts _ _ h in
+      are_ranges (abs.Num l m) (abs.Num lo hi) (from_to l m) (from_to lo hi) pj pk refl refl (record { low = leb-true lo l t.0; high = leb-true m hi t.1 })
+  ranges_within (abs.Num l m) (abs.Len r) pj pk h u = absurd (false≢true h)
+  ranges_within (abs.Len r) (abs.Num lo hi) pj pk h u =
+      let t = and_parts _ _ h in
+      are_ranges (abs.Len r) (abs.Num lo hi) (from_to (least a r) (greatest a r)) (from_to lo hi) pj pk refl refl (record { low = leb-true lo (least a r) t.0; high = leb-true (greatest a r) hi t.1 })
+  ranges_within (abs.Len r) (abs.Len q) pj pk h u =
+      let same = region_is r q h in
+      are_ranges (abs.Len r) (abs.Len q) (from_to (least a r) (greatest a r)) (from_to (least b q) (greatest b q)) pj pk refl refl
+      (record { low = subst (λ x. least b x ≤ least a r) same (n.low r); high = subst (λ x. greatest a r ≤ greatest b x) same (n.high r) })
+  ranges_within (abs.Addr r l m) (abs.Num lo hi) pj pk h u = absurd (false≢true h)
+  ranges_within (abs.Addr r l m) (abs.Len g) pj pk h u = absurd (false≢true h)
 
 -- two addresses of one region
 pub record AreAddresses (j k : Abs) : Type 0 where
@@ -173,7 +168,7 @@ pub record AreAddresses (j k : Abs) : Type 0 where
   pub from : low ≤ℤ lo
   pub to : hi ≤ℤ high
 
-pub addresses_within : (a : Abstract) (j k : Abs) → IsOrdered j → is_kind_within a j k ≡ true → is_address_kind k ≡ true → AreAddresses j k
+pub addresses_within : (a : Abstract) (j k : Abs) → is_proper_kind j ≡ true → is_kind_within a j k ≡ true → is_address_kind k ≡ true → AreAddresses j k
 addresses_within a j abs.None q h u = absurd (false≢true u)
 addresses_within a j (abs.Num lo hi) q h u = absurd (false≢true u)
 addresses_within a j (abs.Len r) q h u = absurd (false≢true u)
@@ -183,7 +178,7 @@ addresses_within a (abs.Len g) (abs.Addr r low high) q h u = absurd (false≢tru
 addresses_within a (abs.Addr g lo hi) (abs.Addr r low high) q h u =
     let s = and_parts _ _ h in
     let t = and_parts _ _ s.1 in
-    record { at = g; lo = lo; hi = hi; low = low; high = high; inner = refl; outer = ap (λ x. abs.Addr x low high) (sym (region_is g r s.0)); order = q; from = le_z-true _ _ t.0; to = le_z-true _ _ t.1 }
+    record { at = g; lo = lo; hi = hi; low = low; high = high; inner = refl; outer = ap (λ x. abs.Addr x low high) (sym (region_is g r s.0)); order = addr_order g lo hi q; from = le_z-true _ _ t.0; to = le_z-true _ _ t.1 }
 
 same_as_itself : (at : Region) → same_region at at ≡ true
 same_as_itself region.Stack = refl
@@ -192,105 +187,116 @@ same_as_itself region.Value = refl
 
 -- ---- operations
 
-any_within : (a : Abstract) (lo hi : ℕ) → hi < 2 ^ 64 → is_kind_within a (abs.Num lo hi) any_number ≡ true
-any_within a lo hi h = and_from _ _ (le-leb 0 lo (omega arith)) (le-leb hi (2 ^ 64 - 1) (omega arith))
-
-sum_within : (a : Abstract) (al ah bl bh al' ah' bl' bh' : ℕ) → al' ≤ al → ah ≤ ah' → bl' ≤ bl → bh ≤ bh'
-    → is_kind_within a (computed_range Bits64 Add (al, ah) (bl, bh)) (computed_range Bits64 Add (al', ah') (bl', bh')) ≡ true
-sum_within a al ah bl bh al' ah' bl' bh' p q r t =
-    cond_both (nat_lt (ah' + bh') (2 ^ 64)) (abs.Num (al' + bl') (ah' + bh')) any_number (λ k. is_kind_within a (computed_range Bits64 Add (al, ah) (bl, bh)) k ≡ true)
-    (λ e. let small = ltb-true (ah' + bh') (2 ^ 64) e in
-    subst (λ k. is_kind_within a k (abs.Num (al' + bl') (ah' + bh')) ≡ true) (sym (cond-true (nat_lt (ah + bh) (2 ^ 64)) _ _ (lt-ltb (ah + bh) (2 ^ 64) (omega arith))))
-    (and_from _ _ (le-leb (al' + bl') (al + bl) (omega arith)) (le-leb (ah + bh) (ah' + bh') (omega arith))))
-    (λ e. cond_both (nat_lt (ah + bh) (2 ^ 64)) (abs.Num (al + bl) (ah + bh)) any_number (λ k. is_kind_within a k any_number ≡ true)
-    (λ f. any_within a (al + bl) (ah + bh) (ltb-true (ah + bh) (2 ^ 64) f))
-    (λ f. refl))
+numbers_within : (a : Abstract) (x y : Interval) → IsPartOf x y → is_kind_within a (numbers x) (numbers y) ≡ true
+numbers_within a x y h = and_from _ _ (le-leb y.low x.low h.low) (le-leb x.high y.high h.high)
 
 -- numbers on one side of 2^63 are so in a part of their interval
-one_sign_within : (lo hi low high : ℕ) → is_one_sign low high ≡ true → low ≤ lo → hi ≤ high → is_one_sign lo hi ≡ true
-one_sign_within lo hi low high h from to =
+one_sign_within : (x range : Interval) → is_one_sign range ≡ true → IsPartOf x range → is_one_sign x ≡ true
+one_sign_within x range h part =
     ⊎_elim
-    (λ e. let small = ltb-true high (2 ^ 63) e in or_left _ _ (lt-ltb hi (2 ^ 63) (omega arith)))
-    (λ e. let large = leb-true (2 ^ 63) low e in or_right _ _ (le-leb (2 ^ 63) lo (omega arith)))
+    (λ e. let small = ltb-true range.high (2 ^ 63) e in or_left _ _ (lt-ltb x.high (2 ^ 63) (omega (arith, part.high))))
+    (λ e. let large = leb-true (2 ^ 63) range.low e in or_right _ _ (le-leb (2 ^ 63) x.low (omega (arith, part.low))))
     (or_cases _ _ h)
 
-module _ (lo hi low high : ℤ) (l m l' m' : ℕ) (p : low ≤ℤ lo) (q : hi ≤ℤ high) (order : l ≤ m) (r : l' ≤ l) (t : m ≤ m') (can : can_move low high (Some (l', m')) ≡ true) where
-  low_moves : (low +ℤ cast_signed w64 l') ≤ℤ (lo +ℤ cast_signed w64 l)
-  low_moves = add_le low lo _ _ p (one_sign_le l' m' l' l (moved_parts low high l' m' can).sign (omega arith) r (omega arith))
+module _ (operation : Operation) (lo hi low high : ℤ) (x range : Interval) (p : low ≤ℤ lo) (q : hi ≤ℤ high) (order : x.low ≤ x.high) (part : IsPartOf x range)
+    (can : can_move operation low high (Some range) ≡ true)
+  where
+    low_moves : (low +ℤ least_displacement operation range) ≤ℤ (lo +ℤ least_displacement operation x)
+    low_moves = add_le low lo _ _ p (least_part operation x range (moved_parts operation low high range can).sign order part)
 
-  high_moves : (hi +ℤ cast_signed w64 m) ≤ℤ (high +ℤ cast_signed w64 m')
-  high_moves = add_le hi high _ _ q (one_sign_le l' m' m m' (moved_parts low high l' m' can).sign (omega arith) t (omega arith))
+    high_moves : (hi +ℤ greatest_displacement operation x) ≤ℤ (high +ℤ greatest_displacement operation range)
+    high_moves = add_le hi high _ _ q (greatest_part operation x range (moved_parts operation low high range can).sign order part)
 
-  can_move_within : can_move lo hi (Some (l, m)) ≡ true
-  can_move_within =
-      let b = moved_parts low high l' m' can in
-      and_from _ _ (one_sign_within l m l' m' b.sign r t) (and_from _ _ (le-le_z _ _ (le_trans_z _ _ _ b.from low_moves)) (le-le_z _ _ (le_trans_z _ _ _ high_moves b.to)))
+    can_move_within : can_move operation lo hi (Some x) ≡ true
+    can_move_within =
+        let m = moved_parts operation low high range can in
+        and_from _ _ (one_sign_within x range m.sign part) (and_from _ _ (le-le_z _ _ (le_trans_z _ _ _ m.from low_moves)) (le-le_z _ _ (le_trans_z _ _ _ high_moves m.to)))
 
-  moved_within : (a : Abstract) (at : Region) → is_kind_within a (moved at lo hi (Some (l, m))) (moved at low high (Some (l', m'))) ≡ true
-  moved_within a at = and_from _ _ (same_as_itself at) (and_from _ _ (le-le_z _ _ low_moves) (le-le_z _ _ high_moves))
+    moved_within : (a : Abstract) (at : Region) → is_kind_within a (moved_address operation at lo hi (Some x)) (moved_address operation at low high (Some range)) ≡ true
+    moved_within a at = and_from _ _ (same_as_itself at) (and_from _ _ (le-le_z _ _ low_moves) (le-le_z _ _ high_moves))
 
-numbers_can : (a : Abstract) (j k : Abs) → is_number_kind j ≡ true → is_number_kind k ≡ true → can_compute_kinds a Bits64 Add j k ≡ true
-numbers_can a abs.None k u v = u
-numbers_can a (abs.Num lo hi) k u v = v
-numbers_can a (abs.Len r) k u v = v
-numbers_can a (abs.Addr r lo hi) k u v = absurd (false≢true u)
+module _ (a : Abstract) (width : Width) (operation : Operation) where
+  numbers_can : (j k : Abs) → is_number_kind j ≡ true → is_number_kind k ≡ true → can_compute_kinds a width operation j k ≡ true
+  numbers_can abs.None k u v = u
+  numbers_can (abs.Num lo hi) k u v = v
+  numbers_can (abs.Len r) k u v = v
+  numbers_can (abs.Addr r lo hi) k u v = absurd (false≢true u)
 
-numbers_computed : (a : Abstract) (j k : Abs) → is_number_kind j ≡ true → computed_kind a Bits64 Add j k ≡ on_ranges Bits64 Add (range_of a j) (range_of a k)
-numbers_computed a abs.None k u = absurd (false≢true u)
-numbers_computed a (abs.Num lo hi) k u = refl
-numbers_computed a (abs.Len r) k u = refl
-numbers_computed a (abs.Addr r lo hi) k u = absurd (false≢true u)
+  numbers_computed : (j k : Abs) → is_number_kind j ≡ true → computed_kind a width operation j k ≡ on_ranges width operation (range_of a j) (range_of a k)
+  numbers_computed abs.None k u = absurd (false≢true u)
+  numbers_computed (abs.Num lo hi) k u = refl
+  numbers_computed (abs.Len r) k u = refl
+  numbers_computed (abs.Addr r lo hi) k u = absurd (false≢true u)
 
-module _ (a b : Abstract) (n : IsNarrower a b) (p : is_proper a ≡ true) (j k : Abs) (pj : IsOrdered j) (pk : IsOrdered k) where
-  sums_within : (j' k' : Abs) → AreRanges a b j j' → AreRanges a b k k'
-      → is_kind_within a (on_ranges Bits64 Add (range_of a j) (range_of a k)) (on_ranges Bits64 Add (range_of b j') (range_of b k')) ≡ true
-  sums_within j' k' x y = rw (x.inner, x.outer, y.inner, y.outer) (sum_within a x.lo x.hi y.lo y.hi x.low x.high y.low y.high x.from x.to y.from y.to)
+module _ (a b : Abstract) (n : IsNarrower a b) (pa : is_proper a ≡ true) (pb : is_proper b ≡ true) (width : Width) (operation : Operation) (j k j' k' : Abs) (pj : is_proper_kind j ≡ true)
+    (pk : is_proper_kind k ≡ true) (pj' : is_proper_kind j' ≡ true) (pk' : is_proper_kind k' ≡ true) (hj : is_kind_within a j j' ≡ true) (hk : is_kind_within a k k' ≡ true)
+  where
+    results_within : AreRanges a b j j' → AreRanges a b k k' → is_kind_within a (on_ranges width operation (range_of a j) (range_of a k)) (on_ranges width operation (range_of b j') (range_of b k')) ≡ true
+    results_within x y =
+        rw (x.inner_is, x.outer_is, y.inner_is, y.outer_is)
+        (numbers_within a _ _ (result_part width operation x.inner y.inner x.outer y.outer x.inner_range y.inner_range x.outer_range y.outer_range x.part y.part))
 
-  -- what a wider pair of kinds allows, a narrower pair does
-  module _ (k' : Abs) (hk : is_kind_within a k k' ≡ true) where
-    number_can : (j' : Abs) → is_kind_within a j j' ≡ true → is_number_kind j' ≡ true → is_number_kind k' ≡ true → can_compute_kinds a Bits64 Add j k ≡ true
-    number_can j' hj u v = numbers_can a j k (number_within a j j' hj u) (number_within a k k' hk v)
+    -- what a wider pair of kinds allows, a narrower pair does, and what it makes of them is within
+    pub number_can : is_number_kind j' ≡ true → is_number_kind k' ≡ true → can_compute_kinds a width operation j k ≡ true
+    number_can u v = numbers_can a width operation j k (number_within a j j' hj u) (number_within a k k' hk v)
 
-    number_computed : (j' : Abs) → is_kind_within a j j' ≡ true → is_number_kind j' ≡ true → is_number_kind k' ≡ true
-        → is_kind_within a (computed_kind a Bits64 Add j k) (on_ranges Bits64 Add (range_of b j') (range_of b k')) ≡ true
-    number_computed j' hj u v =
-        rw (numbers_computed a j k (number_within a j j' hj u)) (sums_within j' k' (ranges_within a b j j' n p pj hj u) (ranges_within a b k k' n p pk hk v))
+    pub number_computed : is_number_kind j' ≡ true → is_number_kind k' ≡ true
+        → is_kind_within a (computed_kind a width operation j k) (on_ranges width operation (range_of b j') (range_of b k')) ≡ true
+    number_computed u v =
+        rw (numbers_computed a width operation j k (number_within a j j' hj u)) (results_within (ranges_within a b n pa pb j j' pj pj' hj u) (ranges_within a b n pa pb k k' pk pk' hk v))
 
-    address_can : (j' : Abs) → AreAddresses j j' → can_compute_kinds b Bits64 Add j' k' ≡ true → can_compute_kinds a Bits64 Add j k ≡ true
-    address_can j' x can =
-        let can2 : can_compute_kinds b Bits64 Add (abs.Addr x.at x.low x.high) k' ≡ true = rw x.outer at can in
-        let y = ranges_within a b k k' n p pk hk (number_if_moves b x.low x.high k' can2) in
-        let can3 : can_move x.low x.high (Some (y.low, y.high)) ≡ true = rw y.outer at can2 in
-        rw (x.inner, y.inner) (can_move_within x.lo x.hi x.low x.high y.lo y.hi y.low y.high x.from x.to y.order y.from y.to can3)
+    pub address_can : AreAddresses j j' → can_compute_kinds b width operation j' k' ≡ true → can_compute_kinds a width operation j k ≡ true
+    address_can x can =
+        let can2 : can_compute_kinds b width operation (abs.Addr x.at x.low x.high) k' ≡ true = rw x.outer at can in
+        let c = and_parts (moves_address width operation) (can_move operation x.low x.high (range_of b k')) can2 in
+        let y = ranges_within a b n pa pb k k' pk pk' hk (number_if_moves b operation x.low x.high k' c.1) in
+        let can3 : can_move operation x.low x.high (Some y.outer) ≡ true = rw y.outer_is at c.1 in
+        rw (x.inner, y.inner_is) (and_from _ _ c.0 (can_move_within operation x.lo x.hi x.low x.high y.inner y.outer x.from x.to y.inner_range.order y.part can3))
 
-    address_computed : (j' : Abs) → AreAddresses j j' → can_compute_kinds b Bits64 Add j' k' ≡ true → is_kind_within a (computed_kind a Bits64 Add j k) (computed_kind b Bits64 Add j' k') ≡ true
-    address_computed j' x can =
-        let can2 : can_compute_kinds b Bits64 Add (abs.Addr x.at x.low x.high) k' ≡ true = rw x.outer at can in
-        let y = ranges_within a b k k' n p pk hk (number_if_moves b x.low x.high k' can2) in
-        let can3 : can_move x.low x.high (Some (y.low, y.high)) ≡ true = rw y.outer at can2 in
-        rw (x.inner, x.outer, y.inner, y.outer) (moved_within x.lo x.hi x.low x.high y.lo y.hi y.low y.high x.from x.to y.order y.from y.to can3 a x.at)
-
-    pub can_within : (width : Width) (operation : Operation) (j' : Abs) → is_kind_within a j j' ≡ true → can_compute_kinds b width operation j' k' ≡ true
-        → can_compute_kinds a width operation j k ≡ true
-    can_within Bits64 Add abs.None hj can = absurd (false≢true can)
-    can_within Bits64 Add (abs.Num lo hi) hj can = number_can (abs.Num lo hi) hj refl can
-    can_within Bits64 Add (abs.Len r) hj can = number_can (abs.Len r) hj refl can
-    can_within Bits64 Add (abs.Addr r lo hi) hj can = address_can (abs.Addr r lo hi) (addresses_within a j (abs.Addr r lo hi) pj hj refl) can
-
-    -- and what it makes of them is within
-    pub computed_within : (width : Width) (operation : Operation) (j' : Abs) → is_kind_within a j j' ≡ true → can_compute_kinds b width operation j' k' ≡ true
+    addresses_moved : (x : AreAddresses j j') (y : AreRanges a b k k') → can_move operation x.low x.high (Some y.outer) ≡ true
         → is_kind_within a (computed_kind a width operation j k) (computed_kind b width operation j' k') ≡ true
-    computed_within Bits64 Add abs.None hj can = absurd (false≢true can)
-    computed_within Bits64 Add (abs.Num lo hi) hj can = number_computed (abs.Num lo hi) hj refl can
-    computed_within Bits64 Add (abs.Len r) hj can = number_computed (abs.Len r) hj refl can
-    computed_within Bits64 Add (abs.Addr r lo hi) hj can = address_computed (abs.Addr r lo hi) (addresses_within a j (abs.Addr r lo hi) pj hj refl) can
+    addresses_moved x y can =
+        rw (x.inner, x.outer, y.inner_is, y.outer_is) (moved_within operation x.lo x.hi x.low x.high y.inner y.outer x.from x.to y.inner_range.order y.part can a x.at)
+
+    pub address_computed : AreAddresses j j' → can_compute_kinds b width operation j' k' ≡ true → is_kind_within a (computed_kind a width operation j k) (computed_kind b width operation j' k') ≡ true
+    address_computed x can =
+        let can2 : can_compute_kinds b width operation (abs.Addr x.at x.low x.high) k' ≡ true = rw x.outer at can in
+        let c = and_parts (moves_address width operation) (can_move operation x.low x.high (range_of b k')) can2 in
+        let y = ranges_within a b n pa pb k k' pk pk' hk (number_if_moves b operation x.low x.high k' c.1) in
+        let can3 : can_move operation x.low x.high (Some y.outer) ≡ true = rw y.outer_is at c.1 in
+        addresses_moved x y can3
+
+module _ (a b : Abstract) (n : IsNarrower a b) (pa : is_proper a ≡ true) (pb : is_proper b ≡ true) (width : Width) (operation : Operation) (j k k' : Abs) (pj : is_proper_kind j ≡ true)
+    (pk : is_proper_kind k ≡ true) (pk' : is_proper_kind k' ≡ true) (hk : is_kind_within a k k' ≡ true)
+  where
+    pub can_within : (j' : Abs) → is_proper_kind j' ≡ true → is_kind_within a j j' ≡ true → can_compute_kinds b width operation j' k' ≡ true → can_compute_kinds a width operation j k ≡ true
+    can_within abs.None pj' hj can = absurd (false≢true can)
+    can_within (abs.Num lo hi) pj' hj can = number_can a b n pa pb width operation j k (abs.Num lo hi) k' pj pk pj' pk' hj hk refl can
+    can_within (abs.Len r) pj' hj can = number_can a b n pa pb width operation j k (abs.Len r) k' pj pk pj' pk' hj hk refl can
+    can_within (abs.Addr r lo hi) pj' hj can =
+        address_can a b n pa pb width operation j k (abs.Addr r lo hi) k' pj pk pj' pk' hj hk (addresses_within a j (abs.Addr r lo hi) pj hj refl) can
+
+    pub computed_within : (j' : Abs) → is_proper_kind j' ≡ true → is_kind_within a j j' ≡ true → can_compute_kinds b width operation j' k' ≡ true
+        → is_kind_within a (computed_kind a width operation j k) (computed_kind b width operation j' k') ≡ true
+    computed_within abs.None pj' hj can = absurd (false≢true can)
+    computed_within (abs.Num lo hi) pj' hj can = number_computed a b n pa pb width operation j k (abs.Num lo hi) k' pj pk pj' pk' hj hk refl can
+    computed_within (abs.Len r) pj' hj can = number_computed a b n pa pb width operation j k (abs.Len r) k' pj pk pj' pk' hj hk refl can
+    computed_within (abs.Addr r lo hi) pj' hj can =
+        address_computed a b n pa pb width operation j k (abs.Addr r lo hi) k' pj pk pj' pk' hj hk (addresses_within a j (abs.Addr r lo hi) pj hj refl) can
+
+-- a change, and a move of the low half, of a narrower kind is within that of a wider one
+pub changed_within : (a b : Abstract) (change : Change) (j k : Abs) → AreRanges a b j k → is_kind_within a (changed_kind a change j) (changed_kind b change k) ≡ true
+changed_within a b change j k x = rw (x.inner_is, x.outer_is) (numbers_within a _ _ (changed_part change x.inner x.outer x.inner_range x.part))
+
+pub low_half_within : (a b : Abstract) (j k : Abs) → AreRanges a b j k → is_kind_within a (moved_kind a Bits32 j) (moved_kind b Bits32 k) ≡ true
+low_half_within a b j k x = rw (x.inner_is, x.outer_is) (numbers_within a _ _ (cut_part Bits32 x.inner x.outer x.inner_range x.part))
 
 -- ---- the source of an instruction
 
-pub source_within : (a b : Abstract) (source : Source) → IsWithin a b → is_proper b ≡ true → is_kind_within a (source_kind a source) (source_kind b source) ≡ true
-source_within a b (Register r) w p = kind_within a b w p r
-source_within a b (Immediate imm) w p =
-    let c = cast_unsigned w64 imm in
+pub source_within : (a b : Abstract) (width : Width) (source : Source) → IsWithin a b → is_proper b ≡ true → is_kind_within a (source_kind a width source) (source_kind b width source) ≡ true
+source_within a b width (Register r) w p = kind_within a b w p r
+source_within a b width (Immediate imm) w p =
+    let c = immediate width imm in
     and_from _ _ (le-leb c c (omega arith)) (le-leb c c (omega arith))
 
 -- ---- registers

@@ -1,13 +1,11 @@
 -- The checks of an instruction, in the order in which they are told.
 use Rattle.std.specs.Prelude.{ℕ, zero, suc, ◌+◌, ◌^◌, ℤ, pos, ◌+ℤ◌, neg_ℤ, Bool, true, false, ◌==◌, ◌&&◌, ◌||◌, not, nat_lt, nat_le, int_lt, int_le, if◌then◌else◌, List, [], ◌∷◌, length, Option, Some, None, is_none, unsigned_abs}
 use Rattle.std.specs.List.{list_any}
-use Rattle.std.specs.Int.{w64, cast_signed, cast_unsigned}
 use Rattle.machine_spec.specs.declared.instruction.Region.{Region}
 use Rattle.machine_spec.specs.declared.instruction.Size.{Size}
-use Rattle.machine_spec.specs.declared.instruction.Width.{Width}
-use Rattle.machine_spec.specs.declared.instruction.Width.TheVariants.{Bits64}
-use Rattle.machine_spec.specs.declared.instruction.Operation.{Operation}
-use Rattle.machine_spec.specs.declared.instruction.Operation.TheVariants.{Add}
+use Rattle.machine_spec.specs.declared.operation.Width.{Width}
+use Rattle.machine_spec.specs.declared.operation.Width.TheVariants.{Bits64}
+use Rattle.machine_spec.specs.declared.operation.Operation.{Operation}
 use Rattle.machine_spec.specs.declared.instruction.Source.{Source}
 use Rattle.machine_spec.specs.declared.instruction.Source.TheVariants.{Register, Immediate}
 use Rattle.machine_spec.specs.declared.instruction.Instruction.{Instruction}
@@ -22,9 +20,11 @@ use Rattle.machine_spec.specs.declared.summary.Condition.{Condition}
 use Rattle.machine_spec.specs.declared.summary.Summary.{Summary}
 use Rattle.machine_spec.specs.Summaries.{summary_of}
 use Rattle.machine_spec.specs.Image.{target_of}
-use Rattle.machine_spec.specs.Values.{byte_count}
+use Rattle.machine_spec.specs.Arithmetic.{signed}
+use Rattle.machine_spec.specs.Values.{immediate, moves_address, is_subtraction, byte_count}
 use Rattle.machine_spec.specs.Machine.{helper_of, stack_size}
 use Rattle.machine_spec.specs.Traps.{writes_frame, calls_no_helper, read_registers, is_read, is_stack, first_of}
+use Rattle.verifier_spec.specs.declared.interval.Interval.{Interval}
 use Rattle.verifier_spec.specs.declared.state.Abs.{Abs}
 use Rattle.verifier_spec.specs.declared.state.Abs.TheVariants as abs
 use Rattle.verifier_spec.specs.declared.state.StackSet.{StackSet}
@@ -34,9 +34,9 @@ use Rattle.verifier_spec.specs.declared.fault.Check.TheVariants as check
 use Rattle.verifier_spec.specs.Kinds.{is_set, kind_at, least, range_of, is_unknown, is_number_kind, is_address_kind, furthest}
 
 -- an immediate is the one number that it is
-abbrev pub source_kind : Abstract → Source → Abs
-source_kind s (Register r) = kind_at s r
-source_kind s (Immediate imm) = abs.Num (cast_unsigned w64 imm) (cast_unsigned w64 imm)
+abbrev pub source_kind : Abstract → Width → Source → Abs
+source_kind s width (Register r) = kind_at s r
+source_kind s width (Immediate imm) = abs.Num (immediate width imm) (immediate width imm)
 
 abbrev pub reads_unknown : Summary → Abstract → Bool
 reads_unknown m s = list_any (λ r. is_unknown (kind_at s r)) (read_registers m)
@@ -44,34 +44,42 @@ reads_unknown m s = list_any (λ r. is_unknown (kind_at s r)) (read_registers m)
 -- ---- kinds
 
 -- Numbers that are all below 2^63, or none of them: so that read as signed they are in order.
-abbrev pub is_one_sign : ℕ → ℕ → Bool
-is_one_sign lo hi = nat_lt hi (2 ^ 63) || nat_le (2 ^ 63) lo
+abbrev pub is_one_sign : Interval → Bool
+is_one_sign range = nat_lt range.high (2 ^ 63) || nat_le (2 ^ 63) range.low
 
--- a number from lo to hi can be added to an address from low to high
-abbrev pub can_move : ℤ → ℤ → Option (ℕ × ℕ) → Bool
-can_move low high (Some range) =
-    is_one_sign range.0 range.1
-    && (int_le (neg_ℤ (pos furthest)) (low +ℤ cast_signed w64 range.0) && int_le (high +ℤ cast_signed w64 range.1) (pos furthest))
-can_move low high None = false
+-- the least and the greatest of the displacements that an operation makes of numbers of one sign
+abbrev pub least_displacement : Operation → Interval → ℤ
+least_displacement operation range = if is_subtraction operation then neg_ℤ (signed Bits64 range.high) else signed Bits64 range.low
 
--- what an addition takes: numbers, or a number to an address that it can't take out of range
+abbrev pub greatest_displacement : Operation → Interval → ℤ
+greatest_displacement operation range = if is_subtraction operation then neg_ℤ (signed Bits64 range.low) else signed Bits64 range.high
+
+-- an address from low to high, moved by any of the numbers, stays in its range
+abbrev pub can_move : Operation → ℤ → ℤ → Option Interval → Bool
+can_move operation low high (Some range) =
+    is_one_sign range
+    && (int_le (neg_ℤ (pos furthest)) (low +ℤ least_displacement operation range) && int_le (high +ℤ greatest_displacement operation range) (pos furthest))
+can_move operation low high None = false
+
+-- what an operation takes: numbers, or an address and a number that moves it and can't take it out of its range
 abbrev pub can_compute_kinds : Abstract → Width → Operation → Abs → Abs → Bool
 can_compute_kinds s width operation abs.None b = false
 can_compute_kinds s width operation (abs.Num _ _) b = is_number_kind b
 can_compute_kinds s width operation (abs.Len _) b = is_number_kind b
-can_compute_kinds s Bits64 Add (abs.Addr _ low high) b = can_move low high (range_of s b)
+can_compute_kinds s width operation (abs.Addr _ low high) b = moves_address width operation && can_move operation low high (range_of s b)
 
 abbrev pub has_wrong_kinds : Operands → Abstract → Bool
 has_wrong_kinds operands.Nothing s = false
 has_wrong_kinds (operands.Any _) s = false
-has_wrong_kinds (operands.Computed width operation dst source) s = not (can_compute_kinds s width operation (kind_at s dst) (source_kind s source))
+has_wrong_kinds (operands.Number width source) s = not (is_number_kind (source_kind s width source))
+has_wrong_kinds (operands.Computed width operation dst source) s = not (can_compute_kinds s width operation (kind_at s dst) (source_kind s width source))
 
 abbrev pub has_wrong_base_kind : Option MemoryOperand → Abstract → Bool
 has_wrong_base_kind (Some m) s = not (is_address_kind (kind_at s m.base))
 has_wrong_base_kind None s = false
 
 abbrev pub has_wrong_condition_kind : Option Condition → Abstract → Bool
-has_wrong_condition_kind (Some c) s = not (is_number_kind (kind_at s c.dst) && is_number_kind (source_kind s c.source))
+has_wrong_condition_kind (Some c) s = not (is_number_kind (kind_at s c.dst) && is_number_kind (source_kind s c.width c.source))
 has_wrong_condition_kind None s = false
 
 -- ---- memory

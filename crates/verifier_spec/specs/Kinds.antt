@@ -5,10 +5,12 @@ use Rattle.wire_spec.specs.declared.limits.TheConstants.{MAX_KEY, MAX_VALUE}
 use Rattle.machine_spec.specs.declared.instruction.Region.{Region}
 use Rattle.machine_spec.specs.declared.instruction.Region.TheVariants as region
 use Rattle.machine_spec.specs.Machine.{stack_size}
+use Rattle.verifier_spec.specs.declared.interval.Interval.{Interval}
 use Rattle.verifier_spec.specs.declared.state.Abs.{Abs}
 use Rattle.verifier_spec.specs.declared.state.Abs.TheVariants as abs
 use Rattle.verifier_spec.specs.declared.state.StackSet.{StackSet}
 use Rattle.verifier_spec.specs.declared.state.Abstract.{Abstract}
+use Rattle.verifier_spec.specs.Intervals.{from_to}
 
 -- a place of the stack is in a set
 abbrev pub is_set : StackSet → ℕ → Bool
@@ -36,11 +38,11 @@ key_limit = MAX_KEY
 abbrev pub value_limit : ℕ
 value_limit = MAX_VALUE
 
--- the numbers that a kind stands for, from the first to the second, if it stands for numbers
-abbrev pub range_of : Abstract → Abs → Option (ℕ × ℕ)
+-- the numbers that a kind stands for, if it stands for numbers
+abbrev pub range_of : Abstract → Abs → Option Interval
 range_of s abs.None = None
-range_of s (abs.Num lo hi) = Some (lo, hi)
-range_of s (abs.Len region) = Some (least s region, greatest s region)
+range_of s (abs.Num lo hi) = Some (from_to lo hi)
+range_of s (abs.Len region) = Some (from_to (least s region) (greatest s region))
 range_of s (abs.Addr _ _ _) = None
 
 abbrev pub is_unknown : Abs → Bool
