@@ -1,9 +1,7 @@
 //! What C makes of each operation, change and test: `tools/arithmetic_vectors.c` prints these rows.
 
 use arithmetic::{change, compute, test};
-use machine_spec::operation::{
-    ByteOrder, Change, ExtendedWidth, Operation, SwappedWidth, Test, Width,
-};
+use machine_spec::{ByteOrder, Change, ExtendedWidth, Operation, SwappedWidth, Test, Width};
 
 const OPERATIONS: [(Operation, u64, u64, u64, u64); 130] = [
     (Operation::Add, 0x0, 0x0, 0x0, 0x0),
