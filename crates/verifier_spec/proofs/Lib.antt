@@ -3,6 +3,7 @@ pub mod Edges
 pub mod Faults
 pub mod Immediates
 pub mod Intervals
+pub mod Joins
 pub mod Loads
 pub mod Monotone
 pub mod Narrowing
@@ -23,4 +24,5 @@ pub mod Turns
 pub mod Whole
 pub mod Wider
 pub mod Values
+pub mod WorkedJoins
 pub mod WorkedRanges
