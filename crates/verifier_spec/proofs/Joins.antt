@@ -1,10 +1,11 @@
 -- The join of two states: both are within it, and it is within each state that both are within.
-use Rattle.std.proofs.Common.{◌≡◌, ℕ, zero, suc, ◌/◌, ◌%◌, ◌^◌, ◌<◌, ◌≤◌, ℤ, pos, neg_ℤ, ◌≤ℤ◌, min, max, ◌==◌, ◌&&◌, Bool, true, false, if◌then◌else◌, cond, bit_and, slice_index, nat_le, nat_lt, int_lt, int_le, List, [], ◌∷◌, length, get_or, Option, Some, None, refl, sym, ap, ◌∙◌, subst, inl, inr, arith}
+use Rattle.std.proofs.Common.{◌≡◌, ℕ, zero, suc, ◌+◌, ◌/◌, ◌%◌, ◌^◌, ◌<◌, ◌≤◌, ℤ, pos, neg_ℤ, ◌≤ℤ◌, min, max, ◌==◌, ◌&&◌, Bool, true, false, if◌then◌else◌, cond, bit_and, slice_index, nat_le, nat_lt, int_lt, int_le, List, [], ◌∷◌, length, get_or, set, Option, Some, None, refl, sym, ap, ◌∙◌, subst, inl, inr, arith}
 use Rattle.std.specs.Int.{bit_at, int_min, int_max}
 use Rattle.std.specs.Int.Bits.{and_zero_l, and_zero_r}
 use Rattle.std.specs.List.{list_all}
-use Rattle.std.proofs.lemmas.Bool.{and_parts, and_from, cond-true, cond-false, leb-true, le-leb, ltb-true, lt-ltb, eqb-true, eq-eqb, cases_Bool, false≢true}
+use Rattle.std.proofs.lemmas.Bool.{and_parts, and_from, cond-true, cond-false, leb-true, le-leb, ltb-true, lt-ltb, eqb-true, eq-eqb, cases_Bool, cases_eq, false≢true}
 use Rattle.std.proofs.lemmas.Int.{ints}
+use Rattle.std.proofs.lemmas.List.{get_or-set_same, get_or-set_other}
 use Rattle.std.proofs.lemmas.Nat.Bits.{bit_at_and, bit_at-lt}
 use Rattle.machine_spec.specs.declared.instruction.Region.{Region}
 use Rattle.machine_spec.specs.declared.instruction.Region.TheVariants as region
@@ -173,6 +174,17 @@ pairwise_from {A} f d (x ∷ xs) (y ∷ ys) (z ∷ zs) long other each =
     let first : z ≡ f x y = each 0 (omega arith) in
     let rest : zs ≡ pairwise f xs ys = pairwise_from f d xs ys zs (omega arith) (omega arith) (λ k under. each (suc k) (omega arith)) in
     cc
+
+-- one more element is made so
+pub pairwise_more : {A : Type 0} (f : A → A → A) (d : A) (xs ys zs : List A) (n : ℕ) (z : A) → n < length zs → z ≡ f (get_or xs n d) (get_or ys n d)
+    → ((k : ℕ) → k < n → get_or zs k d ≡ f (get_or xs k d) (get_or ys k d))
+    → (k : ℕ) → k < n + 1 → get_or (set zs n z) k d ≡ f (get_or xs k d) (get_or ys k d)
+pairwise_more {A} f d xs ys zs n z inside made each k under = elim (cases_eq k n) [
+  | inl last ↦
+      let P : ℕ → Type 0 = λ i. get_or (set zs n z) i d ≡ f (get_or xs i d) (get_or ys i d) in
+      subst P (sym last) (get_or-set_same zs n z d inside ∙ made)
+  | inr other ↦ get_or-set_other zs n k z d other ∙ each k (omega arith)
+]
 
 -- ---- the join of two kinds
 
