@@ -3,6 +3,7 @@
 #![tactic(auto)]
 
 mod checks;
+mod join;
 mod kinds;
 mod laws;
 mod order;

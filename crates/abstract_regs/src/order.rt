@@ -7,7 +7,7 @@ use crate::kinds;
 use machine_spec::{Region, STACK_SIZE};
 use verifier_spec::{Abs, Abstract, StackSet};
 
-fn same_region(a: Region, b: Region) -> bool
+pub fn same_region(a: Region, b: Region) -> bool
     ensures { result ≡ same_region a b }
 {
     match (a, b) {

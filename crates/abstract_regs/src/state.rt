@@ -2,10 +2,11 @@ ghost use Rattle.std.specs.Prelude.{◌≡◌, true, if◌then◌else◌, Some, 
 ghost use Rattle.verifier_spec.specs.declared.state.Abstract.{Abstract};
 ghost use Rattle.verifier_spec.specs.Kinds.{kind_at};
 ghost use Rattle.verifier_spec.specs.States.{is_proper, is_within, entry_state};
+ghost use Rattle.verifier_spec.specs.Joins.{joined};
 ghost use Rattle.verifier_spec.specs.Checks.{failed_check};
 ghost use Rattle.verifier_spec.specs.Transfer.{falls_to, jumps_to};
 
-use crate::{checks, kinds, order, ranges, transfer};
+use crate::{checks, join, kinds, order, ranges, transfer};
 use machine_spec::{Instruction, Region, STACK_SIZE};
 use std::marker::Model;
 use verifier_spec::{Abs, Abstract, Check, StackSet};
@@ -115,6 +116,20 @@ impl State {
         ensures outer_proper { is_proper outer.now ≡ true }
     {
         order::is_within(&self.inner, &outer.inner)
+    }
+
+    /// The least state that this one and another are both within: of each register what both know,
+    /// the lesser of the least lengths, the greater of the greatest, and the stack bytes that are
+    /// set in both.
+    pub fn join(&self, other: &State) -> State
+        ensures joined { result ≡ joined self.now other.now }
+        ensures proper { is_proper self.now ≡ true }
+        ensures other_proper { is_proper other.now ≡ true }
+        ensures joined_proper { is_proper result ≡ true }
+    {
+        State {
+            inner: join::joined(&self.inner, &other.inner),
+        }
     }
 
     /// The first check of an instruction that fails here, if one does.

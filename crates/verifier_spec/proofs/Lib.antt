@@ -2,6 +2,7 @@ pub mod Annotations
 pub mod Edges
 pub mod Faults
 pub mod Intervals
+pub mod Joins
 pub mod Loads
 pub mod Monotone
 pub mod Narrowing
@@ -22,4 +23,5 @@ pub mod Turns
 pub mod Whole
 pub mod Wider
 pub mod Values
+pub mod WorkedJoins
 pub mod WorkedRanges

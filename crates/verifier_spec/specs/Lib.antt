@@ -3,6 +3,7 @@ pub mod Kinds
 pub mod States
 pub mod Checks
 pub mod Transfer
+pub mod Joins
 pub mod Annotation
 pub mod Forward
 pub mod StandsFor

@@ -1,0 +1,89 @@
+ghost use Rattle.std.specs.Prelude.{◌≡◌, pos, bit_and, true};
+ghost use Rattle.verifier_spec.specs.States.{is_proper};
+ghost use Rattle.verifier_spec.specs.Joins.{joined_ranges, joined_kind, pairwise, joined};
+
+use crate::{kinds, order};
+use machine_spec::Region;
+use verifier_spec::{Abs, Abstract, StackSet};
+
+/// The least interval that contains two, if both are intervals of numbers.
+fn joined_ranges(a: Option<(u64, u64)>, b: Option<(u64, u64)>) -> Abs
+    ensures { result ≡ joined_ranges a b }
+{
+    match (a, b) {
+        (Some((low, high)), Some((other_low, other_high))) => {
+            Abs::Num(low.min(other_low), high.max(other_high))
+        }
+        (Some(_), None) => Abs::None,
+        (None, _) => Abs::None,
+    }
+}
+
+/// The join of two lengths, each by the view of its own state unless they are of one region.
+fn joined_lengths(a: &Abstract, b: &Abstract, region: Region, other: Region) -> Abs
+    ensures { result ≡ joined_kind a.now b.now (Abs.Len region) (Abs.Len other) }
+{
+    if order::same_region(region, other) {
+        Abs::Len(region)
+    } else {
+        joined_ranges(
+            kinds::range_of(a, Abs::Len(region)),
+            kinds::range_of(b, Abs::Len(other)),
+        )
+    }
+}
+
+/// The join of what a state knows of a register and what another knows of it.
+fn joined_kind(a: &Abstract, b: &Abstract, kind: Abs, other: Abs) -> Abs
+    ensures { result ≡ joined_kind a.now b.now kind other }
+{
+    match (kind, other) {
+        (Abs::Len(region), Abs::Len(other)) => joined_lengths(a, b, region, other),
+        (Abs::Addr(region, low, high), Abs::Addr(other, other_low, other_high)) => {
+            if order::same_region(region, other) {
+                Abs::Addr(region, low.min(other_low), high.max(other_high))
+            } else {
+                Abs::None
+            }
+        }
+        (kind, other) => joined_ranges(kinds::range_of(a, kind), kinds::range_of(b, other)),
+    }
+}
+
+fn joined_kinds(a: &Abstract, b: &Abstract, kinds: &[Abs; 11], others: &[Abs; 11]) -> [Abs; 11]
+    ensures { result ≡ pairwise (joined_kind a.now b.now) kinds.now others.now }
+{
+    let mut joined = *kinds;
+    for register in 0..11 {
+        joined[register] = joined_kind(a, b, kinds[register], others[register]);
+    }
+    joined
+}
+
+fn joined_words(words: &[u64; 8], others: &[u64; 8]) -> [u64; 8]
+    ensures { result ≡ pairwise bit_and words.now others.now }
+{
+    let mut joined = *words;
+    for word in 0..8 {
+        joined[word] = words[word] & others[word];
+    }
+    joined
+}
+
+/// The join of two states.
+#[tactic(auto, using(verifier_spec::proofs::Joins::joined_proper))]
+pub fn joined(a: &Abstract, b: &Abstract) -> Abstract
+    ensures state { result ≡ joined a.now b.now }
+    ensures proper { is_proper a.now ≡ true → is_proper b.now ≡ true → is_proper result ≡ true }
+{
+    Abstract {
+        registers: joined_kinds(a, b, &a.registers, &b.registers),
+        key_min: a.key_min.min(b.key_min),
+        key_max: a.key_max.max(b.key_max),
+        value_min: a.value_min.min(b.value_min),
+        value_max: a.value_max.max(b.value_max),
+        set: StackSet {
+            words: joined_words(&a.set.words, &b.set.words),
+        },
+    }
+}

@@ -1,0 +1,40 @@
+-- The join of two abstract states: the least state that both are within.
+use Rattle.std.specs.Prelude.{ℕ, ℤ, min, max, bit_and, if◌then◌else◌, List, [], ◌∷◌, Option, Some, None}
+use Rattle.std.specs.Int.{int_min, int_max}
+use Rattle.verifier_spec.specs.declared.state.Abs.{Abs}
+use Rattle.verifier_spec.specs.declared.state.Abs.TheVariants as abs
+use Rattle.verifier_spec.specs.declared.state.Abstract.{Abstract}
+use Rattle.verifier_spec.specs.Kinds.{range_of, same_region}
+
+-- the least interval that contains two; nothing is known where one of them is no number
+abbrev pub joined_ranges : Option (ℕ × ℕ) → Option (ℕ × ℕ) → Abs
+joined_ranges None b = abs.None
+joined_ranges (Some a) None = abs.None
+joined_ranges (Some a) (Some b) = abs.Num (min a.0 b.0) (max a.1 b.1)
+
+-- The join of a kind in one state and a kind in another. A length joined with the same length stays a length; two other
+-- numbers give an interval, a length by the view of its own state.
+abbrev pub joined_kind : Abstract → Abstract → Abs → Abs → Abs
+joined_kind a b (abs.Len at) (abs.Len other) =
+    if same_region at other then abs.Len at else joined_ranges (range_of a (abs.Len at)) (range_of b (abs.Len other))
+joined_kind a b (abs.Addr at lo hi) (abs.Addr other low high) =
+    if same_region at other then abs.Addr at (int_min lo low) (int_max hi high) else abs.None
+joined_kind a b j k = joined_ranges (range_of a j) (range_of b k)
+
+-- element by element, as far as both lists go
+abbrev pub pairwise : {A : Type 0} → (A → A → A) → List A → List A → List A
+pairwise f [] ys = []
+pairwise f (x ∷ xs) [] = []
+pairwise f (x ∷ xs) (y ∷ ys) = f x y ∷ pairwise f xs ys
+
+-- The join of two states: of each register's kinds, the lesser of the least lengths, the greater of the greatest, and
+-- the stack bytes that are set in both.
+abbrev pub joined : Abstract → Abstract → Abstract
+joined a b = record {
+  registers = pairwise (joined_kind a b) a.registers b.registers;
+  key_min = min a.key_min b.key_min;
+  key_max = max a.key_max b.key_max;
+  value_min = min a.value_min b.value_min;
+  value_max = max a.value_max b.value_max;
+  set = record { words = pairwise bit_and a.set.words b.set.words };
+}
