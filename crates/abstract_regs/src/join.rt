@@ -4,16 +4,14 @@ ghost use Rattle.verifier_spec.specs.Joins.{joined_ranges, joined_kind, pairwise
 
 use crate::{kinds, order};
 use machine_spec::Region;
-use verifier_spec::{Abs, Abstract, StackSet};
+use verifier_spec::{Abs, Abstract, Interval, StackSet};
 
 /// The least interval that contains two, if both are intervals of numbers.
-fn joined_ranges(a: Option<(u64, u64)>, b: Option<(u64, u64)>) -> Abs
+fn joined_ranges(a: Option<Interval>, b: Option<Interval>) -> Abs
     ensures { result ≡ joined_ranges a b }
 {
     match (a, b) {
-        (Some((low, high)), Some((other_low, other_high))) => {
-            Abs::Num(low.min(other_low), high.max(other_high))
-        }
+        (Some(a), Some(b)) => Abs::Num(a.low.min(b.low), a.high.max(b.high)),
         (Some(_), None) => Abs::None,
         (None, _) => Abs::None,
     }

@@ -1,16 +1,17 @@
 -- The join of two abstract states: the least state that both are within.
 use Rattle.std.specs.Prelude.{ℕ, ℤ, min, max, bit_and, if◌then◌else◌, List, [], ◌∷◌, Option, Some, None}
 use Rattle.std.specs.Int.{int_min, int_max}
+use Rattle.verifier_spec.specs.declared.interval.Interval.{Interval}
 use Rattle.verifier_spec.specs.declared.state.Abs.{Abs}
 use Rattle.verifier_spec.specs.declared.state.Abs.TheVariants as abs
 use Rattle.verifier_spec.specs.declared.state.Abstract.{Abstract}
 use Rattle.verifier_spec.specs.Kinds.{range_of, same_region}
 
 -- the least interval that contains two; nothing is known where one of them is no number
-abbrev pub joined_ranges : Option (ℕ × ℕ) → Option (ℕ × ℕ) → Abs
+abbrev pub joined_ranges : Option Interval → Option Interval → Abs
 joined_ranges None b = abs.None
 joined_ranges (Some a) None = abs.None
-joined_ranges (Some a) (Some b) = abs.Num (min a.0 b.0) (max a.1 b.1)
+joined_ranges (Some a) (Some b) = abs.Num (min a.low b.low) (max a.high b.high)
 
 -- The join of a kind in one state and a kind in another. A length joined with the same length stays a length; two other
 -- numbers give an interval, a length by the view of its own state.
