@@ -143,10 +143,9 @@ fn keep(
     ensures ok { OnOk result (Keeps seen.old.items seen.new.items name.now (version, arc_value program)) }
     ensures err { OnErr result (seen.new.items ≡ seen.old.items) }
 {
-    let kept = Known::new(share_name(alloc, name)?, version, program);
     match place_of(seen, name) {
-        Some(place) => seen[place] = kept,
-        None => seen.push(kept)?,
+        Some(place) => seen[place].renew(version, program),
+        None => seen.push(Known::new(share_name(alloc, name)?, version, program))?,
     }
     Ok(())
 }

@@ -38,6 +38,14 @@ impl Known {
         }
     }
 
+    /// Another version of the same name.
+    pub(crate) fn renew(&mut self, version: u32, program: Arc<Program>)
+        ensures { self.new ≡ record { name = self.old.name; number = version; image = arc_value program } }
+    {
+        self.version = version;
+        self.program = program;
+    }
+
     pub fn name(&self) -> &Name
         ensures { result.now ≡ self.now.name }
     {
