@@ -1,0 +1,41 @@
+use Rattle.std.proofs.Common.{◌≡◌, List, ℕ, ◌∷◌, ◌++◌, [], sym, ap, subst, refl, ◌∙◌, ◌+◌, length, Some, None}
+use Rattle.log_spec.specs.Catalogue.{Table, images_of, load_refusal, with_image}
+use Rattle.catalogue.specs.Faults.{IsFaultOf}
+use Rattle.program_table.specs.Tables.{LatestIs}
+use Rattle.catalogue.proofs.VersionLaws.{version_is}
+use Rattle.catalogue.proofs.TableLaws.{images_of-with_image, some_image, latest-last}
+use Rattle.catalogue.proofs.catalogue.Catalogue.load.Goals as goal
+
+pub latest_of-requires : goal.latest_of-requires
+latest_of-requires g c = λ e.
+    let table = c.in-Ok.next in let name = c.args.name.now in let image = c.args.image.now in
+    let images : images_of c.load.new.self name ≡ images_of table name ++ image ∷ [] =
+    ap (λ (next : Table). images_of next name) c.in-Ok-load.ensures.2 ∙ images_of-with_image table name image in
+    some_image (images_of table name) image (sym images ∙ e)
+
+pub returns-in-Err : goal.returns-in-Err
+returns-in-Err g c =
+    let same : c.in-Ok.next ≡ c.args.self.now = c.in-Ok.ensures ∙ (c.behind-self.view_is ∙ (c.published.ensures ∙ c.self.view_is)) in (
+      subst (λ (table : Table). IsFaultOf (load_refusal table c.args.name.now c.args.image.now) c.fault_of.result) same
+          (c.fault_of.ensures (load_refusal c.in-Ok.next c.args.name.now c.args.image.now) c.in-Err.ensures.0),
+      refl,
+    )
+
+pub returns-in-Ok-publish : goal.returns-in-Ok-publish
+returns-in-Ok-publish g c =
+    let table = c.in-Ok.next in let name = c.args.name.now in let image = c.args.image.now in let version = c.in-Ok-load.version in
+    let known = c.in-Ok-latest_of.known in let new = c.load.new.self in
+    let same : table ≡ c.args.self.now = c.in-Ok.ensures ∙ (c.behind-self.view_is ∙ (c.published.ensures ∙ c.self.view_is)) in
+    let loaded = c.in-Ok-load.ensures in
+    let images : images_of new name ≡ images_of table name ++ image ∷ [] =
+    ap (λ (next : Table). images_of next name) loaded.2 ∙ images_of-with_image table name image in
+    let last = latest-last (images_of table name) image (known.number, known.image)
+    (subst (λ (is : List (List ℕ)). LatestIs is (Some (known.number, known.image))) images c.in-Ok-latest_of.ensures.1) in
+    let number : known.number ≡ version = last.0 ∙ sym loaded.1 in
+    let named : known.name ≡ name = c.in-Ok-latest_of.ensures.0 in
+    let all : known ≡ record { name = name; number = version; image = image } = version_is known name image version named number last.1 in (
+      subst (λ (t : Table). load_refusal t name image ≡ None) same loaded.0,
+      subst (λ (t : Table). version ≡ length (images_of t name) + 1) same loaded.1,
+      all,
+      subst (λ (t : Table). c.publish.new.self ≡ with_image t name image) same (c.in-Ok-publish.ensures.ok ∙ loaded.2),
+    )

@@ -1,0 +1,28 @@
+-- Refusals of a load as faults of the catalogue.
+use Rattle.std.specs.Prelude.{◌≡◌, Option, Some}
+use Rattle.log_spec.specs.declared.event.Refusal.{Refusal}
+use Rattle.log_spec.specs.declared.event.Refusal.TheVariants as refusal
+use Rattle.catalogue.specs.declared.fault.CatFault.{CatFault}
+use Rattle.catalogue.specs.declared.fault.CatFault.TheVariants as fault
+
+-- a load is refused for nothing else
+abbrev pub IsOfLoad : Refusal → Type 0
+IsOfLoad refusal.Name = Unit {0}
+IsOfLoad refusal.Full = Unit {0}
+IsOfLoad refusal.Versions = Unit {0}
+IsOfLoad (refusal.Load fault) = Unit {0}
+IsOfLoad refusal.Memory = Unit {0}
+IsOfLoad refusal.Partition = ⊥
+IsOfLoad refusal.NoVersion = ⊥
+IsOfLoad refusal.LogClosed = ⊥
+IsOfLoad refusal.LogFull = ⊥
+IsOfLoad refusal.NoItem = ⊥
+
+-- The fault of a load whose first refusal this is, memory aside. A load never answers NoReader.
+abbrev pub IsFaultOf : Option Refusal → CatFault → Type 0
+IsFaultOf first fault.Name = first ≡ Some refusal.Name
+IsFaultOf first fault.Full = first ≡ Some refusal.Full
+IsFaultOf first (fault.Load told) = first ≡ Some (refusal.Load told)
+IsFaultOf first fault.NoReader = ⊥
+IsFaultOf first fault.Versions = first ≡ Some refusal.Versions
+IsFaultOf first fault.Memory = Unit {0}

@@ -1,0 +1,3 @@
+pub mod Catalogues
+pub mod Faults
+pub mod Versions
