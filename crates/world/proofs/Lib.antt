@@ -1,3 +1,2 @@
 pub mod LogViews
-pub mod RowLaws
 pub mod CoreLaws

@@ -1,0 +1,31 @@
+-- The rows of an item in every output partition.
+use Rattle.std.specs.Prelude.{◌≡◌, ℕ, ◌<◌, ◌≤◌, ◌++◌, List, [], length, Option, get_or}
+use Rattle.log_spec.specs.declared.row.Row.{Row}
+use Rattle.log_spec.specs.Logs.{Item as Kept, IsItemRows}
+use Rattle.item_rows.specs.declared.origin.Origin.{Origin}
+
+-- the numbers of an origin are in their ranges
+pub record IsOrigin (origin : Origin) : Type 0 where
+  pub input : origin.input < 64
+  pub offset : origin.offset ≤ 655360000
+  pub some_output : 1 ≤ origin.outputs
+  pub outputs : origin.outputs ≤ 64
+
+-- the rows in an output, of a list that has the rows of each output
+abbrev pub rows_in : List (List Row) → ℕ → List Row
+rows_in all output = get_or all output []
+
+-- a list for each output has the item's rows there
+pub record AreItemRows (origin : Origin) (image : Option (List ℕ)) (item : Kept) (all : List (List Row)) : Type 0 where
+  pub outputs : length all ≡ origin.outputs
+  pub each : (output : ℕ) → output < origin.outputs → IsItemRows origin.input output origin.outputs image origin.offset item (rows_in all output)
+
+-- no rows in each of so many outputs
+pub record AreEmpty (outputs : ℕ) (all : List (List Row)) : Type 0 where
+  pub count : length all ≡ outputs
+  pub each : (output : ℕ) → rows_in all output ≡ []
+
+-- In each output, rows are added at the end for which a fact holds of the output and of them.
+pub record Adds (old new : List (List Row)) (Holds : ℕ → List Row → Type 0) : Type 0 where
+  pub count : length new ≡ length old
+  pub each : (output : ℕ) → output < length old → (here : List Row) × Holds output here × (rows_in new output ≡ rows_in old output ++ here)

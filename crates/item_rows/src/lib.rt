@@ -1,0 +1,11 @@
+//! The rows of a log's item, for every output partition at once: each record is run once.
+#![tactic(auto)]
+
+mod item;
+mod origin;
+mod records;
+mod rows;
+
+pub use crate::item::item_rows;
+pub use crate::origin::Origin;
+pub use crate::rows::ItemRows;

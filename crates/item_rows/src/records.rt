@@ -1,0 +1,121 @@
+ghost use Rattle.std.specs.Prelude.{◌==◌, if◌then◌else◌, [], ◌∷◌, ◌≡◌, ◌≤◌, ◌<◌, ◌^◌, pos, ◌≤ℤ◌, ◌<ℤ◌, unsigned_abs, OnOk, Some};
+ghost use Rattle.machine_spec.specs.Meaning.{IsPlace};
+ghost use Rattle.verifier_spec.specs.StandsFor.{IsWithinLimits};
+ghost use Rattle.log_spec.specs.Logs.{timestamp_of, row_of, rows_to, rows_of, IsRecordRows, IsRecordsRows, FitsLog};
+ghost use Rattle.item_rows.specs.ItemRows.{IsOrigin, Adds};
+
+use crate::origin::Origin;
+use crate::rows::OutputRows;
+use log_item::Program;
+use log_spec::Row;
+use machine_spec::{Emission, Outcome, Place};
+use std::alloc::{AllocError, Global};
+use wire_spec::{Batch, Record};
+
+/// An emission as a row.
+fn row(place: &Place, number: usize, emission: Emission) -> Row
+    ensures { result ≡ row_of place.now number emission }
+{
+    let Emission {
+        out: _,
+        key,
+        value,
+        headers,
+    } = emission;
+    Row {
+        input: place.partition,
+        offset: place.offset,
+        number,
+        timestamp: place.timestamp,
+        key,
+        value,
+        headers,
+    }
+}
+
+/// Adds the row of an emission to its output.
+fn push_row(
+    all: &mut [OutputRows],
+    place: &Place,
+    number: usize,
+    emission: Emission,
+) -> Result<(), AllocError>
+    ensures { OnOk result (Adds all.old all.new (λ output here. here ≡ (if emission.out == output then row_of place.now number emission ∷ [] else []))) }
+{
+    let out = emission.out;
+    if out >= all.len() {
+        return Ok(());
+    }
+    all[out].push(row(place, number, emission))
+}
+
+/// Adds the rows of a record's emissions to their outputs.
+fn push_rows(
+    all: &mut [OutputRows],
+    place: &Place,
+    emissions: Vec<Emission>,
+) -> Result<(), AllocError>
+    ensures { OnOk result (Adds all.old all.new (λ output here. here ≡ rows_to output place.now 0 emissions.items)) }
+{
+    let mut number = 0;
+    for emission in emissions {
+        push_row(all, place, number, emission)?;
+        number += 1;
+    }
+    Ok(())
+}
+
+/// Runs a program on a record and adds the rows that it gives.
+fn push_record(
+    alloc: Global,
+    program: &Program,
+    place: &Place,
+    given: &Record,
+    all: &mut [OutputRows],
+) -> Result<(), AllocError>
+    requires limits { IsWithinLimits (record { given = given.now; place = place.now }) }
+    requires place { IsPlace place.now }
+    ensures { OnOk result (Adds all.old all.new (λ output here. IsRecordRows output (Some program.now) place.now given.now here)) }
+{
+    match program.run(alloc, given, place)? {
+        Outcome::Kept(emissions) => push_rows(all, place, emissions.list),
+        Outcome::Rejected(_) => Ok(()),
+    }
+}
+
+/// A record's timestamp in milliseconds.
+fn timestamp(batch: &Batch, given: &Record) -> u64
+    requires from { pos 0 ≤ℤ timestamp_of batch.now given.now }
+    requires to { timestamp_of batch.now given.now <ℤ pos (2 ^ 62) }
+    ensures value { result ≡ unsigned_abs (timestamp_of batch.now given.now) }
+    ensures small { result < 2 ^ 62 }
+{
+    (batch.base_timestamp + given.timestamp_delta) as u64
+}
+
+/// Runs a program on a batch's records, in order, and adds the rows that they give.
+pub(crate) fn push_records(
+    alloc: Global,
+    program: &Program,
+    origin: &Origin,
+    batch: &Batch,
+    all: &mut [OutputRows],
+) -> Result<(), AllocError>
+    requires fits { FitsLog batch.now }
+    requires origin { IsOrigin origin.now }
+    ensures { OnOk result (Adds all.old all.new (λ output here. IsRecordsRows origin.now.input output origin.now.outputs (Some program.now) batch.now origin.now.offset batch.now.records here)) }
+{
+    let records = &batch.records;
+    let mut offset = origin.offset;
+    for given in &records.list {
+        let place = Place {
+            partition: origin.input,
+            offset,
+            timestamp: timestamp(batch, given),
+            outputs: origin.outputs,
+        };
+        push_record(alloc, program, &place, given, all)?;
+        offset += 1;
+    }
+    Ok(())
+}

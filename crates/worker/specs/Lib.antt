@@ -1,0 +1,2 @@
+pub mod Processed
+pub mod Walks

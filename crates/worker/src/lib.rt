@@ -1,0 +1,13 @@
+//! What a worker does on its own: it walks over the items of a log, keeping the program in force,
+//! and processes the item where it stands for all output partitions at once. No lock is held.
+#![tactic(auto)]
+
+mod gate;
+mod processing;
+mod results;
+mod walk;
+
+pub use crate::gate::Gate;
+pub use crate::processing::process;
+pub use crate::results::Results;
+pub use crate::walk::Walk;

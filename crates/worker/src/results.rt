@@ -1,0 +1,69 @@
+ghost use Rattle.std.specs.Prelude.{◌≡◌, ◌<◌, ◌≤◌, length};
+ghost use Rattle.item_rows.specs.ItemRows.{rows_in};
+ghost use Rattle.worker.specs.Walks.{last, IsRowsAt, AreRowsOfLast};
+ghost use Rattle.worker.specs.Processed.{processed};
+
+use item_rows::ItemRows;
+use log_spec::Row;
+use part_log::{Names, Trail};
+use std::marker::Model;
+
+/// The rows of a walk's last item, for each output partition, with the items up to that one.
+/// Contracts see the walk and the rows.
+#[derive(Drop)]
+pub struct Results<Id: Names> {
+    trail: Trail<Id>,
+    rows: ItemRows,
+}
+
+impl<Id: Names> Model for Results<Id> {
+    ghost use Rattle.worker.specs.Walks.{AreRowsOfLast};
+    ghost use Rattle.worker.specs.Processed.{Processed, processed};
+
+    ghost Value = { Processed };
+
+    ghost view = { λ r. processed r.trail r.rows };
+
+    ghost invariant = { λ r. AreRowsOfLast Id.outputs r.trail r.rows };
+}
+
+impl<Id: Names> Results<Id> {
+    /// The rows of the last item of a trail.
+    pub(crate) fn new(trail: Trail<Id>, rows: ItemRows) -> Results<Id>
+        requires { AreRowsOfLast Id.outputs trail rows }
+        ensures { result ≡ processed trail rows }
+    {
+        Results { trail, rows }
+    }
+
+    /// Which input partition the item is of.
+    pub fn partition(&self) -> usize
+        ensures { result ≡ self.now.walk.partition }
+    {
+        self.trail.partition()
+    }
+
+    /// How many items there are up to that one.
+    pub fn len(&self) -> usize
+        ensures count { result ≡ length self.now.walk.items }
+        ensures few { result ≤ length (Id.cells self.now.walk.partition) }
+    {
+        self.trail.len()
+    }
+
+    /// The items up to that one.
+    pub fn trail(&self) -> &Trail<Id>
+        ensures { result.now ≡ self.now.walk }
+    {
+        &self.trail
+    }
+
+    /// The item's rows in an output partition.
+    pub fn rows(&self, output: usize) -> &[Row]
+        requires { output < Id.outputs }
+        ensures rows { result.now ≡ rows_in self.now.rows output }
+        ensures are { IsRowsAt self.now.walk.partition output Id.outputs self.now.walk.items (last self.now.walk.items) result.now }
+    {
+        self.rows.rows(output)
+    }
+}
