@@ -1,2 +1,3 @@
 pub mod FittingBatches
 pub mod LogLaws
+pub mod RowOrigins

@@ -1,0 +1,11 @@
+//! The rows of one output partition, from every input partition, with the items that they are of.
+#![tactic(auto)]
+
+mod book;
+mod fault;
+mod rows;
+mod sharing;
+
+pub use crate::book::{Book, Delivered};
+pub use crate::fault::BookFault;
+pub use crate::rows::Rows;
