@@ -57,42 +57,49 @@ fn if_fits(batch: Batch) -> Option<LoggedBatch> {
     }
 }
 
-/// Appends until the log is full; how many appends that were.
+/// Appends batches of the producer's own until that were so many, or the log is full; how many
+/// appends that were.
 fn fill<Id: Names, R: Wait>(
     rt: &R,
     alloc: Global,
     broker: &Broker<Id>,
     input: usize,
-    logged: &LoggedBatch,
-) -> u64 {
+    most: usize,
+) -> Result<u64, AllocError> {
+    let Some(logged) = if_fits(batch_of(alloc)?) else {
+        return Ok(0);
+    };
     let mut count = 0u64;
-    for _ in 0..MOST_CELLS {
-        let Ok(batch) = batch::share(alloc, logged.batch()) else {
-            break;
-        };
+    for _ in 0..most {
+        let batch = batch::share(alloc, logged.batch())?;
         if broker.append(rt, alloc, input, batch).is_err() {
             break;
         }
         count = count.wrapping_add(1);
     }
-    count
+    Ok(count)
 }
 
-/// How long the producers took, and how often they appended.
+fn nanos(took: Duration, appends: u64) -> f64 {
+    took.as_secs_f64() * 1_000_000_000.0 / nearest_u64_to_f64(appends)
+}
+
+/// What an append took while the producers filled their logs.
 fn turn<Id: Names + Send + Sync, R: Threads + Wait + Clock + Sync>(
     rt: &R,
     alloc: Global,
     parts: Parts,
     producers: usize,
-    logged: &LoggedBatch,
-) -> io::Result<(Duration, u64)>
+) -> io::Result<f64>
     requires cells { IsNamed Id.cells parts.cells }
     requires outputs { parts.outputs ≡ Id.outputs }
 {
     let made: Broker<Id> = Broker::new(alloc, parts)?;
     let broker = &made;
     let inputs = broker.inputs();
-    let producer = move |number: usize| -> u64 { fill(rt, alloc, broker, number % inputs, logged) };
+    let producer = move |number: usize| -> u64 {
+        fill(rt, alloc, broker, number % inputs, MOST_CELLS).unwrap_or(0)
+    };
     let start = Instant::now(rt)?;
     let counts = thread::map_indices(rt, alloc, producers, &producer)?;
     let took = start.elapsed(rt)?;
@@ -100,25 +107,10 @@ fn turn<Id: Names + Send + Sync, R: Threads + Wait + Clock + Sync>(
     for count in &counts {
         all = all.wrapping_add(*count);
     }
-    Ok((took, all))
+    Ok(nanos(took, all))
 }
 
-fn new_turn<R: Threads + Wait + Clock + Sync>(
-    rt: &R,
-    alloc: Global,
-    inputs: usize,
-    cells: usize,
-    producers: usize,
-    logged: &LoggedBatch,
-) -> io::Result<(Duration, u64)>
-    requires inputs { IsCount inputs }
-    requires cells { (1 ≤ cells) × (cells ≤ 65536) }
-{
-    let parts = Parts::new(alloc, inputs, 1, cells)?;
-    turn::<Brand, R>(rt, alloc, parts, producers, logged)
-}
-
-/// The shortest of so many turns, and what an append took in it.
+/// The least that an append took in a turn.
 fn measure<R: Threads + Wait + Clock + Print + Sync>(
     rt: &R,
     alloc: Global,
@@ -130,20 +122,44 @@ fn measure<R: Threads + Wait + Clock + Print + Sync>(
     requires inputs { IsCount inputs }
     requires cells { (1 ≤ cells) × (cells ≤ 65536) }
 {
-    let Some(logged) = if_fits(batch_of(alloc)?) else {
-        return Err(ErrorKind::InvalidData.into());
-    };
-    let mut shortest = Duration::MAX;
-    let mut appends = 0u64;
+    let mut least = f64::INFINITY;
     for _ in 0..turns {
-        let (took, count) = new_turn(rt, alloc, inputs, cells, producers, &logged)?;
-        shortest = shortest.min(took);
-        appends = count;
+        let parts = Parts::new(alloc, inputs, 1, cells)?;
+        least = least.min(turn::<Brand, R>(rt, alloc, parts, producers)?);
     }
-    let nanos = shortest.as_secs_f64() * 1_000_000_000.0 / nearest_u64_to_f64(appends);
     println!(rt;
-        "{producers} producers, {inputs} logs of {cells:6} cells: {nanos:7.1} ns an append, {:7.3} million appends/s",
-        1_000.0 / nanos
+        "{producers} producers, {inputs} logs of {cells:6} cells: {least:6.1} ns an append, {:7.3} million appends/s",
+        1_000.0 / least
+    )
+}
+
+/// What an append took among the first thousand of a log, and among its last thousand.
+fn ends<Id: Names, R: Wait + Clock>(rt: &R, alloc: Global, parts: Parts) -> io::Result<(f64, f64)>
+    requires cells { IsNamed Id.cells parts.cells }
+    requires outputs { parts.outputs ≡ Id.outputs }
+{
+    let broker: Broker<Id> = Broker::new(alloc, parts)?;
+    let start = Instant::now(rt)?;
+    let count = fill(rt, alloc, &broker, 0, 1_000)?;
+    let first = nanos(start.elapsed(rt)?, count);
+    fill(rt, alloc, &broker, 0, MOST_CELLS - 2_000)?;
+    let start = Instant::now(rt)?;
+    let count = fill(rt, alloc, &broker, 0, 1_000)?;
+    Ok((first, nanos(start.elapsed(rt)?, count)))
+}
+
+/// The least that an append took at both ends of a log.
+fn measure_ends<R: Wait + Clock + Print>(rt: &R, alloc: Global, turns: u32) -> io::Result<()> {
+    let mut first = f64::INFINITY;
+    let mut last = f64::INFINITY;
+    for _ in 0..turns {
+        let parts = Parts::new(alloc, 1, 1, MOST_CELLS)?;
+        let (early, late) = ends::<Brand, R>(rt, alloc, parts)?;
+        first = first.min(early);
+        last = last.min(late);
+    }
+    println!(rt;
+        "the first 1,000 of {MOST_CELLS}: {first:6.1} ns an append, the last 1,000: {last:6.1} ns"
     )
 }
 
@@ -152,6 +168,7 @@ fn measure_all<R: Threads + Wait + Clock + Print + Sync>(
     alloc: Global,
     turns: u32,
 ) -> io::Result<()> {
+    measure_ends(rt, alloc, turns)?;
     measure(rt, alloc, 1, 1_000, 1, turns)?;
     measure(rt, alloc, 1, 10_000, 1, turns)?;
     measure(rt, alloc, 1, MOST_CELLS, 1, turns)?;

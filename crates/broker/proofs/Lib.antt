@@ -1,1 +1,2 @@
+pub mod ItemOffsets
 pub mod NameFacts

@@ -1,5 +1,5 @@
 -- What a broker is made of.
-use Rattle.std.specs.Prelude.{◌≡◌, ℕ, ◌≤◌, List, length, Some, slice_get}
+use Rattle.std.specs.Prelude.{◌≡◌, ℕ, ◌≤◌, List, [], get_or, Some, slice_get}
 
 -- the names of the cells of each input partition, and how many output partitions there are
 pub record Layout : Type 0 where
@@ -13,9 +13,13 @@ layout cells outputs = record { cells = cells; outputs = outputs }
 abbrev pub IsCount : ℕ → Type 0
 IsCount n = (1 ≤ n) × (n ≤ 64)
 
--- the cells of each input partition have the names that are given to them
+-- the cells of each input partition have the names that are given to them, and past the last one there is none
 abbrev pub IsNamed : (ℕ → List ℕ) → List (List ℕ) → Type 0
-IsNamed names cells = (input : ℕ) (here : List ℕ) → slice_get cells input ≡ Some here → here ≡ names input
+IsNamed names cells = (input : ℕ) → names input ≡ get_or cells input []
+
+-- past the last input partition no cell is named
+abbrev pub IsWhole : (ℕ → List ℕ) → ℕ → Type 0
+IsWhole names inputs = (input : ℕ) → inputs ≤ input → names input ≡ []
 
 -- the log at each place is that of the input partition with this number
 abbrev pub IsNumbered : List ℕ → Type 0

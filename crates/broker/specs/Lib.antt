@@ -1,2 +1,4 @@
 pub mod Answers
+pub mod Audits
+pub mod ItemRanges
 pub mod Layouts

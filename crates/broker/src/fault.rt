@@ -1,3 +1,4 @@
+use out_book::BookFault;
 use part_log::LogFault;
 use thiserror::Error;
 
@@ -16,4 +17,7 @@ pub enum BrokerFault {
     /// The log refuses it.
     #[error("{0}")]
     Log(LogFault),
+    /// The book refuses it.
+    #[error("{0}")]
+    Book(BookFault),
 }
