@@ -1,9 +1,11 @@
 pub mod Annotations
+pub mod BestAnnotation
 pub mod Edges
 pub mod Faults
 pub mod Immediates
 pub mod Intervals
 pub mod Joins
+pub mod JoinedStates
 pub mod Loads
 pub mod Monotone
 pub mod Narrowing

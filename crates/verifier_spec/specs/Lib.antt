@@ -5,6 +5,7 @@ pub mod Checks
 pub mod Transfer
 pub mod Joins
 pub mod Annotation
+pub mod JoinedStates
 pub mod Forward
 pub mod StandsFor
 pub mod Run
