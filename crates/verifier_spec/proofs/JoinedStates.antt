@@ -64,13 +64,13 @@ edge_right j state note =
 
 pub edge_least : (j : ℕ) (target : Option ℕ) (state note outer : Option Abstract) → is_edge_covered note outer ≡ true
     → (target ≡ Some j → is_edge_covered state outer ≡ true) → is_edge_covered (with_edge j target state note) outer ≡ true
-edge_least j None state note outer h g = h
-edge_least j (Some target) state note outer h g =
+edge_least j None state known outer h g = h
+edge_least j (Some target) state known outer h g =
     elim (cases_Bool (target == j)) [
       | inl same ↦
-          subst (λ o. is_edge_covered o outer ≡ true) (sym (cond-true (target == j) (joined_notes note state) note same))
-          (notes_least note state outer h (g (ap (λ (k : ℕ). Some k) (eqb-true target j same))))
-      | inr other ↦ subst (λ o. is_edge_covered o outer ≡ true) (sym (cond-false (target == j) (joined_notes note state) note other)) h
+          subst (λ o. is_edge_covered o outer ≡ true) (sym (cond-true (target == j) (joined_notes known state) known same))
+          (notes_least known state outer h (g (ap (λ (k : ℕ). Some k) (eqb-true target j same))))
+      | inr other ↦ subst (λ o. is_edge_covered o outer ≡ true) (sym (cond-false (target == j) (joined_notes known state) known other)) h
     ]
 
 -- ---- what is known grows

@@ -6,7 +6,6 @@ pub mod Transfer
 pub mod Joins
 pub mod Annotation
 pub mod JoinedStates
-pub mod Forward
 pub mod StandsFor
 pub mod Run
 pub mod Soundness
