@@ -6,7 +6,7 @@ use Rattle.machine_spec.specs.declared.instruction.Placed.{Placed}
 use Rattle.machine_spec.specs.Image.{read_image}
 use Rattle.verifier_spec.specs.declared.fault.VerifyFault.{VerifyFault}
 use Rattle.verifier_spec.specs.Annotation.{Notes, fault_of}
-use Rattle.verifier_spec.specs.Forward.{passed_on}
+use Rattle.verifier_spec.specs.JoinedStates.{joined_states}
 use Rattle.verifier_spec.specs.declared.fault.LoadFault.TheVariants.{Isa}
 use Rattle.verifier_spec.specs.Loading.{load_fault, code_fault, verify_fault}
 use Rattle.bpf_isa.specs.Code.{Answers}
@@ -25,7 +25,7 @@ pub isa_fault : (image : List ℕ) (f : IsaFault) → Answers (Err f) (read_imag
 unfolding load_fault
 isa_fault image f h ne = ap code_fault (refused_reading f (read_image image) h ne)
 
-pub noted_fault : (image : List ℕ) (code : List Placed) (notes : Notes) (fault : Option VerifyFault) → read_image image ≡ Ok code → notes ≡ passed_on code → fault_of code notes ≡ fault
+pub noted_fault : (image : List ℕ) (code : List Placed) (notes : Notes) (fault : Option VerifyFault) → read_image image ≡ Ok code → notes ≡ joined_states code → fault_of code notes ≡ fault
     → load_fault image ≡ verify_fault fault
 unfolding load_fault
 noted_fault image code notes fault read e h =

@@ -1,2 +1,3 @@
-pub mod Passing
 pub mod Answered
+pub mod Best
+pub mod Passing

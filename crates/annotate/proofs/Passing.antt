@@ -1,15 +1,19 @@
--- Notes that a pass in code order finds.
-use Rattle.std.proofs.Common.{◌≡◌, ℕ, zero, suc, ◌+◌, ◌<◌, ◌≤◌, List, [], ◌∷◌, length, get_or, set, drop, Option, Some, None, refl, ap, ◌∙◌, arith}
-use Rattle.std.specs.Prelude.{slice_get, is_none, cond, true, false}
-use Rattle.verifier_spec.specs.declared.state.Abstract.{Abstract}
+-- Lists of notes, and what one instruction of a pass changes.
+use Rattle.std.proofs.Common.{◌≡◌, ◌≢◌, ℕ, zero, suc, ◌+◌, ◌<◌, ◌≤◌, min, true, false, ◌==◌, List, [], ◌∷◌, length, get_or, set, slice_get, replicate, Option, Some, None, refl, sym, ap, ◌∙◌, subst, inl, inr, arith, length-set}
+use Rattle.std.proofs.lemmas.Bool.{cond-true, cond-false, cases_eq, eq-eqb, eqb-true, cases_Bool, cases_lt}
+use Rattle.std.proofs.lemmas.Option.{slice_get_within}
+use Rattle.std.specs.Prelude.{IfSome}
+use Rattle.std.proofs.lemmas.List.{length-replicate}
 use Rattle.machine_spec.specs.declared.instruction.Placed.{Placed}
-use Rattle.machine_spec.specs.Image.{target_of}
+use Rattle.verifier_spec.specs.declared.state.Abstract.{Abstract}
 use Rattle.verifier_spec.specs.Annotation.{Notes, note_at}
-use Rattle.verifier_spec.specs.declared.fault.Check.{Check}
+use Rattle.verifier_spec.specs.JoinedStates.{joined_notes, with_edge, with_edges, if_passed, with_instruction, known_after, joined_states}
+use Rattle.verifier_spec.specs.States.{is_proper, entry_state}
 use Rattle.verifier_spec.specs.Checks.{failed_check, jump_of}
 use Rattle.verifier_spec.specs.Transfer.{falls_to, jumps_to}
-use Rattle.verifier_spec.specs.Forward.{brought, bring_if, both_brought, passed_one, passed_from}
-use Rattle.std.proofs.Math.ListN.{length-set, drop_of_length-le}
+use Rattle.machine_spec.specs.Image.{target_of}
+use Rattle.verifier_spec.proofs.JoinedStates.{length-joined_states, note_joined}
+use Rattle.annotate.specs.Passing.{EachIs, IsPassed}
 
 pub note_at-get_or : (notes : Notes) (k : ℕ) (d : Option Abstract) → k < length notes → note_at notes k ≡ get_or notes k d
 note_at-get_or [] k d lt = absurd (omega arith)
@@ -18,50 +22,154 @@ note_at-get_or (first ∷ notes) (suc k) d lt =
     let below : k < length notes = omega arith in
     note_at-get_or notes k d below
 
-pub set-past : (notes : Notes) (k : ℕ) (new : Option Abstract) → length notes ≤ k → set notes k new ≡ notes
-set-past [] k new le = refl
-set-past (first ∷ notes) zero new le = absurd (omega arith)
-set-past (first ∷ notes) (suc k) new le =
-    let below : length notes ≤ k = omega arith in
-    ap (λ (rest : Notes). first ∷ rest) (set-past notes k new below)
+pub note_at-set : (notes : Notes) (k : ℕ) (new : Option Abstract) → k < length notes → note_at (set notes k new) k ≡ new
+note_at-set [] k new lt = absurd (omega arith)
+note_at-set (first ∷ notes) zero new lt = refl
+note_at-set (first ∷ notes) (suc k) new lt = note_at-set notes k new (omega arith)
 
--- nothing is brought past the end
-pub brought-past : (notes : Notes) (k : ℕ) (s : Abstract) → length notes ≤ k → brought notes (Some k) (Some s) ≡ notes
-brought-past notes k s le = rw (set-past notes k (Some s) le) (elim (is_none (note_at notes k)) as (λ b. cond b notes notes ≡ notes) [ true ↦ refl | false ↦ refl ])
+pub note_at-set_other : (notes : Notes) (k j : ℕ) (new : Option Abstract) → j ≢ k → note_at (set notes k new) j ≡ note_at notes j
+note_at-set_other [] k j new other = refl
+note_at-set_other (first ∷ notes) zero zero new other = absurd (other refl)
+note_at-set_other (first ∷ notes) zero (suc j) new other = refl
+note_at-set_other (first ∷ notes) (suc k) zero new other = refl
+note_at-set_other (first ∷ notes) (suc k) (suc j) new other = note_at-set_other notes k j new (λ same. other (ap (λ (n : ℕ). suc n) same))
 
--- one instruction passed
-pub passed-next : (code : List Placed) (notes : Notes) (rest : List Placed) (k : ℕ) (placed : Placed) → slice_get rest k ≡ Some placed
-    → drop k rest ≡ placed ∷ drop (k + 1) rest
-passed-next code notes [] k placed e = absurd cc
-passed-next code notes (first ∷ rest) zero placed e =
-    let same : first ≡ placed = cc in
-    ap (λ (p : Placed). p ∷ rest) same
-passed-next code notes (first ∷ rest) (suc k) placed e =
-    let more : suc k + 1 ≡ suc (k + 1) = omega arith in
-    rw more (passed-next code notes rest k placed e)
+pub same_notes : (a b : Notes) → length a ≡ length b → ((j : ℕ) → j < length a → note_at a j ≡ note_at b j) → a ≡ b
+same_notes [] [] long each = refl
+same_notes [] (y ∷ b) long each = absurd (omega arith)
+same_notes (x ∷ a) [] long each = absurd (omega arith)
+same_notes (x ∷ a) (y ∷ b) long each =
+    let first : x ≡ y = each 0 (omega arith) in
+    let rest : a ≡ b = same_notes a b (omega arith) (λ j under. each (suc j) (omega arith)) in
+    cc
 
-pub passed-step : (code : List Placed) (notes : Notes) (k : ℕ) (placed : Placed) → slice_get code k ≡ Some placed
-    → passed_from code notes k (drop k code) ≡ passed_from code (passed_one code notes k placed (note_at notes k)) (k + 1) (drop (k + 1) code)
-passed-step code notes k placed e = ap (λ (rest : List Placed). passed_from code notes k rest) (passed-next code notes code k placed e)
+not_eq : (x y : ℕ) → x ≢ y → (x == y) ≡ false
+not_eq x y other = elim (cases_Bool (x == y)) [
+  | inl same ↦ absurd (other (eqb-true x y same))
+  | inr apart ↦ apart
+]
 
--- ---- the length stays
+other_note : (notes : Notes) (k : ℕ) (s : Abstract) (j : ℕ) → j ≢ k → with_edge j (Some k) (Some s) (note_at notes j) ≡ note_at notes j
+other_note notes k s j other =
+    elim (cases_Bool (k == j)) [
+      | inl same ↦ absurd (other (sym (eqb-true k j same)))
+      | inr apart ↦ cond-false (k == j) (joined_notes (note_at notes j) (Some s)) (note_at notes j) apart
+    ]
 
-length-brought : (notes : Notes) (target : Option ℕ) (state : Option Abstract) → length (brought notes target state) ≡ length notes
-length-brought notes None state = refl
-length-brought notes (Some k) None = refl
-length-brought notes (Some k) (Some s) =
-    elim (is_none (note_at notes k)) as (λ b. length (cond b (set notes k (Some s)) notes) ≡ length notes) [ true ↦ length-set notes k (Some s) | false ↦ refl ]
+-- one note joined
+pub brought : (notes : Notes) (k : ℕ) (s new : Abstract) → k < length notes → Some new ≡ joined_notes (note_at notes k) (Some s)
+    → (j : ℕ) → note_at (set notes k (Some new)) j ≡ with_edge j (Some k) (Some s) (note_at notes j)
+brought notes k s new inside is j = elim (cases_eq j k) [
+  | inl same ↦
+      let P : ℕ → Type 0 = λ n. note_at (set notes k (Some new)) n ≡ with_edge n (Some k) (Some s) (note_at notes n) in
+      subst P (sym same) (note_at-set notes k (Some new) inside ∙ is ∙ sym (cond-true (k == k) (joined_notes (note_at notes k) (Some s)) (note_at notes k) (eq-eqb k k refl)))
+  | inr other ↦ note_at-set_other notes k j (Some new) other ∙ sym (other_note notes k s j other)
+]
 
-bring_if-length : (failed : Option Check) (notes more : Notes) → length more ≡ length notes → length (bring_if failed notes more) ≡ length notes
-bring_if-length (Some _) notes more e = refl
-bring_if-length None notes more e = e
+-- ---- the pass
 
-pub length-passed_one : (code : List Placed) (notes : Notes) (k : ℕ) (placed : Placed) (state : Option Abstract) → length (passed_one code notes k placed state) ≡ length notes
-length-passed_one code notes k placed None = refl
-length-passed_one code notes k placed (Some s) =
-    let first = brought notes (Some (k + 1)) (falls_to placed.instruction s) in
-    bring_if-length (failed_check placed.instruction s) notes (both_brought code notes k placed s)
-    (length-brought first (target_of code placed.slot (jump_of placed.instruction)) (jumps_to placed.instruction s) ∙ length-brought notes (Some (k + 1)) (falls_to placed.instruction s))
+pub note_at-replicate : (n j : ℕ) → note_at (replicate n None) j ≡ None
+note_at-replicate zero j = refl
+note_at-replicate (suc n) zero = refl
+note_at-replicate (suc n) (suc j) = note_at-replicate n j
 
-pub passed-end : (code : List Placed) (notes : Notes) (k : ℕ) → length code ≤ k → passed_from code notes k (drop k code) ≡ notes
-passed-end code notes k le = ap (λ (rest : List Placed). passed_from code notes k rest) (drop_of_length-le code le)
+first_note : (code : List Placed) (n j : ℕ) → 0 < n → note_at (set (replicate n None) 0 (Some entry_state)) j ≡ known_after code 0 j
+unfolding known_after
+first_note code n j some = elim (cases_eq j 0) [
+  | inl first ↦
+      let P : ℕ → Type 0 = λ i. note_at (set (replicate n None) 0 (Some entry_state)) i ≡ known_after code 0 i in
+      let long : 0 < length (replicate {A = Option Abstract} n None) = omega (arith, length-replicate {A = Option Abstract} n None) in
+      subst P (sym first) (note_at-set (replicate n None) 0 (Some entry_state) long)
+  | inr later ↦
+      note_at-set_other (replicate n None) 0 j (Some entry_state) later ∙ note_at-replicate n j
+      ∙ sym (cond-false (j == 0) (Some entry_state) None (not_eq j 0 later))
+]
+
+pub first_passed : (code : List Placed) → 0 < length code → IsPassed code (set (replicate (length code) None) 0 (Some entry_state)) 0
+first_passed code some = record {
+  long = length-set (replicate (length code) None) 0 (Some entry_state) ∙ length-replicate {A = Option Abstract} (length code) None;
+  each = λ j under.
+      let none : 0 ≡ min 0 j = omega arith in
+      first_note code (length code) j some ∙ ap (λ (k : ℕ). known_after code k j) none;
+  proper = λ i s under e. absurd (omega (arith, under));
+}
+
+-- an edge that leads elsewhere changes nothing
+edge_elsewhere : (j : ℕ) (target : Option ℕ) (state note : Option Abstract) → ((t : ℕ) → target ≡ Some t → t ≢ j) → with_edge j target state note ≡ note
+edge_elsewhere j None state known elsewhere = refl
+edge_elsewhere j (Some t) state known elsewhere = cond-false (t == j) (joined_notes known state) known (not_eq t j (elsewhere t refl))
+
+module _ (code : List Placed) (k : ℕ) (placed : Placed) (at : slice_get code k ≡ Some placed)
+    (later : (t : ℕ) → target_of code placed.slot (jump_of placed.instruction) ≡ Some t → k < t) where
+  -- what stands before an instruction stays
+  earlier_stays : (j : ℕ) (own known : Option Abstract) → j ≤ k → with_instruction code j k (Some placed) own known ≡ known
+  earlier_stays j None known le = refl
+  earlier_stays j (Some s) known le =
+      let target = target_of code placed.slot (jump_of placed.instruction) in
+      let fallen = with_edge j (Some (k + 1)) (falls_to placed.instruction s) known in
+      let next : (t : ℕ) → Some (k + 1) ≡ Some t → t ≢ j =
+      λ t e same.
+      let is : k + 1 ≡ t = cc in
+      omega (arith, is, same, le) in
+      let further : (t : ℕ) → target ≡ Some t → t ≢ j =
+      λ t e same.
+      let is : k < t = later t e in
+      omega (arith, is, same, le) in
+      elim (failed_check placed.instruction s) as (λ failed. if_passed failed known (with_edges code j k placed s known) ≡ known) [
+        | Some _ ↦ refl
+        | None ↦ edge_elsewhere j target (jumps_to placed.instruction s) fallen further ∙ edge_elsewhere j (Some (k + 1)) (falls_to placed.instruction s) known next
+      ]
+
+  later_known : (j : ℕ) → with_instruction code j k (Some placed) (known_after code k k) (known_after code k j) ≡ known_after code (suc k) j
+  unfolding known_after
+  later_known j = ap (λ (o : Option Placed). with_instruction code j k o (known_after code k k) (known_after code k j)) (sym at)
+
+  module _ (states next : Notes) (own : Option Abstract) (is_own : own ≡ note_at states k) (passed : IsPassed code states k) (long : length next ≡ length states)
+      (each : EachIs next (λ j. with_instruction code j k (Some placed) own (note_at states j))) (proper : IfSome own (λ s. is_proper s ≡ true)) where
+    own_known : own ≡ known_after code k k
+    own_known =
+        let both : min k k ≡ k = omega arith in
+        let below : k < length states = omega (arith, slice_get_within code k placed at, passed.long) in
+        is_own ∙ passed.each k below ∙ ap (λ (n : ℕ). known_after code n k) both
+
+    each_known : (j : ℕ) → j < length next → note_at next j ≡ known_after code (min (k + 1) j) j
+    each_known j under =
+        let below : j < length states = omega (arith, under, long) in
+        let one = each j under in
+        let two = ap (λ (note : Option Abstract). with_instruction code j k (Some placed) own note) (passed.each j below) in
+        elim (cases_lt k j) [
+          | inl after ↦
+              let old : min k j ≡ k = omega (arith, after) in
+              let new : suc k ≡ min (k + 1) j = omega (arith, after) in
+              one ∙ two ∙ ap (λ (n : ℕ). with_instruction code j k (Some placed) own (known_after code n j)) old
+              ∙ ap (λ (o : Option Abstract). with_instruction code j k (Some placed) o (known_after code k j)) own_known
+              ∙ later_known j
+              ∙ ap (λ (n : ℕ). known_after code n j) new
+          | inr before ↦
+              let same : min k j ≡ min (k + 1) j = omega (arith, before) in
+              one ∙ two ∙ earlier_stays j own (known_after code (min k j) j) before ∙ ap (λ (n : ℕ). known_after code n j) same
+        ]
+
+    own_proper : (s : Abstract) → own ≡ Some s → is_proper s ≡ true
+    own_proper s e = subst (λ (o : Option Abstract). IfSome o (λ t. is_proper t ≡ true)) e proper
+
+    pub passed_next : IsPassed code next (k + 1)
+    passed_next = record {
+      long = long ∙ passed.long;
+      each = each_known;
+      proper = λ i s under e. elim (cases_eq i k) [
+        | inl last ↦ own_proper s (own_known ∙ ap (λ (n : ℕ). known_after code n n) (sym last) ∙ e)
+        | inr other ↦ passed.proper i s (omega (arith, under, other)) e
+      ];
+    }
+
+-- after the whole pass
+pub all_passed : (code : List Placed) (states : Notes) → IsPassed code states (length code) → states ≡ joined_states code
+all_passed code states passed =
+    same_notes states (joined_states code) (passed.long ∙ sym (length-joined_states code)) (λ j under.
+    let below : j < length code = omega (arith, under, passed.long) in
+    let is : min (length code) j ≡ j = omega (arith, below) in
+    passed.each j under ∙ ap (λ (n : ℕ). known_after code n j) is ∙ sym (note_joined code j below))
+
+pub passed_all : (code : List Placed) (states : Notes) (k : ℕ) → k ≡ length code → IsPassed code states k → states ≡ joined_states code
+passed_all code states k all passed = all_passed code states (subst (λ n. IsPassed code states n) all passed)

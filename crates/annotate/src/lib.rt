@@ -2,7 +2,7 @@
 //! annotations then decides on.
 #![tactic(auto)]
 
-mod forward;
+mod joined_states;
 mod loader;
 
 pub use loader::load;

@@ -1,25 +1,27 @@
 ghost use Rattle.std.specs.Prelude.{IfErr};
-ghost use Rattle.annotate.specs.Loads.{Loads, IsAtStart};
+ghost use Rattle.annotate.specs.Loads.{Loads, IsUnannotated, IsAtStart};
 
-use crate::forward::passed_on;
+use crate::joined_states::joined_states;
 use bpf_isa::decode;
 use notes::{Check, Verified, VerifyFault};
 use std::alloc::Global;
 use verifier_spec::LoadFault;
 
-/// The verified program of an image: its instructions, each with the abstract state that the first
-/// edge in code order brings to it. Where a second edge brings more, the list of states is no
-/// annotation and is refused as such.
+/// The verified program of an image: its instructions, each with the least abstract state above all
+/// that the edges of reached instructions before it bring. Every image that has an annotation is
+/// accepted, memory aside, and the states are then within those of every annotation.
 ///
-/// It fails with the image's first refusal, and then with the first check that the lowest faulty
-/// instruction fails; where memory runs out, as `IsaFault::Memory` or as `Check::Memory` at 0.
+/// It fails with the image's first refusal, and then, where there is no annotation, with the first
+/// check that the lowest faulty instruction fails in its joined state; where memory runs out, as
+/// `IsaFault::Memory` or as `Check::Memory` at 0.
 pub fn load(alloc: Global, image: &[u8]) -> Result<Verified, LoadFault>
     ensures answer { Loads image.now result }
+    ensures unannotated { IfErr result (IsUnannotated image.now) }
     ensures memory { IfErr result IsAtStart }
 {
     match decode(alloc, image) {
         Err(fault) => Err(LoadFault::Isa(fault)),
-        Ok(code) => match passed_on(alloc, &code) {
+        Ok(code) => match joined_states(alloc, &code) {
             Err(_) => Err(LoadFault::Verify(VerifyFault {
                 pc: 0,
                 kind: Check::Memory,

@@ -1,8 +1,10 @@
 pub mod Annotations
+pub mod BestAnnotation
 pub mod Edges
 pub mod Faults
 pub mod Intervals
 pub mod Joins
+pub mod JoinedStates
 pub mod Loads
 pub mod Monotone
 pub mod Narrowing

@@ -5,7 +5,7 @@ pub mod Checks
 pub mod Transfer
 pub mod Joins
 pub mod Annotation
-pub mod Forward
+pub mod JoinedStates
 pub mod StandsFor
 pub mod Run
 pub mod Soundness

@@ -7,14 +7,14 @@ use Rattle.verifier_spec.specs.declared.fault.VerifyFault.{VerifyFault}
 use Rattle.verifier_spec.specs.declared.fault.LoadFault.{LoadFault}
 use Rattle.verifier_spec.specs.declared.fault.LoadFault.TheVariants.{Isa, Verify}
 use Rattle.verifier_spec.specs.Annotation.{fault_of}
-use Rattle.verifier_spec.specs.Forward.{passed_on}
+use Rattle.verifier_spec.specs.JoinedStates.{joined_states}
 
 abbrev pub verify_fault : Option VerifyFault → Option LoadFault
 verify_fault (Some fault) = Some (Verify fault)
 verify_fault None = None
 
 abbrev pub code_fault : Result (List Placed) IsaFault → Option LoadFault
-code_fault (Ok code) = verify_fault (fault_of code (passed_on code))
+code_fault (Ok code) = verify_fault (fault_of code (joined_states code))
 code_fault (Err fault) = Some (Isa fault)
 
 -- It does not decode, or the notes that one pass finds are no annotation.

@@ -1,0 +1,121 @@
+ghost use Rattle.std.specs.Prelude.{◌≡◌, ◌<◌, true, length, IfOk, IfSome, slice_set, replicate, Some, None};
+ghost use Rattle.verifier_spec.specs.States.{is_proper, entry_state};
+ghost use Rattle.verifier_spec.specs.Annotation.{note_at};
+ghost use Rattle.verifier_spec.specs.JoinedStates.{joined_notes, with_edge, with_edges, with_instruction, known_after, joined_states};
+ghost use Rattle.verifier_spec.specs.Checks.{failed_check};
+ghost use Rattle.verifier_spec.proofs.BestAnnotation.{AreJoinedProper};
+ghost use Rattle.annotate.specs.Passing.{EachIs, IsPassed};
+
+use abstract_regs::State;
+use bpf_isa::Code;
+use machine_spec::{MAX_SLOTS, Placed, Summary};
+use std::alloc::{AllocError, Global};
+
+/// The state of an instruction, if it is reached.
+fn note_of(states: &[Option<State>], k: usize) -> Option<State>
+    requires { k < length states.now }
+    ensures { result ≡ note_at states.now k }
+{
+    states[k]
+}
+
+/// The least state above what is known of an instruction, if anything, and one more state.
+fn joined_note(known: Option<State>, state: State) -> State
+    ensures { Some result ≡ joined_notes known (Some state) }
+{
+    match known {
+        Some(known) => known.join(&state),
+        None => state,
+    }
+}
+
+/// Joins a state to what is known of an instruction, if there is an instruction with this number.
+fn bring(states: &mut [Option<State>], target: usize, state: State)
+    ensures length { length states.new ≡ length states.old }
+    ensures each { EachIs states.new (λ j. with_edge j (Some target) (Some state) (note_at states.old j)) }
+{
+    if target < states.len() {
+        states[target] = Some(joined_note(note_of(states, target), state));
+    }
+}
+
+/// Joins what an edge brings, if it brings a state and leads to an instruction.
+fn bring_along(states: &mut [Option<State>], target: Option<usize>, state: Option<State>)
+    ensures length { length states.new ≡ length states.old }
+    ensures each { EachIs states.new (λ j. with_edge j target state (note_at states.old j)) }
+{
+    if let Some(target) = target
+        && let Some(state) = state
+    {
+        bring(states, target, state);
+    }
+}
+
+/// Joins what both edges of an instruction bring, the one to the next instruction first.
+fn bring_both(code: &Code, states: &mut [Option<State>], k: usize, placed: Placed, state: State)
+    requires slot { placed.slot < MAX_SLOTS }
+    requires number { k < MAX_SLOTS }
+    requires passes { failed_check placed.instruction state ≡ None }
+    ensures length { length states.new ≡ length states.old }
+    ensures each { EachIs states.new (λ j. with_edges code.now j k placed state (note_at states.old j)) }
+{
+    let edges = state.transfer(placed.instruction);
+    bring_along(states, Some(k + 1), edges.next);
+    let jump = Summary::of(placed.instruction).jump;
+    bring_along(states, code.target(placed.slot, jump), edges.jump);
+}
+
+/// Passes an instruction with its own note: it brings nothing where it is not reached or fails a
+/// check.
+fn pass_one(
+    code: &Code,
+    states: &mut [Option<State>],
+    k: usize,
+    placed: Placed,
+    note: Option<State>,
+)
+    requires slot { placed.slot < MAX_SLOTS }
+    requires number { k < MAX_SLOTS }
+    ensures length { length states.new ≡ length states.old }
+    ensures each { EachIs states.new (λ j. with_instruction code.now j k (Some placed) note (note_at states.old j)) }
+    ensures proper { IfSome note (λ s. is_proper s ≡ true) }
+{
+    if let Some(state) = note {
+        if state.check(placed.instruction).is_none() {
+            bring_both(code, states, k, placed, state);
+        }
+    }
+}
+
+/// The entry state alone.
+fn first_states(alloc: Global, len: usize) -> Result<Vec<Option<State>>, AllocError>
+    requires { 0 < len }
+    ensures { IfOk result (λ v. v.items ≡ slice_set (replicate len None) 0 (Some entry_state)) }
+{
+    let mut states = vec![in alloc; None; len]?;
+    states[0] = Some(State::entry());
+    Ok(states)
+}
+
+/// One pass in code order, which begins with the entry state alone.
+fn pass(code: &Code, states: &mut [Option<State>])
+    requires { states.old ≡ slice_set (replicate (length code.now) None) 0 (Some entry_state) }
+    ensures states { states.new ≡ joined_states code.now }
+    ensures proper { AreJoinedProper code.now }
+{
+    for k in 0..code.len() {
+        let note = note_of(states, k);
+        pass_one(code, states, k, code.get(k), note);
+    }
+}
+
+/// The joined states of code: at each instruction the least state above all that the edges of
+/// reached instructions before it bring.
+pub fn joined_states(alloc: Global, code: &Code) -> Result<Vec<Option<State>>, AllocError>
+    ensures states { IfOk result (λ states. states.items ≡ joined_states code.now) }
+    ensures proper { IfOk result (λ _. AreJoinedProper code.now) }
+{
+    let mut states = first_states(alloc, code.len())?;
+    pass(code, &mut states);
+    Ok(states)
+}

@@ -1,0 +1,158 @@
+-- The joined states: they are within every annotation's, and an annotation themselves where there is one.
+use Rattle.std.proofs.Common.{◌≡◌, ◌≢◌, ℕ, zero, suc, ◌+◌, ◌<◌, ◌≤◌, ℤ, pos, Bool, true, false, not, cond, ◌==◌, ◌&&◌, int_lt, List, [], ◌∷◌, ◌++◌, length, slice_get, Option, Some, None, is_none, refl, sym, ap, ◌∙◌, subst, inl, inr, arith, add-one}
+use Rattle.std.proofs.lemmas.Bool.{and_parts, and_from, cond-true, cond-false, cases_Bool, cases_eq, cases_lt, eq-eqb, eqb-true, false≢true, true≢false, not-false}
+use Rattle.std.proofs.lemmas.Option.{none-some, slice_get_within}
+use Rattle.machine_spec.specs.declared.instruction.Instruction.{Instruction}
+use Rattle.machine_spec.specs.declared.instruction.Instruction.TheVariants.{Exit}
+use Rattle.machine_spec.specs.declared.instruction.Placed.{Placed}
+use Rattle.machine_spec.specs.Image.{target_of}
+use Rattle.machine_spec.specs.Summaries.{summary_of}
+use Rattle.machine_spec.specs.Traps.{first_of}
+use Rattle.machine_spec.proofs.Meanings.{exit_is}
+use Rattle.verifier_spec.specs.declared.state.Abstract.{Abstract}
+use Rattle.verifier_spec.specs.declared.fault.Check.{Check}
+use Rattle.verifier_spec.specs.States.{is_proper, is_within, entry_state}
+use Rattle.verifier_spec.specs.Checks.{failed_check, jump_of, shape_checks, leads_nowhere, leads_back, runs_off}
+use Rattle.verifier_spec.specs.Transfer.{falls_to, jumps_to, jump_edge}
+use Rattle.verifier_spec.specs.Joins.{joined}
+use Rattle.verifier_spec.specs.Annotation.{Notes, note_at, note_of, is_edge_covered, are_edges_covered, IsAnnotation}
+use Rattle.verifier_spec.specs.JoinedStates.{joined_notes, with_edge, with_edges, if_passed, with_instruction, known_after, states_from, joined_states}
+use Rattle.verifier_spec.proofs.Joins.{within_refl, within_trans, within_joined_left, within_joined_right, joined_least}
+use Rattle.verifier_spec.proofs.Monotone.{check_monotone, falls_monotone, jumps_monotone}
+
+-- ---- the order of notes
+
+pub covered_refl : (a : Option Abstract) → is_edge_covered a a ≡ true
+covered_refl None = refl
+covered_refl (Some a) = within_refl a
+
+pub covered_trans : (a b c : Option Abstract) → is_edge_covered a b ≡ true → is_edge_covered b c ≡ true → is_edge_covered a c ≡ true
+covered_trans None b c h g = refl
+covered_trans (Some a) None c h g = absurd (false≢true h)
+covered_trans (Some a) (Some b) None h g = absurd (false≢true g)
+covered_trans (Some a) (Some b) (Some c) h g = within_trans a b c h g
+
+pub notes_left : (a b : Option Abstract) → is_edge_covered a (joined_notes a b) ≡ true
+notes_left None b = refl
+notes_left (Some a) None = within_refl a
+notes_left (Some a) (Some b) = within_joined_left a b
+
+pub notes_right : (a b : Option Abstract) → is_edge_covered b (joined_notes a b) ≡ true
+notes_right None b = covered_refl b
+notes_right (Some a) None = refl
+notes_right (Some a) (Some b) = within_joined_right a b
+
+pub notes_least : (a b c : Option Abstract) → is_edge_covered a c ≡ true → is_edge_covered b c ≡ true → is_edge_covered (joined_notes a b) c ≡ true
+notes_least None b c h g = g
+notes_least (Some a) None c h g = h
+notes_least (Some a) (Some b) None h g = absurd (false≢true h)
+notes_least (Some a) (Some b) (Some c) h g = joined_least a b c h g
+
+-- ---- one edge
+
+edge_left : (j : ℕ) (target : Option ℕ) (state note : Option Abstract) → is_edge_covered note (with_edge j target state note) ≡ true
+edge_left j None state note = covered_refl note
+edge_left j (Some target) state note =
+    elim (target == j) as (λ same. is_edge_covered note (cond same (joined_notes note state) note) ≡ true) [
+      | true ↦ notes_left note state
+      | false ↦ covered_refl note
+    ]
+
+edge_right : (j : ℕ) (state note : Option Abstract) → is_edge_covered state (with_edge j (Some j) state note) ≡ true
+edge_right j state note =
+    subst (λ o. is_edge_covered state o ≡ true) (sym (cond-true (j == j) (joined_notes note state) note (eq-eqb j j refl))) (notes_right note state)
+
+pub edge_least : (j : ℕ) (target : Option ℕ) (state note outer : Option Abstract) → is_edge_covered note outer ≡ true
+    → (target ≡ Some j → is_edge_covered state outer ≡ true) → is_edge_covered (with_edge j target state note) outer ≡ true
+edge_least j None state known outer h g = h
+edge_least j (Some target) state known outer h g =
+    elim (cases_Bool (target == j)) [
+      | inl same ↦
+          subst (λ o. is_edge_covered o outer ≡ true) (sym (cond-true (target == j) (joined_notes known state) known same))
+          (notes_least known state outer h (g (ap (λ (k : ℕ). Some k) (eqb-true target j same))))
+      | inr other ↦ subst (λ o. is_edge_covered o outer ≡ true) (sym (cond-false (target == j) (joined_notes known state) known other)) h
+    ]
+
+-- ---- what is known grows
+
+module _ (code : List Placed) where
+  with_grows : (j k : ℕ) (at : Option Placed) (own note : Option Abstract) → is_edge_covered note (with_instruction code j k at own note) ≡ true
+  with_grows j k None own note = covered_refl note
+  with_grows j k (Some placed) None note = covered_refl note
+  with_grows j k (Some placed) (Some s) note =
+      let target = target_of code placed.slot (jump_of placed.instruction) in
+      let fallen = with_edge j (Some (k + 1)) (falls_to placed.instruction s) note in
+      elim (failed_check placed.instruction s) as (λ failed. is_edge_covered note (if_passed failed note (with_edges code j k placed s note)) ≡ true) [
+        | Some _ ↦ covered_refl note
+        | None ↦
+            covered_trans note fallen (with_edges code j k placed s note) (edge_left j (Some (k + 1)) (falls_to placed.instruction s) note)
+            (edge_left j target (jumps_to placed.instruction s) fallen)
+      ]
+
+  grows : (k j : ℕ) → is_edge_covered (known_after code k j) (known_after code (suc k) j) ≡ true
+  unfolding known_after
+  grows k j = with_grows j k (slice_get code k) (known_after code k k) (known_after code k j)
+
+  pub grows_to : (m k j : ℕ) → m ≤ k → is_edge_covered (known_after code m j) (known_after code k j) ≡ true
+  grows_to m zero j le =
+      let same : m ≡ 0 = omega arith in
+      subst (λ n. is_edge_covered (known_after code n j) (known_after code 0 j) ≡ true) (sym same) (covered_refl (known_after code 0 j))
+  grows_to m (suc k) j le = elim (cases_eq m (suc k)) [
+    | inl same ↦ subst (λ n. is_edge_covered (known_after code n j) (known_after code (suc k) j) ≡ true) (sym same) (covered_refl (known_after code (suc k) j))
+    | inr other ↦ covered_trans (known_after code m j) (known_after code k j) (known_after code (suc k) j) (grows_to m k j (omega arith)) (grows k j)
+  ]
+
+  -- ---- an instruction whose checks pass
+
+  module _ (k : ℕ) (placed : Placed) (s : Abstract) (at : slice_get code k ≡ Some placed) (note : known_after code k k ≡ Some s) (passed : failed_check placed.instruction s ≡ None) where
+    pub next_known : (j : ℕ) → known_after code (suc k) j ≡ with_edges code j k placed s (known_after code k j)
+    unfolding known_after
+    next_known j =
+        let before = known_after code k j in
+        ap (λ (o : Option Placed). with_instruction code j k o (known_after code k k) before) at
+        ∙ (ap (λ (own : Option Abstract). with_instruction code j k (Some placed) own before) note
+        ∙ ap (λ (failed : Option Check). if_passed failed before (with_edges code j k placed s before)) passed)
+
+    pub falls_known : is_edge_covered (falls_to placed.instruction s) (known_after code (suc k) (k + 1)) ≡ true
+    falls_known =
+        let j = k + 1 in
+        let before = known_after code k j in
+        let fallen = with_edge j (Some j) (falls_to placed.instruction s) before in
+        let target = target_of code placed.slot (jump_of placed.instruction) in
+        subst (λ o. is_edge_covered (falls_to placed.instruction s) o ≡ true) (sym (next_known j))
+        (covered_trans (falls_to placed.instruction s) fallen (with_edges code j k placed s before) (edge_right j (falls_to placed.instruction s) before)
+        (edge_left j target (jumps_to placed.instruction s) fallen))
+
+    pub jumps_known : (t : ℕ) → target_of code placed.slot (jump_of placed.instruction) ≡ Some t
+        → is_edge_covered (jumps_to placed.instruction s) (known_after code (suc k) t) ≡ true
+    jumps_known t target =
+        let before = known_after code k t in
+        let fallen = with_edge t (Some (k + 1)) (falls_to placed.instruction s) before in
+        let P : Option ℕ → Type 0 = λ o. is_edge_covered (jumps_to placed.instruction s) (with_edge t o (jumps_to placed.instruction s) fallen) ≡ true in
+        subst (λ o. is_edge_covered (jumps_to placed.instruction s) o ≡ true) (sym (next_known t))
+        (subst P (sym target) (edge_right t (jumps_to placed.instruction s) fallen))
+
+-- ---- the list of them
+
+pub length-states_from : (code : List Placed) (k : ℕ) (rest : List Placed) → length (states_from code k rest) ≡ length rest
+length-states_from code k [] = refl
+length-states_from code k (placed ∷ rest) = ap (λ (n : ℕ). suc n) (length-states_from code (k + 1) rest)
+
+note_from : (code : List Placed) (k : ℕ) (rest : List Placed) (j : ℕ) → j < length rest → note_at (states_from code k rest) j ≡ known_after code (k + j) (k + j)
+note_from code k [] j under = absurd (omega arith)
+note_from code k (placed ∷ rest) zero under =
+    let at : k ≡ k + 0 = omega arith in
+    ap (λ (n : ℕ). known_after code n n) at
+note_from code k (placed ∷ rest) (suc j) under =
+    let at : (k + 1) + j ≡ k + suc j = omega arith in
+    note_from code (k + 1) rest j (omega arith) ∙ ap (λ (n : ℕ). known_after code n n) at
+
+pub length-joined_states : (code : List Placed) → length (joined_states code) ≡ length code
+unfolding joined_states
+length-joined_states code = length-states_from code 0 code
+
+pub note_joined : (code : List Placed) (j : ℕ) → j < length code → note_at (joined_states code) j ≡ known_after code j j
+unfolding joined_states
+note_joined code j under =
+    let at : 0 + j ≡ j = omega arith in
+    note_from code 0 code j under ∙ ap (λ (n : ℕ). known_after code n n) at

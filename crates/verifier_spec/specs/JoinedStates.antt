@@ -1,0 +1,53 @@
+-- The joined states of a program: at each instruction the least state above all that the edges of reached instructions
+-- before it bring.
+use Rattle.std.specs.Prelude.{ℕ, zero, suc, ◌+◌, ◌==◌, if◌then◌else◌, List, [], ◌∷◌, slice_get, Option, Some, None}
+use Rattle.machine_spec.specs.declared.instruction.Placed.{Placed}
+use Rattle.machine_spec.specs.Image.{target_of}
+use Rattle.verifier_spec.specs.declared.state.Abstract.{Abstract}
+use Rattle.verifier_spec.specs.declared.fault.Check.{Check}
+use Rattle.verifier_spec.specs.States.{entry_state}
+use Rattle.verifier_spec.specs.Checks.{failed_check, jump_of}
+use Rattle.verifier_spec.specs.Transfer.{falls_to, jumps_to}
+use Rattle.verifier_spec.specs.Joins.{joined}
+use Rattle.verifier_spec.specs.Annotation.{Notes}
+
+-- the least note above two; an unreached instruction has the least of all
+abbrev pub joined_notes : Option Abstract → Option Abstract → Option Abstract
+joined_notes None b = b
+joined_notes (Some a) None = Some a
+joined_notes (Some a) (Some b) = Some (joined a b)
+
+-- the note of instruction number j after one more edge, which brings a state to its target
+abbrev pub with_edge : ℕ → Option ℕ → Option Abstract → Option Abstract → Option Abstract
+with_edge j None state note = note
+with_edge j (Some target) state note = if target == j then joined_notes note state else note
+
+-- after both edges of instruction number k from a state
+abbrev pub with_edges : List Placed → ℕ → ℕ → Placed → Abstract → Option Abstract → Option Abstract
+with_edges code j k placed s note =
+    with_edge j (target_of code placed.slot (jump_of placed.instruction)) (jumps_to placed.instruction s)
+    (with_edge j (Some (k + 1)) (falls_to placed.instruction s) note)
+
+abbrev pub if_passed : Option Check → Option Abstract → Option Abstract → Option Abstract
+if_passed (Some _) known more = known
+if_passed None known more = more
+
+-- after instruction number k with its own note: one that is not reached or fails a check brings nothing
+abbrev pub with_instruction : List Placed → ℕ → ℕ → Option Placed → Option Abstract → Option Abstract → Option Abstract
+with_instruction code j k None own note = note
+with_instruction code j k (Some placed) None note = note
+with_instruction code j k (Some placed) (Some s) note = if_passed (failed_check placed.instruction s) note (with_edges code j k placed s note)
+
+-- The note of instruction number j after the edges of the first instructions, of as many as the first number says. At
+-- first the entry state is known and no other.
+unfoldable pub known_after : List Placed → ℕ → ℕ → Option Abstract
+known_after code zero j = if j == 0 then Some entry_state else None
+known_after code (suc k) j = with_instruction code j k (slice_get code k) (known_after code k k) (known_after code k j)
+
+-- each instruction's note after all instructions before it
+abbrev pub states_from : List Placed → ℕ → List Placed → Notes
+states_from code k [] = []
+states_from code k (placed ∷ rest) = known_after code k k ∷ states_from code (k + 1) rest
+
+unfoldable pub joined_states : List Placed → Notes
+joined_states code = states_from code 0 code
