@@ -49,13 +49,35 @@ def known_opcodes():
 KNOWN = known_opcodes()
 
 
+CODES = {0: "add", 1: "sub", 2: "mul", 3: "div", 4: "or", 5: "and", 6: "lsh", 7: "rsh", 9: "mod", 10: "xor", 12: "arsh"}
+ORDERS = {0xD4: "le", 0xDC: "be", 0xD7: "swap"}
+
+
+def arithmetic(opcode, dst, src, offset, imm):
+    """The fields that an opcode of the arithmetic classes uses, and its instruction, if its offset or imm selects one."""
+    width, code = 64 if opcode & 7 == 7 else 32, opcode >> 4
+    if opcode in ORDERS:
+        return "di", ("change", dst, dst, ("order", ORDERS[opcode], imm)) if imm in (16, 32, 64) else None
+    if code == 8:
+        return "d", ("change", dst, dst, ("neg", width))
+    source, used = (("reg", src), "ds") if opcode & 8 else (("imm", imm), "di")
+    if code == 11:
+        if offset == 0:
+            return used, ("mov", dst, source, width)
+        if opcode & 8 and offset in ((8, 16, 32) if width == 64 else (8, 16)):
+            return "dso", ("change", dst, src, ("movsx", width, offset))
+        return used + "o", None
+    name = CODES[code]
+    if code in (3, 9):
+        return used + "o", ("alu", dst, source, width, ("" if offset == 0 else "s") + name) if offset in (0, 1) else None
+    return used, ("alu", dst, source, width, name)
+
+
 def form(slot, at):
     opcode, registers, offset, imm = struct.unpack("<BBhi", slot)
     dst, src = registers & 15, registers >> 4
-    if opcode in (0xB7, 0x07):
-        used, made = "di", ("mov" if opcode == 0xB7 else "add", dst, ("imm", imm))
-    elif opcode in (0xBF, 0x0F):
-        used, made = "ds", ("mov" if opcode == 0xBF else "add", dst, ("reg", src))
+    if opcode & 7 in (4, 7) and opcode in KNOWN:
+        used, made = arithmetic(opcode, dst, src, offset, imm)
     elif opcode in LOADS:
         used, made = "dso", ("load", LOADS[opcode], dst, src, offset)
     elif opcode in TESTS:
@@ -73,6 +95,8 @@ def form(slot, at):
     for letter, field in (("d", dst), ("s", src), ("o", offset), ("i", imm)):
         if letter not in used and field != 0:
             raise Refused("I4 Unused slot %d" % at)
+    if made is None:
+        raise Refused("I4 Unused slot %d" % at)
     return made
 
 
@@ -134,17 +158,60 @@ def within(a, b):
             and all(a.low[r] >= b.low[r] and a.high[r] <= b.high[r] for r in LIMIT))
 
 
-def source_kind(s, source):
-    return s.regs[source[1]] if source[0] == "reg" else ("num", source[1] % U64, source[1] % U64)
+def source_kind(s, source, width=64):
+    return s.regs[source[1]] if source[0] == "reg" else ("num",) + (source[1] % (1 << width),) * 2
 
 
-def moved(s, address, number):
-    """The interval of an address plus a number, or None where it can't be told or leaves the range."""
+def moved(s, address, number, operation):
+    """The interval of an address moved by a number, or None where it can't be told or leaves the range."""
     lo, hi = view(s, number)
     if (lo < 1 << 63) != (hi < 1 << 63):
         return None
-    lo, hi = address[2] + signed(lo, 64), address[3] + signed(hi, 64)
+    lo, hi = signed(lo, 64), signed(hi, 64)
+    lo, hi = (address[2] + lo, address[3] + hi) if operation == "add" else (address[2] - hi, address[3] - lo)
     return (lo, hi) if -(1 << 32) <= lo and hi <= 1 << 32 else None
+
+
+def cut(width, interval):
+    return interval if width == 64 or interval[1] < 1 << 32 else (0, (1 << 32) - 1)
+
+
+def result_range(width, name, x, y):
+    """The interval of an operation's results."""
+    (a, b), (c, d) = cut(width, x), cut(width, y)
+    end, half, single = 1 << width, 1 << width - 1, c == d
+    top = (0, end - 1)
+    if name in ("sdiv", "smod"):
+        if b >= half or d >= half:
+            return top
+        name = name[1:]
+    if name == "add":
+        return (a + c, b + d) if b + d < end else top
+    if name == "sub":
+        return (a - d, b - c) if a >= d else top
+    if name == "mul":
+        return (a * c, b * d) if b * d < end else top
+    if name == "and":
+        return 0, min(b, d)
+    if name in ("or", "xor"):
+        return 0, (1 << max(b, d).bit_length()) - 1
+    if name == "lsh":
+        return (a << c % width, b << c % width) if single and b << c % width < end else top
+    if name == "rsh":
+        return (a >> c % width, b >> c % width) if single else (0, b)
+    if name == "arsh":
+        return (a >> c % width, b >> c % width) if single and b < half else top
+    if name == "div":
+        return (a // c, b // c) if single and c else (0, b)
+    return (0, min(b, c - 1)) if single and c else (0, b)
+
+
+def change_range(change, x):
+    if change[0] == "neg":
+        return 0, (1 << change[1]) - 1
+    if change[0] == "order":
+        return 0, (1 << change[2]) - 1
+    return x if x[1] < 1 << change[2] - 1 else (0, (1 << change[1]) - 1)
 
 
 def shape_fault(code, k):
@@ -160,17 +227,19 @@ def shape_fault(code, k):
 
 
 def state_fault(i, s):
-    if i[0] in ("mov", "add") and i[1] == 10 or i[0] == "load" and i[2] == 10:
+    if i[0] in ("mov", "alu", "change") and i[1] == 10 or i[0] == "load" and i[2] == 10:
         return "V6 Frame"
     if i[0] == "call" and i[1] != 3:
         return "V11 Helper"
-    read = {"mov": lambda: [i[2]], "add": lambda: [("reg", i[1]), i[2]], "load": lambda: [("reg", i[3])],
+    read = {"mov": lambda: [i[2]], "alu": lambda: [("reg", i[1]), i[2]], "change": lambda: [("reg", i[2])], "load": lambda: [("reg", i[3])],
             "jump": lambda: [("reg", i[2])], "call": lambda: [("reg", 1)], "exit": lambda: [("reg", 0)]}[i[0]]()
     if any(source_kind(s, r) is None for r in read):
         return "V4 Unset"
-    if i[0] == "add":
-        dst, src = s.regs[i[1]], source_kind(s, i[2])
-        if src[0] == "addr" or dst[0] == "addr" and moved(s, dst, src) is None:
+    if i[0] == "mov" and i[3] == 32 and source_kind(s, i[2])[0] == "addr" or i[0] == "change" and s.regs[i[2]][0] == "addr":
+        return "V5 Type"
+    if i[0] == "alu":
+        dst, src = s.regs[i[1]], source_kind(s, i[2], i[3])
+        if src[0] == "addr" or dst[0] == "addr" and (i[3] == 32 or i[4] not in ("add", "sub") or moved(s, dst, src, i[4]) is None):
             return "V5 Type"
     if i[0] == "jump" and s.regs[i[2]][0] == "addr" or i[0] == "load" and s.regs[i[3]][0] != "addr":
         return "V5 Type"
@@ -230,14 +299,16 @@ def edges(code, k, s):
         return [(k + 1, on), (k + 1 + i[4], taken)]
     t = s.copy()
     if i[0] == "mov":
-        t.regs[i[1]] = source_kind(s, i[2])
-    elif i[0] == "add":
-        dst, src = s.regs[i[1]], source_kind(s, i[2])
+        kind = source_kind(s, i[2], i[3])
+        t.regs[i[1]] = kind if i[3] == 64 else ("num",) + cut(32, view(s, kind))
+    elif i[0] == "alu":
+        dst, src = s.regs[i[1]], source_kind(s, i[2], i[3])
         if dst[0] == "addr":
-            t.regs[i[1]] = ("addr", dst[1]) + moved(s, dst, src)
+            t.regs[i[1]] = ("addr", dst[1]) + moved(s, dst, src, i[4])
         else:
-            (a, b), (c, d) = view(s, dst), view(s, src)
-            t.regs[i[1]] = ("num", a + c, b + d) if b + d < U64 else ("num",) + TOP
+            t.regs[i[1]] = ("num",) + result_range(i[3], i[4], view(s, dst), view(s, src))
+    elif i[0] == "change":
+        t.regs[i[1]] = ("num",) + change_range(i[3], view(s, s.regs[i[2]]))
     elif i[0] == "load":
         t.regs[i[2]] = ("num", 0, (1 << 8 * i[1]) - 1)
     elif i[0] == "call":
@@ -246,8 +317,28 @@ def edges(code, k, s):
     return [(k + 1, t)]
 
 
+def joined_kind(a, b, x, y):
+    """What is known of a register where it is x in the state a or y in the state b."""
+    if x is None or y is None or (x[0] == "addr") != (y[0] == "addr"):
+        return None
+    if x[0] == "addr":
+        return ("addr", x[1], min(x[2], y[2]), max(x[3], y[3])) if x[1] == y[1] else None
+    if x[0] == "len" and x == y:
+        return x
+    (lo, hi), (low, high) = view(a, x), view(b, y)
+    return "num", min(lo, low), max(hi, high)
+
+
+def joined(a, b):
+    s = State()
+    s.regs = [joined_kind(a, b, x, y) for x, y in zip(a.regs, b.regs)]
+    s.low = {r: min(a.low[r], b.low[r]) for r in LIMIT}
+    s.high = {r: max(a.high[r], b.high[r]) for r in LIMIT}
+    return s
+
+
 def verify(code):
-    """Each instruction has the state that the first edge brings; the lowest fault is told."""
+    """Each instruction has the join of the states that edges bring; the lowest fault is told."""
     states = [None] * len(code)
     states[0] = entry()
     for k in range(len(code)):
@@ -255,23 +346,12 @@ def verify(code):
         if fault is None and states[k] is not None:
             fault = state_fault(code[k], states[k])
         if fault is not None:
-            # Edges of the instructions before it are looked at first.
-            return check_edges(code, states, k) or "%s at %d" % (fault, k)
+            return "%s at %d" % (fault, k)
         if states[k] is None:
             continue
         for target, s in edges(code, k, states[k]):
-            if s is not None and states[target] is None:
-                states[target] = s
-    return check_edges(code, states, len(code))
-
-
-def check_edges(code, states, end):
-    for k in range(end):
-        if states[k] is None:
-            continue
-        for target, s in edges(code, k, states[k]):
-            if s is not None and not (states[target] is not None and within(s, states[target])):
-                return "V15 Notes at %d" % k
+            if s is not None:
+                states[target] = s if states[target] is None else joined(states[target], s)
     return None
 
 
@@ -279,6 +359,35 @@ def check_edges(code, states, end):
 
 HOLDS = {"eq": lambda a, b: a == b, "ne": lambda a, b: a != b, "gt": lambda a, b: a > b, "ge": lambda a, b: a >= b,
          "lt": lambda a, b: a < b, "le": lambda a, b: a <= b}
+
+
+def signed_quotient(x, y):
+    return (abs(x) // abs(y)) * (1 if (x < 0) == (y < 0) else -1)
+
+
+def computed(width, name, a, b):
+    """An operation on two numbers below 2^64."""
+    end = 1 << width
+    a, b = a % end, b % end
+    x, y, n = signed(a, width), signed(b, width), b % width
+    if name == "div":
+        return a // b if b else 0
+    if name == "mod":
+        return a % b if b else a
+    if name == "sdiv":
+        return signed_quotient(x, y) % end if b else 0
+    if name == "smod":
+        return (x - y * signed_quotient(x, y)) % end if b else a
+    return {"add": a + b, "sub": a - b, "mul": a * b, "or": a | b, "and": a & b, "xor": a ^ b, "lsh": a << n, "rsh": a >> n, "arsh": x >> n}[name] % end
+
+
+def changed(change, a):
+    if change[0] == "neg":
+        return -a % (1 << change[1])
+    if change[0] == "order":
+        low = a % (1 << change[2])
+        return low if change[1] == "le" else int.from_bytes(low.to_bytes(change[2] // 8, "little"), "big")
+    return signed(a % (1 << change[2]), change[2]) % (1 << change[1])
 
 
 def run(code, record, outputs):
@@ -298,12 +407,20 @@ def run(code, record, outputs):
             assert isinstance(regs[0], int), "trap at exit"
             return regs[0] or emitted
         if i[0] == "mov":
-            regs[i[1]] = word(i[2])
-            assert regs[i[1]] is not None, "trap: unset"
-        elif i[0] == "add":
+            a = word(i[2])
+            assert a is not None and (i[3] == 64 or isinstance(a, int)), "trap: unset or type"
+            regs[i[1]] = a if i[3] == 64 else a % (1 << 32)
+        elif i[0] == "alu":
             a, b = regs[i[1]], word(i[2])
             assert isinstance(b, int), "trap: type"
-            regs[i[1]] = (a[0], a[1] + signed(b, 64)) if isinstance(a, tuple) else (a + b) % U64
+            if isinstance(a, tuple):
+                assert i[3] == 64 and i[4] in ("add", "sub"), "trap: type"
+                regs[i[1]] = (a[0], a[1] + (signed(b, 64) if i[4] == "add" else -signed(b, 64)))
+            else:
+                regs[i[1]] = computed(i[3], i[4], a, b)
+        elif i[0] == "change":
+            assert isinstance(regs[i[2]], int), "trap: type"
+            regs[i[1]] = changed(i[3], regs[i[2]])
         elif i[0] == "load":
             region, at = regs[i[3]]
             at += i[4]
@@ -630,7 +747,13 @@ def some_slot(rng, left):
     small = lambda: rng.choice([0, 0, 1, 2, 4, 7, 8, 15, 16, 255, 4096, 65535, 65536, 1 << 20, -1, -2, -8, 2147483647, -2147483648])
     jump = lambda: rng.choice([0, 0, 1, 1, 2, 3, left, left - 1, left + 1, -1] if rng.random() < 0.3 else [0, 1, 1, 2, max(left - 1, 0)])
     kind = rng.random()
-    if kind < 0.18:
+    if kind < 0.2 and rng.random() < 0.7:
+        klass, code = rng.choice([4, 7]), rng.choice([0, 0, 1, 1, 2, 3, 4, 5, 6, 7, 8, 9, 10, 11, 12, 13])
+        by_register = rng.random() < 0.4 and code not in (8, 13)
+        offset = rng.choice([0, 0, 0, 1, 2]) if code in (3, 9) else rng.choice([0, 8, 16, 32]) if code == 11 and by_register else rng.choice([0] * 30 + [1])
+        imm = rng.choice([16, 32, 64, 64, 8]) if code == 13 else 0 if by_register or code == 8 else small()
+        fields = (code << 4 | 8 * (by_register or code == 13 and rng.random() < 0.5) | klass, r(), r() if by_register else 0, offset, imm)
+    elif kind < 0.18:
         fields = (0xB7, r(), 0, 0, small())
     elif kind < 0.28:
         fields = (0xBF, r(), r(), 0, 0)

@@ -75,6 +75,45 @@ fn every_form(rt: HostRuntime) -> Result<(), Fail> {
     Ok(())
 }
 
+/// A slot with an opcode, the registers r1 and, where it has a source, r2.
+fn slot_of(opcode: u8, has_source: bool, offset: u8, imm: u8) -> [u8; 8] {
+    let registers = if has_source { 0x21 } else { 0x01 };
+    [opcode, registers, offset, 0, imm, 0, 0, 0]
+}
+
+#[test]
+fn arithmetic_forms(rt: HostRuntime) -> Result<(), Fail> {
+    let mut image = Vec::new(rt.alloc());
+    for class in [0x07, 0x04] {
+        for code in [
+            0x00, 0x10, 0x20, 0x30, 0x40, 0x50, 0x60, 0x70, 0x90, 0xa0, 0xb0, 0xc0,
+        ] {
+            image.extend_from_slice(&slot_of(code | class, false, 0, 5))?;
+            image.extend_from_slice(&slot_of(code | 0x08 | class, true, 0, 0))?;
+        }
+        // signed quotients and remainders
+        for code in [0x30, 0x90] {
+            image.extend_from_slice(&slot_of(code | class, false, 1, 5))?;
+            image.extend_from_slice(&slot_of(code | 0x08 | class, true, 1, 0))?;
+        }
+        // negation, and moves that extend the sign
+        image.extend_from_slice(&slot_of(0x80 | class, false, 0, 0))?;
+        image.extend_from_slice(&slot_of(0xb8 | class, true, 8, 0))?;
+        image.extend_from_slice(&slot_of(0xb8 | class, true, 16, 0))?;
+    }
+    image.extend_from_slice(&slot_of(0xbf, true, 32, 0))?;
+    // byte orders
+    for opcode in [0xd4, 0xdc, 0xd7] {
+        for width in [16, 32, 64] {
+            image.extend_from_slice(&slot_of(opcode, false, 0, width))?;
+        }
+    }
+    let code = decode(rt.alloc(), &image)?;
+    assert_eq!(rt; code.len(), 72);
+    assert_eq!(rt; encode(rt.alloc(), &code)?.as_slice(), image.as_slice());
+    Ok(())
+}
+
 #[test]
 fn refused_slots(rt: HostRuntime) {
     for (slot, fault) in [
@@ -92,6 +131,11 @@ fn refused_slots(rt: HostRuntime) {
         ([0xb7, 0xb0, 0, 0, 0, 0, 0, 0], IsaFault::Unused(0)),
         ([0x95, 0, 0, 0, 1, 0, 0, 0], IsaFault::Unused(0)),
         ([0x71, 0x10, 0, 0, 0, 0, 0, 1], IsaFault::Unused(0)),
+        // an offset that selects no quotient and no extension, a byte order of 8 bits
+        ([0x37, 0x01, 2, 0, 5, 0, 0, 0], IsaFault::Unused(0)),
+        ([0xbc, 0x21, 32, 0, 0, 0, 0, 0], IsaFault::Unused(0)),
+        ([0xb7, 0x01, 8, 0, 5, 0, 0, 0], IsaFault::Unused(0)),
+        ([0xd4, 0x01, 0, 0, 8, 0, 0, 0], IsaFault::Unused(0)),
     ] {
         assert_eq!(rt; decode(rt.alloc(), &slot).err(), Some(fault), "at {slot:?}");
     }

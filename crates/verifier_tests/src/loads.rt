@@ -61,7 +61,7 @@ fn straight_programs(rt: HostRuntime) -> Result<(), Fail> {
 fn a_test_of_the_length_makes_a_load_safe(rt: HostRuntime) -> Result<(), Fail> {
     let alloc = rt.alloc();
     const FIRST_BYTE: u64 = 0x7110_0000_0000_0000; // ld8 r0, [r1+0]
-    let cases: [(&[u64], &str); 9] = [
+    let cases: [(&[u64], &str); 8] = [
         (&[FIRST_BYTE, EXIT], "V7 RecordBounds at 0"),
         // jlt64 r2, 1, +2
         (
@@ -137,10 +137,73 @@ fn a_test_of_the_length_makes_a_load_safe(rt: HostRuntime) -> Result<(), Fail> {
             ],
             "V7 RecordBounds at 4",
         ),
-        // jlt64 r2, 1, +1
+    ];
+    for (slots, want) in cases {
+        let image = image_of(alloc, slots)?;
+        let got = answer(alloc, &image)?;
+        assert_eq!(rt; got.as_str(), want);
+    }
+    Ok(())
+}
+
+/// Where ways meet, what is known is what all of them know.
+#[test]
+fn branches_that_meet(rt: HostRuntime) -> Result<(), Fail> {
+    let alloc = rt.alloc();
+    const KEEP_LENGTH: u64 = 0xbf26_0000_0000_0000; // mov64 r6, r2
+    const SHIFT: u64 = 0x6706_0000_1400_0000; // lsh64 r6, 20
+    const MOVE_ON: u64 = 0x0f61_0000_0000_0000; // add64 r1, r6
+    let cases: [(&[u64], &str); 6] = [
+        // jlt64 r2, 1, +1; ld8 r0, [r1+0]
         (
-            &[ZERO, 0xa502_0100_0100_0000, FIRST_BYTE, EXIT],
-            "V15 Notes at 2",
+            &[ZERO, 0xa502_0100_0100_0000, 0x7110_0000_0000_0000, EXIT],
+            "accepted 4",
+        ),
+        // jlt64 r2, 16, +1; ld64 r0, [r1+8]
+        (
+            &[ZERO, 0xa502_0100_1000_0000, 0x7910_0800_0000_0000, EXIT],
+            "accepted 4",
+        ),
+        // jlt64 r2, 15, +1; ld64 r0, [r1+8]
+        (
+            &[ZERO, 0xa502_0100_0f00_0000, 0x7910_0800_0000_0000, EXIT],
+            "V7 RecordBounds at 2",
+        ),
+        // jgt64 r6, 100, +2: it bounds the length from above
+        (
+            &[
+                KEEP_LENGTH,
+                ZERO,
+                0x2506_0200_6400_0000,
+                SHIFT,
+                MOVE_ON,
+                EXIT,
+            ],
+            "accepted 6",
+        ),
+        // jgt64 r6, 4096, +2
+        (
+            &[
+                KEEP_LENGTH,
+                ZERO,
+                0x2506_0200_0010_0000,
+                SHIFT,
+                MOVE_ON,
+                EXIT,
+            ],
+            "accepted 6",
+        ),
+        // jgt64 r6, 4097, +2
+        (
+            &[
+                KEEP_LENGTH,
+                ZERO,
+                0x2506_0200_0110_0000,
+                SHIFT,
+                MOVE_ON,
+                EXIT,
+            ],
+            "V5 Type at 4",
         ),
     ];
     for (slots, want) in cases {
