@@ -61,7 +61,7 @@ fn straight_programs(rt: HostRuntime) -> Result<(), Fail> {
 fn a_test_of_the_length_makes_a_load_safe(rt: HostRuntime) -> Result<(), Fail> {
     let alloc = rt.alloc();
     const FIRST_BYTE: u64 = 0x7110_0000_0000_0000; // ld8 r0, [r1+0]
-    let cases: [(&[u64], &str); 9] = [
+    let cases: [(&[u64], &str); 11] = [
         (&[FIRST_BYTE, EXIT], "V7 RecordBounds at 0"),
         // jlt64 r2, 1, +2
         (
@@ -140,7 +140,17 @@ fn a_test_of_the_length_makes_a_load_safe(rt: HostRuntime) -> Result<(), Fail> {
         // jlt64 r2, 1, +1
         (
             &[ZERO, 0xa502_0100_0100_0000, FIRST_BYTE, EXIT],
-            "V15 Notes at 2",
+            "accepted 4",
+        ),
+        // jlt64 r2, 16, +1; ld64 r0, [r1+8]
+        (
+            &[ZERO, 0xa502_0100_1000_0000, 0x7910_0800_0000_0000, EXIT],
+            "accepted 4",
+        ),
+        // jlt64 r2, 15, +1; ld64 r0, [r1+8]
+        (
+            &[ZERO, 0xa502_0100_0f00_0000, 0x7910_0800_0000_0000, EXIT],
+            "V7 RecordBounds at 2",
         ),
     ];
     for (slots, want) in cases {
