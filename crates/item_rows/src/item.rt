@@ -1,5 +1,4 @@
 ghost use Rattle.std.specs.Prelude.{IfOk, OnOk, option_map};
-ghost use Rattle.std.specs.Arc.{arc_value};
 ghost use Rattle.log_spec.specs.Logs.{IsItemRows};
 ghost use Rattle.log_item.specs.Items.{item_view};
 ghost use Rattle.item_rows.specs.ItemRows.{IsOrigin, AreItemRows, Adds};
@@ -9,18 +8,17 @@ use crate::records::push_records;
 use crate::rows::{ItemRows, OutputRows, empty};
 use log_item::{Item, Program};
 use std::alloc::{AllocError, Global};
-use std::sync::Arc;
 
 /// Adds the rows of an item: none of a mark or the end, and none of a batch with no mark before it.
 fn push_item(
     alloc: Global,
     origin: &Origin,
-    program: &Option<Arc<Program>>,
+    program: Option<&Program>,
     item: &Item,
     all: &mut [OutputRows],
 ) -> Result<(), AllocError>
     requires { IsOrigin origin.now }
-    ensures { OnOk result (Adds all.old all.new (λ output here. IsItemRows origin.now.input output origin.now.outputs (option_map (λ p. arc_value p) program.now) origin.now.offset (item_view item.now) here)) }
+    ensures { OnOk result (Adds all.old all.new (λ output here. IsItemRows origin.now.input output origin.now.outputs (option_map (λ p. p.now) program.entry) origin.now.offset (item_view item.now) here)) }
 {
     match item {
         Item::Mark { .. } => Ok(()),
@@ -38,11 +36,11 @@ fn push_item(
 pub fn item_rows(
     alloc: Global,
     origin: &Origin,
-    program: &Option<Arc<Program>>,
+    program: Option<&Program>,
     item: &Item,
 ) -> Result<ItemRows, AllocError>
     requires { IsOrigin origin.now }
-    ensures { IfOk result (AreItemRows origin.now (option_map (λ p. arc_value p) program.now) (item_view item.now)) }
+    ensures { IfOk result (AreItemRows origin.now (option_map (λ p. p.now) program.entry) (item_view item.now)) }
 {
     let mut all = empty(alloc, origin.outputs)?;
     push_item(alloc, origin, program, item, all.as_mut_slice())?;

@@ -1,2 +1,3 @@
 pub mod BookLaws
 pub mod Origins
+pub mod TieLaws

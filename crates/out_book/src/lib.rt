@@ -3,9 +3,11 @@
 
 mod book;
 mod fault;
+mod laws;
 mod rows;
 mod sharing;
 
 pub use crate::book::{Book, Delivered};
 pub use crate::fault::BookFault;
+pub use crate::laws::follows_core;
 pub use crate::rows::Rows;

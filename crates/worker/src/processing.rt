@@ -29,6 +29,6 @@ pub fn process<Id: Names>(
         offset: walk.base(),
         outputs,
     };
-    let rows = item_rows(alloc, &origin, walk.program(), item)?;
+    let rows = item_rows(alloc, &origin, walk.program(log), item)?;
     Ok(Results::new(walk.trail().again(), rows))
 }

@@ -1,6 +1,6 @@
 //! The rows that an item gives to the core's output partition.
 
-ghost use Rattle.std.specs.Prelude.{◌≤◌, IfOk, option_map};
+ghost use Rattle.std.specs.Prelude.{◌≡◌, ◌≤◌, IfOk, option_map};
 ghost use Rattle.std.specs.Arc.{arc_value};
 ghost use Rattle.log_spec.specs.Logs.{IsItemRows};
 ghost use Rattle.log_item.specs.Items.{item_view};
@@ -26,6 +26,16 @@ pub fn rows_of(
         offset,
         outputs: 1,
     };
-    let mut all = item_rows::item_rows(alloc, &origin, program, item)?;
+    let mut all = item_rows::item_rows(alloc, &origin, program_of(program), item)?;
     Ok(all.take(alloc, 0))
+}
+
+/// The program itself, if there is one.
+fn program_of(program: &Option<Arc<Program>>) -> Option<&Program>
+    ensures { option_map (λ p. p.now) result ≡ option_map (λ p. arc_value p) program.now }
+{
+    match program {
+        None => None,
+        Some(program) => Some(program),
+    }
 }

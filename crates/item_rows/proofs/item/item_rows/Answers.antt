@@ -1,5 +1,4 @@
 use Rattle.std.proofs.Common.{◌≡◌, List, length, ap, sym, subst, arith, ◌∙◌, option_map}
-use Rattle.std.specs.Arc.{arc_value}
 use Rattle.log_spec.specs.declared.row.Row.{Row}
 use Rattle.log_item.specs.Items.{item_view}
 use Rattle.item_rows.specs.ItemRows.{AreItemRows, AreEmpty}
@@ -8,7 +7,7 @@ use Rattle.item_rows.proofs.item.item_rows.Goals as goal
 
 pub returns : goal.returns
 returns c =
-    let origin = c.args.origin.now in let image = option_map (λ p. arc_value p) c.args.program.now in let kept = item_view c.args.item.now in
+    let origin = c.args.origin.now in let image = option_map (λ p. p.now) c.args.program in let kept = item_view c.args.item.now in
     let new = c.push_item.new.all in let old = c.in_ok-all.all.items in
     let a = c.as_mut_slice.ensures in
     let none : AreEmpty origin.outputs c.as_mut_slice.result.now = subst (λ (rs : List (List Row)). AreEmpty origin.outputs rs) (sym a.value) c.in_ok-all.ensures in
