@@ -1,2 +1,3 @@
 pub mod ItemOffsets
 pub mod NameFacts
+pub mod StepFacts

@@ -2,3 +2,4 @@ pub mod Answers
 pub mod Audits
 pub mod ItemRanges
 pub mod Layouts
+pub mod Steps

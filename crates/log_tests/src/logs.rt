@@ -3,6 +3,7 @@ ghost use Rattle.broker.specs.Layouts.{IsNamed};
 
 use crate::fixtures::{batch_of, forward, name_of};
 use broker::{Broker, BrokerFault, Parts};
+use out_book::BookFault;
 use part_log::{Cells, Item, LogFault, Names, PartLog};
 use std::alloc::Global;
 use std::marker::Brand;
@@ -98,6 +99,9 @@ fn faults_have_their_texts(rt: HostRuntime) -> Result<(), Fail> {
         (BrokerFault::Log(LogFault::Closed), "L2 Closed"),
         (BrokerFault::Log(LogFault::Clash), "L3 Clash"),
         (BrokerFault::Log(LogFault::Memory), "L4 Memory"),
+        (BrokerFault::Book(BookFault::Gap(2)), "O1 Gap expected 2"),
+        (BrokerFault::Book(BookFault::Partition), "O2 Partition"),
+        (BrokerFault::Book(BookFault::Memory), "O3 Memory"),
     ] {
         let text = format!(in alloc; "{fault}")?;
         assert_eq!(rt; text.as_str(), want);

@@ -1,0 +1,80 @@
+ghost use Rattle.std.specs.Prelude.{◌≡◌};
+ghost use Rattle.broker.specs.Layouts.{IsNamed};
+
+use crate::fixtures::batch_of;
+use broker::{Audit, Broker, Parts, Stepped};
+use part_log::{Names, Receipt};
+use std::alloc::Global;
+use std::marker::Brand;
+use std::process::Abort;
+use std::sync::Wait;
+use std::test::Fail;
+
+#[test]
+fn a_step_takes_one_item(rt: HostRuntime) -> Result<(), Fail> {
+    let alloc = rt.alloc();
+    take_one::<Brand, _>(&rt, alloc, Parts::new(alloc, 1, 2, 2)?)
+}
+
+fn take_one<Id: Names, R: Wait + Abort>(rt: &R, alloc: Global, parts: Parts) -> Result<(), Fail>
+    requires cells { IsNamed Id.cells parts.cells }
+    requires outputs { parts.outputs ≡ Id.outputs }
+{
+    let broker: Broker<Id> = Broker::new(alloc, parts)?;
+    assert_eq!(rt; step(rt, alloc, &broker, 0), Some(Stepped::Nothing));
+    let batch = batch_of(alloc, 3, 1000).ok_or("a batch")?;
+    let receipt = broker.append(rt, alloc, 0, batch)?;
+    assert_eq!(rt; audit(rt, &broker, 0, &receipt), None);
+    assert_eq!(rt; step(rt, alloc, &broker, 0), Some(Stepped::Added(0)));
+    assert_eq!(rt; step(rt, alloc, &broker, 0), Some(Stepped::Nothing));
+    assert_eq!(rt; audit(rt, &broker, 0, &receipt), Some(0));
+    assert_eq!(rt; audit(rt, &broker, 1, &receipt), None);
+    Ok(())
+}
+
+/// A step of an output partition's book over input partition 0.
+fn step<Id: Names, R: Wait>(
+    rt: &R,
+    alloc: Global,
+    broker: &Broker<Id>,
+    output: usize,
+) -> Option<Stepped> {
+    if output >= broker.outputs() {
+        return None;
+    }
+    let _some = broker.inputs();
+    let mut guard = broker.book(output).lock(rt);
+    let book = &mut *guard;
+    if book.inputs() == 0 {
+        return None;
+    }
+    let done = book.done(0);
+    if done >= broker.cells(0) {
+        return None;
+    }
+    let mut note = broker.note(0, done);
+    broker.step(alloc, book, 0, &mut note).ok()
+}
+
+/// How many rows a receipt's item has in an output partition's book; none where it is not done.
+fn audit<Id: Names, R: Wait>(
+    rt: &R,
+    broker: &Broker<Id>,
+    output: usize,
+    receipt: &Receipt<Id>,
+) -> Option<u64> {
+    if output >= broker.outputs() {
+        return None;
+    }
+    let book = broker.book(output).lock(rt);
+    match broker.audit(receipt, &book) {
+        Audit::Pending => None,
+        Audit::Processed(rows) => {
+            let mut count = 0u64;
+            for _ in rows {
+                count = count.wrapping_add(1);
+            }
+            Some(count)
+        }
+    }
+}
