@@ -37,13 +37,14 @@ IsNoOlder None later = Unit {0}
 IsNoOlder (Some earlier) None = ⊥
 IsNoOlder (Some earlier) (Some later) = earlier.0 ≤ later.0
 
--- a version's own image, or a later version of its name
+-- what is found is a later version, or this one with its own image; never none
 abbrev pub IsThisOrLater : Version → Option (ℕ × List ℕ) → Type 0
 IsThisOrLater version None = ⊥
 IsThisOrLater version (Some found) = (version.number ≤ found.0) × (found.0 ≡ version.number → found.1 ≡ version.image)
 
--- Finding a name: the newest of what the caller knows, what the finder saw before and what it read
--- now is found and is what the finder saw from then on. Nothing changes for other names.
+-- Finding a name returns the newest of three: the version that the caller knows, the one that the
+-- finder saw last, and the one that it reads now. The finder has then seen what is returned; other
+-- names stay.
 pub record Finds (known : Version) (name : List ℕ) (read : Option (ℕ × List ℕ)) (old new : List Version) (found : Option (ℕ × List ℕ)) : Type 0 where
   pub newest : found ≡ newer (newer (under_name known name) (among old name)) read
   pub seen : among new name ≡ found

@@ -62,7 +62,8 @@ impl<R: Wait + Drop> Catalogue<R> {
     }
 
     /// Loads an image under a name and publishes the table with it. Returns the name's version,
-    /// from 1. It waits for readers that still read the table before the published one.
+    /// from 1. It waits for readers that still read the table before the published one. An `Err`
+    /// changes nothing.
     pub fn load(
         &mut self,
         alloc: Global,
@@ -99,7 +100,7 @@ impl<R: Wait + Drop> Catalogue<R> {
         Ok(())
     }
 
-    /// A reader, which has seen no version yet.
+    /// A reader, which has seen no version yet. Fails where 64 readers are there or none can be made.
     pub fn reader(&self, alloc: Global) -> Result<Finder, CatFault>
         ensures { IfOk result (λ finder. finder ≡ []) }
     {

@@ -14,7 +14,7 @@ use std::alloc::{AllocError, Global};
 use std::marker::Model;
 use std::sync::Arc;
 
-/// A reader's side. Contracts see the last version of each name that it returned.
+/// A reader's side. Contracts see the versions that it returned, the last one of each name.
 #[derive(Drop)]
 pub struct Finder {
     handle: ReadHandle<Edition>,
@@ -113,6 +113,7 @@ fn read_version(
     }
 }
 
+/// The newest of what is known, what was seen and what was read.
 fn newest(
     known: &Known,
     seen: &[Known],
@@ -185,7 +186,8 @@ impl Finder {
 
     /// The last version of a name with its program, none where no version is published, known or
     /// was seen. Under the name of `known` it is `known` itself or a later version; it is never an
-    /// older one than this finder returned before.
+    /// older one than this finder returned before. Fails where the reader gets no table (the
+    /// catalogue is gone) or memory runs out, and is then as it was.
     pub fn find(
         &mut self,
         alloc: Global,
