@@ -132,6 +132,49 @@ module _ (code : List Placed) where
         subst (λ o. is_edge_covered (jumps_to placed.instruction s) o ≡ true) (sym (next_known t))
         (subst P (sym target) (edge_right t (jumps_to placed.instruction s) fallen))
 
+-- ---- the least above what edges bring
+
+module _ (code : List Placed) (j : ℕ) (outer : Option Abstract) where
+  -- both edges of an instruction are within a note where they lead to j
+  pub record BringsWithin (k : ℕ) (placed : Placed) (s : Abstract) : Type 0 where
+    pub falls : k + 1 ≡ j → is_edge_covered (falls_to placed.instruction s) outer ≡ true
+    pub jumps : target_of code placed.slot (jump_of placed.instruction) ≡ Some j → is_edge_covered (jumps_to placed.instruction s) outer ≡ true
+
+  edges_least : (k : ℕ) (placed : Placed) (s : Abstract) (known : Option Abstract) → is_edge_covered known outer ≡ true → BringsWithin k placed s
+      → is_edge_covered (with_edges code j k placed s known) outer ≡ true
+  edges_least k placed s known h brings =
+      edge_least j (target_of code placed.slot (jump_of placed.instruction)) (jumps_to placed.instruction s) (with_edge j (Some (k + 1)) (falls_to placed.instruction s) known) outer
+      (edge_least j (Some (k + 1)) (falls_to placed.instruction s) known outer h (λ e.
+      let same : k + 1 ≡ j = cc in
+      brings.falls same))
+      brings.jumps
+
+  passed_least : (k : ℕ) (placed : Placed) (s : Abstract) (known : Option Abstract) (failed : Option Check) → failed_check placed.instruction s ≡ failed
+      → is_edge_covered known outer ≡ true → (failed_check placed.instruction s ≡ None → BringsWithin k placed s)
+      → is_edge_covered (if_passed failed known (with_edges code j k placed s known)) outer ≡ true
+  passed_least k placed s known (Some _) is h brings = h
+  passed_least k placed s known None is h brings = edges_least k placed s known h (brings is)
+
+  instruction_least : (k : ℕ) (at : Option Placed) (own known : Option Abstract) → slice_get code k ≡ at → known_after code k k ≡ own → is_edge_covered known outer ≡ true
+      → ((placed : Placed) (s : Abstract) → slice_get code k ≡ Some placed → known_after code k k ≡ Some s → failed_check placed.instruction s ≡ None → BringsWithin k placed s)
+      → is_edge_covered (with_instruction code j k at own known) outer ≡ true
+  instruction_least k None own known at is h brings = h
+  instruction_least k (Some placed) None known at is h brings = h
+  instruction_least k (Some placed) (Some s) known at is h brings =
+      passed_least k placed s known (failed_check placed.instruction s) refl h (brings placed s at is)
+
+  -- What is known of an instruction is within each note that the entry, if it is the first, and all that edges of reached
+  -- instructions bring are within.
+  pub known_least : (k : ℕ) → is_edge_covered (known_after code 0 j) outer ≡ true
+      → ((i : ℕ) (placed : Placed) (s : Abstract) → i < k → slice_get code i ≡ Some placed → known_after code i i ≡ Some s → failed_check placed.instruction s ≡ None
+      → BringsWithin i placed s)
+      → is_edge_covered (known_after code k j) outer ≡ true
+  unfolding known_after
+  known_least zero first brings = first
+  known_least (suc k) first brings =
+      instruction_least k (slice_get code k) (known_after code k k) (known_after code k j) refl refl
+      (known_least k first (λ i placed s under. brings i placed s (omega (arith, under)))) (λ placed s. brings k placed s (omega arith))
+
 -- ---- the list of them
 
 pub length-states_from : (code : List Placed) (k : ℕ) (rest : List Placed) → length (states_from code k rest) ≡ length rest

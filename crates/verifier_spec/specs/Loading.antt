@@ -17,6 +17,7 @@ abbrev pub code_fault : Result (List Placed) IsaFault → Option LoadFault
 code_fault (Ok code) = verify_fault (fault_of code (joined_states code))
 code_fault (Err fault) = Some (Isa fault)
 
--- It does not decode, or the notes that one pass finds are no annotation.
+-- It does not decode, or its joined states have a fault. They have none where there is an annotation, so they serve to
+-- name the fault alone.
 unfoldable pub load_fault : List ℕ → Option LoadFault
 load_fault image = code_fault (read_image image)
