@@ -30,7 +30,7 @@ def signed(n, bits):
 # ---- images
 
 LOADS = {0x71: 1, 0x69: 2, 0x61: 4, 0x79: 8}
-TESTS = {0x15: "eq", 0x25: "gt", 0x35: "ge", 0x55: "ne", 0xA5: "lt", 0xB5: "le"}
+TESTS = {1: "eq", 2: "gt", 3: "ge", 4: "set", 5: "ne", 6: "sgt", 7: "sge", 10: "lt", 11: "le", 12: "slt", 13: "sle"}
 
 
 def known_opcodes():
@@ -80,8 +80,9 @@ def form(slot, at):
         used, made = arithmetic(opcode, dst, src, offset, imm)
     elif opcode in LOADS:
         used, made = "dso", ("load", LOADS[opcode], dst, src, offset)
-    elif opcode in TESTS:
-        used, made = "doi", ("jump", TESTS[opcode], dst, imm, offset)
+    elif opcode & 7 in (5, 6) and opcode >> 4 in TESTS:
+        used, source = ("dso", ("reg", src)) if opcode & 8 else ("doi", ("imm", imm))
+        made = ("jump", TESTS[opcode >> 4], dst, source, offset, 64 if opcode & 7 == 5 else 32)
     elif opcode == 0x85 and src == 0:
         used, made = "si", ("call", imm)
     elif opcode == 0x95:
@@ -232,7 +233,7 @@ def state_fault(i, s):
     if i[0] == "call" and i[1] != 3:
         return "V11 Helper"
     read = {"mov": lambda: [i[2]], "alu": lambda: [("reg", i[1]), i[2]], "change": lambda: [("reg", i[2])], "load": lambda: [("reg", i[3])],
-            "jump": lambda: [("reg", i[2])], "call": lambda: [("reg", 1)], "exit": lambda: [("reg", 0)]}[i[0]]()
+            "jump": lambda: [("reg", i[2]), i[3]], "call": lambda: [("reg", 1)], "exit": lambda: [("reg", 0)]}[i[0]]()
     if any(source_kind(s, r) is None for r in read):
         return "V4 Unset"
     if i[0] == "mov" and i[3] == 32 and source_kind(s, i[2])[0] == "addr" or i[0] == "change" and s.regs[i[2]][0] == "addr":
@@ -241,7 +242,7 @@ def state_fault(i, s):
         dst, src = s.regs[i[1]], source_kind(s, i[2], i[3])
         if src[0] == "addr" or dst[0] == "addr" and (i[3] == 32 or i[4] not in ("add", "sub") or moved(s, dst, src, i[4]) is None):
             return "V5 Type"
-    if i[0] == "jump" and s.regs[i[2]][0] == "addr" or i[0] == "load" and s.regs[i[3]][0] != "addr":
+    if i[0] == "jump" and "addr" in (s.regs[i[2]][0], source_kind(s, i[3])[0]) or i[0] == "load" and s.regs[i[3]][0] != "addr":
         return "V5 Type"
     if i[0] == "load":
         _, region, lo, hi = s.regs[i[3]]
@@ -279,7 +280,9 @@ def without(s, r, a, b, c):
 
 def jump_edges(i, s):
     """The states along the ways on and to the target."""
-    r, c = i[2], i[3] % U64
+    if i[3][0] == "reg" or i[5] == 32 or i[1] not in ("eq", "ne", "gt", "ge", "lt", "le"):
+        return s, s
+    r, c = i[2], i[3][1] % U64
     a, b = view(s, s.regs[r])
     equal = narrowed(s, r, max(a, c), min(b, c))
     other = without(s, r, a, b, c)
@@ -358,7 +361,12 @@ def verify(code):
 # ---- the machine
 
 HOLDS = {"eq": lambda a, b: a == b, "ne": lambda a, b: a != b, "gt": lambda a, b: a > b, "ge": lambda a, b: a >= b,
-         "lt": lambda a, b: a < b, "le": lambda a, b: a <= b}
+         "lt": lambda a, b: a < b, "le": lambda a, b: a <= b, "set": lambda a, b: a & b != 0}
+
+
+def holds(width, name, a, b):
+    a, b = a % (1 << width), b % (1 << width)
+    return HOLDS[name[1:]](signed(a, width), signed(b, width)) if name[0] == "s" and name != "set" else HOLDS[name](a, b)
 
 
 def signed_quotient(x, y):
@@ -427,8 +435,8 @@ def run(code, record, outputs):
             assert 0 <= at and at + i[1] <= len(bytes_of[region]), "trap: bounds"
             regs[i[2]] = int.from_bytes(bytes_of[region][at:at + i[1]], "little")
         elif i[0] == "jump":
-            assert isinstance(regs[i[2]], int), "trap: type"
-            if HOLDS[i[1]](regs[i[2]], i[3] % U64):
+            assert isinstance(regs[i[2]], int) and isinstance(word(i[3]), int), "trap: type"
+            if holds(i[5], i[1], regs[i[2]], word(i[3])):
                 pc += i[4]
         else:
             out = regs[1]
@@ -765,7 +773,8 @@ def some_slot(rng, left):
         base = rng.choice([1, 1, 3, 1, 6, 10, r()])
         fields = (rng.choice([0x71, 0x69, 0x61, 0x79]), rng.choice([0, 0, 6, 7, r()]), base, rng.choice([0, 0, 1, 2, 7, 8, -1, -8]), 0)
     elif kind < 0.85:
-        fields = (rng.choice(list(TESTS)), rng.choice([2, 2, 2, 4, 5, r()]), 0, jump(), small())
+        klass, code, by_register = rng.choice([5, 5, 5, 6]), rng.choice([1, 2, 3, 5, 10, 11] * 3 + list(TESTS)), rng.random() < 0.15
+        fields = (code << 4 | 8 * by_register | klass, rng.choice([2, 2, 2, 4, 5, r()]), r() if by_register else 0, jump(), 0 if by_register else small())
     elif kind < 0.95:
         return struct.pack("<BBhi", 0xB7, 1, 0, rng.choice([0, 0, 0, 1, 9])) + struct.pack("<BBhi", 0x85, 0, 0, rng.choice([3, 3, 3, 3, 3, 4, 99]))
     elif kind < 0.97:

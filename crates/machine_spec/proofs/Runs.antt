@@ -361,6 +361,71 @@ if_less_or_equal : jumps 0xb5 ≡ not_taken ∷ taken ∷ taken ∷ []
 unfolding read_slot read_fields template_of is_known first_slots trap_at after
 if_less_or_equal = refl
 
+-- jset64
+if_any_bit : jumps 0x45 ≡ taken ∷ taken ∷ not_taken ∷ []
+unfolding read_slot read_fields template_of is_known first_slots trap_at after
+if_any_bit = refl
+
+-- jsgt64
+if_signed_greater : jumps 0x65 ≡ taken ∷ not_taken ∷ not_taken ∷ []
+unfolding read_slot read_fields template_of is_known first_slots trap_at after
+if_signed_greater = refl
+
+-- jsge64
+if_signed_greater_or_equal : jumps 0x75 ≡ taken ∷ taken ∷ not_taken ∷ []
+unfolding read_slot read_fields template_of is_known first_slots trap_at after
+if_signed_greater_or_equal = refl
+
+-- jslt64
+if_signed_less : jumps 0xc5 ≡ not_taken ∷ not_taken ∷ taken ∷ []
+unfolding read_slot read_fields template_of is_known first_slots trap_at after
+if_signed_less = refl
+
+-- jsle64
+if_signed_less_or_equal : jumps 0xd5 ≡ not_taken ∷ taken ∷ taken ∷ []
+unfolding read_slot read_fields template_of is_known first_slots trap_at after
+if_signed_less_or_equal = refl
+
+-- jeq32
+if_equal_32 : jumps 0x16 ≡ not_taken ∷ taken ∷ not_taken ∷ []
+unfolding read_slot read_fields template_of is_known first_slots trap_at after
+if_equal_32 = refl
+
+-- jslt32
+if_signed_less_32 : jumps 0xc6 ≡ not_taken ∷ not_taken ∷ taken ∷ []
+unfolding read_slot read_fields template_of is_known first_slots trap_at after
+if_signed_less_32 = refl
+
+-- mov32 r2, -2; mov64 r0, 1; a jump over the next by r2 and -2; mov64 r0, 0; exit
+abbrev by_minus_two : ℕ → Option End
+by_minus_two opcode =
+    run 9 ((0xb4 ∷ 2 ∷ 0 ∷ 0 ∷ minus_two) ++ (move_to 0 1 ++ ((opcode ∷ 2 ∷ 1 ∷ 0 ∷ minus_two) ++ (move_to 0 0 ++ exit)))) (of_value 1 None)
+
+-- jeq32: the low halves are equal
+low_halves_equal : by_minus_two 0x16 ≡ Some (Out (Rejected 1) 4)
+unfolding read_slot read_fields template_of is_known first_slots trap_at after
+low_halves_equal = refl
+
+-- jeq64: the numbers are not
+numbers_differ : by_minus_two 0x15 ≡ Some (Out (Kept []) 5)
+unfolding read_slot read_fields template_of is_known first_slots trap_at after
+numbers_differ = refl
+
+-- jsgt64: as a signed number of 64 bits it is greater
+signed_greater : by_minus_two 0x65 ≡ Some (Out (Rejected 1) 4)
+unfolding read_slot read_fields template_of is_known first_slots trap_at after
+signed_greater = refl
+
+-- jgt64: as an unsigned number it is not
+unsigned_greater : by_minus_two 0x25 ≡ Some (Out (Kept []) 5)
+unfolding read_slot read_fields template_of is_known first_slots trap_at after
+unsigned_greater = refl
+
+-- mov64 r0, 1; jgt64 r2, r4, +1; mov64 r0, 0; exit: a value of three bytes is longer than a key of one
+longer_than_the_key : run 9 (move_to 0 1 ++ (slot 0x2d 0x42 1 0 ++ (move_to 0 0 ++ exit))) (of_value 1 (Some (7 ∷ 8 ∷ 9 ∷ []))) ≡ taken
+unfolding read_slot read_fields template_of is_known first_slots trap_at after
+longer_than_the_key = refl
+
 -- mov64 r0, 1; jlt64 r2, -1, +1; mov64 r0, 0; exit: the immediate is sign-extended, and the test unsigned
 below_all_ones : run 9 (move_to 0 1 ++ ((0xa5 ∷ 2 ∷ 1 ∷ 0 ∷ 0xff ∷ 0xff ∷ 0xff ∷ 0xff ∷ []) ++ (move_to 0 0 ++ exit))) (of_value 1 None) ≡ taken
 unfolding read_slot read_fields template_of is_known first_slots trap_at after

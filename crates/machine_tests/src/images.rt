@@ -120,7 +120,7 @@ fn refused_slots(rt: HostRuntime) {
         ([0xdb, 0, 0, 0, 0, 0, 0, 0], IsaFault::NotInProfile(0)),
         ([0x85, 0x10, 0, 0, 1, 0, 0, 0], IsaFault::NotInProfile(0)),
         ([0x18, 0, 0, 0, 0, 0, 0, 0], IsaFault::NotInProfile(0)),
-        ([0x1d, 0, 0, 0, 0, 0, 0, 0], IsaFault::NotInProfile(0)),
+        ([0x05, 0, 0, 0, 0, 0, 0, 0], IsaFault::NotInProfile(0)),
         ([0x62, 0x0f, 0, 0, 0, 0, 0, 0], IsaFault::NotInProfile(0)),
         ([0xff, 0, 0, 0, 0, 0, 0, 0], IsaFault::Opcode(0)),
         ([0x00, 0, 0, 0, 0, 0, 0, 0], IsaFault::Opcode(0)),
