@@ -1,4 +1,4 @@
-// Prints the rows of crates/machine_tests/src/numbers.rt: what C makes of each operation, change and test of a jump.
+// Prints the rows of crates/machine_tests/src/operations.rt and changes.rt: what C makes of each operation, change and test of a jump.
 //
 //     cc -O1 -fsanitize=undefined -fno-sanitize-recover -o /tmp/arithmetic_vectors tools/arithmetic_vectors.c && /tmp/arithmetic_vectors
 //
@@ -56,8 +56,8 @@ static u64 at_32(int operation, u32 a, u32 b) {
 static void operations(void) {
     // ends, signs, a divisor of 0, counts past both widths
     static const u64 PAIRS[][2] = {
-        {0, 0}, {7, 0}, {0x100000007, 0}, {UINT64_MAX, 1}, {1, UINT64_MAX}, {0x8000000000000000, UINT64_MAX},
-        {0x80000000, 0xffffffff}, {0xfffffffffffffff9, 2}, {0x123456789abcdef0, 37}, {0xdeadbeefcafebabe, 0x1122334455667788},
+        {7, 0}, {0x100000007, 0}, {UINT64_MAX, 1}, {0x8000000000000000, UINT64_MAX}, {0x80000000, 0xffffffff},
+        {0xfffffffffffffff9, 2}, {0x123456789abcdef0, 37}, {0xdeadbeefcafebabe, 0x1122334455667788},
     };
     printf("const OPERATIONS: [(Operation, u64, u64, u64, u64); %zu] = [\n", 13 * sizeof PAIRS / sizeof *PAIRS);
     for (int operation = 0; operation < 13; operation++)

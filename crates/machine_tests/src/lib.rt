@@ -2,8 +2,10 @@
 #![tactic(auto)]
 
 #[cfg(test)]
+mod changes;
+#[cfg(test)]
 mod images;
 #[cfg(test)]
-mod numbers;
+mod operations;
 #[cfg(test)]
 mod outcomes;
