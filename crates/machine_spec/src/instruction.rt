@@ -32,11 +32,11 @@ pub enum Instruction {
     Move(Width, u8, Source),
     /// dst = dst OPERATION source. Fields: width, operation, dst, source.
     Compute(Width, Operation, u8, Source),
+    /// dst = the bytes at base + offset, zero-extended. Fields: size, dst, base, offset in bytes.
+    Load(Size, u8, u8, i16),
     /// dst = the change of src; a negation and a byte order change dst itself. Fields: change, dst,
     /// src.
     Unary(Change, u8, u8),
-    /// dst = the bytes at base + offset, zero-extended. Fields: size, dst, base, offset in bytes.
-    Load(Size, u8, u8, i16),
     /// Where dst TEST source holds, the slot after this one plus the offset is next. Fields:
     /// width, test, dst, source, offset in slots.
     JumpIf(Width, Test, u8, Source, i16),
