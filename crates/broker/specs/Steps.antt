@@ -2,7 +2,7 @@
 use Rattle.std.specs.Prelude.{◌≡◌, ℕ, ◌<◌, ◌≤◌, List, length, ◌++◌, slice_set, None, IfSome, Result, Ok, Err}
 use Rattle.log_spec.specs.declared.row.Row.{Row}
 use Rattle.log_spec.specs.Logs.{Item as Kept, in_force, records_among, IsItemRows}
-use Rattle.part_log.specs.Parts.{Log, CellNote, with_item}
+use Rattle.part_log.specs.Parts.{Log, CellNote, log_with}
 use Rattle.worker.specs.Walks.{last, IsRowsAt}
 use Rattle.out_book.specs.Books.{Content, content, log_in, done_of}
 use Rattle.out_book.specs.declared.fault.BookFault.TheVariants as book
@@ -19,7 +19,7 @@ pub record IsStep (outputs input : ℕ) (old : Content) (note : CellNote) (count
   pub here : List Row
   pub rows_are : IsItemRows input old.output outputs (in_force (log_in old.logs input).items (done_of old.logs input)) (records_among (log_in old.logs input).items) item here
   pub count_is : count ≡ length here
-  pub new_is : new ≡ content old.output (slice_set old.logs input (with_item (log_in old.logs input) item)) (old.rows ++ here)
+  pub new_is : new ≡ content old.output (slice_set old.logs input (log_with (log_in old.logs input) item)) (old.rows ++ here)
 
 -- The input partition isn't there, the book has none of its number, or memory ran out.
 abbrev pub IsStepFault : ℕ → ℕ → Content → BrokerFault → Type 0
