@@ -1,0 +1,24 @@
+/* What a transform of klog has: its entry's arguments and the helper.
+ *
+ * A transform is one function. A stock clang makes its image so:
+ *     clang -target bpf -O2 -mcpu=v3 -c NAME.c -o NAME.o
+ *     llvm-objcopy -O binary --only-section=.text NAME.o NAME.bin
+ *
+ * Lengths are of 64 bits: a test of a length that was cut to 32 bits teaches the verifier nothing. Test a length
+ * before reading behind the address: value[0] to value[value_length - 1] and key[0] to key[key_length - 1] can be read.
+ * The result 0 keeps the emissions; another number drops them and rejects the record with that code.
+ */
+typedef unsigned char u8;
+typedef unsigned short u16;
+typedef unsigned int u32;
+typedef unsigned long long u64;
+
+/* Bits of nulls. A null key or value has no bytes. */
+#define KEY_IS_NULL 1
+#define VALUE_IS_NULL 2
+
+/* Emits the record as it is to an output partition. The result is 0, or why nothing was emitted: 1, there is no such
+ * output; 2, the key is too long; 3, sixteen emissions were made before. */
+static u64 (*const emit_record)(u64 output) = (void *)3;
+
+u64 transform(const u8 *value, u64 value_length, const u8 *key, u64 key_length, u64 nulls);
