@@ -4,6 +4,7 @@ use Rattle.std.proofs.Common.{◌≡◌, ℕ, zero, suc, ◌+◌, ◌-◌, ◌<�
 use Rattle.std.specs.List.{list_any}
 use Rattle.std.proofs.lemmas.Bool.{and_parts, and_from, or_parts, or_from, not-false, not_from_true}
 use Rattle.std.proofs.lemmas.Int.{ints}
+use Rattle.machine_spec.specs.declared.limits.TheConstants.{STACK_SIZE}
 use Rattle.machine_spec.specs.declared.operation.Width.TheVariants.{Bits32, Bits64}
 use Rattle.machine_spec.specs.declared.instruction.Region.{Region}
 use Rattle.machine_spec.specs.declared.instruction.Region.TheVariants as region
@@ -22,7 +23,7 @@ use Rattle.machine_spec.specs.declared.summary.Condition.{Condition}
 use Rattle.machine_spec.specs.declared.summary.Summary.{Summary}
 use Rattle.machine_spec.specs.Summaries.{summary_of}
 use Rattle.machine_spec.specs.Values.{byte_count}
-use Rattle.machine_spec.specs.Machine.{helper_of, stack_size}
+use Rattle.machine_spec.specs.Machine.{helper_of}
 use Rattle.machine_spec.specs.Traps.{read_registers}
 use Rattle.verifier_spec.specs.declared.state.Abs.{Abs}
 use Rattle.verifier_spec.specs.declared.state.Abs.TheVariants as abs
@@ -63,7 +64,7 @@ natural_is (negsuc n) h = absurd (negative n h)
 
 -- the places that a narrower reach may read are among those of a wider one
 set_within : (inner outer : StackSet) (lo hi low high : ℤ) (size : ℕ) → ((q : ℕ) → q < 512 → is_set outer q ≡ true → is_set inner q ≡ true) → low ≤ℤ lo → lo ≤ℤ hi → hi ≤ℤ high → pos 0 ≤ℤ low
-    → (high +ℤ pos size) ≤ℤ pos stack_size
+    → (high +ℤ pos size) ≤ℤ pos STACK_SIZE
     → are_set outer (unsigned_abs low) (unsigned_abs (high +ℤ neg_ℤ low) + size) ≡ true → are_set inner (unsigned_abs lo) (unsigned_abs (hi +ℤ neg_ℤ lo) + size) ≡ true
 set_within inner outer (negsuc m) hi low high size s p order q from to h = absurd (negative m (le_trans_z (pos 0) low (negsuc m) from p))
 set_within inner outer (pos m) (negsuc n) low high size s p order q from to h = absurd (negative n (le_trans_z (pos 0) (pos m) (negsuc n) (le_trans_z (pos 0) low (pos m) from p) order))
@@ -102,7 +103,7 @@ module _ (a b : Abstract) (w : IsWithin a b) (pa : is_proper a ≡ true) (pb : i
 
   stack_within : (d : Direction) (at : Region) (lo hi low high offset : ℤ) (size : ℕ) → low ≤ℤ lo → hi ≤ℤ high
       → may_leave_stack (Some (record { direction = d; region = at; low = low +ℤ offset; high = high +ℤ offset; size = size })) ≡ false → may_leave_stack (Some (record { direction = d; region = at; low = lo +ℤ offset; high = hi +ℤ offset; size = size })) ≡ false
-  stack_within d region.Stack lo hi low high offset size p q c = not_from_true _ (reach_within d region.Stack lo hi low high offset size stack_size stack_size p q (omega arith) (not-false _ c))
+  stack_within d region.Stack lo hi low high offset size p q c = not_from_true _ (reach_within d region.Stack lo hi low high offset size STACK_SIZE STACK_SIZE p q (omega arith) (not-false _ c))
   stack_within d region.Key lo hi low high offset size p q c = refl
   stack_within d region.Value lo hi low high offset size p q c = refl
 
@@ -112,7 +113,7 @@ module _ (a b : Abstract) (w : IsWithin a b) (pa : is_proper a ≡ true) (pb : i
   unset_within direction.Write at lo hi low high offset size p order q c u = refl
   unset_within direction.Read region.Stack lo hi low high offset size p order q c u =
       let t = and_parts _ _ (not-false _ c) in
-      not_from_true _ (set_within a.set b.set (lo +ℤ offset) (hi +ℤ offset) (low +ℤ offset) (high +ℤ offset) size w.set (omega (arith, ints)) (omega (arith, ints)) (omega (arith, ints)) (le_z-true (pos 0) (low +ℤ offset) t.0) (le_z-true ((high +ℤ offset) +ℤ pos size) (pos stack_size) t.1) (not-false _ u))
+      not_from_true _ (set_within a.set b.set (lo +ℤ offset) (hi +ℤ offset) (low +ℤ offset) (high +ℤ offset) size w.set (omega (arith, ints)) (omega (arith, ints)) (omega (arith, ints)) (le_z-true (pos 0) (low +ℤ offset) t.0) (le_z-true ((high +ℤ offset) +ℤ pos size) (pos STACK_SIZE) t.1) (not-false _ u))
   unset_within direction.Read region.Key lo hi low high offset size p order q c u = refl
   unset_within direction.Read region.Value lo hi low high offset size p order q c u = refl
 

@@ -10,7 +10,7 @@ pub enum Check {
     /// A jump goes back.
     #[error("V2 BackJump")]
     BackJump,
-    /// The last instruction is no EXIT.
+    /// The last instruction is neither an EXIT nor a jump without a condition.
     #[error("V3 RunsOff")]
     RunsOff,
     /// A register that is read may have no value.
