@@ -1,5 +1,4 @@
 pub mod ReadParts
-pub mod Sets
 pub mod Proper
 pub mod Moves
 pub mod Calls

@@ -18,6 +18,7 @@ pub mod Registers
 pub mod Safety
 pub mod Sound
 pub mod StackSets
+pub mod Stores
 pub mod Steps
 pub mod Sums
 pub mod Tighter

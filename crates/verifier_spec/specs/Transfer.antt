@@ -90,9 +90,9 @@ with_places set place zero = set
 with_places set place (suc count) = with_places (with_place set place) (place + 1) count
 
 -- a store at one known place of the stack sets its bytes; any other changes nothing that is known
-abbrev pub stored : StackSet → Option Reach → StackSet
-stored set (Some reach) = if is_stack reach.region && int_eq reach.low reach.high then with_places set (unsigned_abs reach.low) reach.size else set
-stored set None = set
+abbrev pub with_stored : StackSet → Option Reach → StackSet
+with_stored set (Some reach) = if is_stack reach.region && int_eq reach.low reach.high then with_places set (unsigned_abs reach.low) reach.size else set
+with_stored set None = set
 
 -- ---- conditional jumps by a constant
 
@@ -145,7 +145,7 @@ falls_to (Move width dst source) s = Some (with_kind s dst (moved_kind s width (
 falls_to (Compute width operation dst source) s = Some (with_kind s dst (computed_kind s width operation (kind_at s dst) (source_kind s width source)))
 falls_to (Unary change dst src) s = Some (with_kind s dst (changed_kind s change (kind_at s src)))
 falls_to (Load size extension dst base offset) s = Some (with_kind s dst (loaded_kind size extension))
-falls_to (Store size base offset source) s = Some (record s { set = stored s.set (reach_at Write (kind_at s base) offset size) })
+falls_to (Store size base offset source) s = Some (record s { set = with_stored s.set (reach_at Write (kind_at s base) offset size) })
 falls_to (JumpIf width test dst source offset) s = tested s width test false dst source
 falls_to (Jump distance) s = None
 falls_to (Wide dst number) s = Some (with_kind s dst (abs.Num number number))
