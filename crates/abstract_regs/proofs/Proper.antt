@@ -9,6 +9,7 @@ use Rattle.machine_spec.specs.declared.instruction.Region.TheVariants as region
 use Rattle.verifier_spec.specs.declared.interval.Interval.{Interval}
 use Rattle.verifier_spec.specs.declared.state.Abs.{Abs}
 use Rattle.verifier_spec.specs.declared.state.Abs.TheVariants as abs
+use Rattle.verifier_spec.specs.declared.state.StackSet.{StackSet}
 use Rattle.verifier_spec.specs.declared.state.Abstract.{Abstract}
 use Rattle.verifier_spec.specs.Kinds.{kind_at, greatest, least, range_of, is_proper_kind}
 use Rattle.verifier_spec.specs.States.{is_proper}
@@ -63,6 +64,13 @@ with_kind_proper s r kind proper one =
       value = p.value;
       value_most = p.value_most;
     })
+
+-- ---- the set of stack bytes
+
+pub with_set_proper : (s : Abstract) (set : StackSet) → is_proper s ≡ true → is_proper (record s { set = set }) ≡ true
+with_set_proper s set proper =
+    let p = proper_parts s proper in
+    proper_from _ (record { count = p.count; kinds = p.kinds; key = p.key; key_most = p.key_most; value = p.value; value_most = p.value_most })
 
 -- ---- the numbers of a kind
 
