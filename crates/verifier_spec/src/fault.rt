@@ -25,7 +25,7 @@ pub enum Check {
     /// A load could read outside the key or the value.
     #[error("V7 RecordBounds")]
     RecordBounds,
-    /// A load could read outside the stack.
+    /// A load or a store could reach outside the stack.
     #[error("V8 StackBounds")]
     StackBounds,
     /// A load could read a stack byte that is not set.
