@@ -1,8 +1,10 @@
 -- Runs of places in a set of stack places.
-use Rattle.std.proofs.Common.{◌≡◌, ℕ, zero, suc, ◌+◌, ◌-◌, ◌<◌, true, false, refl, arith, sub-one}
+use Rattle.std.proofs.Common.{◌≡◌, ℕ, zero, suc, ◌+◌, ◌-◌, ◌<◌, true, false, bit_or, refl, sym, ap, ◌∙◌, arith, sub-one}
+use Rattle.std.specs.Int.Bits.{or_zero_r}
 use Rattle.verifier_spec.specs.declared.state.StackSet.{StackSet}
 use Rattle.verifier_spec.specs.Kinds.{is_set}
 use Rattle.verifier_spec.specs.Checks.{are_set}
+use Rattle.verifier_spec.specs.Transfer.{with_place, with_places}
 
 -- a run is its first place and the places after it
 pub are_set_first : (set : StackSet) (place count : ℕ) → 0 < count → is_set set place ≡ true → are_set set (place + 1) (count - 1) ≡ are_set set place count
@@ -16,3 +18,20 @@ are_set_not set place (suc count) more first = rw first refl
 pub are_set_none : (set : StackSet) (place count : ℕ) → count ≡ 0 → are_set set place count ≡ true
 are_set_none set place zero none = refl
 are_set_none set place (suc count) none = absurd (omega arith)
+
+-- ---- places that are added
+
+pub no_bit : (word : ℕ) → bit_or word 0 ≡ word
+no_bit word = or_zero_r word
+
+pub with_none : (set : StackSet) (place : ℕ) → with_places set place 0 ≡ set
+with_none set place = refl
+
+-- so many places and the next one
+pub with_next : (set : StackSet) (place count : ℕ) → with_places set place (count + 1) ≡ with_place (with_places set place count) (place + count)
+with_next set place zero =
+    let e : place ≡ place + 0 = omega arith in
+    ap (with_place set) e
+with_next set place (suc count) =
+    let e : (place + 1) + count ≡ place + suc count = omega arith in
+    with_next (with_place set place) (place + 1) count ∙ ap (with_place (with_places (with_place set place) (place + 1) count)) e
