@@ -18,6 +18,22 @@ pub enum Size {
     Double,
 }
 
+/// What a load fills the bits above its bytes with: with 0, or with the top bit of its bytes (RFC
+/// 9669, sections 5.1 and 5.2).
+#[derive(Clone, Copy, Debug, PartialEq, Eq)]
+pub enum Extension {
+    Zero,
+    Sign,
+}
+
+/// How many slots a jump without a condition leaps, from the slot after it. There are two
+/// spellings: 16 bits in the offset, or 32 in the immediate (RFC 9669, section 4.3).
+#[derive(Clone, Copy, Debug, PartialEq, Eq)]
+pub enum Distance {
+    Short(i16),
+    Long(i32),
+}
+
 /// The second operand: a register, or the immediate of the instruction.
 #[derive(Clone, Copy, Debug, PartialEq, Eq)]
 pub enum Source {
@@ -32,14 +48,22 @@ pub enum Instruction {
     Move(Width, u8, Source),
     /// dst = dst OPERATION source. Fields: width, operation, dst, source.
     Compute(Width, Operation, u8, Source),
-    /// dst = the bytes at base + offset, zero-extended. Fields: size, dst, base, offset in bytes.
-    Load(Size, u8, u8, i16),
+    /// dst = the bytes at base + offset, extended to 64 bits. Fields: size, extension, dst, base,
+    /// offset in bytes. No opcode sign-extends eight bytes.
+    Load(Size, Extension, u8, u8, i16),
     /// dst = the change of src; a negation and a byte order change dst itself. Fields: change, dst,
     /// src.
     Unary(Change, u8, u8),
+    /// The bytes at base + offset = the low bytes of source. Fields: size, base, offset in bytes,
+    /// source.
+    Store(Size, u8, i16, Source),
     /// Where dst TEST source holds, the slot after this one plus the offset is next. Fields:
     /// width, test, dst, source, offset in slots.
     JumpIf(Width, Test, u8, Source, i16),
+    /// The slot after this one plus the distance is next.
+    Jump(Distance),
+    /// dst = a number of 64 bits. The instruction has two slots. Fields: dst, number.
+    Wide(u8, u64),
     /// Calls the helper with this number.
     Call(i32),
     Exit,

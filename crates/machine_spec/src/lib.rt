@@ -12,7 +12,9 @@ mod operation;
 mod outcome;
 mod summary;
 
-pub use instruction::{Helper, Instruction, IsaFault, Placed, Region, Size, Source, Trap};
+pub use instruction::{
+    Distance, Extension, Helper, Instruction, IsaFault, Placed, Region, Size, Source, Trap,
+};
 pub use limits::{MAX_EMISSIONS, MAX_SLOTS, STACK_SIZE};
 pub use opcode::TEMPLATES;
 pub use operation::{ByteOrder, Change, ExtendedWidth, Operation, SwappedWidth, Test, Width};

@@ -1,4 +1,7 @@
-use crate::{ByteOrder, Change, Instruction, Operation, Size, Source, SwappedWidth, Test, Width};
+use crate::{
+    ByteOrder, Change, Distance, Extension, Instruction, Operation, Size, Source, SwappedWidth, Test,
+    Width,
+};
 
 const REGISTER: Source = Source::Register(0);
 
@@ -6,11 +9,23 @@ const IMMEDIATE: Source = Source::Immediate(0);
 
 /// The instruction of each opcode of the profile, with 0 in its fields (RFC 9669, sections 4 and 5);
 /// where an opcode is that of several, the first of them.
-pub const TEMPLATES: [Instruction; 103] = [
-    Instruction::Load(Size::Byte, 0, 0, 0),
-    Instruction::Load(Size::Half, 0, 0, 0),
-    Instruction::Load(Size::Word, 0, 0, 0),
-    Instruction::Load(Size::Double, 0, 0, 0),
+pub const TEMPLATES: [Instruction; 117] = [
+    Instruction::Wide(0, 0),
+    Instruction::Load(Size::Byte, Extension::Zero, 0, 0, 0),
+    Instruction::Load(Size::Half, Extension::Zero, 0, 0, 0),
+    Instruction::Load(Size::Word, Extension::Zero, 0, 0, 0),
+    Instruction::Load(Size::Double, Extension::Zero, 0, 0, 0),
+    Instruction::Load(Size::Byte, Extension::Sign, 0, 0, 0),
+    Instruction::Load(Size::Half, Extension::Sign, 0, 0, 0),
+    Instruction::Load(Size::Word, Extension::Sign, 0, 0, 0),
+    Instruction::Store(Size::Byte, 0, 0, IMMEDIATE),
+    Instruction::Store(Size::Half, 0, 0, IMMEDIATE),
+    Instruction::Store(Size::Word, 0, 0, IMMEDIATE),
+    Instruction::Store(Size::Double, 0, 0, IMMEDIATE),
+    Instruction::Store(Size::Byte, 0, 0, REGISTER),
+    Instruction::Store(Size::Half, 0, 0, REGISTER),
+    Instruction::Store(Size::Word, 0, 0, REGISTER),
+    Instruction::Store(Size::Double, 0, 0, REGISTER),
     Instruction::Compute(Width::Bits32, Operation::Add, 0, IMMEDIATE),
     Instruction::Compute(Width::Bits32, Operation::Add, 0, REGISTER),
     Instruction::Compute(Width::Bits32, Operation::Sub, 0, IMMEDIATE),
@@ -90,6 +105,8 @@ pub const TEMPLATES: [Instruction; 103] = [
     Instruction::JumpIf(Width::Bits32, Test::SignedLess, 0, REGISTER, 0),
     Instruction::JumpIf(Width::Bits32, Test::SignedLessOrEqual, 0, IMMEDIATE, 0),
     Instruction::JumpIf(Width::Bits32, Test::SignedLessOrEqual, 0, REGISTER, 0),
+    Instruction::Jump(Distance::Short(0)),
+    Instruction::Jump(Distance::Long(0)),
     Instruction::Call(0),
     Instruction::Exit,
     Instruction::Compute(Width::Bits64, Operation::Add, 0, IMMEDIATE),

@@ -14,7 +14,8 @@ use Rattle.wire_spec.specs.declared.fault.VarintFault.{VarintFault}
 use Rattle.wire_spec.specs.declared.record.Header.{Header}
 use Rattle.wire_spec.specs.declared.record.Record.{Record}
 use Rattle.wire_spec.specs.Varint.{varint, varlong, read_varint, read_varlong}
-use Rattle.wire_spec.specs.RecordSpelling.{HeaderFits, RecordFits, max_key, max_value, max_headers, max_header_key, max_header_value, string, nullable, header, record_body, record_spelling}
+use Rattle.wire_spec.specs.declared.limits.TheConstants.{MAX_KEY, MAX_VALUE, MAX_HEADERS, MAX_HEADER_KEY, MAX_HEADER_VALUE}
+use Rattle.wire_spec.specs.RecordSpelling.{HeaderFits, RecordFits, string, nullable, header, record_body, record_spelling}
 use Rattle.wire_spec.specs.RecordReading.{◌>>=◌, with_rest, varint_at, varlong_at, bytes_at, nullable_bytes_at, string_at, nullable_at, header_at, headers_at, counted_at, attributes_at, delta_at, body_at, record_at}
 use Rattle.wire_spec.proofs.Varints.{IsBytes, IsBytes-rest, IsBytes-drop, read_varint-taken, read_varlong-taken, read_varint-form, read_varlong-form, IsVarint-varint, IsVarlong-varlong, varint_is, varlong_is, length-varint, length-varlong}
 
@@ -144,12 +145,12 @@ nullable_again limit (Some s) rest small few =
 pub header_takes : (bytes : List ℕ) (x : Header × List ℕ) → IsBytes bytes → header_at bytes ≡ Some x → Takes bytes (header x.0) x.1 × HeaderFits x.0
 unfolding header_at
 header_takes bytes x fits e =
-    let a = bind_some (string_at max_header_key bytes) (λ key. nullable_at max_header_value key.1 >>= λ value. cond (is_utf8 key.0) (Some (record { key = key.0; value = value.0 }, value.1)) None) x e in
-    let b = bind_some (nullable_at max_header_value a.0.1) (λ value. cond (is_utf8 a.0.0) (Some (record { key = a.0.0; value = value.0 }, value.1)) None) x a.2 in
+    let a = bind_some (string_at MAX_HEADER_KEY bytes) (λ key. nullable_at MAX_HEADER_VALUE key.1 >>= λ value. cond (is_utf8 key.0) (Some (record { key = key.0; value = value.0 }, value.1)) None) x e in
+    let b = bind_some (nullable_at MAX_HEADER_VALUE a.0.1) (λ value. cond (is_utf8 a.0.0) (Some (record { key = a.0.0; value = value.0 }, value.1)) None) x a.2 in
     let made : Header × List ℕ = (record { key = a.0.0; value = b.0.0 }, b.0.1) in
     let g = wanted_some (is_utf8 a.0.0) made x b.2 in
-    let key = string_takes max_header_key bytes a.0 fits a.1 in
-    let value = nullable_takes max_header_value a.0.1 b.0 key.0.rest_fits b.1 in
+    let key = string_takes MAX_HEADER_KEY bytes a.0 fits a.1 in
+    let value = nullable_takes MAX_HEADER_VALUE a.0.1 b.0 key.0.rest_fits b.1 in
     let both = Takes-then bytes (string a.0.0) a.0.1 (nullable b.0.0) b.0.1 key.0 value.0 in
     subst (λ (y : Header × List ℕ). Takes bytes (header y.0) y.1 × HeaderFits y.0) g.1 (both, record { key = key.1; text = IsUtf8-from_is_utf8 a.0.0 g.0; value = value.1 })
 
@@ -157,8 +158,8 @@ pub header_again : (h : Header) (rest : List ℕ) → HeaderFits h → header_at
 unfolding header_at
 header_again h rest fits =
     let regrouped : header h ++ rest ≡ string h.key ++ (nullable h.value ++ rest) = append_assoc (string h.key) (nullable h.value) rest in
-    let key = string_again max_header_key h.key (nullable h.value ++ rest) (omega arith) fits.key in
-    let value = nullable_again max_header_value h.value rest (omega arith) fits.value in
+    let key = string_again MAX_HEADER_KEY h.key (nullable h.value ++ rest) (omega arith) fits.key in
+    let value = nullable_again MAX_HEADER_VALUE h.value rest (omega arith) fits.value in
     ap header_at regrouped ∙ rw (key, value, is_utf8-from_IsUtf8 h.key fits.text) refl
 
 pub headers_take : (n : ℕ) (bytes : List ℕ) (x : List Header × List ℕ) → IsBytes bytes → headers_at n bytes ≡ Some x → Takes bytes (flat_map header x.0) x.1 × (length x.0 ≡ n) × AllByRecursion HeaderFits x.0
@@ -181,15 +182,15 @@ headers_again (h ∷ hs) rest fits =
     let regrouped : flat_map header (h ∷ hs) ++ rest ≡ header h ++ (flat_map header hs ++ rest) = ap (λ (x : List ℕ). x ++ rest) (flat_map-cons header h hs) ∙ append_assoc (header h) (flat_map header hs) rest in
     ap (headers_at (suc (length hs))) regrouped ∙ rw (header_again h (flat_map header hs ++ rest) fits.0, headers_again hs rest fits.1) refl
 
-counted_take : (z : ℤ) (bytes : List ℕ) (x : List Header × List ℕ) → IsBytes bytes → counted_at z bytes ≡ Some x → Takes bytes (flat_map header x.0) x.1 × (z ≡ pos (length x.0)) × (length x.0 ≤ max_headers) × AllByRecursion HeaderFits x.0
+counted_take : (z : ℤ) (bytes : List ℕ) (x : List Header × List ℕ) → IsBytes bytes → counted_at z bytes ≡ Some x → Takes bytes (flat_map header x.0) x.1 × (z ≡ pos (length x.0)) × (length x.0 ≤ MAX_HEADERS) × AllByRecursion HeaderFits x.0
 counted_take (negsuc n) bytes x fits e = absurd cc
 counted_take (pos n) bytes x fits e =
-    let g = guard_some (ltb max_headers n) (headers_at n bytes) x e in
+    let g = guard_some (ltb MAX_HEADERS n) (headers_at n bytes) x e in
     let h = headers_take n bytes x fits g.1 in
-    (h.0, ap pos (sym h.1), omega (arith, ltb-false max_headers n g.0, h.1), h.2)
+    (h.0, ap pos (sym h.1), omega (arith, ltb-false MAX_HEADERS n g.0, h.1), h.2)
 
-counted_again : (hs : List Header) (rest : List ℕ) → length hs ≤ max_headers → AllByRecursion HeaderFits hs → counted_at (pos (length hs)) (flat_map header hs ++ rest) ≡ Some (hs, rest)
-counted_again hs rest few fits = rw (le-ltb max_headers (length hs) few) (headers_again hs rest fits)
+counted_again : (hs : List Header) (rest : List ℕ) → length hs ≤ MAX_HEADERS → AllByRecursion HeaderFits hs → counted_at (pos (length hs)) (flat_map header hs ++ rest) ≡ Some (hs, rest)
+counted_again hs rest few fits = rw (le-ltb MAX_HEADERS (length hs) few) (headers_again hs rest fits)
 
 -- ---- Attributes and the offset delta
 
@@ -229,10 +230,10 @@ abbrev with_value : ℤ → Option (List ℕ) → Option (List ℕ) × List ℕ 
 with_value t k v = varint_at v.1 >>= λ n. with_count t k v.0 n
 
 abbrev with_key : ℤ → Option (List ℕ) × List ℕ → Rest
-with_key t k = nullable_at max_value k.1 >>= λ v. with_value t k.0 v
+with_key t k = nullable_at MAX_VALUE k.1 >>= λ v. with_value t k.0 v
 
 abbrev with_delta : ℤ → List ℕ → Rest
-with_delta t bytes = nullable_at max_key bytes >>= λ k. with_key t k
+with_delta t bytes = nullable_at MAX_KEY bytes >>= λ k. with_key t k
 
 abbrev with_timestamp : ℤ → ℤ × List ℕ → Rest
 with_timestamp delta t = delta_at delta t.1 >>= λ bytes. with_delta t.0 bytes
@@ -246,15 +247,15 @@ body_takes delta bytes x fits e =
     let a = bind_some (attributes_at bytes) (λ b. with_attributes delta b) x e in
     let t = bind_some (varlong_at a.0) (λ y. with_timestamp delta y) x a.2 in
     let d = bind_some (delta_at delta t.0.1) (λ b. with_delta t.0.0 b) x t.2 in
-    let k = bind_some (nullable_at max_key d.0) (λ y. with_key t.0.0 y) x d.2 in
-    let v = bind_some (nullable_at max_value k.0.1) (λ y. with_value t.0.0 k.0.0 y) x k.2 in
+    let k = bind_some (nullable_at MAX_KEY d.0) (λ y. with_key t.0.0 y) x d.2 in
+    let v = bind_some (nullable_at MAX_VALUE k.0.1) (λ y. with_value t.0.0 k.0.0 y) x k.2 in
     let n = bind_some (varint_at v.0.1) (λ y. with_count t.0.0 k.0.0 v.0.0 y) x v.2 in
     let h = bind_some (counted_at n.0.0 n.0.1) (λ y. with_headers t.0.0 k.0.0 v.0.0 y) x n.2 in
     let ta = attributes_take bytes a.0 fits a.1 in
     let tt' = varlong_takes a.0 t.0 ta.rest_fits t.1 in
     let td = delta_takes delta t.0.1 d.0 tt'.0.rest_fits d.1 in
-    let tk = nullable_takes max_key d.0 k.0 td.rest_fits k.1 in
-    let tv = nullable_takes max_value k.0.1 v.0 tk.0.rest_fits v.1 in
+    let tk = nullable_takes MAX_KEY d.0 k.0 td.rest_fits k.1 in
+    let tv = nullable_takes MAX_VALUE k.0.1 v.0 tk.0.rest_fits v.1 in
     let tn = varint_takes v.0.1 n.0 tv.0.rest_fits n.1 in
     let th = counted_take n.0.0 n.0.1 h.0 tn.0.rest_fits h.1 in
     let headers = flat_map header h.0.0 in
@@ -281,7 +282,7 @@ body_again delta r rest h fits =
     let after_delta = nullable r.key ++ after_key in
     let after_timestamp = varint delta ++ after_delta in
     ap (body_at delta) (regrouped_body delta r rest)
-    ∙ rw (varlong_again r.timestamp_delta after_timestamp fits.timestamp, delta_again delta after_delta h, nullable_again max_key r.key after_key (omega arith) fits.key, nullable_again max_value r.value after_value (omega arith) fits.value, varint_again (pos (length r.headers)) after_count (fits_pos (length r.headers) (omega (arith, fits.count))), counted_again r.headers rest fits.count fits.headers) refl
+    ∙ rw (varlong_again r.timestamp_delta after_timestamp fits.timestamp, delta_again delta after_delta h, nullable_again MAX_KEY r.key after_key (omega arith) fits.key, nullable_again MAX_VALUE r.value after_value (omega arith) fits.value, varint_again (pos (length r.headers)) after_count (fits_pos (length r.headers) (omega (arith, fits.count))), counted_again r.headers rest fits.count fits.headers) refl
 
 -- ---- Records
 
@@ -290,7 +291,7 @@ length-nullable limit None h = omega (arith, length-varint (negsuc 0))
 length-nullable limit (Some s) h = omega (arith, h, length-append (varint (pos (length s))) s, length-varint (pos (length s)))
 
 pub length-header : (h : Header) → HeaderFits h → length (header h) ≤ 4361
-length-header h fits = omega (arith, fits.key, length-append (string h.key) (nullable h.value), length-append (varint (pos (length h.key))) h.key, length-varint (pos (length h.key)), length-nullable max_header_value h.value fits.value)
+length-header h fits = omega (arith, fits.key, length-append (string h.key) (nullable h.value), length-append (varint (pos (length h.key))) h.key, length-varint (pos (length h.key)), length-nullable MAX_HEADER_VALUE h.value fits.value)
 
 pub length-headers : (hs : List Header) → AllByRecursion HeaderFits hs → length (flat_map header hs) ≤ 4361 * length hs
 length-headers [] fits = omega arith
@@ -305,7 +306,7 @@ length-record_body delta r fits =
     let k = nullable r.key in
     let d = varint delta in
     let t = varlong r.timestamp_delta in
-    omega (arith, fits.count, length-append n hs, length-append v (n ++ hs), length-append k (v ++ (n ++ hs)), length-append d (k ++ (v ++ (n ++ hs))), length-append t (d ++ (k ++ (v ++ (n ++ hs)))), length-varlong r.timestamp_delta, length-varint delta, length-varint (pos (length r.headers)), length-nullable max_key r.key fits.key, length-nullable max_value r.value fits.value, length-headers r.headers fits.headers)
+    omega (arith, fits.count, length-append n hs, length-append v (n ++ hs), length-append k (v ++ (n ++ hs)), length-append d (k ++ (v ++ (n ++ hs))), length-append t (d ++ (k ++ (v ++ (n ++ hs)))), length-varlong r.timestamp_delta, length-varint delta, length-varint (pos (length r.headers)), length-nullable MAX_KEY r.key fits.key, length-nullable MAX_VALUE r.value fits.value, length-headers r.headers fits.headers)
 
 pub record_takes : (delta : ℤ) (bytes : List ℕ) (x : Record × List ℕ) → IsBytes bytes → record_at delta bytes ≡ Some x → Takes bytes (record_spelling delta x.0) x.1 × RecordFits x.0
 unfolding record_at

@@ -7,7 +7,7 @@ use Rattle.wire_spec.specs.declared.fault.VarintFault.{VarintFault}
 use Rattle.wire_spec.specs.declared.record.Header.{Header}
 use Rattle.wire_spec.specs.declared.record.Record.{Record}
 use Rattle.wire_spec.specs.Varint.{read_varint, read_varlong}
-use Rattle.wire_spec.specs.RecordSpelling.{max_key, max_value, max_headers, max_header_key, max_header_value}
+use Rattle.wire_spec.specs.declared.limits.TheConstants.{MAX_KEY, MAX_VALUE, MAX_HEADERS, MAX_HEADER_KEY, MAX_HEADER_VALUE}
 
 infixl 10 ◌>>=◌
 abbrev pub ◌>>=◌ : {A B : Type 0} → Option A → (A → Option B) → Option B
@@ -52,8 +52,8 @@ nullable_at limit bytes = do
 -- a header, whose key is text
 unfoldable pub header_at : List ℕ → Option (Header × List ℕ)
 header_at bytes = do
-  key ← string_at max_header_key bytes
-  value ← nullable_at max_header_value key.1
+  key ← string_at MAX_HEADER_KEY bytes
+  value ← nullable_at MAX_HEADER_VALUE key.1
   if is_utf8 key.0 then Some (record { key = key.0; value = value.0 }, value.1) else None
 
 -- that many headers
@@ -66,7 +66,7 @@ headers_at (suc n) bytes = do
 
 -- headers behind their number
 abbrev pub counted_at : ℤ → List ℕ → Option (List Header × List ℕ)
-counted_at (pos n) bytes = if nat_lt max_headers n then None else headers_at n bytes
+counted_at (pos n) bytes = if nat_lt MAX_HEADERS n then None else headers_at n bytes
 counted_at (negsuc n) bytes = None
 
 -- the attributes, which are 0
@@ -87,8 +87,8 @@ body_at delta bytes = do
   after_attributes ← attributes_at bytes
   timestamp ← varlong_at after_attributes
   after_delta ← delta_at delta timestamp.1
-  key ← nullable_at max_key after_delta
-  value ← nullable_at max_value key.1
+  key ← nullable_at MAX_KEY after_delta
+  value ← nullable_at MAX_VALUE key.1
   count ← varint_at value.1
   headers ← counted_at count.0 count.1
   Some (record { timestamp_delta = timestamp.0; key = key.0; value = value.0; headers = headers.0 }, headers.1)

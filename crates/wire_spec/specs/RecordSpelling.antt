@@ -7,35 +7,18 @@ use Rattle.wire_spec.specs.declared.record.Header.{Header}
 use Rattle.wire_spec.specs.declared.record.Record.{Record}
 use Rattle.wire_spec.specs.Varint.{varint, varlong}
 
--- ---- The limits, in bytes (and headers)
-
-abbrev pub max_key : ℕ
-max_key = MAX_KEY
-
-abbrev pub max_value : ℕ
-max_value = MAX_VALUE
-
-abbrev pub max_headers : ℕ
-max_headers = MAX_HEADERS
-
-abbrev pub max_header_key : ℕ
-max_header_key = MAX_HEADER_KEY
-
-abbrev pub max_header_value : ℕ
-max_header_value = MAX_HEADER_VALUE
-
 -- a header that has a spelling
 pub record HeaderFits (h : Header) : Type 0 where
-  pub key : length h.key ≤ max_header_key
+  pub key : length h.key ≤ MAX_HEADER_KEY
   pub text : IsUtf8 h.key
-  pub value : IfSome h.value (λ v. length v ≤ max_header_value)
+  pub value : IfSome h.value (λ v. length v ≤ MAX_HEADER_VALUE)
 
 -- a record that has a spelling
 pub record RecordFits (r : Record) : Type 0 where
   pub timestamp : FitsSigned w64 r.timestamp_delta
-  pub key : IfSome r.key (λ k. length k ≤ max_key)
-  pub value : IfSome r.value (λ v. length v ≤ max_value)
-  pub count : length r.headers ≤ max_headers
+  pub key : IfSome r.key (λ k. length k ≤ MAX_KEY)
+  pub value : IfSome r.value (λ v. length v ≤ MAX_VALUE)
+  pub count : length r.headers ≤ MAX_HEADERS
   pub headers : AllByRecursion HeaderFits r.headers
 
 -- ---- The bytes
