@@ -1,0 +1,5 @@
+pub mod Views
+pub mod Straight
+pub mod States
+pub mod Advances
+pub mod Ends

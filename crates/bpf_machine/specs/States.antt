@@ -1,0 +1,15 @@
+-- What a run of the plain machine has at hand, and its state, as the definitions of the machine name them.
+use Rattle.machine_spec.specs.Image.{Program}
+use Rattle.machine_spec.specs.Machine.{Input, State}
+use Rattle.bpf_machine.specs.declared.memory.Run.{Run}
+use Rattle.bpf_machine.specs.declared.machine.Machine.{Machine}
+use Rattle.bpf_machine.specs.Views.{registers_of, stack_of}
+
+abbrev pub program_of : Run → Program
+program_of run = record { image = run.image.now }
+
+abbrev pub input_of : Run → Input
+input_of run = record { given = run.given.now; place = run.place.now }
+
+abbrev pub state_of : Machine → State
+state_of m = record { slot = m.slot; registers = registers_of m.registers; stack = stack_of m.stack; emitted = m.emitter }

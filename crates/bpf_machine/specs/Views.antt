@@ -1,0 +1,35 @@
+-- The parts of the plain machine as the definitions of the machine name them.
+use Rattle.std.specs.Prelude.{ℕ, ◌<◌, ◌^◌, List, Option, Some, None, slice_get, option_and_then, unsigned_abs}
+use Rattle.machine_spec.specs.Values.{Value, Nothing, Number, Address}
+use Rattle.machine_spec.specs.Machine.{Access}
+use Rattle.bpf_machine.specs.declared.tagged.Tagged.{Tagged}
+use Rattle.bpf_machine.specs.declared.tagged.Tagged.TheVariants as tagged
+use Rattle.bpf_machine.specs.declared.memory.Span.{Span}
+
+abbrev pub value_of : Tagged → Value
+value_of tagged.Nothing = Nothing
+value_of (tagged.Number n) = Number n
+value_of (tagged.Address region at) = Address region at
+
+abbrev pub value_in : Option Tagged → Value
+value_in (Some value) = value_of value
+value_in None = Nothing
+
+-- the registers in a list; those past its end hold nothing
+abbrev pub registers_of : List Tagged → ℕ → Value
+registers_of registers r = value_in (slice_get registers r)
+
+-- the bytes of the stack in a list; those past its end are not set
+abbrev pub stack_of : List (Option ℕ) → ℕ → Option ℕ
+stack_of bytes place = option_and_then (λ byte. byte) (slice_get bytes place)
+
+-- the bytes that a span has
+abbrev pub access_in : Option Span → Option Access
+access_in (Some span) = Some (record { direction = span.direction; region = span.region; start = span.start; size = span.size })
+access_in None = None
+
+-- an address so near to its region that a sum of its offset and a displacement has 128 bits
+abbrev pub IsNear : Value → Type 0
+IsNear Nothing = Unit {0}
+IsNear (Number _) = Unit {0}
+IsNear (Address _ at) = unsigned_abs at < 2 ^ 126

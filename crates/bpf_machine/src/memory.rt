@@ -1,0 +1,235 @@
+//! The bytes that an instruction reads or writes.
+ghost use Rattle.std.specs.Prelude.{◌≡◌, ◌+◌, ◌<◌, ◌^◌, length, slice_get, unwrap_or, unsigned_abs, ◌+ℤ◌, Some};
+ghost use Rattle.machine_spec.specs.Values as values;
+ghost use Rattle.machine_spec.specs.Values.{little_endian, byte_count};
+ghost use Rattle.machine_spec.specs.Machine.{access_at, access_of, byte_in, bytes_from, length_of, loaded};
+ghost use Rattle.bpf_machine.specs.Views.{value_of, registers_of, stack_of, access_in, IsNear};
+ghost use Rattle.bpf_machine.specs.States.{input_of};
+
+use crate::registers::{REGISTERS, get};
+use crate::stack::Stack;
+use crate::tagged::Tagged;
+use helpers::text;
+use machine_spec::{Direction, Extension, MemoryOperand, Place, Region, STACK_SIZE, Size};
+use std::alloc::Global;
+use wire_spec::Record;
+
+/// What a run has at hand: the program's image, the record and where it stands.
+#[derive(Drop)]
+pub struct Run<'a> {
+    pub alloc: Global,
+    pub image: &'a [u8],
+    pub given: &'a Record,
+    pub place: &'a Place,
+}
+
+/// So many bytes from a place of a region on; the place may lie outside it.
+#[derive(Clone, Copy, Debug, PartialEq, Eq)]
+pub struct Span {
+    pub direction: Direction,
+    pub region: Region,
+    pub start: i128,
+    pub size: u8,
+}
+
+fn count_of(size: Size) -> u8
+    ensures { result ≡ byte_count size }
+{
+    match size {
+        Size::Byte => 1,
+        Size::Half => 2,
+        Size::Word => 4,
+        Size::Double => 8,
+    }
+}
+
+pub fn start_of(at: i128, offset: i16) -> i128
+    requires { unsigned_abs at < 2 ^ 126 }
+    ensures { result ≡ at +ℤ offset }
+{
+    at + offset as i128
+}
+
+/// The bytes at an offset from a base.
+pub fn span_at(direction: Direction, base: Tagged, offset: i16, size: Size) -> Option<Span>
+    requires { IsNear (value_of base) }
+    ensures { access_in result ≡ access_at direction (value_of base) offset size }
+{
+    match base {
+        Tagged::Address(region, at) => Some(Span {
+            direction,
+            region,
+            start: start_of(at, offset),
+            size: count_of(size),
+        }),
+        Tagged::Nothing => None,
+        Tagged::Number(_) => None,
+    }
+}
+
+/// The bytes that an instruction reads or writes.
+pub fn span_of(memory: Option<MemoryOperand>, registers: &[Tagged; REGISTERS]) -> Option<Span>
+    requires { (r : ℕ) → IsNear (registers_of registers.now r) }
+    ensures { access_in result ≡ access_of memory (registers_of registers.now) }
+{
+    match memory {
+        Some(m) => span_at(m.direction, get(registers, m.base), m.offset, m.size),
+        None => None,
+    }
+}
+
+fn byte_of(bytes: &[u8], place: u128) -> Option<u8>
+    ensures { result ≡ slice_get bytes.now place }
+{
+    if place < bytes.len() as u128 {
+        Some(bytes[place as usize])
+    } else {
+        None
+    }
+}
+
+fn or_zero(byte: Option<u8>) -> u8
+    ensures { result ≡ unwrap_or byte 0 }
+{
+    match byte {
+        Some(byte) => byte,
+        None => 0,
+    }
+}
+
+impl<'a> Run<'a> {
+    /// How many bytes a region has.
+    pub fn length_of(&self, region: Region) -> usize
+        ensures { result ≡ length_of (input_of self.now) region }
+    {
+        match region {
+            Region::Stack => STACK_SIZE,
+            Region::Key => text(&self.given.key).len(),
+            Region::Value => text(&self.given.value).len(),
+        }
+    }
+
+    /// The byte at a place of a region, if there is one and it is set.
+    fn byte_in(&self, stack: &Stack, region: Region, place: u128) -> Option<u8>
+        ensures { result ≡ byte_in (input_of self.now) (stack_of stack.now) region place }
+    {
+        match region {
+            Region::Stack => stack.get(place),
+            Region::Key => byte_of(text(&self.given.key), place),
+            Region::Value => byte_of(text(&self.given.value), place),
+        }
+    }
+
+    fn byte(&self, stack: &Stack, region: Region, place: u128) -> u8
+        ensures { result ≡ little_endian (bytes_from (byte_in (input_of self.now) (stack_of stack.now) region) place 1) }
+    {
+        or_zero(self.byte_in(stack, region, place))
+    }
+
+    fn half(&self, stack: &Stack, region: Region, place: u128) -> u16
+        requires { place < 2 ^ 127 + 8 }
+        ensures { result ≡ little_endian (bytes_from (byte_in (input_of self.now) (stack_of stack.now) region) place 2) }
+    {
+        let low = self.byte(stack, region, place);
+        let high = self.byte(stack, region, place + 1);
+        u16::from(low) + 0x100 * u16::from(high)
+    }
+
+    fn word(&self, stack: &Stack, region: Region, place: u128) -> u32
+        requires { place < 2 ^ 127 + 6 }
+        ensures { result ≡ little_endian (bytes_from (byte_in (input_of self.now) (stack_of stack.now) region) place 4) }
+    {
+        let low = self.half(stack, region, place);
+        let high = self.half(stack, region, place + 2);
+        u32::from(low) + 0x1_0000 * u32::from(high)
+    }
+
+    fn double(&self, stack: &Stack, region: Region, place: u128) -> u64
+        requires { place < 2 ^ 127 + 2 }
+        ensures { result ≡ little_endian (bytes_from (byte_in (input_of self.now) (stack_of stack.now) region) place 8) }
+    {
+        let low = self.word(stack, region, place);
+        let high = self.word(stack, region, place + 4);
+        u64::from(low) + 0x1_0000_0000 * u64::from(high)
+    }
+
+    /// The number that the bytes from a place on stand for, extended to 64 bits.
+    fn number_at(
+        &self,
+        stack: &Stack,
+        region: Region,
+        place: u128,
+        size: Size,
+        extension: Extension,
+    ) -> u64
+        requires { place < 2 ^ 127 + 2 }
+        ensures { values.extended extension size (values.Number (little_endian
+            (bytes_from (byte_in (input_of self.now) (stack_of stack.now) region) place (byte_count size)))) ≡ values.Number result }
+    {
+        match size {
+            Size::Byte => extended_byte(extension, self.byte(stack, region, place)),
+            Size::Half => extended_half(extension, self.half(stack, region, place)),
+            Size::Word => extended_word(extension, self.word(stack, region, place)),
+            Size::Double => extended_double(extension, self.double(stack, region, place)),
+        }
+    }
+
+    /// What a load from the bytes at an offset from a base gives.
+    pub fn loaded(
+        &self,
+        stack: &Stack,
+        base: Tagged,
+        offset: i16,
+        size: Size,
+        extension: Extension,
+    ) -> Tagged
+        requires { IsNear (value_of base) }
+        ensures { value_of result ≡ values.extended extension size
+            (loaded (input_of self.now) (stack_of stack.now) (access_at Direction.Read (value_of base) offset size)) }
+    {
+        match base {
+            Tagged::Address(region, at) => {
+                let place = start_of(at, offset).unsigned_abs();
+                Tagged::Number(self.number_at(stack, region, place, size, extension))
+            }
+            Tagged::Nothing => Tagged::Nothing,
+            Tagged::Number(_) => Tagged::Nothing,
+        }
+    }
+}
+
+fn extended_byte(extension: Extension, number: u8) -> u64
+    ensures { values.extended extension Size.Byte (values.Number number) ≡ values.Number result }
+{
+    match extension {
+        Extension::Zero => u64::from(number),
+        Extension::Sign => i64::from(number.cast_signed()).cast_unsigned(),
+    }
+}
+
+fn extended_half(extension: Extension, number: u16) -> u64
+    ensures { values.extended extension Size.Half (values.Number number) ≡ values.Number result }
+{
+    match extension {
+        Extension::Zero => u64::from(number),
+        Extension::Sign => i64::from(number.cast_signed()).cast_unsigned(),
+    }
+}
+
+fn extended_word(extension: Extension, number: u32) -> u64
+    ensures { values.extended extension Size.Word (values.Number number) ≡ values.Number result }
+{
+    match extension {
+        Extension::Zero => u64::from(number),
+        Extension::Sign => i64::from(number.cast_signed()).cast_unsigned(),
+    }
+}
+
+fn extended_double(extension: Extension, number: u64) -> u64
+    ensures { values.extended extension Size.Double (values.Number number) ≡ values.Number result }
+{
+    match extension {
+        Extension::Zero => number,
+        Extension::Sign => number.cast_signed().cast_unsigned(),
+    }
+}

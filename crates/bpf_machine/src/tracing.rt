@@ -1,0 +1,119 @@
+//! Whole runs of the plain machine.
+ghost use Rattle.std.specs.Prelude.{◌≡◌, ℕ, ◌<◌, ◌≤◌, ◌^◌, Some, IfOk};
+ghost use Rattle.machine_spec.specs.Image.{slot_count};
+ghost use Rattle.machine_spec.specs.Meaning.{outcome_of};
+ghost use Rattle.machine_spec.specs.Traps.{trap_at};
+ghost use Rattle.bpf_machine.specs.Views.{value_of, registers_of, IsNear};
+ghost use Rattle.bpf_machine.specs.States.{program_of, input_of, state_of};
+ghost use Rattle.bpf_machine.specs.Ends.{EndsOnlyIn};
+ghost use Rattle.bpf_machine.specs.Advances.{IsFetched, Advances};
+
+use crate::machine::Machine;
+use crate::memory::Run;
+use crate::registers::get;
+use crate::slots::slot_count;
+use crate::tagged::Tagged;
+use crate::traps::trap_of;
+use bpf_isa::form_at;
+use machine_spec::{Instruction, Outcome, Place, Summary, Trap};
+use std::alloc::{AllocError, Global};
+use wire_spec::Record;
+
+/// What a run ends with: an outcome, or the trap of its last state.
+#[derive(Drop)]
+pub enum End {
+    Out(Outcome),
+    Trap(Trap),
+}
+
+/// What the machine did at a state: an instruction, or nothing because of a trap or an exit there.
+#[derive(Clone, Copy, Debug, PartialEq, Eq)]
+pub enum Advance {
+    Stepped,
+    Trapped(Trap),
+    Ended,
+}
+
+/// What r0 at the exit makes of the emissions.
+fn outcome_of(answer: Tagged, machine: Machine) -> Outcome
+    ensures { result ≡ outcome_of (value_of answer) machine.emitter }
+{
+    let Machine { emitter, .. } = machine;
+    match answer {
+        Tagged::Number(0) => Outcome::Kept(emitter.into_emissions()),
+        Tagged::Number(code) => Outcome::Rejected(code),
+        Tagged::Nothing => Outcome::Rejected(0),
+        Tagged::Address(_, _) => Outcome::Rejected(0),
+    }
+}
+
+impl Machine {
+    /// The instruction at the state's slot, or the trap that the state has.
+    fn fetched(&self, run: &Run) -> Result<Instruction, Trap>
+        requires slot { self.now.slot < 2 ^ 62 }
+        requires near { (r : ℕ) → IsNear (registers_of self.now.registers r) }
+        ensures { IsFetched (program_of run.now) (input_of run.now) (state_of self.now) result }
+    {
+        if self.slot >= slot_count(run.image) {
+            return Err(Trap::RanOff);
+        }
+        let Some(instruction) = form_at(run.image, self.slot) else {
+            return Err(Trap::Form);
+        };
+        match trap_of(run, Summary::of(instruction), self) {
+            Some(trap) => Err(trap),
+            None => Ok(instruction),
+        }
+    }
+
+    /// Does the instruction at the state's slot, if it has no trap and is no exit.
+    fn advance(&mut self, run: &Run) -> Result<Advance, AllocError>
+        requires slot { self.old.slot < 2 ^ 62 }
+        requires near { (r : ℕ) → IsNear (registers_of self.old.registers r) }
+        ensures { IfOk result (Advances (program_of run.now) (input_of run.now) (state_of self.old) (state_of self.new)) }
+    {
+        match self.fetched(run) {
+            Err(trap) => Ok(Advance::Trapped(trap)),
+            Ok(instruction) => {
+                if Summary::of(instruction).exits {
+                    return Ok(Advance::Ended);
+                }
+                self.step(run, instruction)?;
+                Ok(Advance::Stepped)
+            }
+        }
+    }
+}
+
+/// Runs a program on a record, whatever bytes its image has. Answers what the run ends with, and how
+/// many instructions were done, an exit among them. It fails only where memory runs out.
+///
+/// A run ends in one way, so that this is what it ends with.
+pub fn trace(
+    alloc: Global,
+    image: &[u8],
+    given: &Record,
+    place: &Place,
+) -> Result<(End, u64), AllocError>
+    ensures { IfOk result (λ answer. EndsOnlyIn (record { image = image.now })
+        (record { given = given.now; place = place.now }) answer.0 answer.1) }
+{
+    let run = Run {
+        alloc,
+        image,
+        given,
+        place,
+    };
+    let mut machine = Machine::new(&run)?;
+    let mut count: u64 = 0;
+    'steps: loop {
+        match machine.advance(&run)? {
+            Advance::Stepped => count += 1,
+            Advance::Trapped(trap) => return Ok((End::Trap(trap), count)),
+            Advance::Ended => {
+                let answer = get(&machine.registers, 0);
+                return Ok((End::Out(outcome_of(answer, machine)), count + 1));
+            }
+        }
+    }
+}

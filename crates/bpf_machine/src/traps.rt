@@ -1,0 +1,382 @@
+//! The trap of a state, if there is one.
+ghost use Rattle.std.specs.Prelude.{◌≡◌, ℕ, ◌+◌};
+ghost use Rattle.std.specs.List.{list_any};
+ghost use Rattle.machine_spec.specs.Image.{jump_target};
+ghost use Rattle.machine_spec.specs.Values as values;
+ghost use Rattle.machine_spec.specs.Machine.{helper_of};
+ghost use Rattle.machine_spec.specs.Traps as definitions;
+ghost use Rattle.machine_spec.specs.Traps.{source_registers, operand_registers, base_registers, condition_registers, call_registers, helper_registers, first_of, traps};
+ghost use Rattle.bpf_machine.specs.Views.{registers_of, stack_of, access_in, IsNear};
+ghost use Rattle.bpf_machine.specs.States.{program_of, input_of, state_of};
+
+use crate::machine::Machine;
+use crate::memory::{Run, Span, span_of};
+use crate::registers::{REGISTERS, get, operand};
+use crate::slots::is_first_slot;
+use crate::stack::Stack;
+use crate::tagged::{Tagged, can_compute, is_address, is_nothing, is_number, is_taken};
+use machine_spec::{
+    Condition, Direction, Helper, MemoryOperand, Operands, Region, STACK_SIZE, Source, Summary, Trap,
+};
+
+/// The register that is never written, the stack's end.
+const FRAME: u8 = 10;
+
+// ---- registers that are written, helpers that there are
+
+fn writes_frame(register: Option<u8>) -> bool
+    ensures { result ≡ definitions.writes_frame register }
+{
+    match register {
+        Some(r) => r == FRAME,
+        None => false,
+    }
+}
+
+/// The helper with a number.
+pub fn helper_of(number: i32) -> Option<Helper>
+    ensures { result ≡ helper_of number }
+{
+    if number == 3 {
+        Some(Helper::EmitRecord)
+    } else {
+        None
+    }
+}
+
+fn calls_no_helper(call: Option<i32>) -> bool
+    ensures { result ≡ definitions.calls_no_helper call }
+{
+    match call {
+        Some(number) => helper_of(number).is_none(),
+        None => false,
+    }
+}
+
+// ---- registers that are read
+
+fn has_nothing(registers: &[Tagged; REGISTERS], register: u8) -> bool
+    ensures { result ≡ values.is_nothing (registers_of registers.now register) }
+{
+    is_nothing(get(registers, register))
+}
+
+fn is_source_nothing(registers: &[Tagged; REGISTERS], source: Source) -> bool
+    ensures { result ≡ list_any (λ r. values.is_nothing (registers_of registers.now r)) (source_registers source) }
+{
+    match source {
+        Source::Register(register) => has_nothing(registers, register),
+        Source::Immediate(_) => false,
+    }
+}
+
+fn is_operand_nothing(registers: &[Tagged; REGISTERS], takes: Operands) -> bool
+    ensures { result ≡ list_any (λ r. values.is_nothing (registers_of registers.now r)) (operand_registers takes) }
+{
+    match takes {
+        Operands::Nothing => false,
+        Operands::Any(source) => is_source_nothing(registers, source),
+        Operands::Number(_, source) => is_source_nothing(registers, source),
+        Operands::Computed(_, _, dst, source) => {
+            has_nothing(registers, dst) || is_source_nothing(registers, source)
+        }
+    }
+}
+
+fn is_base_nothing(registers: &[Tagged; REGISTERS], memory: Option<MemoryOperand>) -> bool
+    ensures { result ≡ list_any (λ r. values.is_nothing (registers_of registers.now r)) (base_registers memory) }
+{
+    match memory {
+        Some(m) => has_nothing(registers, m.base),
+        None => false,
+    }
+}
+
+fn is_condition_nothing(registers: &[Tagged; REGISTERS], condition: Option<Condition>) -> bool
+    ensures { result ≡ list_any (λ r. values.is_nothing (registers_of registers.now r)) (condition_registers condition) }
+{
+    match condition {
+        Some(c) => has_nothing(registers, c.dst) || is_source_nothing(registers, c.source),
+        None => false,
+    }
+}
+
+fn is_argument_nothing(registers: &[Tagged; REGISTERS], helper: Option<Helper>) -> bool
+    ensures { result ≡ list_any (λ r. values.is_nothing (registers_of registers.now r)) (helper_registers helper) }
+{
+    match helper {
+        Some(Helper::EmitRecord) => has_nothing(registers, 1),
+        None => false,
+    }
+}
+
+fn is_call_nothing(registers: &[Tagged; REGISTERS], call: Option<i32>) -> bool
+    ensures { result ≡ list_any (λ r. values.is_nothing (registers_of registers.now r)) (call_registers call) }
+{
+    match call {
+        Some(number) => is_argument_nothing(registers, helper_of(number)),
+        None => false,
+    }
+}
+
+/// Whether a register that an instruction reads holds nothing.
+#[tactic(auto, using(crate::proofs::ReadParts::reads_parts))]
+fn reads_nothing(summary: Summary, registers: &[Tagged; REGISTERS]) -> bool
+    ensures { result ≡ definitions.reads_nothing summary (registers_of registers.now) }
+{
+    is_operand_nothing(registers, summary.takes)
+        || is_base_nothing(registers, summary.memory)
+        || is_condition_nothing(registers, summary.condition)
+        || is_call_nothing(registers, summary.call)
+        || (summary.exits && has_nothing(registers, 0))
+}
+
+// ---- kinds of values
+
+fn has_wrong_operands(takes: Operands, registers: &[Tagged; REGISTERS]) -> bool
+    ensures { result ≡ definitions.has_wrong_operands takes (registers_of registers.now) }
+{
+    match takes {
+        Operands::Nothing => false,
+        Operands::Any(_) => false,
+        Operands::Number(width, source) => !is_number(operand(width, registers, source)),
+        Operands::Computed(width, operation, dst, source) => {
+            let second = operand(width, registers, source);
+            !can_compute(width, operation, get(registers, dst), second)
+        }
+    }
+}
+
+fn has_wrong_base(memory: Option<MemoryOperand>, registers: &[Tagged; REGISTERS]) -> bool
+    ensures { result ≡ definitions.has_wrong_base memory (registers_of registers.now) }
+{
+    match memory {
+        Some(m) => !is_address(get(registers, m.base)),
+        None => false,
+    }
+}
+
+fn has_wrong_condition(condition: Option<Condition>, registers: &[Tagged; REGISTERS]) -> bool
+    ensures { result ≡ definitions.has_wrong_condition condition (registers_of registers.now) }
+{
+    match condition {
+        Some(c) => {
+            !(is_number(get(registers, c.dst)) && is_number(operand(c.width, registers, c.source)))
+        }
+        None => false,
+    }
+}
+
+// ---- memory
+
+/// Whether so many bytes from a place on lie in a region of this length.
+fn is_within(start: i128, size: u8, length: usize) -> bool
+    ensures { result ≡ definitions.is_within start size length }
+{
+    0 <= start && start.unsigned_abs() + size as u128 <= length as u128
+}
+
+fn is_stack(region: Region) -> bool
+    ensures { result ≡ definitions.is_stack region }
+{
+    match region {
+        Region::Stack => true,
+        Region::Key => false,
+        Region::Value => false,
+    }
+}
+
+fn is_read(direction: Direction) -> bool
+    ensures { result ≡ definitions.is_read direction }
+{
+    match direction {
+        Direction::Read => true,
+        Direction::Write => false,
+    }
+}
+
+fn writes_record(span: Option<Span>) -> bool
+    ensures { result ≡ definitions.writes_record (access_in span) }
+{
+    match span {
+        Some(span) => !is_read(span.direction) && !is_stack(span.region),
+        None => false,
+    }
+}
+
+fn leaves_record(run: &Run, span: Option<Span>) -> bool
+    ensures { result ≡ definitions.leaves_record (input_of run.now) (access_in span) }
+{
+    match span {
+        Some(span) => {
+            if is_stack(span.region) {
+                false
+            } else {
+                !is_within(span.start, span.size, run.length_of(span.region))
+            }
+        }
+        None => false,
+    }
+}
+
+fn leaves_stack(span: Option<Span>) -> bool
+    ensures { result ≡ definitions.leaves_stack (access_in span) }
+{
+    match span {
+        Some(span) => {
+            if is_stack(span.region) {
+                !is_within(span.start, span.size, STACK_SIZE)
+            } else {
+                false
+            }
+        }
+        None => false,
+    }
+}
+
+/// Whether one of so many bytes from a place on is not set.
+fn has_unset(stack: &Stack, place: u128, count: u8) -> bool
+    requires { place + count < 2 ^ 128 }
+    ensures { result ≡ definitions.has_unset (stack_of stack.now) place count }
+{
+    for k in 0..count {
+        if stack.get(place + k as u128).is_none() {
+            return true;
+        }
+    }
+    false
+}
+
+fn reads_unset(stack: &Stack, span: Option<Span>) -> bool
+    ensures { result ≡ definitions.reads_unset (stack_of stack.now) (access_in span) }
+{
+    match span {
+        Some(span) => {
+            if is_read(span.direction) && is_stack(span.region) {
+                has_unset(stack, span.start.unsigned_abs(), span.size)
+            } else {
+                false
+            }
+        }
+        None => false,
+    }
+}
+
+// ---- calls, jumps and the exit
+
+fn has_wrong_argument(helper: Option<Helper>, registers: &[Tagged; REGISTERS]) -> bool
+    ensures { result ≡ definitions.has_wrong_argument helper (registers_of registers.now) }
+{
+    match helper {
+        Some(Helper::EmitRecord) => !is_number(get(registers, 1)),
+        None => false,
+    }
+}
+
+fn calls_wrongly(call: Option<i32>, registers: &[Tagged; REGISTERS]) -> bool
+    ensures { result ≡ definitions.calls_wrongly call (registers_of registers.now) }
+{
+    match call {
+        Some(number) => has_wrong_argument(helper_of(number), registers),
+        None => false,
+    }
+}
+
+fn exits_wrongly(exits: bool, registers: &[Tagged; REGISTERS]) -> bool
+    ensures { result ≡ definitions.exits_wrongly exits (registers_of registers.now) }
+{
+    exits && is_address(get(registers, 0))
+}
+
+/// The slot that a jump leads to. A jump back leads nowhere.
+#[tactic(auto, using(machine_spec::proofs::Slots::forward_target, machine_spec::proofs::Slots::back_target))]
+pub fn jump_target(slot: usize, distance: i32) -> Option<usize>
+    requires { slot < 2 ^ 62 }
+    ensures { result ≡ jump_target slot distance }
+{
+    if distance < 0 {
+        None
+    } else {
+        Some(slot + 1 + distance.unsigned_abs() as usize)
+    }
+}
+
+fn is_target(run: &Run, slot: Option<usize>) -> bool
+    ensures { result ≡ definitions.is_target (program_of run.now) slot }
+{
+    match slot {
+        Some(slot) => is_first_slot(run.image, slot),
+        None => false,
+    }
+}
+
+fn is_met(condition: Option<Condition>, registers: &[Tagged; REGISTERS]) -> bool
+    ensures { result ≡ definitions.is_met condition (registers_of registers.now) }
+{
+    match condition {
+        Some(c) => {
+            let second = operand(c.width, registers, c.source);
+            is_taken(c.width, c.test, get(registers, c.dst), second)
+        }
+        None => true,
+    }
+}
+
+fn jumps_wrongly(
+    run: &Run,
+    condition: Option<Condition>,
+    jump: Option<i32>,
+    machine: &Machine,
+) -> bool
+    requires { machine.now.slot < 2 ^ 62 }
+    ensures { result ≡ definitions.jumps_wrongly (program_of run.now) condition jump (state_of machine.now) }
+{
+    match jump {
+        Some(distance) => {
+            is_met(condition, &machine.registers)
+                && !is_target(run, jump_target(machine.slot, distance))
+        }
+        None => false,
+    }
+}
+
+// ---- which trap
+
+/// The trap of an instruction, if there is one, the first in their order.
+pub fn trap_of(run: &Run, summary: Summary, machine: &Machine) -> Option<Trap>
+    requires slot { machine.now.slot < 2 ^ 62 }
+    requires near { (r : ℕ) → IsNear (registers_of machine.now.registers r) }
+    ensures { result ≡ first_of (traps (program_of run.now) (input_of run.now) summary (state_of machine.now)) }
+{
+    let registers = &machine.registers;
+    let span = span_of(summary.memory, registers);
+    if writes_frame(summary.writes) {
+        Some(Trap::Frame)
+    } else if calls_no_helper(summary.call) {
+        Some(Trap::Helper)
+    } else if reads_nothing(summary, registers) {
+        Some(Trap::Unset)
+    } else if has_wrong_operands(summary.takes, registers) {
+        Some(Trap::WrongType)
+    } else if has_wrong_base(summary.memory, registers) {
+        Some(Trap::WrongType)
+    } else if has_wrong_condition(summary.condition, registers) {
+        Some(Trap::WrongType)
+    } else if writes_record(span) {
+        Some(Trap::ReadOnly)
+    } else if leaves_record(run, span) {
+        Some(Trap::RecordBounds)
+    } else if leaves_stack(span) {
+        Some(Trap::StackBounds)
+    } else if reads_unset(&machine.stack, span) {
+        Some(Trap::StackUnset)
+    } else if calls_wrongly(summary.call, registers) {
+        Some(Trap::HelperArgument)
+    } else if exits_wrongly(summary.exits, registers) {
+        Some(Trap::Exit)
+    } else if jumps_wrongly(run, summary.condition, summary.jump, machine) {
+        Some(Trap::Jump)
+    } else {
+        None
+    }
+}

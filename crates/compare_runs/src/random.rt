@@ -1,0 +1,296 @@
+//! Random numbers, programs and records.
+//!
+//! A program is made of pieces that mostly load: arithmetic, loads behind a test of the length,
+//! stores with loads of what they wrote, jumps over a piece, 64-bit immediates and calls.
+
+use bytes::Bytes;
+use exec::{Headers, Record};
+use std::alloc::{AllocError, Global};
+
+/// A source of numbers (splitmix64), which a seed determines.
+#[derive(Drop)]
+pub struct Random {
+    state: u64,
+}
+
+const OPERATIONS: [u8; 12] = [
+    0x00, 0x10, 0x20, 0x30, 0x40, 0x50, 0x60, 0x70, 0x90, 0xa0, 0xb0, 0xc0,
+];
+
+const TESTS: [u8; 11] = [
+    0x10, 0x20, 0x30, 0x40, 0x50, 0x60, 0x70, 0xa0, 0xb0, 0xc0, 0xd0,
+];
+
+/// The registers that hold numbers from the beginning on.
+const NUMBERS: [u8; 5] = [0, 6, 7, 8, 9];
+
+/// Loads with the number of bytes that each reads.
+const LOADS: [(u8, u8); 7] = [
+    (0x71, 1),
+    (0x69, 2),
+    (0x61, 4),
+    (0x79, 8),
+    (0x91, 1),
+    (0x89, 2),
+    (0x81, 4),
+];
+
+/// The opcodes of a store of an immediate, of a register, and of a load of as many bytes.
+const STORES: [(u8, u8, u8); 4] = [
+    (0x72, 0x73, 0x71),
+    (0x6a, 0x6b, 0x89),
+    (0x62, 0x63, 0x81),
+    (0x7a, 0x7b, 0x79),
+];
+
+/// Numbers at which signs and widths change.
+const EDGES: [u64; 8] = [
+    0,
+    1,
+    0x7f,
+    0x8000_0000,
+    0xffff_ffff,
+    0x7fff_ffff_ffff_ffff,
+    0x8000_0000_0000_0000,
+    0xffff_ffff_ffff_ffff,
+];
+
+/// The bytes of a slot.
+fn slot(opcode: u8, dst: u8, src: u8, offset: i16, imm: i32) -> [u8; 8] {
+    let offset = offset.to_le_bytes();
+    let imm = imm.to_le_bytes();
+    [
+        opcode,
+        (dst % 16) | (src % 16) << 4,
+        offset[0],
+        offset[1],
+        imm[0],
+        imm[1],
+        imm[2],
+        imm[3],
+    ]
+}
+
+impl Random {
+    pub fn new(seed: u64) -> Random {
+        Random { state: seed }
+    }
+
+    pub fn number(&mut self) -> u64 {
+        self.state = self.state.wrapping_add(0x9e37_79b9_7f4a_7c15);
+        let mut mixed = self.state;
+        mixed = (mixed ^ (mixed >> 30)).wrapping_mul(0xbf58_476d_1ce4_e5b9);
+        mixed = (mixed ^ (mixed >> 27)).wrapping_mul(0x94d0_49bb_1331_11eb);
+        mixed ^ (mixed >> 31)
+    }
+
+    /// A number below a limit, or 0 where that is 0.
+    fn below(&mut self, limit: u64) -> u64 {
+        let number = self.number();
+        if limit == 0 { 0 } else { number % limit }
+    }
+
+    fn byte_of(&mut self, choices: &[u8]) -> u8 {
+        let place = self.below(choices.len() as u64) as usize;
+        choices.get(place).copied().unwrap_or(0)
+    }
+
+    fn register(&mut self) -> u8 {
+        self.byte_of(&NUMBERS)
+    }
+
+    fn immediate(&mut self) -> i32 {
+        let number = self.edge();
+        ((number & 0xffff_ffff) as u32).cast_signed()
+    }
+
+    /// A number at an edge, near 0, or any.
+    fn edge(&mut self) -> u64 {
+        match self.below(3) {
+            0 => {
+                let place = self.below(EDGES.len() as u64) as usize;
+                EDGES.get(place).copied().unwrap_or(0)
+            }
+            1 => self.below(80),
+            _ => self.number(),
+        }
+    }
+
+    fn push_wide(&mut self, image: &mut Vec<u8>, dst: u8) -> Result<(), AllocError> {
+        let number = self.edge();
+        let low = ((number & 0xffff_ffff) as u32).cast_signed();
+        let high = ((number >> 32) as u32).cast_signed();
+        image.extend_from_slice(&slot(0x18, dst, 0, 0, low))?;
+        image.extend_from_slice(&slot(0, 0, 0, 0, high))?;
+        Ok(())
+    }
+
+    fn push_operation(&mut self, image: &mut Vec<u8>) -> Result<(), AllocError> {
+        let code = self.byte_of(&OPERATIONS);
+        let class = if self.below(2) == 0 { 7 } else { 4 };
+        let signed = if code == 0x30 || code == 0x90 {
+            self.below(2) as i16
+        } else {
+            0
+        };
+        let dst = self.register();
+        if self.below(2) == 0 {
+            let imm = self.immediate();
+            image.extend_from_slice(&slot(code | class, dst, 0, signed, imm))?;
+        } else {
+            let src = self.register();
+            image.extend_from_slice(&slot(code | class | 8, dst, src, signed, 0))?;
+        }
+        Ok(())
+    }
+
+    /// A negation, a byte order or a sign extension.
+    fn push_change(&mut self, image: &mut Vec<u8>) -> Result<(), AllocError> {
+        let dst = self.register();
+        let src = self.register();
+        let bits = 8 << self.below(3);
+        let fields = match self.below(5) {
+            0 => slot(0x87, dst, 0, 0, 0),
+            1 => slot(0x84, dst, 0, 0, 0),
+            2 => slot(self.byte_of(&[0xd4, 0xdc, 0xd7]), dst, 0, 0, 2 * bits),
+            3 => slot(0xbf, dst, src, bits as i16, 0),
+            _ => slot(0xbc, dst, src, (bits % 32) as i16, 0),
+        };
+        image.extend_from_slice(&fields)?;
+        Ok(())
+    }
+
+    /// A load from the value or the key, behind a test of its length.
+    fn push_load(&mut self, image: &mut Vec<u8>) -> Result<(), AllocError> {
+        let place = self.below(LOADS.len() as u64) as usize;
+        let (opcode, size) = LOADS.get(place).copied().unwrap_or((0x71, 1));
+        let (address, length) = if self.below(2) == 0 { (1, 2) } else { (3, 4) };
+        let offset = self.below(12) as i16;
+        let slack = self.below(2) as i32;
+        let least = i32::from(offset) + i32::from(size) + slack;
+        image.extend_from_slice(&slot(0xa5, length, 0, 1, least))?;
+        let dst = self.register();
+        image.extend_from_slice(&slot(opcode, dst, address, offset, 0))?;
+        Ok(())
+    }
+
+    /// A store to the stack and a load of what it wrote.
+    fn push_store(&mut self, image: &mut Vec<u8>) -> Result<(), AllocError> {
+        let place = self.below(STORES.len() as u64) as usize;
+        let (store, store_register, load) = STORES.get(place).copied().unwrap_or((0x7a, 0x7b, 0x79));
+        let offset = -8 - self.below(24) as i16;
+        if self.below(2) == 0 {
+            let imm = self.immediate();
+            image.extend_from_slice(&slot(store, 10, 0, offset, imm))?;
+        } else {
+            let src = self.register();
+            image.extend_from_slice(&slot(store_register, 10, src, offset, 0))?;
+        }
+        let dst = self.register();
+        image.extend_from_slice(&slot(load, dst, 10, offset, 0))?;
+        Ok(())
+    }
+
+    /// A piece without a jump over another.
+    fn push_piece(&mut self, image: &mut Vec<u8>) -> Result<(), AllocError> {
+        match self.below(8) {
+            0 => self.push_change(image),
+            1 | 2 => self.push_load(image),
+            3 => self.push_store(image),
+            4 => {
+                let dst = self.register();
+                self.push_wide(image, dst)
+            }
+            _ => self.push_operation(image),
+        }
+    }
+
+    /// A jump over a piece, and the piece.
+    fn push_jump(&mut self, alloc: Global, image: &mut Vec<u8>) -> Result<(), AllocError> {
+        let mut piece = Vec::new(alloc);
+        self.push_piece(&mut piece)?;
+        let slots = (piece.len() / 8 % 8) as i16;
+        let test = self.byte_of(&TESTS);
+        let class = if self.below(2) == 0 { 5 } else { 6 };
+        let dst = self.register();
+        let src = self.register();
+        let imm = self.immediate();
+        let jump = match self.below(6) {
+            0 => slot(0x05, 0, 0, slots, 0),
+            1 => slot(0x06, 0, 0, 0, i32::from(slots)),
+            2 | 3 => slot(test | class, dst, 0, slots, imm),
+            _ => slot(test | class | 8, dst, src, slots, 0),
+        };
+        image.extend_from_slice(&jump)?;
+        image.extend_from_slice(&piece)?;
+        Ok(())
+    }
+
+    /// Perhaps a call that emits, then r0 and the exit.
+    fn push_end(&mut self, image: &mut Vec<u8>) -> Result<(), AllocError> {
+        if self.below(2) == 0 {
+            let out = self.below(3) as i32;
+            image.extend_from_slice(&slot(0xb7, 1, 0, 0, out))?;
+            image.extend_from_slice(&slot(0x85, 0, 0, 0, 3))?;
+        }
+        match self.below(4) {
+            0 => image.extend_from_slice(&slot(0xb7, 0, 0, 0, 0))?,
+            1 => {}
+            _ => {
+                let src = self.register();
+                image.extend_from_slice(&slot(0xbf, 0, src, 0, 0))?;
+            }
+        }
+        image.extend_from_slice(&slot(0x95, 0, 0, 0, 0))?;
+        Ok(())
+    }
+
+    /// The image of a program. One of sixteen has a byte changed, and need not decode.
+    pub fn program(&mut self, alloc: Global) -> Result<Vec<u8>, AllocError> {
+        let mut image = Vec::new(alloc);
+        for register in NUMBERS {
+            self.push_wide(&mut image, register)?;
+        }
+        let pieces = 1 + self.below(24);
+        for _ in 0..pieces {
+            if self.below(3) == 0 {
+                self.push_jump(alloc, &mut image)?;
+            } else {
+                self.push_piece(&mut image)?;
+            }
+        }
+        self.push_end(&mut image)?;
+        if self.below(16) == 0 {
+            let place = self.below(image.len() as u64) as usize;
+            let byte = (self.number() & 0xff) as u8;
+            if let Some(old) = image.get_mut(place) {
+                *old = byte;
+            }
+        }
+        Ok(image)
+    }
+
+    /// A null key or value, or up to 24 bytes.
+    fn text(&mut self, alloc: Global) -> Result<Option<Bytes>, AllocError> {
+        if self.below(8) == 0 {
+            return Ok(None);
+        }
+        let length = self.below(25);
+        let mut bytes = Vec::new(alloc);
+        for _ in 0..length {
+            bytes.push((self.number() & 0xff) as u8)?;
+        }
+        Ok(Some(Bytes::copy_from_slice(alloc, &bytes)?))
+    }
+
+    pub fn record(&mut self, alloc: Global) -> Result<Record, AllocError> {
+        Ok(Record {
+            timestamp_delta: 0,
+            key: self.text(alloc)?,
+            value: self.text(alloc)?,
+            headers: Headers {
+                list: Vec::new(alloc),
+            },
+        })
+    }
+}

@@ -1,0 +1,73 @@
+//! Runs as text.
+
+use bpf_machine::{End, Headers, Outcome, Place, Record, Trap, trace};
+use bytes::Bytes;
+use std::alloc::Global;
+use std::test::Fail;
+
+fn record_of(alloc: Global, value: Option<&'static [u8]>) -> Record {
+    Record {
+        timestamp_delta: 0,
+        key: Some(Bytes::from_static(b"key")),
+        value: value.map(Bytes::from_static),
+        headers: Headers {
+            list: Vec::new(alloc),
+        },
+    }
+}
+
+fn trap_name(trap: Trap) -> &'static str {
+    match trap {
+        Trap::Form => "K1",
+        Trap::Jump => "K2",
+        Trap::RanOff => "K3",
+        Trap::Unset => "K4",
+        Trap::WrongType => "K5",
+        Trap::Frame => "K6",
+        Trap::RecordBounds => "K7",
+        Trap::StackBounds => "K8",
+        Trap::StackUnset => "K9",
+        Trap::ReadOnly => "K10",
+        Trap::Helper => "K11",
+        Trap::HelperArgument => "K12",
+        Trap::Exit => "K13",
+    }
+}
+
+/// What the program of these bytes ends with on a record with this value and the key `key`, and
+/// after how many instructions.
+pub fn end_of_bytes(
+    alloc: Global,
+    image: &[u8],
+    value: Option<&'static [u8]>,
+    outputs: usize,
+) -> Result<String, Fail> {
+    let place = Place {
+        partition: 0,
+        offset: 5,
+        timestamp: 1000,
+        outputs,
+    };
+    let (end, count) = trace(alloc, image, &record_of(alloc, value), &place)?;
+    Ok(match end {
+        End::Out(Outcome::Kept(emissions)) => {
+            format!(in alloc; "kept {} after {count}", emissions.list.len())?
+        }
+        End::Out(Outcome::Rejected(code)) => format!(in alloc; "rejected {code} after {count}")?,
+        End::Trap(trap) => format!(in alloc; "{} after {count}", trap_name(trap))?,
+    })
+}
+
+/// The same of the program of these slots, each written as its eight bytes read from left to right.
+pub fn end_of(
+    alloc: Global,
+    slots: &[u64],
+    value: Option<&'static [u8]>,
+    outputs: usize,
+) -> Result<String, Fail> {
+    let mut image = Vec::new(alloc);
+    for slot in slots {
+        image.extend_from_slice(&slot.to_be_bytes())?;
+    }
+    end_of_bytes(alloc, &image, value, outputs)
+}
