@@ -8,7 +8,7 @@ use Rattle.verifier_spec.specs.declared.state.Abstract.{Abstract}
 use Rattle.verifier_spec.specs.Kinds.{is_proper_kind}
 use Rattle.verifier_spec.specs.States.{is_proper}
 use Rattle.verifier_spec.specs.Transfer.{after_call_kinds}
-use Rattle.abstract_regs.proofs.Proper.{proper_parts, proper_from, kind_from}
+use Rattle.verifier_spec.proofs.InRange.{proper_parts, proper_from, kind_from}
 
 -- of eleven registers the first six are set and the last five kept
 pub after_call_eleven : (kinds : List Abs) (answer : Abs) → length kinds ≡ 11 → after_call_kinds kinds answer ≡

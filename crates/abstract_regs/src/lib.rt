@@ -3,11 +3,7 @@
 #![tactic(auto)]
 
 mod checks;
-mod join;
-mod kinds;
 mod laws;
-mod order;
-mod ranges;
 mod state;
 mod transfer;
 

@@ -6,8 +6,9 @@ ghost use Rattle.verifier_spec.specs.Joins.{joined};
 ghost use Rattle.verifier_spec.specs.Checks.{failed_check};
 ghost use Rattle.verifier_spec.specs.Transfer.{falls_to, jumps_to};
 
-use crate::{checks, join, kinds, order, ranges, transfer};
+use crate::{checks, transfer};
 use machine_spec::{Instruction, Region, STACK_SIZE};
+use state_order::kinds;
 use std::marker::Model;
 use verifier_spec::{Abs, Abstract, Check, StackSet};
 use wire_spec::{MAX_KEY, MAX_VALUE};
@@ -63,7 +64,7 @@ impl State {
             value_max,
             set,
         };
-        if ranges::is_proper(&inner) {
+        if state_order::is_proper(&inner) {
             Some(State { inner })
         } else {
             None
@@ -116,7 +117,7 @@ impl State {
         ensures proper { is_proper self.now ≡ true }
         ensures outer_proper { is_proper outer.now ≡ true }
     {
-        order::is_within(&self.inner, &outer.inner)
+        state_order::is_within(&self.inner, &outer.inner)
     }
 
     /// The least state that this one and another are both within: of each register what both know,
@@ -129,7 +130,7 @@ impl State {
         ensures joined_proper { is_proper result ≡ true }
     {
         State {
-            inner: join::joined(&self.inner, &other.inner),
+            inner: state_order::joined(&self.inner, &other.inner),
         }
     }
 

@@ -7,7 +7,8 @@ ghost use Rattle.machine_spec.specs.declared.summary.Direction.TheVariants as di
 ghost use Rattle.verifier_spec.specs.Checks.{can_move, can_compute_kinds, source_kind, reach_at, may_leave_stack, failed_check};
 ghost use Rattle.verifier_spec.specs.Transfer.{with_kind, numbers, on_ranges, moved_address, moved_kind, computed_kind, changed_kind, loaded_kind, with_stored, with_length, with_range, narrowed_range, tested, answer_kind, after_call_kinds, called_kinds, met_edge, jump_edge, falls_to, jumps_to};
 
-use crate::{checks, kinds};
+use crate::checks;
+use state_order::kinds;
 use machine_spec::{
     Change, Condition, Extension, Helper, Instruction, Operation, Region, Size, Source, Summary,
     Test, Width,
@@ -27,7 +28,7 @@ fn set_kind(kinds: &[Abs; 11], register: usize, kind: Abs) -> [Abs; 11]
     changed
 }
 
-#[tactic(auto, using(crate::proofs::Proper::with_kind_proper))]
+#[tactic(auto, using(verifier_spec::proofs::InRange::with_kind_proper))]
 fn with_kind(state: &Abstract, register: u8, kind: Abs) -> Abstract
     requires state { is_proper state.now ≡ true }
     requires kind { is_proper_kind kind ≡ true }
@@ -88,7 +89,7 @@ fn moved(operation: Operation, region: Region, low: i64, high: i64, range: Inter
     Abs::Addr(region, moved_by(low, least), moved_by(high, greatest))
 }
 
-#[tactic(auto, using(crate::proofs::Proper::least_most))]
+#[tactic(auto, using(verifier_spec::proofs::InRange::least_most))]
 fn length_range(state: &Abstract, region: Region) -> Interval
     requires { is_proper state.now ≡ true }
     ensures range { Some result ≡ range_of state.now (Abs.Len region) }
@@ -224,7 +225,7 @@ fn with_stored(set: &StackSet, base: Abs, offset: i16, size: Size) -> StackSet
     }
 }
 
-#[tactic(auto, using(crate::proofs::Passes::store_inside, crate::proofs::Proper::with_set_proper))]
+#[tactic(auto, using(crate::proofs::Passes::store_inside, verifier_spec::proofs::InRange::with_set_proper))]
 fn stored(state: &Abstract, size: Size, base: u8, offset: i16, source: Source) -> Abstract
     requires state { is_proper state.now ≡ true }
     requires passes { failed_check (Instruction.Store size base offset source) state.now ≡ None }
@@ -239,7 +240,7 @@ fn stored(state: &Abstract, size: Size, base: u8, offset: i16, source: Source) -
 // ---- conditional jumps by a constant
 
 /// A region's least and greatest length, in bytes.
-#[tactic(auto, using(crate::proofs::Proper::with_length_proper))]
+#[tactic(auto, using(verifier_spec::proofs::InRange::with_length_proper))]
 fn with_length(state: &Abstract, region: Region, least: u32, most: u32) -> Abstract
     requires state { is_proper state.now ≡ true }
     requires range { least ≤ most }
@@ -262,7 +263,7 @@ fn with_length(state: &Abstract, region: Region, least: u32, most: u32) -> Abstr
     changed
 }
 
-#[tactic(auto, using(crate::proofs::Proper::greatest_limit))]
+#[tactic(auto, using(verifier_spec::proofs::InRange::greatest_limit))]
 fn length_edge(
     state: &Abstract,
     register: u8,

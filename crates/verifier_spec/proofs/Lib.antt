@@ -2,6 +2,7 @@ pub mod Annotations
 pub mod BestAnnotation
 pub mod Edges
 pub mod Faults
+pub mod InRange
 pub mod Intervals
 pub mod Joins
 pub mod JoinedStates

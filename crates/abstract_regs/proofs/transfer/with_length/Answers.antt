@@ -1,6 +1,6 @@
 use Rattle.verifier_spec.specs.Intervals.{from_to}
 use Rattle.machine_spec.specs.declared.instruction.Region.TheVariants as region
-use Rattle.abstract_regs.proofs.Proper.{with_length_proper}
+use Rattle.verifier_spec.proofs.InRange.{with_length_proper}
 use Rattle.abstract_regs.proofs.transfer.with_length.Goals as goal
 
 pub returns-in-Key-clause-proper : goal.returns-in-Key-clause-proper

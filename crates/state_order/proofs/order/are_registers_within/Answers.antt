@@ -1,7 +1,7 @@
 use Rattle.std.proofs.Common.{◌≡◌, false, sym}
 use Rattle.verifier_spec.specs.Kinds.{kind_at, is_kind_within}
-use Rattle.abstract_regs.proofs.Below.{each_below_fails}
-use Rattle.abstract_regs.proofs.order.are_registers_within.Goals as goal
+use Rattle.state_order.proofs.Below.{each_below_fails}
+use Rattle.state_order.proofs.order.are_registers_within.Goals as goal
 
 pub returns-then-not-is_register_within : goal.returns-then-not-is_register_within
 returns-then-not-is_register_within c =

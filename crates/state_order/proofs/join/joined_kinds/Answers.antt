@@ -2,7 +2,7 @@ use Rattle.std.proofs.Common.{◌<◌, length, ◌∙◌, arith, length-set}
 use Rattle.verifier_spec.specs.declared.state.Abs.TheVariants as abs
 use Rattle.verifier_spec.specs.Joins.{joined_kind}
 use Rattle.verifier_spec.proofs.Joins.{pairwise_from, pairwise_more}
-use Rattle.abstract_regs.proofs.join.joined_kinds.Goals as goal
+use Rattle.state_order.proofs.join.joined_kinds.Goals as goal
 
 pub loop-register-preserved : goal.loop-register-preserved
 loop-register-preserved c =

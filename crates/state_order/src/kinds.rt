@@ -19,7 +19,7 @@ pub fn kind_of(kinds: &[Abs; 11], register: usize) -> Abs
 }
 
 /// What a state knows of a register.
-#[tactic(auto, using(crate::proofs::Proper::kind_at_proper))]
+#[tactic(auto, using(verifier_spec::proofs::InRange::kind_at_proper))]
 pub fn kind_at(state: &Abstract, register: u8) -> Abs
     ensures kind { result ≡ kind_at state.now register }
     ensures proper { is_proper state.now ≡ true → is_proper_kind result ≡ true }
@@ -74,7 +74,7 @@ pub fn greatest(state: &Abstract, region: Region) -> u32
 }
 
 /// The numbers that a kind stands for, if it stands for numbers.
-#[tactic(auto, using(crate::proofs::Proper::range_ordered))]
+#[tactic(auto, using(verifier_spec::proofs::InRange::range_ordered))]
 pub fn range_of(state: &Abstract, kind: Abs) -> Option<Interval>
     ensures range { result ≡ range_of state.now kind }
     ensures ordered { is_proper state.now ≡ true → is_proper_kind kind ≡ true → IfSome result (λ r. r.low ≤ r.high) }
