@@ -34,7 +34,7 @@ fn is_set(set: &StackSet, place: u64) -> bool
 }
 
 /// Whether so many places from one on are all in the set.
-#[tactic(auto, using(crate::proofs::Places::are_set_first, crate::proofs::Places::are_set_not, crate::proofs::Places::are_set_none))]
+#[tactic(auto, using(crate::proofs::Runs::are_set_first, crate::proofs::Runs::are_set_not, crate::proofs::Runs::are_set_none))]
 pub fn contains_all(set: &StackSet, place: u64, count: u128) -> bool
     ensures { result ≡ are_set set.now place count }
 {
@@ -51,7 +51,7 @@ pub fn contains_all(set: &StackSet, place: u64, count: u128) -> bool
 }
 
 /// The word with this number, with the place's bit if the place is in it.
-#[tactic(auto, using(crate::proofs::Places::no_bit))]
+#[tactic(auto, using(crate::proofs::Runs::no_bit))]
 fn with_bit(word: u64, number: u64, place: u64) -> u64
     ensures { result ≡ bit_or word (if number == place / 64 then 2 ^ (place % 64) else 0) }
 {
@@ -78,7 +78,7 @@ fn words_with(words: &[u64; 8], place: u64) -> [u64; 8]
 }
 
 /// The set and so many places from one on.
-#[tactic(auto, using(crate::proofs::Places::with_first, crate::proofs::Places::with_none))]
+#[tactic(auto, using(crate::proofs::Runs::with_next, crate::proofs::Runs::with_none))]
 pub fn with_places(set: &StackSet, place: u64, count: u8) -> StackSet
     requires { place < STACK_SIZE }
     ensures { result ≡ with_places set.now place count }

@@ -239,7 +239,7 @@ module _ (a b : Abstract) (w : IsWithin a b) (pa : is_proper a ≡ true) (pb : i
       → is_set (with_stored a.set (Some (record { direction = direction.Write; region = at; low = lo +ℤ offset; high = hi +ℤ offset; size = size }))) q ≡ true
   stored_set at lo hi low high offset size q p order r inside h = elim (cases_Bool (is_stack at && int_eq (low +ℤ offset) (high +ℤ offset))) [
     | inl one ↦
-        let parts = and_parts _ _ one in
+        let parts : (is_stack at ≡ true) × (int_eq (low +ℤ offset) (high +ℤ offset) ≡ true) = and_parts (is_stack at) (int_eq (low +ℤ offset) (high +ℤ offset)) one in
         let same : (low +ℤ offset) ≡ (high +ℤ offset) = (Decides-int_eq (low +ℤ offset) (high +ℤ offset)).0 parts.1 in
         let ends : (lo +ℤ offset) ≡ (hi +ℤ offset) = omega (arith, ints) in
         let starts : unsigned_abs (low +ℤ offset) ≡ unsigned_abs (lo +ℤ offset) =

@@ -28,10 +28,15 @@ pub with_none : (set : StackSet) (place : ℕ) → with_places set place 0 ≡ s
 with_none set place = refl
 
 -- so many places and the next one
-pub with_next : (set : StackSet) (place count : ℕ) → with_places set place (count + 1) ≡ with_place (with_places set place count) (place + count)
-with_next set place zero =
+next_place : (set : StackSet) (place count : ℕ) → with_places set place (suc count) ≡ with_place (with_places set place count) (place + count)
+next_place set place zero =
     let e : place ≡ place + 0 = omega arith in
     ap (with_place set) e
-with_next set place (suc count) =
+next_place set place (suc count) =
     let e : (place + 1) + count ≡ place + suc count = omega arith in
-    with_next (with_place set place) (place + 1) count ∙ ap (with_place (with_places (with_place set place) (place + 1) count)) e
+    next_place (with_place set place) (place + 1) count ∙ ap (with_place (with_places (with_place set place) (place + 1) count)) e
+
+pub with_next : (set : StackSet) (place count : ℕ) → with_places set place (count + 1) ≡ with_place (with_places set place count) (place + count)
+with_next set place count =
+    let e : count + 1 ≡ suc count = omega arith in
+    ap (with_places set place) e ∙ next_place set place count
