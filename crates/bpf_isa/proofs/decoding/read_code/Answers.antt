@@ -36,7 +36,7 @@ loop-slot-preserved c =
       slots = omega arith;
       few = omega arith;
       table = table;
-      so_far = rw (longer, code, c.slots_of.ensures.is) so_far;
+      so_far = rw (longer, code, c.slots_of-slot.ensures.is) so_far;
     }
 
 pub invariant_of-result : goal.invariant_of-result
