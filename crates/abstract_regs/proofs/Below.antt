@@ -1,5 +1,5 @@
 -- Tests of each number below one.
-use Rattle.std.proofs.Common.{◌≡◌, ℕ, ◌+◌, ◌<◌, Bool, true, false, sym, ◌∙◌, inl, inr, add-one}
+use Rattle.std.proofs.Common.{◌≡◌, ℕ, ◌+◌, ◌<◌, Bool, true, false, refl, sym, ◌∙◌, inl, inr, add-one}
 use Rattle.std.proofs.lemmas.Bool.{and_from, cases_Bool, true≢false}
 use Rattle.verifier_spec.specs.States.{each_below}
 use Rattle.verifier_spec.proofs.Order.{each_below_at}

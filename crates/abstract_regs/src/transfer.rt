@@ -1,4 +1,4 @@
-ghost use Rattle.std.specs.Prelude.{◌≡◌, ◌≤◌, pos, neg_ℤ, ◌+ℤ◌, ◌≤ℤ◌, true, None, Some, IfSome, slice_set};
+ghost use Rattle.std.specs.Prelude.{◌≡◌, ◌≤◌, pos, neg_ℤ, ◌+ℤ◌, ◌≤ℤ◌, true, false, None, Some, IfSome, slice_set};
 ghost use Rattle.verifier_spec.specs.Intervals.{from_to};
 ghost use Rattle.verifier_spec.specs.Kinds.{kind_at, greatest, range_of, is_proper_kind, furthest};
 ghost use Rattle.verifier_spec.specs.States.{is_proper};
@@ -224,7 +224,7 @@ fn with_stored(set: &StackSet, base: Abs, offset: i16, size: Size) -> StackSet
     }
 }
 
-#[tactic(auto, using(crate::proofs::Passes::store_inside, crate::proofs::Proper::with_set_proper))]
+#[tactic(auto, using(crate::proofs::Passes::store_inside, crate::proofs::Proper::with_set_proper), unfolding(verifier_spec::specs::Transfer::falls_to))]
 fn stored(state: &Abstract, size: Size, base: u8, offset: i16, source: Source) -> Abstract
     requires state { is_proper state.now ≡ true }
     requires passes { failed_check (Instruction.Store size base offset source) state.now ≡ None }
