@@ -30,6 +30,8 @@ def signed(n, bits):
 # ---- images
 
 LOADS = {0x71: 1, 0x69: 2, 0x61: 4, 0x79: 8}
+SIGNED_LOADS = {0x91: 1, 0x89: 2, 0x81: 4}
+STORES = {0x72: 1, 0x6A: 2, 0x62: 4, 0x7A: 8, 0x73: 1, 0x6B: 2, 0x63: 4, 0x7B: 8}
 TESTS = {1: "eq", 2: "gt", 3: "ge", 4: "set", 5: "ne", 6: "sgt", 7: "sge", 10: "lt", 11: "le", 12: "slt", 13: "sle"}
 
 
@@ -42,8 +44,7 @@ def known_opcodes():
     for klass in (5, 6):
         for code in (1, 2, 3, 4, 5, 6, 7, 10, 11, 12, 13):
             known |= {code << 4 | klass, code << 4 | 8 | klass}
-    known |= {0x71, 0x69, 0x61, 0x79, 0x91, 0x89, 0x81, 0x72, 0x6A, 0x62, 0x7A, 0x73, 0x6B, 0x63, 0x7B}
-    return known
+    return known | set(LOADS) | set(SIGNED_LOADS) | set(STORES)
 
 
 KNOWN = known_opcodes()
@@ -73,13 +74,22 @@ def arithmetic(opcode, dst, src, offset, imm):
     return used, ("alu", dst, source, width, name)
 
 
-def form(slot, at):
-    opcode, registers, offset, imm = struct.unpack("<BBhi", slot)
+def form(image, at):
+    opcode, registers, offset, imm = struct.unpack("<BBhi", image[8 * at:8 * at + 8])
     dst, src = registers & 15, registers >> 4
     if opcode & 7 in (4, 7) and opcode in KNOWN:
         used, made = arithmetic(opcode, dst, src, offset, imm)
     elif opcode in LOADS:
-        used, made = "dso", ("load", LOADS[opcode], dst, src, offset)
+        used, made = "dso", ("load", LOADS[opcode], dst, src, offset, False)
+    elif opcode in SIGNED_LOADS:
+        used, made = "dso", ("load", SIGNED_LOADS[opcode], dst, src, offset, True)
+    elif opcode in STORES:
+        used, source = ("dso", ("reg", src)) if opcode & 7 == 3 else ("doi", ("imm", imm))
+        made = ("store", STORES[opcode], dst, source, offset)
+    elif opcode in (5, 6):
+        used, made = ("o", ("ja", offset)) if opcode == 5 else ("i", ("ja", imm))
+    elif opcode == 0x18 and src == 0:
+        used, made = "dsi", ("wide", dst, imm)
     elif opcode & 7 in (5, 6) and opcode >> 4 in TESTS:
         used, source = ("dso", ("reg", src)) if opcode & 8 else ("doi", ("imm", imm))
         made = ("jump", TESTS[opcode >> 4], dst, source, offset, 64 if opcode & 7 == 5 else 32)
@@ -98,13 +108,35 @@ def form(slot, at):
             raise Refused("I4 Unused slot %d" % at)
     if made is None:
         raise Refused("I4 Unused slot %d" % at)
+    if made[0] == "wide":
+        second = image[8 * at + 8:8 * at + 16]
+        if second[:4] != bytes(4):
+            raise Refused("I5 Wide slot %d" % at)
+        made = ("wide", dst, imm % (1 << 32) + (int.from_bytes(second[4:], "little") << 32))
     return made
+
+
+class Code(list):
+    """The instructions; of each the slot that it begins at, and the number of the one that begins at a slot."""
+
+    def __init__(self):
+        super().__init__()
+        self.slots, self.number = [], {}
+
+    def target(self, k, distance):
+        return self.number.get(self.slots[k] + 1 + distance)
 
 
 def decode(image):
     if len(image) % 8 or not 1 <= len(image) // 8 <= 4096:
         raise Refused("I1 Size")
-    return [form(image[8 * k:8 * k + 8], k) for k in range(len(image) // 8)]
+    code, at = Code(), 0
+    while at < len(image) // 8:
+        code.number[at] = len(code)
+        code.slots.append(at)
+        code.append(form(image, at))
+        at += 2 if code[-1][0] == "wide" else 1
+    return code
 
 
 # ---- the verifier
@@ -117,10 +149,11 @@ class State:
         self.regs = [None] * 11
         self.low = {"key": 0, "value": 0}
         self.high = dict(LIMIT)
+        self.set = frozenset()
 
     def copy(self):
         other = State()
-        other.regs, other.low, other.high = list(self.regs), dict(self.low), dict(self.high)
+        other.regs, other.low, other.high, other.set = list(self.regs), dict(self.low), dict(self.high), self.set
         return other
 
 
@@ -156,7 +189,7 @@ def kind_within(s, a, b):
 
 def within(a, b):
     return (all(kind_within(a, x, y) for x, y in zip(a.regs, b.regs))
-            and all(a.low[r] >= b.low[r] and a.high[r] <= b.high[r] for r in LIMIT))
+            and all(a.low[r] >= b.low[r] and a.high[r] <= b.high[r] for r in LIMIT) and a.set >= b.set)
 
 
 def source_kind(s, source, width=64):
@@ -217,22 +250,24 @@ def change_range(change, x):
 
 def shape_fault(code, k):
     i = code[k]
-    if i[0] == "jump":
-        if i[4] >= 0 and k + 1 + i[4] >= len(code):
+    if i[0] in ("jump", "ja"):
+        distance = i[4] if i[0] == "jump" else i[1]
+        if distance >= 0 and code.target(k, distance) is None:
             return "V1 JumpTarget"
-        if i[4] < 0:
+        if distance < 0:
             return "V2 BackJump"
-    if k == len(code) - 1 and i[0] != "exit":
+    if k == len(code) - 1 and i[0] not in ("exit", "ja"):
         return "V3 RunsOff"
     return None
 
 
 def state_fault(i, s):
-    if i[0] in ("mov", "alu", "change") and i[1] == 10 or i[0] == "load" and i[2] == 10:
+    if i[0] in ("mov", "alu", "change", "wide") and i[1] == 10 or i[0] == "load" and i[2] == 10:
         return "V6 Frame"
     if i[0] == "call" and i[1] != 3:
         return "V11 Helper"
     read = {"mov": lambda: [i[2]], "alu": lambda: [("reg", i[1]), i[2]], "change": lambda: [("reg", i[2])], "load": lambda: [("reg", i[3])],
+            "store": lambda: [("reg", i[2]), i[3]], "ja": lambda: [], "wide": lambda: [],
             "jump": lambda: [("reg", i[2]), i[3]], "call": lambda: [("reg", 1)], "exit": lambda: [("reg", 0)]}[i[0]]()
     if any(source_kind(s, r) is None for r in read):
         return "V4 Unset"
@@ -244,12 +279,16 @@ def state_fault(i, s):
             return "V5 Type"
     if i[0] == "jump" and "addr" in (s.regs[i[2]][0], source_kind(s, i[3])[0]) or i[0] == "load" and s.regs[i[3]][0] != "addr":
         return "V5 Type"
-    if i[0] == "load":
-        _, region, lo, hi = s.regs[i[3]]
+    if i[0] == "store" and (source_kind(s, i[3])[0] == "addr" or s.regs[i[2]][0] != "addr"):
+        return "V5 Type"
+    if i[0] == "store" and s.regs[i[2]][1] != "stack":
+        return "V10 ReadOnly"
+    if i[0] in ("load", "store"):
+        _, region, lo, hi = s.regs[i[3] if i[0] == "load" else i[2]]
         most = 512 if region == "stack" else s.low[region]
         if lo + i[4] < 0 or hi + i[4] + i[1] > most:
             return "V8 StackBounds" if region == "stack" else "V7 RecordBounds"
-        if region == "stack":
+        if region == "stack" and i[0] == "load" and not s.set >= set(range(lo + i[4], hi + i[4] + i[1])):
             return "V9 StackUnset"
     if i[0] == "call" and s.regs[1][0] == "addr":
         return "V12 HelperArg"
@@ -299,7 +338,9 @@ def edges(code, k, s):
         return []
     if i[0] == "jump":
         on, taken = jump_edges(i, s)
-        return [(k + 1, on), (k + 1 + i[4], taken)]
+        return [(k + 1, on), (code.target(k, i[4]), taken)]
+    if i[0] == "ja":
+        return [(code.target(k, i[1]), s)]
     t = s.copy()
     if i[0] == "mov":
         kind = source_kind(s, i[2], i[3])
@@ -313,7 +354,13 @@ def edges(code, k, s):
     elif i[0] == "change":
         t.regs[i[1]] = ("num",) + change_range(i[3], view(s, s.regs[i[2]]))
     elif i[0] == "load":
-        t.regs[i[2]] = ("num", 0, (1 << 8 * i[1]) - 1)
+        t.regs[i[2]] = ("num",) + (TOP if i[5] else (0, (1 << 8 * i[1]) - 1))
+    elif i[0] == "store":
+        _, _, lo, hi = s.regs[i[2]]
+        if lo == hi:
+            t.set = s.set | set(range(lo + i[4], lo + i[4] + i[1]))
+    elif i[0] == "wide":
+        t.regs[i[1]] = ("num", i[2], i[2])
     elif i[0] == "call":
         t.regs[0] = ("num", 0, 3)
         t.regs[1:6] = [None] * 5
@@ -337,6 +384,7 @@ def joined(a, b):
     s.regs = [joined_kind(a, b, x, y) for x, y in zip(a.regs, b.regs)]
     s.low = {r: min(a.low[r], b.low[r]) for r in LIMIT}
     s.high = {r: max(a.high[r], b.high[r]) for r in LIMIT}
+    s.set = a.set & b.set
     return s
 
 
@@ -400,7 +448,8 @@ def changed(change, a):
 
 def run(code, record, outputs):
     """The emissions of a record that is kept, or its reject code."""
-    bytes_of = {"key": record.key or b"", "value": record.value or b""}
+    stack = [None] * 512
+    bytes_of = {"key": record.key or b"", "value": record.value or b"", "stack": stack}
     regs = [None] * 11
     regs[1], regs[2] = ("value", 0), len(bytes_of["value"])
     regs[3], regs[4] = ("key", 0), len(bytes_of["key"])
@@ -433,11 +482,21 @@ def run(code, record, outputs):
             region, at = regs[i[3]]
             at += i[4]
             assert 0 <= at and at + i[1] <= len(bytes_of[region]), "trap: bounds"
-            regs[i[2]] = int.from_bytes(bytes_of[region][at:at + i[1]], "little")
+            assert None not in bytes_of[region][at:at + i[1]], "trap: unset byte"
+            regs[i[2]] = int.from_bytes(bytes(bytes_of[region][at:at + i[1]]), "little", signed=i[5]) % U64
+        elif i[0] == "store":
+            (region, at), a = regs[i[2]], word(i[3])
+            at += i[4]
+            assert region == "stack" and 0 <= at and at + i[1] <= 512 and isinstance(a, int), "trap: store"
+            stack[at:at + i[1]] = (a % (1 << 8 * i[1])).to_bytes(i[1], "little")
+        elif i[0] == "wide":
+            regs[i[1]] = i[2]
+        elif i[0] == "ja":
+            pc = code.target(pc - 1, i[1])
         elif i[0] == "jump":
             assert isinstance(regs[i[2]], int) and isinstance(word(i[3]), int), "trap: type"
             if holds(i[5], i[1], regs[i[2]], word(i[3])):
-                pc += i[4]
+                pc = code.target(pc - 1, i[4])
         else:
             out = regs[1]
             assert isinstance(out, int), "trap: argument"
@@ -772,6 +831,21 @@ def some_slot(rng, left):
     elif kind < 0.6:
         base = rng.choice([1, 1, 3, 1, 6, 10, r()])
         fields = (rng.choice([0x71, 0x69, 0x61, 0x79]), rng.choice([0, 0, 6, 7, r()]), base, rng.choice([0, 0, 1, 2, 7, 8, -1, -8]), 0)
+    elif kind < 0.68:
+        below = rng.choice([8, 8, 8, 16, 4, 1, 0, 512, 520])
+        if rng.random() < 0.6:
+            by_register = rng.random() < 0.5
+            opcode = rng.choice([0x73, 0x6B, 0x63, 0x7B] if by_register else [0x72, 0x6A, 0x62, 0x7A])
+            fields = (opcode, rng.choice([10] * 20 + [1, r()]), r() if by_register else 0, -below, 0 if by_register else small())
+        else:
+            fields = (rng.choice([0x71, 0x69, 0x61, 0x79, 0x91, 0x89, 0x81]), rng.choice([0, 0, 6, 7]), 10, -below, 0)
+    elif kind < 0.71:
+        fields = (rng.choice([0x91, 0x89, 0x81]), rng.choice([0, 0, 6, 7]), rng.choice([1, 1, 3]), rng.choice([0, 0, 1, 7]), 0)
+    elif kind < 0.74:
+        fields = (5, 0, 0, jump(), 0) if rng.random() < 0.6 else (6, 0, 0, 0, jump())
+    elif kind < 0.77:
+        second = struct.pack("<BBhi", rng.choice([0] * 20 + [1]), 0, rng.choice([0] * 20 + [1]), small())
+        return struct.pack("<BBhi", 0x18, r() | 16 * rng.choice([0] * 20 + [1]), 0, small()) + rng.choice([second] * 20 + [b""])
     elif kind < 0.85:
         klass, code, by_register = rng.choice([5, 5, 5, 6]), rng.choice([1, 2, 3, 5, 10, 11] * 3 + list(TESTS)), rng.random() < 0.15
         fields = (code << 4 | 8 * by_register | klass, rng.choice([2, 2, 2, 4, 5, r()]), r() if by_register else 0, jump(), 0 if by_register else small())

@@ -139,19 +139,19 @@ record IsWide (image : List ℕ) (slot : ℕ) (i : Instruction) : Type 0 where
 
 narrow_or_wide : (image : List ℕ) (slot : ℕ) (i : Instruction) → IsRead (fields_at image slot) i → IsNarrow image slot i ⊎ IsWide image slot i
 narrow_or_wide image slot i read = elim (cases_eq (byte_at image slot 0) 0x18) [
-    | inl is ↦
-    let f = fields_at image slot in
-    let wide = wide_is f i read is in
-    let there : f.upper ≡ upper_at image (slot + 1) = cond-true _ _ _ (eq-eqb (byte_at image slot 0) 0x18 is) in
-    let low = zeros (uses_of (Wide 0 0)) f (subst (λ t. has_zeros (uses_of t) f ≡ true) (wide_template f read.template is read.found) read.zeros) in
-    inr (record { upper = wide.0; second = second image (slot + 1) wide.0 (sym there ∙ wide.1); opcode = is; src = low.src refl; offset = low.offset refl; is = wide.2 })
-    | inr other ↦
-    let f = fields_at image slot in
-    inl (record {
-      slots = narrow_slots f i read other;
-      spelled = filled_spelled f read.template i (narrow_template f i read other) read.opcode read.is_filled (zeros (uses_of read.template) f read.zeros);
-    })
-  ]
+  | inl is ↦
+      let f = fields_at image slot in
+      let wide = wide_is f i read is in
+      let there : f.upper ≡ upper_at image (slot + 1) = cond-true _ _ _ (eq-eqb (byte_at image slot 0) 0x18 is) in
+      let low = zeros (uses_of (Wide 0 0)) f (subst (λ t. has_zeros (uses_of t) f ≡ true) (wide_template f read.template is read.found) read.zeros) in
+      inr (record { upper = wide.0; second = second image (slot + 1) wide.0 (sym there ∙ wide.1); opcode = is; src = low.src refl; offset = low.offset refl; is = wide.2 })
+  | inr other ↦
+      let f = fields_at image slot in
+      inl (record {
+        slots = narrow_slots f i read other;
+        spelled = filled_spelled f read.template i (narrow_template f i read other) read.opcode read.is_filled (zeros (uses_of read.template) f read.zeros);
+      })
+]
 
 same_bytes : (f : Fields) (i : Instruction) → IsSpelled f i → first_bytes f ≡ first_bytes (spelled_fields i)
 same_bytes f i is = rw (is.opcode, is.dst, is.src, is.offset, is.imm) refl

@@ -229,7 +229,11 @@ fn refused_second_slots(rt: HostRuntime) -> Result<(), Fail> {
         let mut image = Vec::from_slice(rt.alloc(), &MOVE)?;
         image.extend_from_slice(&[0x18, 0, 0, 0, 0, 0, 0, 0])?;
         image.extend_from_slice(&second)?;
-        assert_eq!(rt; decode(rt.alloc(), &image).err(), Some(IsaFault::Wide(1)), "at {second:?}");
+        assert_eq!(rt;
+            decode(rt.alloc(), &image).err(),
+            Some(IsaFault::Wide(1)),
+            "at {second:?}"
+        );
     }
     Ok(())
 }
