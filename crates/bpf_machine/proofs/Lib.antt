@@ -5,3 +5,4 @@ pub mod Walks
 pub mod Rows
 pub mod Bounds
 pub mod Only
+pub mod Going

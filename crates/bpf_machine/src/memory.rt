@@ -1,5 +1,5 @@
 //! The bytes that an instruction reads or writes.
-ghost use Rattle.std.specs.Prelude.{◌≡◌, ◌+◌, ◌<◌, ◌^◌, length, slice_get, unwrap_or, unsigned_abs, ◌+ℤ◌, Some};
+ghost use Rattle.std.specs.Prelude.{◌≡◌, ℕ, ◌+◌, ◌<◌, ◌^◌, length, slice_get, unwrap_or, unsigned_abs, ◌+ℤ◌, Some};
 ghost use Rattle.machine_spec.specs.Values as values;
 ghost use Rattle.machine_spec.specs.Values.{little_endian, byte_count};
 ghost use Rattle.machine_spec.specs.Machine.{access_at, access_of, byte_in, bytes_from, length_of, loaded};

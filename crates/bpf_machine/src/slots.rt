@@ -1,5 +1,5 @@
 //! The slots of an image.
-ghost use Rattle.std.specs.Prelude.{◌≡◌, ◌<◌};
+ghost use Rattle.std.specs.Prelude.{◌≡◌, ◌<◌, ◌^◌};
 ghost use Rattle.machine_spec.specs.Image as definitions;
 
 /// The opcode of the 64-bit immediate, which has two slots (RFC 9669, section 3.2).
@@ -7,7 +7,8 @@ const WIDE: u8 = 0x18;
 
 /// How many whole slots an image has.
 pub fn slot_count(image: &[u8]) -> usize
-    ensures { result ≡ definitions.slot_count image.now }
+    ensures is_count { result ≡ definitions.slot_count image.now }
+    ensures is_small { result < 2 ^ 61 }
 {
     image.len() / 8
 }

@@ -1,5 +1,5 @@
 //! Values with tags, and arithmetic on them.
-ghost use Rattle.std.specs.Prelude.{◌≡◌};
+ghost use Rattle.std.specs.Prelude.{◌≡◌, ◌<◌, ◌^◌, ◌+ℤ◌, unsigned_abs};
 ghost use Rattle.machine_spec.specs.Values as values;
 ghost use Rattle.bpf_machine.specs.Views.{value_of, IsNear};
 

@@ -104,6 +104,8 @@ pub fn trace(
         given,
         place,
     };
+    // Its contract says how many slots there are at most.
+    let _ = slot_count(image);
     let mut machine = Machine::new(&run)?;
     let mut count: u64 = 0;
     'steps: loop {

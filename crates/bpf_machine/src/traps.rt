@@ -1,5 +1,5 @@
 //! The trap of a state, if there is one.
-ghost use Rattle.std.specs.Prelude.{◌≡◌, ℕ, ◌+◌};
+ghost use Rattle.std.specs.Prelude.{◌≡◌, ℕ, ◌+◌, ◌<◌, ◌^◌};
 ghost use Rattle.std.specs.List.{list_any};
 ghost use Rattle.machine_spec.specs.Image.{jump_target};
 ghost use Rattle.machine_spec.specs.Values as values;

@@ -1,0 +1,46 @@
+-- What is known of a step and of an end, once the instruction is fetched.
+use Rattle.std.proofs.Common.{◌≡◌, ℕ, zero, suc, ◌+◌, ◌<◌, ◌^◌, true, false, Some, None, refl, sym, ap, ◌∙◌, subst, arith}
+use Rattle.machine_spec.specs.declared.instruction.Instruction.{Instruction}
+use Rattle.machine_spec.specs.declared.instruction.Trap.{Trap}
+use Rattle.machine_spec.specs.declared.outcome.Outcome.{Outcome}
+use Rattle.machine_spec.specs.Image.{Program, slot_count, form_at}
+use Rattle.machine_spec.specs.Summaries.{summary_of}
+use Rattle.machine_spec.specs.Machine.{Input, State, access_of, after}
+use Rattle.machine_spec.specs.Traps.{trap_at}
+use Rattle.machine_spec.specs.Meaning.{Step, Reaches, outcome_of}
+use Rattle.machine_spec.proofs.Meanings.{exit_is, other_than_exit}
+use Rattle.bpf_machine.specs.declared.tracing.End.{End}
+use Rattle.bpf_machine.specs.declared.tracing.End.TheVariants as end
+use Rattle.bpf_machine.specs.Straight.{IsWritable}
+use Rattle.bpf_machine.specs.Advances.{IsNext, IsExit}
+use Rattle.bpf_machine.specs.Ends.{EndsOnlyIn}
+use Rattle.bpf_machine.proofs.Rows.{is_free}
+use Rattle.bpf_machine.proofs.Bounds.{IsBounded, bounded, step_further}
+use Rattle.bpf_machine.proofs.Only.{ends_only}
+
+module _ (program : Program) (input : Input) (s : State) where
+  pub writable : (i : Instruction) → IsNext program input s i → IsWritable (access_of (summary_of i).memory s.registers)
+  writable i next = let free = is_free program input s i next.no_trap next.form in record { record_stays = free.record_stays; in_stack = free.in_stack }
+
+  pub stepped : (i : Instruction) (t : State) → IsNext program input s i → (summary_of i).exits ≡ false → t ≡ after i input s → Step program input s t
+  stepped i t next stays is = record { instruction = i; form = next.form; goes_on = other_than_exit i stays; no_trap = next.no_trap; next_is = is }
+
+  pub exited : (i : Instruction) → IsNext program input s i → (summary_of i).exits ≡ true → IsExit program input s
+  exited i next exits = record { form = next.form ∙ ap Some (exit_is i exits); no_trap = next.no_trap }
+
+  pub ends_trapped : (n : ℕ) (told : Trap) → Reaches program input n s → trap_at program input s ≡ Some told → EndsOnlyIn program input (end.Trap told) n
+  ends_trapped n told chain trap = ends_only program input (end.Trap told) n (record { last = s; chain = chain; trap = trap })
+
+  pub ends_out : (n : ℕ) (outcome : Outcome) → Reaches program input n s → IsExit program input s → outcome ≡ outcome_of (s.registers 0) s.emitted → EndsOnlyIn program input (end.Out outcome) (n + 1)
+  ends_out n outcome chain at is =
+      ends_only program input (end.Out outcome) (n + 1) (record { steps = n; last = s; count = refl; chain = chain; end = record { form = at.form; no_trap = at.no_trap; outcome_is = is } })
+
+  pub one_more : (n : ℕ) (t : State) → Reaches program input n s → Step program input s t → Reaches program input (n + 1) t
+  one_more n t chain step = let e : suc n ≡ n + 1 = omega arith in subst (λ k. Reaches program input k t) e (s, chain, step)
+
+  -- the count and the slot are small
+  pub small_slot : (n : ℕ) → Reaches program input n s → slot_count program.image < 2 ^ 61 → s.slot < 2 ^ 62
+  small_slot n chain small = let b = bounded program input n s chain in omega (arith, b.within)
+
+  pub small_count : (n : ℕ) → Reaches program input n s → slot_count program.image < 2 ^ 61 → n < 2 ^ 62
+  small_count n chain small = let b = bounded program input n s chain in omega (arith, b.within, b.counted)
