@@ -7,7 +7,7 @@ use Rattle.wire_spec.specs.declared.fault.BatchFault.TheVariants as faults
 use Rattle.wire_spec.specs.declared.record.Record.{Record}
 use Rattle.wire_spec.specs.RecordReading.{record_at}
 use Rattle.wire_spec.specs.BatchReading.{◌>>=◌, record_or, records_at}
-use Rattle.batch.specs.Gives.{Fails}
+use Rattle.wire_spec.specs.Memory.{IsFault}
 
 -- what was read before, and what is still read
 abbrev pub with_front : List Record → Result (List Record) BatchFault → Result (List Record) BatchFault
@@ -35,18 +35,9 @@ ends_by f front count i bytes total lt h so_far =
     let one : with_front front (records_at (count - i) i bytes) ≡ Err f = rw (k, h) refl in
     sym so_far ∙ one
 
-pub ends : (e : BatchFault) (front : List Record) (count i : ℕ) (bytes : List ℕ) (total : Result (List Record) BatchFault) → i < count → Fails e (record_or i (record_at (pos i) bytes))
-    → with_front front (records_at (count - i) i bytes) ≡ total → Fails e total
-ends faults.Memory front count i bytes total lt h so_far = tt
-ends faults.Short front count i bytes total lt h so_far = ends_by faults.Short front count i bytes total lt h so_far
-ends faults.Length front count i bytes total lt h so_far = ends_by faults.Length front count i bytes total lt h so_far
-ends faults.TooLarge front count i bytes total lt h so_far = ends_by faults.TooLarge front count i bytes total lt h so_far
-ends faults.Magic front count i bytes total lt h so_far = ends_by faults.Magic front count i bytes total lt h so_far
-ends faults.Crc front count i bytes total lt h so_far = ends_by faults.Crc front count i bytes total lt h so_far
-ends faults.Attributes front count i bytes total lt h so_far = ends_by faults.Attributes front count i bytes total lt h so_far
-ends faults.Count front count i bytes total lt h so_far = ends_by faults.Count front count i bytes total lt h so_far
-ends (faults.Record place) front count i bytes total lt h so_far = ends_by (faults.Record place) front count i bytes total lt h so_far
-ends faults.Timestamp front count i bytes total lt h so_far = ends_by faults.Timestamp front count i bytes total lt h so_far
+pub ends : (e : BatchFault) (front : List Record) (count i : ℕ) (bytes : List ℕ) (total : Result (List Record) BatchFault) → i < count → IsFault faults.Memory e (record_or i (record_at (pos i) bytes))
+    → with_front front (records_at (count - i) i bytes) ≡ total → IsFault faults.Memory e total
+ends e front count i bytes total lt h so_far = λ told. ends_by e front count i bytes total lt (h told) so_far
 
 -- no bytes are left
 pub is_done : (front : List Record) (count i : ℕ) (bytes : List ℕ) (total : Result (List Record) BatchFault) → i ≡ count → bytes ≡ [] → with_front front (records_at (count - i) i bytes) ≡ total → total ≡ Ok front

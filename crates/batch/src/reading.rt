@@ -3,7 +3,8 @@ ghost use Rattle.wire_spec.specs.declared.record.Batch.{Batch};
 ghost use Rattle.wire_spec.specs.BatchSpelling.{BatchFits, batch_spelling};
 ghost use Rattle.wire_spec.specs.RecordReading.{record_at};
 ghost use Rattle.wire_spec.specs.BatchReading.{with_front, is_miscounted, is_mistimed, count_at, record_or, records_at, timed_at, whole_at, size_at, batch_at};
-ghost use Rattle.batch.specs.Gives.{Gives};
+ghost use Rattle.wire_spec.specs.Memory.{AnswersAs};
+ghost use Rattle.wire_spec.specs.declared.fault.BatchFault.TheVariants.{Memory};
 
 use crate::fields::{i16_at, i32_at, i64_at, u16_at, u32_at};
 use crate::limits::{HEADER, MAX_BATCH, MAX_RECORDS};
@@ -92,7 +93,7 @@ fn record_of(
 ) -> Result<(Record, usize), BatchFault>
     requires within { at ≤ length bytes.now }
     requires small { place < 2 ^ 31 }
-    ensures gives { Gives (λ x. (x.0, drop (at + x.1) bytes.now)) result (record_or place (record_at (pos place) (drop at bytes.now))) }
+    ensures gives { AnswersAs Memory (λ x. (x.0, drop (at + x.1) bytes.now)) result (record_or place (record_at (pos place) (drop at bytes.now))) }
     ensures within { IfOk result (λ x. at + x.1 ≤ length bytes.now) }
 {
     match kafka_record::read(alloc, bytes, at, place as i32) {
@@ -106,7 +107,7 @@ fn record_of(
 fn records_of(alloc: Global, bytes: &Bytes, count: u32) -> Result<Records, BatchFault>
     requires header { 61 ≤ length bytes.now }
     requires few { count ≤ 10000 }
-    ensures { Gives (λ rs. rs) result (records_at count 0 (drop 61 bytes.now)) }
+    ensures { AnswersAs Memory (λ rs. rs) result (records_at count 0 (drop 61 bytes.now)) }
 {
     let mut list = Vec::with_capacity(alloc, count as usize)?;
     let end = bytes.len();
@@ -159,7 +160,7 @@ fn timed_of(bytes: &[u8], records: Records) -> Result<Batch, BatchFault>
 #[tactic(auto, unfolding(wire_spec::specs::BatchReading::whole_at))]
 fn whole_of(alloc: Global, bytes: &Bytes) -> Result<Batch, BatchFault>
     requires { 61 ≤ length bytes.now }
-    ensures { Gives (λ b. b) result (whole_at bytes.now) }
+    ensures { AnswersAs Memory (λ b. b) result (whole_at bytes.now) }
 {
     let count = count_of(bytes)?;
     let records = records_of(alloc, bytes, count)?;
@@ -168,7 +169,7 @@ fn whole_of(alloc: Global, bytes: &Bytes) -> Result<Batch, BatchFault>
 
 #[tactic(auto, unfolding(wire_spec::specs::BatchReading::batch_at))]
 fn batch_of(alloc: Global, mut bytes: Bytes) -> Result<(Batch, usize), BatchFault>
-    ensures gives { Gives (λ x. x) result (batch_at bytes) }
+    ensures gives { AnswersAs Memory (λ x. x) result (batch_at bytes) }
     ensures header { IfOk result (λ x. 61 ≤ x.1) }
     ensures bytes { (i : ℕ) → slice_index bytes i < 256 }
 {
@@ -185,11 +186,11 @@ pub fn decode(alloc: Global, bytes: Bytes) -> Result<(Batch, usize), BatchFault>
     // What is read is spelled so.
     ensures found { IfOk result (λ x. BatchFits x.0 × (x.1 ≤ length bytes) × (take x.1 bytes ≡ batch_spelling x.0)) }
     // What is spelled so is read, whatever follows it, unless memory runs out.
-    ensures only { (b : Batch) (rest : List ℕ) → BatchFits b → bytes ≡ batch_spelling b ++ rest → Gives (λ x. x) result (Ok (b, length (batch_spelling b))) }
+    ensures only { (b : Batch) (rest : List ℕ) → BatchFits b → bytes ≡ batch_spelling b ++ rest → AnswersAs Memory (λ x. x) result (Ok (b, length (batch_spelling b))) }
     // A batch has its header at least.
     ensures header { IfOk result (λ x. 61 ≤ x.1) }
     // Which refusal it is.
-    ensures exact { Gives (λ x. x) result (batch_at bytes) }
+    ensures exact { AnswersAs Memory (λ x. x) result (batch_at bytes) }
 {
     batch_of(alloc, bytes)
 }

@@ -1,6 +1,6 @@
 -- From what reading gives to what was answered.
 use Rattle.std.proofs.Common.{◌≡◌, ℕ, ◌+◌, ◌-◌, ◌<◌, ◌≤◌, Bool, cond, List, [], ◌++◌, length, take, drop, refl, sym, ap, subst, ◌∙◌, arith}
-use Rattle.std.specs.Prelude.{ℤ, pos, Option, Some, None, Result, Ok, Err, IfOk, FitsSigned}
+use Rattle.std.specs.Prelude.{ℤ, pos, Option, Some, None, Result, Ok, Err, IfOk, FitsSigned, ok_or}
 use Rattle.std.specs.Int.{w32}
 use Rattle.std.specs.Ordering.{int_eq}
 use Rattle.std.proofs.lemmas.List.{length-append, length-drop, take_at, drop_all}
@@ -12,7 +12,16 @@ use Rattle.wire_spec.proofs.Varints.{IsBytes, IsBytes-drop}
 use Rattle.wire_spec.proofs.RecordLaws.{some_is, record_takes, record_again}
 use Rattle.kafka_record.specs.declared.fault.RecordFault.{RecordFault}
 use Rattle.kafka_record.specs.declared.fault.RecordFault.TheVariants.{Bad, Memory}
-use Rattle.kafka_record.specs.Gives.{Gives}
+use Rattle.wire_spec.specs.Memory.{AnswersAs}
+
+-- what was read, where an answer says that it was
+pub read_ok : {Y : Type 0} (read : Option Y) (y : Y) → ok_or read Bad ≡ Ok y → read ≡ Some y
+read_ok None y h = let clash : Err Bad ≡ Ok y = h in absurd cc
+read_ok (Some x) y h = let same : x ≡ y = cc in ap Some same
+
+-- what reading gives, as an answer
+pub as_answer : {Y : Type 0} (read gives : Option Y) → read ≡ gives → ok_or read Bad ≡ ok_or gives Bad
+as_answer read gives e = rw e refl
 
 -- where the length and the fields were read
 pub record_reads : (delta delta' : ℤ) (bytes slice : List ℕ) (at start end : ℕ) (len len' : ℤ) (r : Record) (b : Bool) → delta' ≡ delta → slice ≡ bytes → len' ≡ len
@@ -39,23 +48,22 @@ module _ (bytes : List ℕ) (at : ℕ) (delta : ℤ) (fits : FitsSigned w32 delt
   abbrev pub view : Record × ℕ → Record × List ℕ
   view x = (x.0, drop (at + x.1) bytes)
 
-  pub is_found : (answer : Result (Record × ℕ) RecordFault) → IsBytes bytes → Gives view answer (record_at delta (drop at bytes)) → IfOk answer (λ x. at + x.1 ≤ length bytes)
+  pub is_found : (answer : Result (Record × ℕ) RecordFault) → IsBytes bytes → AnswersAs Memory view answer (ok_or (record_at delta (drop at bytes)) Bad) → IfOk answer (λ x. at + x.1 ≤ length bytes)
       → IfOk answer (λ x. RecordFits x.0 × (at + x.1 ≤ length bytes) × (take x.1 (drop at bytes) ≡ record_spelling delta x.0))
   is_found (Err e) small given within = tt
   is_found (Ok x) small given within =
-      let t = record_takes delta (drop at bytes) (view x) (IsBytes-drop at bytes small) given in
+      let t = record_takes delta (drop at bytes) (view x) (IsBytes-drop at bytes small) (read_ok _ (view x) given) in
       let len : length (record_spelling delta x.0) ≡ x.1 = omega (arith, ap length t.0.parts, length-append (record_spelling delta x.0) (drop (at + x.1) bytes), length-drop at bytes, length-drop (at + x.1) bytes) in
       (t.1, within, ap (take x.1) t.0.parts ∙ take_at (record_spelling delta x.0) (drop (at + x.1) bytes) x.1 len)
 
-  pub is_only : (answer : Result (Record × ℕ) RecordFault) → Gives view answer (record_at delta (drop at bytes)) → IfOk answer (λ x. at + x.1 ≤ length bytes)
-      → (r : Record) (rest : List ℕ) → RecordFits r → drop at bytes ≡ record_spelling delta r ++ rest → Gives (λ x. x) answer (Some (r, length (record_spelling delta r)))
-  is_only (Err Memory) given within r rest f e = tt
-  is_only (Err Bad) given within r rest f e = absurd (no_none (sym given ∙ ap (record_at delta) e ∙ record_again delta r rest fits f))
-    where
-      no_none : ◌≡◌ {A = Option (Record × List ℕ)} None (Some (r, rest)) → ⊥
-      no_none h = cc
+  pub is_only : (answer : Result (Record × ℕ) RecordFault) → AnswersAs Memory view answer (ok_or (record_at delta (drop at bytes)) Bad) → IfOk answer (λ x. at + x.1 ≤ length bytes)
+      → (r : Record) (rest : List ℕ) → RecordFits r → drop at bytes ≡ record_spelling delta r ++ rest → AnswersAs Memory (λ x. x) answer (Ok (r, length (record_spelling delta r)))
+  is_only (Err fault) given within r rest f e = λ told.
+      let read : ok_or (record_at delta (drop at bytes)) Bad ≡ ok_or (Some (r, rest)) Bad = ap (λ (o : Option (Record × List ℕ)). ok_or o Bad) (ap (record_at delta) e ∙ record_again delta r rest fits f) in
+      let clash : ◌≡◌ {A = Result (Record × List ℕ) RecordFault} (Ok (r, rest)) (Err fault) = sym read ∙ given told in
+      absurd cc
   is_only (Ok x) given within r rest f e =
-      let same : ◌≡◌ {A = Record × List ℕ} (r, rest) (view x) = some_is (r, rest) (view x) (sym (ap (record_at delta) e ∙ record_again delta r rest fits f) ∙ given) in
+      let same : ◌≡◌ {A = Record × List ℕ} (r, rest) (view x) = some_is (r, rest) (view x) (sym (ap (record_at delta) e ∙ record_again delta r rest fits f) ∙ read_ok _ (view x) given) in
       let after : rest ≡ drop (at + x.1) bytes = ap (λ (p : Record × List ℕ). p.1) same in
       let len : length (record_spelling delta r) ≡ x.1 = omega (arith, ap length e, ap length after, length-append (record_spelling delta r) rest, length-drop at bytes, length-drop (at + x.1) bytes) in
       let first : r ≡ x.0 = ap (λ (p : Record × List ℕ). p.0) same in

@@ -1,12 +1,12 @@
 -- Reading headers one after the other, as a loop does.
 use Rattle.std.proofs.Common.{◌≡◌, ℕ, suc, ◌-◌, ◌+◌, ◌≤◌, ◌<◌, List, [], ◌∷◌, ◌++◌, refl, sym, ap, ◌∙◌, append_assoc, arith}
-use Rattle.std.specs.Prelude.{Option, Some, None}
+use Rattle.std.specs.Prelude.{Option, Some, None, Result, Ok, Err, ok_or}
 use Rattle.std.proofs.lemmas.List.{append-nil}
 use Rattle.wire_spec.specs.declared.record.Header.{Header}
 use Rattle.wire_spec.specs.RecordReading.{◌>>=◌, header_at, headers_at}
+use Rattle.wire_spec.specs.Memory.{IsFault}
 use Rattle.kafka_record.specs.declared.fault.RecordFault.{RecordFault}
 use Rattle.kafka_record.specs.declared.fault.RecordFault.TheVariants.{Bad, Memory}
-use Rattle.kafka_record.specs.Gives.{Fails}
 
 -- what was read before, and what is still read
 abbrev pub with_front : List Header → Option (List Header × List ℕ) → Option (List Header × List ℕ)
@@ -24,14 +24,25 @@ goes_on front count i bytes h after total lt e so_far =
     let one : with_front front (headers_at (count - i) bytes) ≡ with_front (front ++ h ∷ []) (headers_at (count - (i + 1)) after) = rw (k, e) (regroup front h (headers_at (count - (i + 1)) after)) in
     sym one ∙ so_far
 
-pub ends : (e : RecordFault) (front : List Header) (count i : ℕ) (bytes : List ℕ) (total : Option (List Header × List ℕ)) → i < count → Fails e (header_at bytes)
-    → with_front front (headers_at (count - i) bytes) ≡ total → Fails e total
+abbrev fails : RecordFault → Result (List Header × List ℕ) RecordFault
+fails e = Err e
+
+ends_by : (e : RecordFault) (read : Option (Header × List ℕ)) (front : List Header) (count i : ℕ) (bytes : List ℕ) (total : Option (List Header × List ℕ)) → i < count → header_at bytes ≡ read → ok_or read Bad ≡ Err e
+    → with_front front (headers_at (count - i) bytes) ≡ total → ok_or total Bad ≡ Err e
 unfolding headers_at
-ends Memory front count i bytes total lt h so_far = tt
-ends Bad front count i bytes total lt h so_far =
+ends_by e None front count i bytes total lt none bad so_far =
     let k : count - i ≡ suc (count - (i + 1)) = omega arith in
-    let one : with_front front (headers_at (count - i) bytes) ≡ None = rw (k, h) refl in
-    sym so_far ∙ one
+    let one : with_front front (headers_at (count - i) bytes) ≡ None = rw (k, none) refl in
+    let told : ◌≡◌ {A = Result (Header × List ℕ) RecordFault} (Err Bad) (Err e) = bad in
+    let same : Bad ≡ e = cc in
+    rw (sym so_far ∙ one) (ap fails same)
+ends_by e (Some x) front count i bytes total lt some bad so_far =
+    let clash : ◌≡◌ {A = Result (Header × List ℕ) RecordFault} (Ok x) (Err e) = bad in
+    absurd cc
+
+pub ends : (e : RecordFault) (front : List Header) (count i : ℕ) (bytes : List ℕ) (total : Option (List Header × List ℕ)) → i < count → IsFault Memory e (ok_or (header_at bytes) Bad)
+    → with_front front (headers_at (count - i) bytes) ≡ total → IsFault Memory e (ok_or total Bad)
+ends e front count i bytes total lt h so_far = λ told. ends_by e (header_at bytes) front count i bytes total lt refl (h told) so_far
 
 pub is_done : (front : List Header) (count i : ℕ) (bytes : List ℕ) (total : Option (List Header × List ℕ)) → count ≤ i → with_front front (headers_at (count - i) bytes) ≡ total → total ≡ Some (front, bytes)
 unfolding headers_at

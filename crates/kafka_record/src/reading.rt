@@ -1,10 +1,11 @@
-ghost use Rattle.std.specs.Prelude.{◌≡◌, ℕ, ◌+◌, ◌≤◌, ℤ, pos, List, ◌++◌, length, take, drop, Some, IfOk, FitsSigned};
+ghost use Rattle.std.specs.Prelude.{◌≡◌, ℕ, ◌+◌, ◌≤◌, ℤ, pos, List, ◌++◌, length, take, drop, Ok, ok_or, IfOk, FitsSigned};
 ghost use Rattle.std.specs.Int.{w32};
 ghost use Rattle.std.specs.Ordering.{int_eq};
 ghost use Rattle.wire_spec.specs.declared.record.Record.{Record};
 ghost use Rattle.wire_spec.specs.RecordSpelling.{RecordFits, record_spelling};
 ghost use Rattle.wire_spec.specs.RecordReading.{varint_at, varlong_at, bytes_at, nullable_bytes_at, string_at, nullable_at, header_at, headers_at, counted_at, attributes_at, delta_at, body_at, record_at};
-ghost use Rattle.kafka_record.specs.Gives.{Gives};
+ghost use Rattle.kafka_record.specs.declared.fault.RecordFault.TheVariants.{Bad, Memory};
+ghost use Rattle.wire_spec.specs.Memory.{AnswersAs};
 
 use crate::RecordFault;
 use crate::limits::is_text;
@@ -19,7 +20,7 @@ use wire_spec::{
 #[inline(always)]
 fn varint_from(bytes: &[u8], at: usize) -> Result<(i32, usize), RecordFault>
     requires { at ≤ length bytes.now }
-    ensures gives { Gives (λ x. (x.0, drop x.1 bytes.now)) result (varint_at (drop at bytes.now)) }
+    ensures gives { AnswersAs Memory (λ x. (x.0, drop x.1 bytes.now)) result (ok_or (varint_at (drop at bytes.now)) Bad) }
     ensures within { IfOk result (λ x. (at ≤ x.1) × (x.1 ≤ length bytes.now)) }
 {
     match read32(&bytes[at..]) {
@@ -31,7 +32,7 @@ fn varint_from(bytes: &[u8], at: usize) -> Result<(i32, usize), RecordFault>
 /// The varlong at a place, and the place after it.
 fn varlong_from(bytes: &[u8], at: usize) -> Result<(i64, usize), RecordFault>
     requires { at ≤ length bytes.now }
-    ensures gives { Gives (λ x. (x.0, drop x.1 bytes.now)) result (varlong_at (drop at bytes.now)) }
+    ensures gives { AnswersAs Memory (λ x. (x.0, drop x.1 bytes.now)) result (ok_or (varlong_at (drop at bytes.now)) Bad) }
     ensures within { IfOk result (λ x. (at ≤ x.1) × (x.1 ≤ length bytes.now)) }
 {
     match read64(&bytes[at..]) {
@@ -49,7 +50,7 @@ fn bytes_from(
     limit: usize,
 ) -> Result<(Bytes, usize), RecordFault>
     requires { at ≤ length bytes.now }
-    ensures gives { Gives (λ x. (x.0, drop x.1 bytes.now)) result (bytes_at limit len (drop at bytes.now)) }
+    ensures gives { AnswersAs Memory (λ x. (x.0, drop x.1 bytes.now)) result (ok_or (bytes_at limit len (drop at bytes.now)) Bad) }
     ensures within { IfOk result (λ x. (at ≤ x.1) × (x.1 ≤ length bytes.now)) }
 {
     if len < 0 {
@@ -71,7 +72,7 @@ fn nullable_bytes_from(
     limit: usize,
 ) -> Result<(Option<Bytes>, usize), RecordFault>
     requires { at ≤ length bytes.now }
-    ensures gives { Gives (λ x. (x.0, drop x.1 bytes.now)) result (nullable_bytes_at limit len (drop at bytes.now)) }
+    ensures gives { AnswersAs Memory (λ x. (x.0, drop x.1 bytes.now)) result (ok_or (nullable_bytes_at limit len (drop at bytes.now)) Bad) }
     ensures within { IfOk result (λ x. (at ≤ x.1) × (x.1 ≤ length bytes.now)) }
 {
     if len == -1 {
@@ -84,7 +85,7 @@ fn nullable_bytes_from(
 #[tactic(auto, unfolding(wire_spec::specs::RecordReading::string_at))]
 fn string_from(bytes: &Bytes, at: usize, limit: usize) -> Result<(Bytes, usize), RecordFault>
     requires { at ≤ length bytes.now }
-    ensures gives { Gives (λ x. (x.0, drop x.1 bytes.now)) result (string_at limit (drop at bytes.now)) }
+    ensures gives { AnswersAs Memory (λ x. (x.0, drop x.1 bytes.now)) result (ok_or (string_at limit (drop at bytes.now)) Bad) }
     ensures within { IfOk result (λ x. (at ≤ x.1) × (x.1 ≤ length bytes.now)) }
 {
     let (len, at) = varint_from(bytes, at)?;
@@ -99,7 +100,7 @@ fn nullable_from(
     limit: usize,
 ) -> Result<(Option<Bytes>, usize), RecordFault>
     requires { at ≤ length bytes.now }
-    ensures gives { Gives (λ x. (x.0, drop x.1 bytes.now)) result (nullable_at limit (drop at bytes.now)) }
+    ensures gives { AnswersAs Memory (λ x. (x.0, drop x.1 bytes.now)) result (ok_or (nullable_at limit (drop at bytes.now)) Bad) }
     ensures within { IfOk result (λ x. (at ≤ x.1) × (x.1 ≤ length bytes.now)) }
 {
     let (len, at) = varint_from(bytes, at)?;
@@ -109,7 +110,7 @@ fn nullable_from(
 #[tactic(auto, unfolding(wire_spec::specs::RecordReading::header_at))]
 fn header_from(bytes: &Bytes, at: usize) -> Result<(Header, usize), RecordFault>
     requires { at ≤ length bytes.now }
-    ensures gives { Gives (λ x. (x.0, drop x.1 bytes.now)) result (header_at (drop at bytes.now)) }
+    ensures gives { AnswersAs Memory (λ x. (x.0, drop x.1 bytes.now)) result (ok_or (header_at (drop at bytes.now)) Bad) }
     ensures within { IfOk result (λ x. (at ≤ x.1) × (x.1 ≤ length bytes.now)) }
 {
     let (key, at) = string_from(bytes, at, MAX_HEADER_KEY)?;
@@ -127,7 +128,7 @@ fn headers_from(
     count: usize,
 ) -> Result<(Headers, usize), RecordFault>
     requires { at ≤ length bytes.now }
-    ensures gives { Gives (λ x. (x.0, drop x.1 bytes.now)) result (headers_at count (drop at bytes.now)) }
+    ensures gives { AnswersAs Memory (λ x. (x.0, drop x.1 bytes.now)) result (ok_or (headers_at count (drop at bytes.now)) Bad) }
     ensures within { IfOk result (λ x. (at ≤ x.1) × (x.1 ≤ length bytes.now)) }
 {
     let mut list = Vec::with_capacity(alloc, count)?;
@@ -147,7 +148,7 @@ fn counted_from(
     count: i32,
 ) -> Result<(Headers, usize), RecordFault>
     requires { at ≤ length bytes.now }
-    ensures gives { Gives (λ x. (x.0, drop x.1 bytes.now)) result (counted_at count (drop at bytes.now)) }
+    ensures gives { AnswersAs Memory (λ x. (x.0, drop x.1 bytes.now)) result (ok_or (counted_at count (drop at bytes.now)) Bad) }
     ensures within { IfOk result (λ x. (at ≤ x.1) × (x.1 ≤ length bytes.now)) }
 {
     if count < 0 {
@@ -163,7 +164,7 @@ fn counted_from(
 /// The place after the attributes, which are 0.
 fn attributes_from(bytes: &[u8], at: usize) -> Result<usize, RecordFault>
     requires { at ≤ length bytes.now }
-    ensures gives { Gives (λ x. drop x bytes.now) result (attributes_at (drop at bytes.now)) }
+    ensures gives { AnswersAs Memory (λ x. drop x bytes.now) result (ok_or (attributes_at (drop at bytes.now)) Bad) }
     ensures within { IfOk result (λ x. (at ≤ x) × (x ≤ length bytes.now)) }
 {
     if at == bytes.len() {
@@ -179,7 +180,7 @@ fn attributes_from(bytes: &[u8], at: usize) -> Result<usize, RecordFault>
 #[tactic(auto, unfolding(wire_spec::specs::RecordReading::delta_at))]
 fn delta_from(bytes: &[u8], at: usize, delta: i32) -> Result<usize, RecordFault>
     requires { at ≤ length bytes.now }
-    ensures gives { Gives (λ x. drop x bytes.now) result (delta_at delta (drop at bytes.now)) }
+    ensures gives { AnswersAs Memory (λ x. drop x bytes.now) result (ok_or (delta_at delta (drop at bytes.now)) Bad) }
     ensures within { IfOk result (λ x. (at ≤ x) × (x ≤ length bytes.now)) }
 {
     let (number, at) = varint_from(bytes, at)?;
@@ -198,7 +199,7 @@ fn body_from(
     delta: i32,
 ) -> Result<(Record, usize), RecordFault>
     requires { at ≤ length bytes.now }
-    ensures gives { Gives (λ x. (x.0, drop x.1 bytes.now)) result (body_at delta (drop at bytes.now)) }
+    ensures gives { AnswersAs Memory (λ x. (x.0, drop x.1 bytes.now)) result (ok_or (body_at delta (drop at bytes.now)) Bad) }
     ensures within { IfOk result (λ x. (at ≤ x.1) × (x.1 ≤ length bytes.now)) }
 {
     let at = attributes_from(bytes, at)?;
@@ -235,7 +236,7 @@ fn record_from(
 ) -> Result<(Record, usize), RecordFault>
     requires same { slice.now ≡ bytes.now }
     requires at { at ≤ length bytes.now }
-    ensures exact { Gives (λ x. (x.0, drop (at + x.1) bytes.now)) result (record_at delta (drop at bytes.now)) }
+    ensures exact { AnswersAs Memory (λ x. (x.0, drop (at + x.1) bytes.now)) result (ok_or (record_at delta (drop at bytes.now)) Bad) }
     ensures within { IfOk result (λ x. at + x.1 ≤ length bytes.now) }
 {
     let (len, start) = varint_from(slice, at)?;
@@ -259,9 +260,9 @@ fn read_from(
     // What is read is spelled so.
     ensures found { IfOk result (λ x. RecordFits x.0 × (at + x.1 ≤ length bytes.now) × (take x.1 (drop at bytes.now) ≡ record_spelling delta x.0)) }
     // What is spelled so is read, whatever follows it, unless memory runs out.
-    ensures only { (r : Record) (rest : List ℕ) → RecordFits r → drop at bytes.now ≡ record_spelling delta r ++ rest → Gives (λ x. x) result (Some (r, length (record_spelling delta r))) }
+    ensures only { (r : Record) (rest : List ℕ) → RecordFits r → drop at bytes.now ≡ record_spelling delta r ++ rest → AnswersAs Memory (λ x. x) result (Ok (r, length (record_spelling delta r))) }
     // Whether there is one.
-    ensures exact { Gives (λ x. (x.0, drop (at + x.1) bytes.now)) result (record_at delta (drop at bytes.now)) }
+    ensures exact { AnswersAs Memory (λ x. (x.0, drop (at + x.1) bytes.now)) result (ok_or (record_at delta (drop at bytes.now)) Bad) }
 {
     record_from(alloc, bytes, slice, at, delta)
 }
@@ -278,9 +279,9 @@ pub fn read(
     // What is read is spelled so.
     ensures found { IfOk result (λ x. RecordFits x.0 × (at + x.1 ≤ length bytes.now) × (take x.1 (drop at bytes.now) ≡ record_spelling delta x.0)) }
     // What is spelled so is read, whatever follows it, unless memory runs out.
-    ensures only { (r : Record) (rest : List ℕ) → RecordFits r → drop at bytes.now ≡ record_spelling delta r ++ rest → Gives (λ x. x) result (Some (r, length (record_spelling delta r))) }
+    ensures only { (r : Record) (rest : List ℕ) → RecordFits r → drop at bytes.now ≡ record_spelling delta r ++ rest → AnswersAs Memory (λ x. x) result (Ok (r, length (record_spelling delta r))) }
     // Whether there is one.
-    ensures exact { Gives (λ x. (x.0, drop (at + x.1) bytes.now)) result (record_at delta (drop at bytes.now)) }
+    ensures exact { AnswersAs Memory (λ x. (x.0, drop (at + x.1) bytes.now)) result (ok_or (record_at delta (drop at bytes.now)) Bad) }
 {
     if at > bytes.len() {
         return Err(RecordFault::Bad);

@@ -23,7 +23,7 @@ returns-then-at-end c =
     let same : c.loop-place.place ≡ c.args.count = omega arith in
     let left : suc c.loop-place.at ≤ length c.args.bytes.now = omega arith in
     let some = drop-cons c.args.bytes.now c.loop-place.at 0 left in
-    is_over c.loop-place.list.items c.args.count c.loop-place.place (get_or c.args.bytes.now c.loop-place.at 0) (drop (suc c.loop-place.at) c.args.bytes.now) (drop c.loop-place.at c.args.bytes.now) (records_at c.args.count 0 (drop 61 c.args.bytes.now)) same some c.loop-place.invariant.read
+    λ _. is_over c.loop-place.list.items c.args.count c.loop-place.place (get_or c.args.bytes.now c.loop-place.at 0) (drop (suc c.loop-place.at) c.args.bytes.now) (drop c.loop-place.at c.args.bytes.now) (records_at c.args.count 0 (drop 61 c.args.bytes.now)) same some c.loop-place.invariant.read
 
 pub returns : goal.returns
 returns c =

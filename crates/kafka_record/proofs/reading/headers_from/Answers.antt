@@ -1,6 +1,7 @@
 use Rattle.std.proofs.Common.{drop, arith}
 use Rattle.std.proofs.lemmas.Result.{err_from_is_err_and}
 use Rattle.wire_spec.specs.RecordReading.{headers_at}
+use Rattle.kafka_record.proofs.Answered.{read_ok, as_answer}
 use Rattle.kafka_record.proofs.Loop.{goes_on, ends, is_done}
 use Rattle.kafka_record.proofs.reading.headers_from.Goals as goal
 
@@ -15,8 +16,10 @@ loop-preserved c =
     record {
       after = omega (arith, c.in_ok-header.ensures.within.0, c.loop.invariant.after);
       within = c.in_ok-header.ensures.within.1;
-      read = rw c.in_ok-push.ensures.items (goes_on c.loop.list.items c.args.count c.loop.counter (drop c.loop.place c.args.bytes.now) h (drop c.in_ok-header.after c.args.bytes.now) (headers_at c.args.count (drop c.args.at c.args.bytes.now)) c.loop-test.true c.in_ok-header.ensures.gives c.loop.invariant.read);
+      read = rw c.in_ok-push.ensures.items (goes_on c.loop.list.items c.args.count c.loop.counter (drop c.loop.place c.args.bytes.now) h (drop c.in_ok-header.after c.args.bytes.now) (headers_at c.args.count (drop c.args.at c.args.bytes.now)) c.loop-test.true (read_ok _ _ c.in_ok-header.ensures.gives) c.loop.invariant.read);
     }
 
 pub returns-clause-gives : goal.returns-clause-gives
-returns-clause-gives c = is_done c.loop.list.items c.args.count c.loop.counter (drop c.loop.place c.args.bytes.now) (headers_at c.args.count (drop c.args.at c.args.bytes.now)) c.loop-test.false c.loop.invariant.read
+returns-clause-gives c =
+    let all = headers_at c.args.count (drop c.args.at c.args.bytes.now) in
+    as_answer all _ (is_done c.loop.list.items c.args.count c.loop.counter (drop c.loop.place c.args.bytes.now) all c.loop-test.false c.loop.invariant.read)

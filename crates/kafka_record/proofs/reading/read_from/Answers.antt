@@ -1,15 +1,16 @@
 use Rattle.std.proofs.Common.{drop, subst, arith}
-use Rattle.std.specs.Prelude.{ℤ}
+use Rattle.std.specs.Prelude.{ℤ, ok_or}
 use Rattle.std.specs.Int.{w32}
 use Rattle.std.proofs.lemmas.Int.{to_z-of_z}
 use Rattle.wire_spec.specs.RecordReading.{record_at}
 use Rattle.wire_spec.proofs.Varints.{IsBytes}
-use Rattle.kafka_record.specs.Gives.{Gives}
+use Rattle.wire_spec.specs.Memory.{AnswersAs}
+use Rattle.kafka_record.specs.declared.fault.RecordFault.TheVariants.{Bad, Memory}
 use Rattle.kafka_record.proofs.Answered.{view, is_found, is_only}
 use Rattle.kafka_record.proofs.reading.read_from.Goals as goal
 
-exact : (c : goal.After-record_from) → Gives (view c.args.bytes.now c.args.at c.args.delta c.ranges.delta) c.record_from.result (record_at c.args.delta (drop c.args.at c.args.bytes.now))
-exact c = subst (λ (d : ℤ). Gives (view c.args.bytes.now c.args.at c.args.delta c.ranges.delta) c.record_from.result (record_at d (drop c.args.at c.args.bytes.now))) (to_z-of_z w32 c.args.delta c.ranges.delta) c.record_from.ensures.exact
+exact : (c : goal.After-record_from) → AnswersAs Memory (view c.args.bytes.now c.args.at c.args.delta c.ranges.delta) c.record_from.result (ok_or (record_at c.args.delta (drop c.args.at c.args.bytes.now)) Bad)
+exact c = subst (λ (d : ℤ). AnswersAs Memory (view c.args.bytes.now c.args.at c.args.delta c.ranges.delta) c.record_from.result (ok_or (record_at d (drop c.args.at c.args.bytes.now)) Bad)) (to_z-of_z w32 c.args.delta c.ranges.delta) c.record_from.ensures.exact
 
 bytes_are : (c : goal.After-record_from) → IsBytes c.args.bytes.now
 bytes_are c =
