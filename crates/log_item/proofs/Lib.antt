@@ -1,2 +1,2 @@
-pub mod Reads
+pub mod ReadBytes
 pub mod RunLaws
