@@ -16,7 +16,8 @@ use crate::slots::is_first_slot;
 use crate::stack::Stack;
 use crate::tagged::{Tagged, can_compute, is_address, is_nothing, is_number, is_taken};
 use machine_spec::{
-    Condition, Direction, Helper, MemoryOperand, Operands, Region, STACK_SIZE, Source, Summary, Trap,
+    Condition, Direction, Helper, MemoryOperand, Operands, Region, STACK_SIZE, Source, Summary,
+    Trap,
 };
 
 /// The register that is never written, the stack's end.
