@@ -1,13 +1,12 @@
 -- How far a run can have come: the slot grows with each step, and an address moves by less than 2^63 and 1 in each.
-use Rattle.std.proofs.Common.{◌≡◌, ◌≢◌, ℕ, zero, suc, ◌+◌, ◌*◌, ◌^◌, ◌<◌, ◌≤◌, Bool, true, false, not, ◌&&◌, if◌then◌else◌, nat_lt, nat_le, ◌==◌, List, [], ◌∷◌, Option, Some, None, refl, sym, ap, ◌∙◌, subst, ⊎_elim, arith}
+use Rattle.std.proofs.Common.{◌≡◌, ◌≢◌, ℕ, zero, suc, ◌+◌, ◌*◌, ◌^◌, ◌<◌, ◌≤◌, Bool, true, false, not, ◌&&◌, if◌then◌else◌, nat_lt, nat_le, ◌==◌, List, [], ◌∷◌, Option, Some, None, refl, sym, subst, ⊎_elim, arith}
 use Rattle.std.specs.Prelude.{ℤ, pos, negsuc, ◌+ℤ◌, neg_ℤ, is_none, unsigned_abs}
 use Rattle.std.specs.List.{list_any}
 use Rattle.std.proofs.lemmas.Int.{ints}
-use Rattle.std.proofs.lemmas.Bool.{cond_both, eqb-true, ltb-true, cases_Bool, false≢true, not-false, or_cases}
+use Rattle.std.proofs.lemmas.Bool.{cond_both, eqb-true, ltb-true, false≢true, not-false, or_cases}
 use Rattle.machine_spec.specs.declared.operation.Width.{Width}
 use Rattle.machine_spec.specs.declared.operation.Width.TheVariants.{Bits32, Bits64}
 use Rattle.machine_spec.specs.declared.operation.Operation.{Operation}
-use Rattle.machine_spec.specs.declared.operation.Operation.TheVariants.{Add, Sub}
 use Rattle.machine_spec.specs.declared.operation.Change.{Change}
 use Rattle.machine_spec.specs.declared.instruction.Region.{Region}
 use Rattle.machine_spec.specs.declared.instruction.Size.{Size}
@@ -21,10 +20,9 @@ use Rattle.machine_spec.specs.declared.instruction.Instruction.{Instruction}
 use Rattle.machine_spec.specs.declared.instruction.Instruction.TheVariants.{Move, Compute, Load, Unary, Store, JumpIf, Jump, Wide, Call, Exit}
 use Rattle.machine_spec.specs.Arithmetic.{signed}
 use Rattle.machine_spec.specs.Values.{Value, Nothing, Number, Address, Registers, operand, moved, moves_address, is_subtraction, displacement, result_of, changed, is_taken, extended}
-use Rattle.machine_spec.specs.Image.{Program, slot_count, slot_after, first_slots_from, first_slots, is_first_slot, jump_target, distance_of, form_at}
-use Rattle.machine_spec.specs.Summaries.{summary_of}
-use Rattle.machine_spec.specs.Machine.{Input, State, Access, with_register, entry_register, entry, loaded, helper_of, answer_to, answer_of, after_call, called, landing, after}
-use Rattle.machine_spec.specs.Traps.{calls_no_helper, is_target, is_met, jumps_wrongly}
+use Rattle.machine_spec.specs.Image.{Program, slot_count, slot_after, first_slots_from, first_slots, is_first_slot, jump_target, distance_of}
+use Rattle.machine_spec.specs.Machine.{Input, State, Access, with_register, entry_register, loaded, helper_of, answer_to, after_call, called, landing, after}
+use Rattle.machine_spec.specs.Traps.{is_target}
 use Rattle.machine_spec.specs.Meaning.{Step, Reaches}
 use Rattle.bpf_machine.specs.Views.{IsNear}
 use Rattle.bpf_machine.proofs.Rows.{IsFree, is_free, slot_within}

@@ -1,21 +1,20 @@
 -- What is known of a step and of an end, once the instruction is fetched.
-use Rattle.std.proofs.Common.{◌≡◌, ℕ, zero, suc, ◌+◌, ◌<◌, ◌^◌, true, false, Some, None, refl, sym, ap, ◌∙◌, subst, arith}
+use Rattle.std.proofs.Common.{◌≡◌, ℕ, suc, ◌+◌, ◌<◌, ◌^◌, true, false, Some, refl, ap, ◌∙◌, subst, arith}
 use Rattle.machine_spec.specs.declared.instruction.Instruction.{Instruction}
 use Rattle.machine_spec.specs.declared.instruction.Trap.{Trap}
 use Rattle.machine_spec.specs.declared.outcome.Outcome.{Outcome}
-use Rattle.machine_spec.specs.Image.{Program, slot_count, form_at}
+use Rattle.machine_spec.specs.Image.{Program, slot_count}
 use Rattle.machine_spec.specs.Summaries.{summary_of}
 use Rattle.machine_spec.specs.Machine.{Input, State, access_of, after}
 use Rattle.machine_spec.specs.Traps.{trap_at}
 use Rattle.machine_spec.specs.Meaning.{Step, Reaches, outcome_of}
 use Rattle.machine_spec.proofs.Meanings.{exit_is, other_than_exit}
-use Rattle.bpf_machine.specs.declared.tracing.End.{End}
 use Rattle.bpf_machine.specs.declared.tracing.End.TheVariants as end
 use Rattle.bpf_machine.specs.Straight.{IsWritable}
 use Rattle.bpf_machine.specs.Advances.{IsNext, IsExit}
 use Rattle.bpf_machine.specs.Ends.{EndsOnlyIn}
 use Rattle.bpf_machine.proofs.Rows.{is_free}
-use Rattle.bpf_machine.proofs.Bounds.{IsBounded, bounded, step_further}
+use Rattle.bpf_machine.proofs.Bounds.{bounded}
 use Rattle.bpf_machine.proofs.Only.{ends_only}
 
 module _ (program : Program) (input : Input) (s : State) where

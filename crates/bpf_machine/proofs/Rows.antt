@@ -1,11 +1,12 @@
 -- What a state without a trap is known of.
-use Rattle.std.proofs.Common.{◌≡◌, ℕ, ◌<◌, Bool, true, false, if◌then◌else◌, nat_lt, List, [], ◌∷◌, Option, Some, None, refl, sym, subst}
-use Rattle.std.proofs.lemmas.Bool.{ltb-true}
+use Rattle.std.proofs.Common.{◌≡◌, ◌<◌, Bool, true, false, if◌then◌else◌, ◌≤◌, nat_lt, List, [], ◌∷◌, Option, Some, None, refl, sym, ap, ◌∙◌, subst}
+use Rattle.std.proofs.lemmas.Bool.{cond-true, cond-false, ltb-true, lt-ltb, le-ltb}
 use Rattle.std.proofs.lemmas.Option.{same_Some, none-some}
 use Rattle.machine_spec.specs.declared.instruction.Instruction.{Instruction}
 use Rattle.machine_spec.specs.declared.instruction.Trap.{Trap}
 use Rattle.machine_spec.specs.declared.instruction.Trap.TheVariants as trap
 use Rattle.machine_spec.specs.Image.{Program, slot_count, form_at}
+use Rattle.machine_spec.specs.declared.summary.Summary.{Summary}
 use Rattle.machine_spec.specs.Summaries.{summary_of}
 use Rattle.machine_spec.specs.Machine.{Input, State, access_of}
 use Rattle.machine_spec.specs.Traps.{calls_no_helper, writes_record, leaves_stack, jumps_wrongly, first_of, traps, trap_of, trap_at}
@@ -56,3 +57,21 @@ is_free program input s i e form =
       in_stack = none.1.1.1.1.1.1.1.1.0;
       jump = none.1.1.1.1.1.1.1.1.1.1.1.1.0;
     }
+
+-- ---- the trap of a state, from its slot on
+
+pub past_end : (program : Program) (input : Input) (s : State) → slot_count program.image ≤ s.slot → trap_at program input s ≡ Some trap.RanOff
+unfolding trap_at
+past_end program input s past = cond-false _ _ _ (le-ltb s.slot (slot_count program.image) past)
+
+trap_inside : (program : Program) (input : Input) (s : State) → s.slot < slot_count program.image → trap_at program input s ≡ trap_of program input (form_at program.image s.slot) s
+unfolding trap_at
+trap_inside program input s within = cond-true _ _ _ (lt-ltb s.slot (slot_count program.image) within)
+
+pub no_form : (program : Program) (input : Input) (s : State) → s.slot < slot_count program.image → form_at program.image s.slot ≡ None → trap_at program input s ≡ Some trap.Form
+no_form program input s within e = trap_inside program input s within ∙ ap (λ o. trap_of program input o s) e
+
+pub trap_is : (program : Program) (input : Input) (s : State) (i : Instruction) (m : Summary) (told : Option Trap) → s.slot < slot_count program.image → form_at program.image s.slot ≡ Some i → m ≡ summary_of i
+    → told ≡ first_of (traps program input m s) → trap_at program input s ≡ told
+trap_is program input s i m told within form summary is =
+    trap_inside program input s within ∙ ap (λ o. trap_of program input o s) form ∙ sym (is ∙ ap (λ n. first_of (traps program input n s)) summary)

@@ -1,8 +1,8 @@
 -- A walk over the first slots of an image, and bytes written one after the other.
-use Rattle.std.proofs.Common.{◌≡◌, ◌≢◌, ℕ, zero, suc, ◌+◌, ◌-◌, ◌<◌, ◌≤◌, Bool, true, false, ◌&&◌, if◌then◌else◌, nat_lt, nat_le, ◌==◌, List, [], ◌∷◌, length, slice_set, get_or, Option, Some, None, refl, sym, ap, ◌∙◌, subst, ⊎_elim, arith}
+use Rattle.std.proofs.Common.{◌≡◌, ◌≢◌, ℕ, zero, suc, ◌+◌, ◌-◌, ◌<◌, ◌≤◌, Bool, true, false, ◌&&◌, nat_lt, nat_le, ◌==◌, List, length, slice_set, Option, Some, refl, sym, ap, ◌∙◌, subst, ⊎_elim, arith}
 use Rattle.std.specs.Prelude.{slice_get, option_and_then, slice_index}
 use Rattle.std.specs.List.{list_any}
-use Rattle.std.proofs.lemmas.Bool.{cond_both, lt-ltb, le-ltb, le-leb, eq-eqb, ne_eqb, ltb-true, leb-true, and_parts, and_from, cases_eq, cases_lt, false≢true}
+use Rattle.std.proofs.lemmas.Bool.{cond_both, lt-ltb, le-ltb, le-leb, eq-eqb, ne_eqb, ltb-true, leb-true, and_parts, and_from, cases_eq, false≢true}
 use Rattle.std.proofs.lemmas.Option.{slice_get-get_or}
 use Rattle.machine_spec.specs.Image.{slot_count, slot_after, first_slots_from, first_slots, is_first_slot}
 use Rattle.machine_spec.specs.Machine.{written}
@@ -48,7 +48,7 @@ Wrote-more old new start bytes k wrote below within kept = record {
   size = kept ∙ wrote.size;
   inside = λ j less. ⊎_elim
       (λ (same : j ≡ k). subst (λ (i : ℕ). stack_of (slice_set new (start + k) (Some (slice_index bytes k))) (start + i) ≡ slice_get bytes i) (sym same)
-          (ap flat (get-set_same new (start + k) (Some (slice_index bytes k)) within) ∙ sym (slice_get-get_or bytes k 0 below)))
+      (ap flat (get-set_same new (start + k) (Some (slice_index bytes k)) within) ∙ sym (slice_get-get_or bytes k 0 below)))
       (λ (other : j ≢ k). ap flat (get-set_other new (start + k) (start + j) (Some (slice_index bytes k)) (λ e. other (omega arith))) ∙ wrote.inside j (omega arith))
       (cases_eq j k);
   outside = λ place apart. ap flat (get-set_other new (start + k) place (Some (slice_index bytes k)) (λ e. apart k (omega arith) (sym e))) ∙ wrote.outside place (λ j less. apart j (omega arith));
@@ -58,12 +58,12 @@ pub Wrote-all : (old new : List (Option ℕ)) (start : ℕ) (bytes : List ℕ) �
 Wrote-all old new start bytes wrote place =
     cond_both (nat_le start place && nat_lt place (start + length bytes)) (slice_get bytes (place - start)) (stack_of old place) (λ b. stack_of new place ≡ b)
     (λ inside.
-        let parts = and_parts _ _ inside in
-        let low : start ≤ place = leb-true start place parts.0 in
-        let high : place < start + length bytes = ltb-true place (start + length bytes) parts.1 in
-        let e : start + (place - start) ≡ place = omega arith in
-        ap (λ p. stack_of new p) (sym e) ∙ wrote.inside (place - start) (omega arith))
+    let parts = and_parts _ _ inside in
+    let low : start ≤ place = leb-true start place parts.0 in
+    let high : place < start + length bytes = ltb-true place (start + length bytes) parts.1 in
+    let e : start + (place - start) ≡ place = omega arith in
+    ap (λ p. stack_of new p) (sym e) ∙ wrote.inside (place - start) (omega arith))
     (λ outside. wrote.outside place (λ j less same.
-        let low : nat_le start place ≡ true = le-leb start place (omega arith) in
-        let high : nat_lt place (start + length bytes) ≡ true = lt-ltb place (start + length bytes) (omega arith) in
-        false≢true (sym outside ∙ and_from _ _ low high)))
+    let low : nat_le start place ≡ true = le-leb start place (omega arith) in
+    let high : nat_lt place (start + length bytes) ≡ true = lt-ltb place (start + length bytes) (omega arith) in
+    false≢true (sym outside ∙ and_from _ _ low high)))

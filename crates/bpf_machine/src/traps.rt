@@ -1,5 +1,5 @@
 //! The trap of a state, if there is one.
-ghost use Rattle.std.specs.Prelude.{◌≡◌, ℕ, ◌+◌, ◌<◌, ◌^◌};
+ghost use Rattle.std.specs.Prelude.{◌≡◌, ℕ, ◌+◌, ◌<◌, ◌^◌, is_none};
 ghost use Rattle.std.specs.List.{list_any};
 ghost use Rattle.machine_spec.specs.Image.{jump_target};
 ghost use Rattle.machine_spec.specs.Values as values;
@@ -16,7 +16,8 @@ use crate::slots::is_first_slot;
 use crate::stack::Stack;
 use crate::tagged::{Tagged, can_compute, is_address, is_nothing, is_number, is_taken};
 use machine_spec::{
-    Condition, Direction, Helper, MemoryOperand, Operands, Region, STACK_SIZE, Source, Summary, Trap,
+    Condition, Direction, Helper, MemoryOperand, Operands, Region, STACK_SIZE, Source, Summary,
+    Trap,
 };
 
 /// The register that is never written, the stack's end.
@@ -234,13 +235,22 @@ fn leaves_stack(span: Option<Span>) -> bool
     }
 }
 
+fn is_unset(byte: Option<u8>) -> bool
+    ensures { result ≡ is_none byte }
+{
+    match byte {
+        Some(_) => false,
+        None => true,
+    }
+}
+
 /// Whether one of so many bytes from a place on is not set.
 fn has_unset(stack: &Stack, place: u128, count: u8) -> bool
     requires { place + count < 2 ^ 128 }
     ensures { result ≡ definitions.has_unset (stack_of stack.now) place count }
 {
     for k in 0..count {
-        if stack.get(place + k as u128).is_none() {
+        if is_unset(stack.get(place + k as u128)) {
             return true;
         }
     }

@@ -6,12 +6,11 @@
 mod random;
 
 use annotate::load;
-use std::io;
 use bpf_machine::{End, trace};
 use exec::{Emissions, Outcome, Place, is_place, is_within_limits, run};
 use random::Random;
 use std::alloc::Global;
-use std::env;
+use std::{env, io};
 
 const PLACE: Place = Place {
     partition: 3,
@@ -47,7 +46,7 @@ fn is_same(end: &End, outcome: &Outcome) -> bool {
 }
 
 /// Runs one program on one record both ways.
-fn compare(alloc: Global, random: &mut Random, counts: &mut Counts) -> Result<()> {
+fn compare(alloc: Global, random: &mut Random, counts: &mut Counts) -> io::Result<()> {
     let image = random.program(alloc)?;
     let record = random.record(alloc)?;
     let (end, count) = trace(alloc, &image, &record, &PLACE)?;
@@ -66,7 +65,7 @@ fn compare(alloc: Global, random: &mut Random, counts: &mut Counts) -> Result<()
     Ok(())
 }
 
-fn main(rt: HostRuntime) -> Result<()> {
+fn main(rt: HostRuntime) -> io::Result<()> {
     let mut arguments = env::args(&rt)?;
     let _ = arguments.next();
     let Some(programs) = arguments.next() else {
