@@ -1,19 +1,23 @@
 -- The bytes of a slot are the spelling of its instruction.
-use Rattle.std.proofs.Common.{◌≡◌, ℕ, zero, suc, ◌+◌, ◌*◌, ◌/◌, ◌%◌, ◌^◌, ◌<◌, ◌≤◌, Bool, true, false, eqb, List, [], ◌∷◌, ◌++◌, length, get_or, drop, Option, Some, None, Result, Ok, Err, refl, sym, ap, ◌∙◌, arith}
+use Rattle.std.proofs.Common.{◌≡◌, ◌⊎◌, ℕ, zero, suc, ◌+◌, ◌*◌, ◌/◌, ◌%◌, ◌^◌, ◌<◌, ◌≤◌, ℤ, pos, Bool, true, false, ◌&&◌, eqb, ltb, List, [], ◌∷◌, ◌++◌, length, get_or, drop, Option, Some, None, Result, Ok, Err, refl, sym, ap, inl, inr, ⊎_elim, subst, ◌∙◌, append_assoc, arith}
 use Rattle.std.specs.Int.{w16, w32, from_le_bytes, to_le_bytes, cast_signed, cast_unsigned}
 use Rattle.std.proofs.Math.Seq.{drop-cons}
 use Rattle.std.proofs.lemmas.Nat.{le_bytes_2, le_bytes_4}
 use Rattle.std.proofs.lemmas.Int.{of_z-to_z}
-use Rattle.std.proofs.lemmas.Bool.{eqb-true, ne_eqb}
+use Rattle.std.proofs.lemmas.Bool.{eqb-true, eq-eqb, ltb-true, cases_eq, cond-true, and_parts}
+use Rattle.std.proofs.lemmas.List.{append-nil}
+use Rattle.std.proofs.lemmas.Option.{same_Some, none-some}
+use Rattle.machine_spec.specs.declared.instruction.Distance.TheVariants.{Short, Long}
 use Rattle.machine_spec.specs.declared.instruction.Instruction.{Instruction}
+use Rattle.machine_spec.specs.declared.instruction.Instruction.TheVariants.{Move, Compute, Load, Unary, Store, JumpIf, Jump, Wide, Call, Exit}
 use Rattle.machine_spec.specs.declared.instruction.IsaFault.{IsaFault}
-use Rattle.machine_spec.specs.Opcodes.{Fields, uses_of}
-use Rattle.machine_spec.specs.Image.{byte_at, fields_at, read_slot, form_at, if_read, slot_after}
-use Rattle.machine_spec.proofs.Readings.{IsRead, read_parts}
+use Rattle.machine_spec.specs.Opcodes.{Fields, uses_of, has_zeros}
+use Rattle.machine_spec.specs.Image.{slot_count, byte_at, word_at, upper_at, fields_at, read_slot, form_at, if_read, slot_after, slots_of}
+use Rattle.machine_spec.proofs.Readings.{IsRead, read_parts, wide_template, wide_is, narrow_template, narrow_slots}
 use Rattle.machine_spec.proofs.Slots.{slot_after_form}
 use Rattle.bpf_isa.specs.Code.{AreBytes}
-use Rattle.bpf_isa.specs.Spelling.{fields_bytes, spelling, HasRegisters}
-use Rattle.bpf_isa.proofs.Cases.{zeros, numbers}
+use Rattle.bpf_isa.specs.Spelling.{spelled_fields, first_bytes, second_bytes, spelling, HasRegisters}
+use Rattle.bpf_isa.proofs.Cases.{on_choice, zeros, numbers}
 use Rattle.bpf_isa.proofs.Fields.{IsSpelled, filled_spelled, filled_reads}
 
 abbrev pub slot_bytes : List ℕ → ℕ → List ℕ
@@ -50,7 +54,7 @@ layout opcode registers offset imm = (opcode ∷ registers ∷ []) ++ (offset ++
 layout_same : (opcode a b : ℕ) (c d e f : List ℕ) → a ≡ b → c ≡ d → e ≡ f → layout opcode a c e ≡ layout opcode b d f
 layout_same opcode a b c d e f p q r = rw (p, q, r) refl
 
-bytes_again : (image : List ℕ) (slot : ℕ) → AreBytes image → fields_bytes (fields_at image slot) ≡ slot_bytes image slot
+bytes_again : (image : List ℕ) (slot : ℕ) → AreBytes image → first_bytes (fields_at image slot) ≡ slot_bytes image slot
 bytes_again image slot fits =
     let byte = λ (k : ℕ). byte_at image slot k in
     let fit : (k : ℕ) → byte k < 256 = λ k. fits (8 * slot + k) in
@@ -58,6 +62,52 @@ bytes_again image slot fits =
     let offset = half_again (byte 2) (byte 3) (fit 2) (fit 3) in
     let imm = word_again (byte 4) (byte 5) (byte 6) (byte 7) (fit 4) (fit 5) (fit 6) (fit 7) in
     layout_same (byte 0) _ _ _ _ _ _ registers offset imm
+
+-- the bytes of so many slots
+abbrev pub slots_bytes : List ℕ → ℕ → ℕ → List ℕ
+slots_bytes image slot zero = []
+slots_bytes image slot (suc count) = slot_bytes image slot ++ slots_bytes image (slot + 1) count
+
+abbrev some_number : ℕ → Option ℕ
+some_number n = Some n
+
+-- a second slot that has an upper half
+pub record IsSecond (image : List ℕ) (slot upper : ℕ) : Type 0 where
+  pub within : slot < slot_count image
+  pub zero : word_at image slot 0 ≡ 0
+  pub is : upper ≡ word_at image slot 4
+
+pub second : (image : List ℕ) (slot upper : ℕ) → upper_at image slot ≡ Some upper → IsSecond image slot upper
+second image slot upper e =
+    let test = ltb slot (slot_count image) && eqb (word_at image slot 0) 0 in
+    on_choice test (Some (word_at image slot 4)) None (some_number upper) (IsSecond image slot upper) e
+    (λ is. λ e.
+    let both = and_parts (ltb slot (slot_count image)) (eqb (word_at image slot 0) 0) is in
+    record { within = ltb-true _ _ both.0; zero = eqb-true _ _ both.1; is = sym (same_Some (word_at image slot 4) upper e) })
+    (λ _. λ e. absurd (none-some upper e))
+
+abbrev second_layout : ℕ → ℕ → ℕ → ℕ → List ℕ → List ℕ
+second_layout a b c d rest = a ∷ b ∷ c ∷ d ∷ rest
+
+second_same : (a b c d : ℕ) (rest other : List ℕ) → a ≡ 0 → b ≡ 0 → c ≡ 0 → d ≡ 0 → rest ≡ other → second_layout 0 0 0 0 rest ≡ second_layout a b c d other
+second_same a b c d rest other p q r s t = rw (p, q, r, s, t) refl
+
+word_below : (image : List ℕ) (slot : ℕ) → AreBytes image → word_at image slot 4 < 2 ^ 32
+word_below image slot fits =
+    let fit : (k : ℕ) → byte_at image slot k < 256 = λ k. fits (8 * slot + k) in
+    omega (arith, fit 4, fit 5, fit 6, fit 7)
+
+second_again : (image : List ℕ) (slot upper : ℕ) → AreBytes image → IsSecond image slot upper → second_bytes (Some upper) ≡ slot_bytes image slot
+second_again image slot upper fits is =
+    let byte = λ (k : ℕ). byte_at image slot k in
+    let fit : (k : ℕ) → byte k < 256 = λ k. fits (8 * slot + k) in
+    let nothing : word_at image slot 0 ≡ 0 = is.zero in
+    let a : byte 0 ≡ 0 = omega (arith, nothing) in
+    let b : byte 1 ≡ 0 = omega (arith, nothing) in
+    let c : byte 2 ≡ 0 = omega (arith, nothing) in
+    let d : byte 3 ≡ 0 = omega (arith, nothing) in
+    let half = le_bytes_4 (byte 4 ∷ byte 5 ∷ byte 6 ∷ byte 7 ∷ []) _ refl (four_fit (byte 4) (byte 5) (byte 6) (byte 7) (fit 4) (fit 5) (fit 6) (fit 7)) refl in
+    second_same (byte 0) (byte 1) (byte 2) (byte 3) _ _ a b c d (ap (to_le_bytes w32) is.is ∙ half)
 
 -- ---- what was read
 
@@ -73,19 +123,110 @@ form_read image slot i e =
     let by : (r : Result Instruction IsaFault) → if_read r ≡ Some i → r ≡ done i = λ r. elim r as (λ r. if_read r ≡ Some i → r ≡ done i) [ Ok j ↦ λ e. cc | Err f ↦ λ e. absurd cc ] in
     by (read_slot image slot) e
 
-same_bytes : (f : Fields) (i : Instruction) → IsSpelled f i → fields_bytes f ≡ spelling i
-unfolding spelling
+-- an instruction of one slot, whose fields are its spelling's
+record IsNarrow (image : List ℕ) (slot : ℕ) (i : Instruction) : Type 0 where
+  slots : slots_of i ≡ 1
+  spelled : IsSpelled (fields_at image slot) i
+
+-- a 64-bit immediate, whose upper half is in the next slot
+record IsWide (image : List ℕ) (slot : ℕ) (i : Instruction) : Type 0 where
+  upper : ℕ
+  second : IsSecond image (slot + 1) upper
+  opcode : byte_at image slot 0 ≡ 0x18
+  src : (fields_at image slot).src ≡ 0
+  offset : (fields_at image slot).offset ≡ pos 0
+  is : Wide (fields_at image slot).dst (upper * 2 ^ 32 + cast_unsigned w32 (fields_at image slot).imm) ≡ i
+
+narrow_or_wide : (image : List ℕ) (slot : ℕ) (i : Instruction) → IsRead (fields_at image slot) i → IsNarrow image slot i ⊎ IsWide image slot i
+narrow_or_wide image slot i read = elim (cases_eq (byte_at image slot 0) 0x18) [
+    | inl is ↦
+    let f = fields_at image slot in
+    let wide = wide_is f i read is in
+    let there : f.upper ≡ upper_at image (slot + 1) = cond-true _ _ _ (eq-eqb (byte_at image slot 0) 0x18 is) in
+    let low = zeros (uses_of (Wide 0 0)) f (subst (λ t. has_zeros (uses_of t) f ≡ true) (wide_template f read.template is read.found) read.zeros) in
+    inr (record { upper = wide.0; second = second image (slot + 1) wide.0 (sym there ∙ wide.1); opcode = is; src = low.src refl; offset = low.offset refl; is = wide.2 })
+    | inr other ↦
+    let f = fields_at image slot in
+    inl (record {
+      slots = narrow_slots f i read other;
+      spelled = filled_spelled f read.template i (narrow_template f i read other) read.opcode read.is_filled (zeros (uses_of read.template) f read.zeros);
+    })
+  ]
+
+same_bytes : (f : Fields) (i : Instruction) → IsSpelled f i → first_bytes f ≡ first_bytes (spelled_fields i)
 same_bytes f i is = rw (is.opcode, is.dst, is.src, is.offset, is.imm) refl
 
-pub slot_spelled : (image : List ℕ) (slot : ℕ) (i : Instruction) → AreBytes image → read_slot image slot ≡ done i → slot_bytes image slot ≡ spelling i
-slot_spelled image slot i fits e =
-    let read = slot_read image slot i e in
-    let f = fields_at image slot in
-    let is = filled_spelled f read.template i read.opcode read.is_filled (zeros (uses_of read.template) f read.zeros) in
-    sym (bytes_again image slot fits) ∙ same_bytes f i is
+no_second : (i : Instruction) → slots_of i ≡ 1 → second_bytes (spelled_fields i).upper ≡ []
+no_second (Move _ _ _) one = refl
+no_second (Compute _ _ _ _) one = refl
+no_second (Load _ _ _ _ _) one = refl
+no_second (Unary _ _ _) one = refl
+no_second (Store _ _ _ _) one = refl
+no_second (JumpIf _ _ _ _ _) one = refl
+no_second (Jump (Short _)) one = refl
+no_second (Jump (Long _)) one = refl
+no_second (Wide _ _) one = absurd cc
+no_second (Call _) one = refl
+no_second Exit one = refl
 
-pub next_slot : (image : List ℕ) (slot : ℕ) (i : Instruction) → read_slot image slot ≡ done i → slot_after image slot ≡ slot + 1
+-- the number of a 64-bit immediate has the halves that it was made of
+wide_spelled : (f : Fields) (bits upper : ℕ) → bits < 2 ^ 32 → f.imm ≡ cast_signed w32 bits → f.opcode ≡ 0x18 → f.src ≡ 0 → f.offset ≡ pos 0 → IsSpelled f (Wide f.dst (upper * 2 ^ 32 + cast_unsigned w32 f.imm))
+wide_spelled f bits upper below imm opcode src offset =
+    let lower : cast_unsigned w32 f.imm ≡ bits = ap (cast_unsigned w32) imm ∙ of_z-to_z w32 bits below in
+    let low : (upper * 2 ^ 32 + cast_unsigned w32 f.imm) % 2 ^ 32 ≡ bits = omega (arith, lower, below) in
+    record { opcode = opcode; dst = refl; src = src; offset = offset; imm = imm ∙ ap (cast_signed w32) (sym low) }
+
+wide_upper : (z : ℤ) (bits upper : ℕ) → bits < 2 ^ 32 → cast_unsigned w32 z ≡ bits → upper ≡ (upper * 2 ^ 32 + cast_unsigned w32 z) / 2 ^ 32
+wide_upper z bits upper below lower = omega (arith, lower, below)
+
+abbrev second_of : ℕ → List ℕ
+second_of upper = second_bytes (Some upper)
+
+both_same : (a b c d : List ℕ) → a ≡ b → c ≡ d → a ++ c ≡ b ++ d
+both_same a b c d p q = rw (p, q) refl
+
+narrow_same : (image : List ℕ) (slot : ℕ) (i : Instruction) → AreBytes image → IsNarrow image slot i → slots_bytes image slot (slots_of i) ≡ first_bytes (spelled_fields i) ++ second_bytes (spelled_fields i).upper
+narrow_same image slot i fits narrow =
+    let first = sym (bytes_again image slot fits) ∙ same_bytes (fields_at image slot) i narrow.spelled in
+    ap (slots_bytes image slot) narrow.slots ∙ both_same _ _ _ _ first (sym (no_second i narrow.slots))
+
+wide_same : (image : List ℕ) (slot : ℕ) (i : Instruction) → AreBytes image → IsWide image slot i → slots_bytes image slot (slots_of i) ≡ first_bytes (spelled_fields i) ++ second_bytes (spelled_fields i).upper
+wide_same image slot i fits wide =
+    let f = fields_at image slot in
+    let bits = word_at image slot 4 in
+    let below : bits < 2 ^ 32 = word_below image slot fits in
+    let spelled = wide_spelled f bits wide.upper below refl wide.opcode wide.src wide.offset in
+    let first = sym (bytes_again image slot fits) ∙ same_bytes f _ spelled in
+    let lower : cast_unsigned w32 f.imm ≡ bits = of_z-to_z w32 bits below in
+    let upper = ap second_of (wide_upper f.imm bits wide.upper below lower) in
+    let second = append-nil (slot_bytes image (slot + 1)) ∙ sym (second_again image (slot + 1) wide.upper fits wide.second) ∙ upper in
+    subst (λ j. slots_bytes image slot (slots_of j) ≡ first_bytes (spelled_fields j) ++ second_bytes (spelled_fields j).upper) wide.is (both_same _ _ _ _ first second)
+
+pub slot_spelled : (image : List ℕ) (slot : ℕ) (i : Instruction) → AreBytes image → read_slot image slot ≡ done i → slots_bytes image slot (slots_of i) ≡ spelling i
+unfolding spelling
+slot_spelled image slot i fits e = ⊎_elim (narrow_same image slot i fits) (wide_same image slot i fits) (narrow_or_wide image slot i (slot_read image slot i e))
+
+pub next_slot : (image : List ℕ) (slot : ℕ) (i : Instruction) → read_slot image slot ≡ done i → slot_after image slot ≡ slot + slots_of i
 next_slot image slot i e = slot_after_form image slot i (ap if_read e)
+
+-- the image has all slots of an instruction
+pub inside : (image : List ℕ) (slot : ℕ) (i : Instruction) → read_slot image slot ≡ done i → slot < slot_count image → slot + slots_of i ≤ slot_count image
+inside image slot i e lt = ⊎_elim
+    (λ (narrow : IsNarrow image slot i). omega (arith, narrow.slots))
+    (λ (wide : IsWide image slot i). let two : 2 ≡ slots_of i = ap slots_of wide.is in omega (arith, two, wide.second.within))
+    (narrow_or_wide image slot i (slot_read image slot i e))
+
+pub some_slots : (i : Instruction) → 1 ≤ slots_of i
+some_slots (Move _ _ _) = omega arith
+some_slots (Compute _ _ _ _) = omega arith
+some_slots (Load _ _ _ _ _) = omega arith
+some_slots (Unary _ _ _) = omega arith
+some_slots (Store _ _ _ _) = omega arith
+some_slots (JumpIf _ _ _ _ _) = omega arith
+some_slots (Jump _) = omega arith
+some_slots (Wide _ _) = omega arith
+some_slots (Call _) = omega arith
+some_slots Exit = omega arith
 
 -- ---- the bytes from a slot on
 
@@ -104,6 +245,15 @@ from_slot image slot long =
     let end : 8 * slot + 8 ≡ 8 * (slot + 1) = omega arith in
     ap (λ (n : ℕ). drop n image) start ∙ eight image (8 * slot) long ∙ ap (λ (n : ℕ). slot_bytes image slot ++ drop n image) end
 
+pub from_slots : (image : List ℕ) (slot count : ℕ) → 8 * (slot + count) ≤ length image → drop (8 * slot) image ≡ slots_bytes image slot count ++ drop (8 * (slot + count)) image
+from_slots image slot zero long = let same : 8 * slot ≡ 8 * (slot + 0) = omega arith in ap (λ (n : ℕ). drop n image) same
+from_slots image slot (suc count) long =
+    let rest = from_slots image (slot + 1) count (omega arith) in
+    let end : 8 * (slot + 1 + count) ≡ 8 * (slot + suc count) = omega arith in
+    from_slot image slot (omega arith) ∙ ap (λ (l : List ℕ). slot_bytes image slot ++ l) rest
+    ∙ sym (append_assoc (slot_bytes image slot) (slots_bytes image (slot + 1) count) (drop (8 * (slot + 1 + count)) image))
+    ∙ ap (λ (n : ℕ). slots_bytes image slot (suc count) ++ drop n image) end
+
 -- ---- the registers that an instruction names
 
 number_below : (used : Bool) (n : ℕ) → (used ≡ true → n ≤ 10) → (used ≡ false → n ≡ 0) → n ≤ 10
@@ -117,7 +267,10 @@ slot_registers image slot i e =
     let uses = uses_of read.template in
     let high = numbers uses f read.registers in
     let low = zeros uses f read.zeros in
-    let is = filled_spelled f read.template i read.opcode read.is_filled low in
     let dst = number_below uses.dst f.dst high.dst low.dst in
     let src = number_below uses.src f.src high.src low.src in
-    record { dst = rw (← is.dst) dst; src = rw (← is.src) src; changed = filled_reads f dst src read.template i read.is_filled }
+    let changed = filled_reads f dst src read.template i read.is_filled in
+    ⊎_elim
+    (λ (narrow : IsNarrow image slot i). record { dst = rw (← narrow.spelled.dst) dst; src = rw (← narrow.spelled.src) src; changed = changed })
+    (λ (wide : IsWide image slot i). subst HasRegisters wide.is (record { dst = dst; src = omega arith; changed = omega arith }))
+    (narrow_or_wide image slot i read)

@@ -1,5 +1,7 @@
 -- The fields of a slot are those that its instruction is spelled with.
-use Rattle.std.proofs.Common.{◌≡◌, ◌≤◌, ℤ, pos, true, Option, Some, None, refl, sym, ◌∙◌, ap, Bool, subst, zero, suc, negsuc, false, arith}
+use Rattle.std.proofs.Common.{◌≡◌, ◌≤◌, ℕ, ◌+◌, ◌*◌, ◌^◌, ℤ, pos, true, Option, Some, None, refl, sym, ◌∙◌, ap, Bool, subst, zero, suc, negsuc, false, arith}
+use Rattle.std.specs.Prelude.{option_map}
+use Rattle.std.specs.Int.{w32, cast_unsigned}
 use Rattle.std.specs.Ordering.{int_eq}
 use Rattle.std.proofs.lemmas.Bool.Decides.{Decides-int_eq}
 use Rattle.std.proofs.lemmas.Option.{same_Some, none-some}
@@ -14,12 +16,14 @@ use Rattle.machine_spec.specs.declared.operation.ExtendedWidth.{ExtendedWidth}
 use Rattle.machine_spec.specs.declared.operation.ExtendedWidth.TheVariants as extended
 use Rattle.machine_spec.specs.declared.operation.Change.{Change}
 use Rattle.machine_spec.specs.declared.operation.Change.TheVariants.{Negate, Order, SignExtend}
+use Rattle.machine_spec.specs.declared.instruction.Distance.TheVariants.{Short, Long}
 use Rattle.machine_spec.specs.declared.instruction.Source.{Source}
 use Rattle.machine_spec.specs.declared.instruction.Source.TheVariants.{Register, Immediate}
 use Rattle.machine_spec.specs.declared.instruction.Instruction.{Instruction}
-use Rattle.machine_spec.specs.declared.instruction.Instruction.TheVariants.{Move, Compute, Unary, Load, JumpIf, Call, Exit}
+use Rattle.machine_spec.specs.declared.instruction.Instruction.TheVariants.{Move, Compute, Load, Unary, Store, JumpIf, Jump, Wide, Call, Exit}
 use Rattle.machine_spec.specs.Arithmetic.{swapped_bits, extended_bits}
-use Rattle.machine_spec.specs.Opcodes.{Fields, Uses, arithmetic_class, operation_code, coded, order_opcode, opcode_of, filled_source, signed_where, selected, extended_by, extending, moving, swapped_by, computing, ordering, filled, uses_source, has_signed_form, uses_of}
+use Rattle.machine_spec.specs.Opcodes.{Fields, Uses, arithmetic_class, operation_code, coded, order_opcode, opcode_of, filled_source, signed_where, selected, extended_by, extending, moving, swapped_by, filled, uses_source, has_signed_form, uses_of}
+use Rattle.machine_spec.specs.Image.{slots_of}
 use Rattle.bpf_isa.specs.Spelling.{source_register, source_imm, operation_offset, spelled_fields, changed_register}
 use Rattle.bpf_isa.proofs.Cases.{on_choice, HasZeros}
 
@@ -127,7 +131,7 @@ module _ (f : Fields) where
       (λ _. λ e. extends_by width (extended_by f.offset) i o m refl e)
 
   orders : (order : ByteOrder) (width : Option SwappedWidth) (i : Instruction) → order_opcode order ≡ f.opcode → f.src ≡ 0 → f.offset ≡ pos 0 → swapped_by f.imm ≡ width
-      → ordering order f.dst width ≡ Some i → IsSpelled f i
+      → option_map (λ w. Unary (Order order w) f.dst f.dst) width ≡ Some i → IsSpelled f i
   orders order None i o s z is e = refused f i e
   orders order (Some width) i o s z is e = found f (Unary (Order order width) f.dst f.dst) i e (record { opcode = sym o; dst = refl; src = s; offset = z; imm = swapped_imm f.imm width is })
 
@@ -146,24 +150,29 @@ module _ (f : Fields) where
   offset_unused (Immediate imm) signed z unused = z.offset unused
 
   computes : (width : Width) (template : Operation) (source : Source) (operation : Option Operation) (i : Instruction) → coded (operation_code template) source (arithmetic_class width) ≡ f.opcode
-      → HasZeros (uses_source source (has_signed_form template)) f → selected template f.offset ≡ operation → computing width f.dst (filled_source source f) operation ≡ Some i → IsSpelled f i
+      → HasZeros (uses_source source (has_signed_form template)) f → selected template f.offset ≡ operation → option_map (λ o. Compute width o f.dst (filled_source source f)) operation ≡ Some i → IsSpelled f i
   computes width template source None i o z is e = refused f i e
   computes width template source (Some operation) i o z is e =
       computed width template operation source i o z (selected_operation template f.offset operation (offset_unused source (has_signed_form template) z) is) e
 
--- of a template with the fields' opcode, where the fields that it does not use are 0
-pub filled_spelled : (f : Fields) (template i : Instruction) → opcode_of template ≡ f.opcode → filled template f ≡ Some i → HasZeros (uses_of template) f → IsSpelled f i
-filled_spelled f (Move width _ (Register _)) i o e z = moves f width i o (z.imm refl) e
-filled_spelled f (Move width _ (Immediate _)) i o e z = found f (Move width f.dst (Immediate f.imm)) i e (record { opcode = sym o; dst = refl; src = z.src refl; offset = z.offset refl; imm = refl })
-filled_spelled f (Compute width operation _ source) i o e z = computes f width operation source (selected operation f.offset) i o z refl e
-filled_spelled f (Unary (Negate width) _ _) i o e z = found f (Unary (Negate width) f.dst f.dst) i e (record { opcode = sym o; dst = refl; src = z.src refl; offset = z.offset refl; imm = z.imm refl })
-filled_spelled f (Unary (Order order _) _ _) i o e z = orders f order (swapped_by f.imm) i o (z.src refl) (z.offset refl) refl e
-filled_spelled f (Unary (SignExtend width _) _ _) i o e z = moves f width i o (z.imm refl) e
-filled_spelled f (Load size _ _ _) i o e z = found f (Load size f.dst f.src f.offset) i e (record { opcode = sym o; dst = refl; src = refl; offset = refl; imm = z.imm refl })
-filled_spelled f (JumpIf width test _ (Register _) _) i o e z = found f (JumpIf width test f.dst (Register f.src) f.offset) i e (record { opcode = sym o; dst = refl; src = refl; offset = refl; imm = z.imm refl })
-filled_spelled f (JumpIf width test _ (Immediate _) _) i o e z = found f (JumpIf width test f.dst (Immediate f.imm) f.offset) i e (record { opcode = sym o; dst = refl; src = z.src refl; offset = refl; imm = refl })
-filled_spelled f (Call _) i o e z = found f (Call f.imm) i e (record { opcode = sym o; dst = z.dst refl; src = z.src refl; offset = z.offset refl; imm = refl })
-filled_spelled f Exit i o e z = found f Exit i e (record { opcode = sym o; dst = z.dst refl; src = z.src refl; offset = z.offset refl; imm = z.imm refl })
+-- of a template of one slot with the fields' opcode, where the fields that it does not use are 0
+pub filled_spelled : (f : Fields) (template i : Instruction) → slots_of template ≡ 1 → opcode_of template ≡ f.opcode → filled template f ≡ Some i → HasZeros (uses_of template) f → IsSpelled f i
+filled_spelled f (Move width _ (Register _)) i one o e z = moves f width i o (z.imm refl) e
+filled_spelled f (Move width _ (Immediate _)) i one o e z = found f (Move width f.dst (Immediate f.imm)) i e (record { opcode = sym o; dst = refl; src = z.src refl; offset = z.offset refl; imm = refl })
+filled_spelled f (Compute width operation _ source) i one o e z = computes f width operation source (selected operation f.offset) i o z refl e
+filled_spelled f (Load size extension _ _ _) i one o e z = found f (Load size extension f.dst f.src f.offset) i e (record { opcode = sym o; dst = refl; src = refl; offset = refl; imm = z.imm refl })
+filled_spelled f (Unary (Negate width) _ _) i one o e z = found f (Unary (Negate width) f.dst f.dst) i e (record { opcode = sym o; dst = refl; src = z.src refl; offset = z.offset refl; imm = z.imm refl })
+filled_spelled f (Unary (Order order _) _ _) i one o e z = orders f order (swapped_by f.imm) i o (z.src refl) (z.offset refl) refl e
+filled_spelled f (Unary (SignExtend width _) _ _) i one o e z = moves f width i o (z.imm refl) e
+filled_spelled f (Store size _ _ (Register _)) i one o e z = found f (Store size f.dst f.offset (Register f.src)) i e (record { opcode = sym o; dst = refl; src = refl; offset = refl; imm = z.imm refl })
+filled_spelled f (Store size _ _ (Immediate _)) i one o e z = found f (Store size f.dst f.offset (Immediate f.imm)) i e (record { opcode = sym o; dst = refl; src = z.src refl; offset = refl; imm = refl })
+filled_spelled f (JumpIf width test _ (Register _) _) i one o e z = found f (JumpIf width test f.dst (Register f.src) f.offset) i e (record { opcode = sym o; dst = refl; src = refl; offset = refl; imm = z.imm refl })
+filled_spelled f (JumpIf width test _ (Immediate _) _) i one o e z = found f (JumpIf width test f.dst (Immediate f.imm) f.offset) i e (record { opcode = sym o; dst = refl; src = z.src refl; offset = refl; imm = refl })
+filled_spelled f (Jump (Short _)) i one o e z = found f (Jump (Short f.offset)) i e (record { opcode = sym o; dst = z.dst refl; src = z.src refl; offset = refl; imm = z.imm refl })
+filled_spelled f (Jump (Long _)) i one o e z = found f (Jump (Long f.imm)) i e (record { opcode = sym o; dst = z.dst refl; src = z.src refl; offset = z.offset refl; imm = refl })
+filled_spelled f (Wide _ _) i one o e z = absurd cc
+filled_spelled f (Call _) i one o e z = found f (Call f.imm) i e (record { opcode = sym o; dst = z.dst refl; src = z.src refl; offset = z.offset refl; imm = refl })
+filled_spelled f Exit i one o e z = found f Exit i e (record { opcode = sym o; dst = z.dst refl; src = z.src refl; offset = z.offset refl; imm = z.imm refl })
 
 -- ---- the register that a change reads
 
@@ -185,13 +194,17 @@ module _ (f : Fields) (dst : f.dst ≤ 10) (src : f.src ≤ 10) where
       (λ _. λ e. reads (Move width f.dst (Register f.src)) i e (omega arith))
       (λ _. λ e. extending_reads width (extended_by f.offset) i e)
 
-  ordering_reads : (order : ByteOrder) (width : Option SwappedWidth) (i : Instruction) → ordering order f.dst width ≡ Some i → changed_register i ≤ 10
+  ordering_reads : (order : ByteOrder) (width : Option SwappedWidth) (i : Instruction) → option_map (λ w. Unary (Order order w) f.dst f.dst) width ≡ Some i → changed_register i ≤ 10
   ordering_reads order None i e = absurd (none-some i e)
   ordering_reads order (Some width) i e = reads (Unary (Order order width) f.dst f.dst) i e dst
 
-  computing_reads : (width : Width) (source : Source) (operation : Option Operation) (i : Instruction) → computing width f.dst source operation ≡ Some i → changed_register i ≤ 10
+  computing_reads : (width : Width) (source : Source) (operation : Option Operation) (i : Instruction) → option_map (λ o. Compute width o f.dst source) operation ≡ Some i → changed_register i ≤ 10
   computing_reads width source None i e = absurd (none-some i e)
   computing_reads width source (Some operation) i e = reads (Compute width operation f.dst source) i e (omega arith)
+
+  widening_reads : (upper : Option ℕ) (i : Instruction) → option_map (λ u. Wide f.dst (u * 2 ^ 32 + cast_unsigned w32 f.imm)) upper ≡ Some i → changed_register i ≤ 10
+  widening_reads None i e = absurd (none-some i e)
+  widening_reads (Some u) i e = reads (Wide f.dst (u * 2 ^ 32 + cast_unsigned w32 f.imm)) i e (omega arith)
 
   pub filled_reads : (template i : Instruction) → filled template f ≡ Some i → changed_register i ≤ 10
   filled_reads (Move width _ (Register _)) i e = moving_reads width i e
@@ -200,7 +213,11 @@ module _ (f : Fields) (dst : f.dst ≤ 10) (src : f.src ≤ 10) where
   filled_reads (Unary (Negate width) _ _) i e = reads (Unary (Negate width) f.dst f.dst) i e dst
   filled_reads (Unary (Order order _) _ _) i e = ordering_reads order (swapped_by f.imm) i e
   filled_reads (Unary (SignExtend width _) _ _) i e = moving_reads width i e
-  filled_reads (Load size _ _ _) i e = reads (Load size f.dst f.src f.offset) i e (omega arith)
+  filled_reads (Load size extension _ _ _) i e = reads (Load size extension f.dst f.src f.offset) i e (omega arith)
+  filled_reads (Store size _ _ source) i e = reads (Store size f.dst f.offset (filled_source source f)) i e (omega arith)
   filled_reads (JumpIf width test _ source _) i e = reads (JumpIf width test f.dst (filled_source source f) f.offset) i e (omega arith)
+  filled_reads (Jump (Short _)) i e = reads (Jump (Short f.offset)) i e (omega arith)
+  filled_reads (Jump (Long _)) i e = reads (Jump (Long f.imm)) i e (omega arith)
+  filled_reads (Wide _ _) i e = widening_reads f.upper i e
   filled_reads (Call _) i e = reads (Call f.imm) i e (omega arith)
   filled_reads Exit i e = reads Exit i e (omega arith)

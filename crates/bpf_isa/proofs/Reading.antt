@@ -1,14 +1,15 @@
 -- Reading an image slot after slot, as a loop does, and that what is read is the image's code.
-use Rattle.std.proofs.Common.{◌≡◌, ◌≢◌, ℕ, zero, suc, ◌+◌, ◌-◌, ◌<◌, ◌≤◌, true, false, cond, eqb, List, [], ◌∷◌, ◌++◌, length, map, Option, Some, None, Result, Ok, Err, refl, sym, ap, inl, inr, subst, ◌∙◌, append_assoc, arith}
+use Rattle.std.proofs.Common.{◌≡◌, ◌≢◌, ℕ, zero, suc, ◌+◌, ◌-◌, ◌<◌, ◌≤◌, true, false, cond, eqb, List, [], ◌∷◌, ◌++◌, length, map, Option, Some, None, Result, Ok, Err, refl, sym, ap, inl, inr, subst, ◌==◌, if◌then◌else◌, ◌∙◌, append_assoc, length-append, arith}
 use Rattle.std.specs.Prelude.{slice_get, option_and_then, IfOk}
-use Rattle.std.proofs.lemmas.Bool.{lt-ltb, le-ltb, eq-eqb, ne_eqb, cases_eq}
+use Rattle.std.proofs.lemmas.Bool.{lt-ltb, le-ltb, eq-eqb, ne_eqb, cases_eq, cond_both}
 use Rattle.std.proofs.lemmas.List.{append-nil}
 use Rattle.std.proofs.lemmas.Option.{same_Some, slice_get_past}
 use Rattle.machine_spec.specs.declared.instruction.Instruction.{Instruction}
+use Rattle.machine_spec.specs.declared.instruction.Instruction.TheVariants.{Move, Compute, Load, Unary, Store, JumpIf, Jump, Wide, Call, Exit}
 use Rattle.machine_spec.specs.declared.instruction.Placed.{Placed}
 use Rattle.machine_spec.specs.declared.instruction.IsaFault.{IsaFault}
 use Rattle.machine_spec.specs.declared.instruction.IsaFault.TheVariants as fault
-use Rattle.machine_spec.specs.Image.{slot_count, slot_after, first_slots_from, first_slots, has_size, read_slot, read_slots, then_placed, read_image, form_at, if_read, number_from, number_at, IsCodeOf}
+use Rattle.machine_spec.specs.Image.{slot_count, slot_after, first_slots_from, first_slots, has_size, read_slot, read_slots, then_placed, read_image, form_at, if_read, slots_of, number_from, number_at, IsCodeOf}
 use Rattle.bpf_isa.specs.Code.{AreBytes, IsTable, IsKept, Refuses, Answers}
 use Rattle.bpf_isa.proofs.Cases.{on_choice}
 use Rattle.bpf_isa.proofs.Bytes.{next_slot, form_read}
@@ -42,16 +43,16 @@ open_step image steps slot lt = rw (lt-ltb slot (slot_count image) lt) refl
 
 pub goes_on : (image : List ℕ) (front : List Placed) (slot : ℕ) (i : Instruction) (total : Reading) → length front ≤ slot → slot < slot_count image → read_slot image slot ≡ Ok i
     → with_front front (rest_from image (slot_count image - length front) slot) ≡ total
-    → with_front (front ++ record { slot = slot; instruction = i } ∷ []) (rest_from image (slot_count image - (length front + 1)) (slot + 1)) ≡ total
+    → with_front (front ++ record { slot = slot; instruction = i } ∷ []) (rest_from image (slot_count image - (length front + 1)) (slot + slots_of i)) ≡ total
 goes_on image front slot i total few lt read so_far =
     let p : Placed = record { slot = slot; instruction = i } in
     let left = slot_count image - (length front + 1) in
     let k : slot_count image - length front ≡ suc left = omega arith in
-    let opened : rest_from image (slot_count image - length front) slot ≡ then_placed slot (Ok i) (rest_from image left (slot + 1)) =
+    let opened : rest_from image (slot_count image - length front) slot ≡ then_placed slot (Ok i) (rest_from image left (slot + slots_of i)) =
     ap (λ (n : ℕ). rest_from image n slot) k ∙ open_step image left slot lt
     ∙ ap (λ (r : Result Instruction IsaFault). then_placed slot r (rest_from image left (slot_after image slot))) read
     ∙ ap (λ (s : ℕ). then_placed slot (read_one i) (rest_from image left s)) (next_slot image slot i read) in
-    sym (ap (with_front front) opened ∙ regroup front p (rest_from image left (slot + 1))) ∙ so_far
+    sym (ap (with_front front) opened ∙ regroup front p (rest_from image left (slot + slots_of i))) ∙ so_far
 
 pub ends : (image : List ℕ) (front : List Placed) (slot : ℕ) (e : IsaFault) (total : Reading) → length front ≤ slot → slot < slot_count image → read_slot image slot ≡ Err e
     → with_front front (rest_from image (slot_count image - length front) slot) ≡ total → total ≡ Err e
@@ -119,6 +120,46 @@ table_pushed code numbers i table =
 
 pub table_push : (code : List Placed) (numbers : List (Option ℕ)) (slot n : ℕ) (i : Instruction) → IsTable code numbers → slot ≡ length numbers → n ≡ length code → IsTable (code ++ record { slot = slot; instruction = i } ∷ []) (numbers ++ Some n ∷ [])
 table_push code numbers slot n i table e d = rw (e, d) (table_pushed code numbers i table)
+
+-- no instruction begins at the next slot
+pub table_skip : (code : List Placed) (numbers : List (Option ℕ)) → IsTable code numbers → IsTable code (numbers ++ None ∷ [])
+table_skip code numbers table =
+    let none : number_at code (length numbers) ≡ None = sym (table.entries (length numbers)) ∙ ap flat (slice_get_past numbers (length numbers) (omega arith)) in
+    let here : entry (numbers ++ None ∷ []) (length numbers) ≡ number_at code (length numbers) = ap flat (get_push_here numbers None) ∙ sym none in
+    record {
+      entries = λ slot. elim (cases_eq (length numbers) slot) [
+        | inl same ↦ subst (λ (s : ℕ). entry (numbers ++ None ∷ []) s ≡ number_at code s) same here
+        | inr other ↦ ap flat (get_push_other numbers None slot other) ∙ table.entries slot
+      ];
+    }
+
+-- the entries of one instruction after those of the ones before it
+abbrev pub entered : List (Option ℕ) → ℕ → ℕ → List (Option ℕ)
+entered numbers n slots = (numbers ++ Some n ∷ []) ++ (if slots == 2 then None ∷ [] else [])
+
+pub table_enter : (code : List Placed) (numbers : List (Option ℕ)) (slot n : ℕ) (i : Instruction) → IsTable code numbers → slot ≡ length numbers → n ≡ length code
+    → IsTable (code ++ record { slot = slot; instruction = i } ∷ []) (entered numbers n (slots_of i))
+table_enter code numbers slot n i table e d =
+    let placed = code ++ record { slot = slot; instruction = i } ∷ [] in
+    let pushed = table_push code numbers slot n i table e d in
+    cond_both (slots_of i == 2) (None ∷ []) [] (λ rest. IsTable placed ((numbers ++ Some n ∷ []) ++ rest))
+    (λ _. table_skip placed (numbers ++ Some n ∷ []) pushed)
+    (λ _. subst (IsTable placed) (sym (append-nil (numbers ++ Some n ∷ []))) pushed)
+
+lengths : (numbers : List (Option ℕ)) (n : ℕ) (rest : List (Option ℕ)) → length ((numbers ++ Some n ∷ []) ++ rest) ≡ length numbers + suc (length rest)
+lengths numbers n rest = omega (arith, length-append (numbers ++ Some n ∷ []) rest, length-append numbers (Some n ∷ []))
+
+pub entered_length : (numbers : List (Option ℕ)) (n : ℕ) (i : Instruction) → length (entered numbers n (slots_of i)) ≡ length numbers + slots_of i
+entered_length numbers n (Wide _ _) = lengths numbers n (None ∷ [])
+entered_length numbers n (Move _ _ _) = lengths numbers n []
+entered_length numbers n (Compute _ _ _ _) = lengths numbers n []
+entered_length numbers n (Load _ _ _ _ _) = lengths numbers n []
+entered_length numbers n (Unary _ _ _) = lengths numbers n []
+entered_length numbers n (Store _ _ _ _) = lengths numbers n []
+entered_length numbers n (JumpIf _ _ _ _ _) = lengths numbers n []
+entered_length numbers n (Jump _) = lengths numbers n []
+entered_length numbers n (Call _) = lengths numbers n []
+entered_length numbers n Exit = lengths numbers n []
 
 -- ---- what is read is the image's code
 

@@ -6,12 +6,12 @@ use Rattle.std.proofs.lemmas.List.{drop_all}
 use Rattle.std.proofs.lemmas.List.Concat.{flat_map-cons}
 use Rattle.std.proofs.lemmas.Option.{same_Some, slice_get-map}
 use Rattle.machine_spec.specs.declared.instruction.Placed.{Placed}
-use Rattle.machine_spec.specs.Image.{slot_count, slot_after, first_slots_from, first_slots, read_slot, form_at, number_from, number_at, IsCodeOf}
+use Rattle.machine_spec.specs.Image.{slot_count, slot_after, first_slots_from, first_slots, read_slot, form_at, slots_of, number_from, number_at, IsCodeOf}
 use Rattle.bpf_isa.specs.Code.{AreBytes}
 use Rattle.bpf_isa.specs.Spelling.{spelling, spelled, HasRegisters}
 use Rattle.bpf_isa.proofs.Cases.{on_choice}
 use Rattle.bpf_isa.proofs.Slots.{IsSized, sized}
-use Rattle.bpf_isa.proofs.Bytes.{slot_bytes, from_slot, slot_spelled, slot_registers, form_read, next_slot}
+use Rattle.bpf_isa.proofs.Bytes.{slots_bytes, from_slots, slot_spelled, slot_registers, form_read, next_slot, inside, some_slots}
 
 abbrev slots_of : List Placed → List ℕ
 slots_of code = map (λ placed. placed.slot) code
@@ -29,12 +29,13 @@ Goes image slot code = drop (8 * slot) image ≡ spelled code
 ended : (image : List ℕ) (slot : ℕ) → IsSized image → slot_count image ≤ slot → Goes image slot []
 ended image slot size past = drop_all (8 * slot) image (let whole = size.whole in omega arith)
 
-one_on : (image : List ℕ) (slot : ℕ) (p : Placed) (code : List Placed) → AreBytes image → IsSized image → slot < slot_count image → read_slot image slot ≡ Ok p.instruction → Goes image (slot + 1) code → Goes image slot (p ∷ code)
+one_on : (image : List ℕ) (slot : ℕ) (p : Placed) (code : List Placed) → AreBytes image → IsSized image → slot < slot_count image → read_slot image slot ≡ Ok p.instruction → Goes image (slot + slots_of p.instruction) code → Goes image slot (p ∷ code)
 one_on image slot p code fits size within read rest =
     let whole = size.whole in
-    let long : 8 * slot + 8 ≤ length image = omega arith in
-    let bytes : slot_bytes image slot ≡ spelling p.instruction = slot_spelled image slot p.instruction fits read in
-    from_slot image slot long ∙ ap (λ (t : List ℕ). slot_bytes image slot ++ t) rest ∙ ap (λ (t : List ℕ). t ++ spelled code) bytes ∙ sym (flat_map-cons (λ placed. spelling placed.instruction) p code)
+    let all = inside image slot p.instruction read within in
+    let long : 8 * (slot + slots_of p.instruction) ≤ length image = omega arith in
+    let bytes : slots_bytes image slot (slots_of p.instruction) ≡ spelling p.instruction = slot_spelled image slot p.instruction fits read in
+    from_slots image slot (slots_of p.instruction) long ∙ ap (λ (t : List ℕ). slots_bytes image slot (slots_of p.instruction) ++ t) rest ∙ ap (λ (t : List ℕ). t ++ spelled code) bytes ∙ sym (flat_map-cons (λ placed. spelling placed.instruction) p code)
 
 goes : (image : List ℕ) → AreBytes image → IsSized image → (steps slot : ℕ) (code : List Placed) → slot_count image ≤ slot + steps → slots_of code ≡ first_slots_from image steps slot → AreForms image code → Goes image slot code
 goes image fits size zero slot [] enough e forms = ended image slot size (omega arith)
@@ -50,7 +51,8 @@ goes image fits size (suc steps) slot (p ∷ code) enough e forms =
     let later : first_slots_from image steps (slot_after image slot) ≡ slots_of code = cc in
     let read : read_slot image slot ≡ Ok p.instruction = form_read image slot p.instruction (ap (form_at image) here ∙ forms 0 p refl) in
     let next = next_slot image slot p.instruction read in
-    let rest = goes image fits size steps (slot + 1) code (omega arith) (sym later ∙ ap (first_slots_from image steps) next) (λ k. forms (suc k)) in
+    let some = some_slots p.instruction in
+    let rest = goes image fits size steps (slot + slots_of p.instruction) code (omega arith) (sym later ∙ ap (first_slots_from image steps) next) (λ k. forms (suc k)) in
     one_on image slot p code fits size (ltb-true _ _ within) read rest)
     (λ _. λ e. absurd cc)
 

@@ -1,6 +1,6 @@
 //! From an image to its code.
 
-ghost use Rattle.std.specs.Prelude.{◌≡◌, ◌+◌, ◌<◌, ◌≤◌, [], ◌∷◌, ◌++◌, length, IfOk, OnOk, IsTrue};
+ghost use Rattle.std.specs.Prelude.{◌≡◌, ◌+◌, ◌<◌, ◌≤◌, ◌==◌, [], ◌∷◌, ◌++◌, length, if◌then◌else◌, Some, None, IfOk, OnOk, IsTrue};
 ghost use Rattle.machine_spec.specs.Image as definitions;
 ghost use Rattle.machine_spec.specs.Image.{read_image, read_slots, first_slots, IsCodeOf};
 ghost use Rattle.bpf_isa.specs.Code.{Answers, IsTable};
@@ -18,7 +18,38 @@ fn has_size(image: &[u8]) -> bool
     image.len() % 8 == 0 && 1 <= slots && slots <= MAX_SLOTS
 }
 
-/// Appends the instruction of the next slot.
+/// How many slots an instruction has.
+fn slots_of(instruction: Instruction) -> usize
+    ensures is { result ≡ definitions.slots_of instruction }
+    ensures is_small { result ≤ 2 }
+{
+    match instruction {
+        Instruction::Wide(_, _) => 2,
+        Instruction::Move(_, _, _)
+        | Instruction::Compute(_, _, _, _)
+        | Instruction::Load(_, _, _, _, _)
+        | Instruction::Unary(_, _, _)
+        | Instruction::Store(_, _, _, _)
+        | Instruction::JumpIf(_, _, _, _, _)
+        | Instruction::Jump(_)
+        | Instruction::Call(_)
+        | Instruction::Exit => 1,
+    }
+}
+
+/// Appends that the next slot is the first of the instruction with a number, and that no
+/// instruction begins at the slot after it, if it has two.
+fn enter(numbers: &mut Vec<Option<u16>>, number: u16, slots: usize) -> Result<(), AllocError>
+    ensures { OnOk result (numbers.new.items ≡ (numbers.old.items ++ Some number ∷ []) ++ (if slots == 2 then None ∷ [] else [])) }
+{
+    numbers.push(Some(number))?;
+    if slots == 2 {
+        numbers.push(None)?;
+    }
+    Ok(())
+}
+
+/// Appends the instruction of the next slots.
 fn push(
     placed: &mut Vec<Placed>,
     numbers: &mut Vec<Option<u16>>,
@@ -27,12 +58,12 @@ fn push(
     requires table { IsTable placed.old.items numbers.old.items }
     requires is_within { length placed.old.items < MAX_SLOTS }
     ensures code { OnOk result (placed.new.items ≡ placed.old.items ++ record { slot = length numbers.old.items; instruction = instruction } ∷ []) }
-    ensures slots { OnOk result (length numbers.new.items ≡ length numbers.old.items + 1) }
+    ensures slots { OnOk result (length numbers.new.items ≡ length numbers.old.items + definitions.slots_of instruction) }
     ensures table { OnOk result (IsTable placed.new.items numbers.new.items) }
 {
     let number = placed.len() as u16;
     let slot = numbers.len();
-    numbers.push(Some(number))?;
+    enter(numbers, number, slots_of(instruction))?;
     placed.push(Placed { slot, instruction })?;
     Ok(())
 }
@@ -49,7 +80,7 @@ fn read_code(alloc: Global, image: &[u8]) -> Result<Code, IsaFault>
     while slot < slots {
         let instruction = slot::read(image, slot)?;
         push(&mut placed, &mut numbers, instruction).map_err(|_| IsaFault::Memory)?;
-        slot += 1;
+        slot += slots_of(instruction);
     }
     Ok(Code { placed, numbers })
 }

@@ -1,12 +1,13 @@
 //! Which fields an instruction uses, and the instruction that a template makes of them.
 
-ghost use Rattle.std.specs.Prelude.{◌≡◌};
+ghost use Rattle.std.specs.Prelude.{◌≡◌, ◌+◌, ◌*◌, ◌^◌, option_map};
+ghost use Rattle.std.specs.Int.{w32, cast_unsigned};
 ghost use Rattle.machine_spec.specs.Opcodes as definitions;
 ghost use Rattle.bpf_isa.specs.Views.{view, view_uses};
 
 use crate::slot::SlotFields;
 use machine_spec::{
-    ByteOrder, Change, ExtendedWidth, Instruction, Operation, Source, SwappedWidth, Width,
+    ByteOrder, Change, Distance, ExtendedWidth, Instruction, Operation, Source, SwappedWidth, Width,
 };
 
 /// The fields beside the opcode that an instruction uses.
@@ -89,6 +90,26 @@ fn change_uses(change: Change) -> UsedFields
     }
 }
 
+/// A short distance is in the offset, a long one in the immediate.
+fn distance_uses(distance: Distance) -> UsedFields
+    ensures { view_uses result ≡ definitions.uses_of (Instruction.Jump distance) }
+{
+    match distance {
+        Distance::Short(_) => UsedFields {
+            dst: false,
+            src: false,
+            offset: true,
+            imm: false,
+        },
+        Distance::Long(_) => UsedFields {
+            dst: false,
+            src: false,
+            offset: false,
+            imm: true,
+        },
+    }
+}
+
 /// The fields that an instruction uses.
 pub fn uses(instruction: Instruction) -> UsedFields
     ensures { view_uses result ≡ definitions.uses_of instruction }
@@ -98,14 +119,23 @@ pub fn uses(instruction: Instruction) -> UsedFields
         Instruction::Compute(_, operation, _, source) => {
             source_uses(source, has_signed_form(operation))
         }
-        Instruction::Unary(change, _, _) => change_uses(change),
-        Instruction::Load(_, _, _, _) => UsedFields {
+        Instruction::Load(_, _, _, _, _) => UsedFields {
             dst: true,
             src: true,
             offset: true,
             imm: false,
         },
-        Instruction::JumpIf(_, _, _, source, _) => source_uses(source, true),
+        Instruction::Unary(change, _, _) => change_uses(change),
+        Instruction::Store(_, _, _, source) | Instruction::JumpIf(_, _, _, source, _) => {
+            source_uses(source, true)
+        }
+        Instruction::Jump(distance) => distance_uses(distance),
+        Instruction::Wide(_, _) => UsedFields {
+            dst: true,
+            src: false,
+            offset: false,
+            imm: true,
+        },
         Instruction::Call(_) => UsedFields {
             dst: false,
             src: false,
@@ -239,7 +269,7 @@ fn computing(
     source: Source,
     operation: Option<Operation>,
 ) -> Option<Instruction>
-    ensures { result ≡ definitions.computing width dst source operation }
+    ensures { result ≡ option_map (λ o. Instruction.Compute width o dst source) operation }
 {
     match operation {
         Some(operation) => Some(Instruction::Compute(width, operation, dst, source)),
@@ -248,7 +278,7 @@ fn computing(
 }
 
 fn ordering(order: ByteOrder, dst: u8, width: Option<SwappedWidth>) -> Option<Instruction>
-    ensures { result ≡ definitions.ordering order dst width }
+    ensures { result ≡ option_map (λ w. Instruction.Unary (Change.Order order w) dst dst) width }
 {
     match width {
         Some(width) => Some(Instruction::Unary(Change::Order(order, width), dst, dst)),
@@ -283,6 +313,32 @@ fn filled_move(width: Width, source: Source, fields: SlotFields) -> Option<Instr
     }
 }
 
+fn filled_distance(distance: Distance, fields: SlotFields) -> Option<Instruction>
+    ensures { result ≡ definitions.filled (Instruction.Jump distance) (view fields) }
+{
+    Some(Instruction::Jump(match distance {
+        Distance::Short(_) => Distance::Short(fields.offset),
+        Distance::Long(_) => Distance::Long(fields.imm),
+    }))
+}
+
+/// The number with these halves.
+fn joined(upper: u32, lower: u32) -> u64
+    ensures { result ≡ upper * 2 ^ 32 + lower }
+{
+    u64::from(upper) * 0x1_0000_0000 + u64::from(lower)
+}
+
+/// A 64-bit immediate, if its second slot gives the upper half.
+fn widening(dst: u8, imm: i32, upper: Option<u32>) -> Option<Instruction>
+    ensures { result ≡ option_map (λ u. Instruction.Wide dst (u * 2 ^ 32 + cast_unsigned w32 imm)) upper }
+{
+    match upper {
+        Some(upper) => Some(Instruction::Wide(dst, joined(upper, imm.cast_unsigned()))),
+        None => None,
+    }
+}
+
 /// A template with these fields in place of its own, if they stand for an instruction.
 pub fn filled(template: Instruction, fields: SlotFields) -> Option<Instruction>
     ensures { result ≡ definitions.filled template (view fields) }
@@ -297,8 +353,16 @@ pub fn filled(template: Instruction, fields: SlotFields) -> Option<Instruction>
             filled_source(source, fields),
             selected(operation, offset),
         ),
+        Instruction::Load(size, extension, _, _, _) => {
+            Some(Instruction::Load(size, extension, dst, fields.src, offset))
+        }
         Instruction::Unary(change, _, _) => changing(change, fields),
-        Instruction::Load(size, _, _, _) => Some(Instruction::Load(size, dst, fields.src, offset)),
+        Instruction::Store(size, _, _, source) => Some(Instruction::Store(
+            size,
+            dst,
+            offset,
+            filled_source(source, fields),
+        )),
         Instruction::JumpIf(width, test, _, source, _) => Some(Instruction::JumpIf(
             width,
             test,
@@ -306,6 +370,8 @@ pub fn filled(template: Instruction, fields: SlotFields) -> Option<Instruction>
             filled_source(source, fields),
             offset,
         )),
+        Instruction::Jump(distance) => filled_distance(distance, fields),
+        Instruction::Wide(_, _) => widening(dst, fields.imm, fields.upper),
         Instruction::Call(_) => Some(Instruction::Call(fields.imm)),
         Instruction::Exit => Some(Instruction::Exit),
     }

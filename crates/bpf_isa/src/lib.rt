@@ -9,6 +9,7 @@ mod decoding;
 mod encoding;
 mod form;
 mod laws;
+mod lookup;
 mod opcode;
 mod slot;
 
@@ -16,4 +17,5 @@ pub use code::Code;
 pub use decoding::decode;
 pub use encoding::encode;
 pub use laws::image_and_code;
+pub use lookup::form_at;
 pub use machine_spec::{Instruction, IsaFault, Placed};

@@ -1,13 +1,15 @@
 //! Opcodes (RFC 9669, sections 3.3 to 5): that of each instruction, and the instruction of each.
 
 ghost use Rattle.std.specs.Prelude.{◌≡◌, ◌≤◌, ◌==◌, find};
+ghost use Rattle.std.specs.List.{list_any};
 ghost use Rattle.machine_spec.specs.Opcodes as definitions;
 ghost use Rattle.machine_spec.specs.Opcodes.{opcode_of};
 ghost use Rattle.bpf_isa.specs.Views.{view};
 
 use crate::slot::SlotFields;
 use machine_spec::{
-    ByteOrder, Change, Instruction, Operation, Size, Source, TEMPLATES, Test, Width,
+    ByteOrder, Change, Distance, Extension, Instruction, Operation, Size, Source, TEMPLATES, Test,
+    Width,
 };
 
 fn arithmetic_class(width: Width) -> u8
@@ -82,6 +84,26 @@ fn size_bits(size: Size) -> u8
     }
 }
 
+fn load_mode(extension: Extension) -> u8
+    ensures is { result ≡ definitions.load_mode extension }
+    ensures is_small { result ≤ 0x81 }
+{
+    match extension {
+        Extension::Zero => 0x61,
+        Extension::Sign => 0x81,
+    }
+}
+
+fn store_class(source: Source) -> u8
+    ensures is { result ≡ definitions.store_class source }
+    ensures is_small { result ≤ 3 }
+{
+    match source {
+        Source::Immediate(_) => 2,
+        Source::Register(_) => 3,
+    }
+}
+
 fn source_bit(source: Source) -> u8
     ensures is { result ≡ definitions.source_bit source }
     ensures is_small { result ≤ 8 }
@@ -130,11 +152,15 @@ pub fn opcode_of(instruction: Instruction) -> u8
         Instruction::Compute(width, operation, _, source) => {
             coded(operation_code(operation), source, arithmetic_class(width))
         }
+        Instruction::Load(size, extension, _, _, _) => load_mode(extension) + size_bits(size),
         Instruction::Unary(change, _, _) => change_opcode(change),
-        Instruction::Load(size, _, _, _) => 0x61 + size_bits(size),
+        Instruction::Store(size, _, _, source) => 0x60 + (store_class(source) + size_bits(size)),
         Instruction::JumpIf(width, test, _, source, _) => {
             coded(test_code(test), source, jump_class(width))
         }
+        Instruction::Jump(Distance::Short(_)) => 0x05,
+        Instruction::Jump(Distance::Long(_)) => 0x06,
+        Instruction::Wide(_, _) => 0x18,
         Instruction::Call(_) => 0x85,
         Instruction::Exit => 0x95,
     }
@@ -171,44 +197,19 @@ pub fn template_of(fields: SlotFields) -> Option<Instruction>
     }
 }
 
-fn has_register_source(opcode: u8) -> bool
-    ensures { result ≡ definitions.has_register_source opcode }
-{
-    opcode / 8 % 2 == 1
-}
-
 fn is_one_of(opcodes: &[u8], opcode: u8) -> bool
-    ensures { result ≡ definitions.is_one_of opcodes.now opcode }
+    ensures { result ≡ list_any (λ known. known == opcode) opcodes.now }
 {
     opcodes.iter().any(|known| *known == opcode)
 }
 
-fn is_arithmetic(opcode: u8) -> bool
-    ensures { result ≡ definitions.is_arithmetic opcode }
+/// Whether RFC 9669 has the opcode, for no instruction or not only for one of the profile.
+#[tactic(auto, unfolding(machine_spec::specs::Opcodes::is_left_out))]
+pub fn is_left_out(opcode: u8) -> bool
+    ensures { result ≡ definitions.is_left_out opcode }
 {
-    let code = opcode / 16;
-    code <= 12 && !(code == 8 && has_register_source(opcode))
-}
-
-fn is_conditional(opcode: u8) -> bool
-    ensures { result ≡ definitions.is_conditional opcode }
-{
-    matches!(opcode / 16, 1..=7 | 10..=13)
-}
-
-/// Whether a table of RFC 9669 has the opcode, be it of the profile or not.
-#[tactic(auto, unfolding(machine_spec::specs::Opcodes::is_known))]
-pub fn is_known(opcode: u8) -> bool
-    ensures { result ≡ definitions.is_known opcode }
-{
-    match opcode % 8 {
-        0 => is_one_of(&[0x18, 0x20, 0x28, 0x30, 0x40, 0x48, 0x50], opcode),
-        1 => is_one_of(&[0x61, 0x69, 0x71, 0x79, 0x81, 0x89, 0x91], opcode),
-        2 => is_one_of(&[0x62, 0x6a, 0x72, 0x7a], opcode),
-        3 => is_one_of(&[0x63, 0x6b, 0x73, 0x7b, 0xc3, 0xdb], opcode),
-        4 => is_arithmetic(opcode) || is_one_of(&[0xd4, 0xdc], opcode),
-        5 => is_conditional(opcode) || is_one_of(&[0x05, 0x85, 0x95], opcode),
-        6 => is_conditional(opcode) || is_one_of(&[0x06], opcode),
-        _ => is_arithmetic(opcode) || is_one_of(&[0xd7], opcode),
-    }
+    is_one_of(
+        &[0x18, 0x20, 0x28, 0x30, 0x40, 0x48, 0x50, 0x85, 0xc3, 0xdb],
+        opcode,
+    )
 }

@@ -1,7 +1,7 @@
 //! One slot of an image: its fields, and the instruction that they stand for.
 
 ghost use Rattle.std.specs.Prelude.{◌≡◌, ◌<◌};
-ghost use Rattle.machine_spec.specs.Image.{slot_count, fields_at, read_slot, checked};
+ghost use Rattle.machine_spec.specs.Image.{slot_count, word_at, upper_at, fields_at, if_filled, read_slot, checked};
 ghost use Rattle.bpf_isa.specs.Views.{view};
 
 use crate::{form, opcode};
@@ -15,6 +15,38 @@ pub struct SlotFields {
     pub src: u8,
     pub offset: i16,
     pub imm: i32,
+    /// Of a 64-bit immediate the upper half of its number, if its second slot has one.
+    pub upper: Option<u32>,
+}
+
+/// The number in the first four bytes of a slot.
+fn first_word(image: &[u8], slot: usize) -> u32
+    requires { slot < slot_count image.now }
+    ensures { result ≡ word_at image.now slot 0 }
+{
+    let at = 8 * slot;
+    u32::from_le_bytes([image[at], image[at + 1], image[at + 2], image[at + 3]])
+}
+
+/// The number in the last four bytes of a slot.
+fn last_word(image: &[u8], slot: usize) -> u32
+    requires { slot < slot_count image.now }
+    ensures { result ≡ word_at image.now slot 4 }
+{
+    let at = 8 * slot;
+    u32::from_le_bytes([image[at + 4], image[at + 5], image[at + 6], image[at + 7]])
+}
+
+/// The upper half that a 64-bit immediate has in its second slot, if there is such a slot and its
+/// first four bytes are 0.
+fn upper(image: &[u8], slot: usize) -> Option<u32>
+    ensures { result ≡ upper_at image.now slot }
+{
+    if slot < image.len() / 8 && first_word(image, slot) == 0 {
+        Some(last_word(image, slot))
+    } else {
+        None
+    }
 }
 
 /// The fields of a slot, which the image has whole.
@@ -23,13 +55,38 @@ fn fields(image: &[u8], slot: usize) -> SlotFields
     ensures { view result ≡ fields_at image.now slot }
 {
     let at = 8 * slot;
+    let opcode = image[at];
     let registers = image[at + 1];
     SlotFields {
-        opcode: image[at],
+        opcode,
         dst: registers % 16,
         src: registers / 16,
         offset: i16::from_le_bytes([image[at + 2], image[at + 3]]),
-        imm: i32::from_le_bytes([image[at + 4], image[at + 5], image[at + 6], image[at + 7]]),
+        imm: last_word(image, slot).cast_signed(),
+        upper: if opcode == 0x18 {
+            upper(image, slot + 1)
+        } else {
+            None
+        },
+    }
+}
+
+/// What the fields of a slot stand for; a 64-bit immediate without an upper half stands for
+/// nothing.
+fn if_filled(
+    slot: usize,
+    fields: SlotFields,
+    filled: Option<Instruction>,
+) -> Result<Instruction, IsaFault>
+    ensures { result ≡ if_filled slot (view fields) filled }
+{
+    match filled {
+        Some(instruction) => Ok(instruction),
+        None => Err(if fields.opcode == 0x18 {
+            IsaFault::Wide(slot)
+        } else {
+            IsaFault::Unused(slot)
+        }),
     }
 }
 
@@ -43,7 +100,7 @@ fn accepted(
     ensures { result ≡ checked slot (view fields) template }
 {
     let Some(template) = template else {
-        return Err(if opcode::is_known(fields.opcode) {
+        return Err(if opcode::is_left_out(fields.opcode) {
             IsaFault::NotInProfile(slot)
         } else {
             IsaFault::Opcode(slot)
@@ -56,10 +113,7 @@ fn accepted(
     if !form::has_zeros(uses, fields) {
         return Err(IsaFault::Unused(slot));
     }
-    match form::filled(template, fields) {
-        Some(instruction) => Ok(instruction),
-        None => Err(IsaFault::Unused(slot)),
-    }
+    if_filled(slot, fields, form::filled(template, fields))
 }
 
 /// The instruction at a slot, or why there is none.

@@ -1,9 +1,15 @@
-use Rattle.std.proofs.Common.{◌≡◌, length, rules}
-use Rattle.bpf_isa.proofs.Reading.{table_push}
+use Rattle.std.proofs.Common.{◌≡◌, length, ap, ◌∙◌, rules}
+use Rattle.bpf_isa.proofs.Reading.{entered, entered_length, table_enter}
 use Rattle.bpf_isa.proofs.decoding.push.Goals as goal
+
+pub returns-clause-slots : goal.returns-clause-slots
+returns-clause-slots c =
+    let is : c.enter.new.numbers.items ≡ entered c.args.numbers.now.items c.number c.slots_of.result = search rules in
+    rw (is, c.slots_of.ensures.is) (entered_length c.args.numbers.now.items c.number c.args.instruction)
 
 pub returns-clause-table : goal.returns-clause-table
 returns-clause-table c =
     let slot : c.len-slot.result ≡ length c.args.numbers.now.items = search rules in
-    let number : c.len-number.result ≡ length c.args.placed.now.items = search rules in
-    rw (c.in_ok-push-2.ensures.items, c.in_ok-push.ensures.items) (table_push c.args.placed.now.items c.args.numbers.now.items _ _ c.args.instruction c.requires.table slot number)
+    let number : c.number ≡ length c.args.placed.now.items = search rules in
+    let is : c.enter.new.numbers.items ≡ entered c.args.numbers.now.items c.number c.slots_of.result = search rules in
+    rw (c.in_ok-push.ensures.items, is, c.slots_of.ensures.is) (table_enter c.args.placed.now.items c.args.numbers.now.items _ _ c.args.instruction c.requires.table slot number)

@@ -1,8 +1,9 @@
 use Rattle.std.proofs.Common.{◌≡◌, ◌<◌, ◌≤◌, ◌+◌, ℕ, [], ◌∷◌, ◌++◌, length-append, refl, sym, ap, ◌∙◌, length, arith, rules}
 use Rattle.std.proofs.lemmas.Result.{err_from_is_err_and}
-use Rattle.machine_spec.specs.Image.{slot_count}
+use Rattle.machine_spec.specs.Image.{slot_count, slots_of}
 use Rattle.machine_spec.specs.declared.instruction.Placed.{Placed}
 use Rattle.bpf_isa.specs.Code.{IsTable}
+use Rattle.bpf_isa.proofs.Bytes.{some_slots}
 use Rattle.bpf_isa.proofs.Reading.{starts, table_none, goes_on, ends, is_done, refuses, kept}
 use Rattle.bpf_isa.proofs.decoding.read_code.Goals as goal
 
@@ -25,16 +26,17 @@ loop-slot-preserved c =
     let p : Placed = record { slot = c.loop-slot.slot; instruction = c.in_ok-instruction.instruction } in
     let within : c.loop-slot.slot < slot_count c.args.image.now = c.loop-slot-test.true in
     let pushed : c.push.new.placed.items ≡ front ++ record { slot = length c.loop-slot.numbers.items; instruction = c.in_ok-instruction.instruction } ∷ [] = search rules in
-    let slots : length c.push.new.numbers.items ≡ length c.loop-slot.numbers.items + 1 = search rules in
+    let slots : length c.push.new.numbers.items ≡ length c.loop-slot.numbers.items + slots_of c.in_ok-instruction.instruction = search rules in
     let table : IsTable c.push.new.placed.items c.push.new.numbers.items = search rules in
     let code : c.push.new.placed.items ≡ front ++ p ∷ [] = pushed ∙ ap (λ (slot : ℕ). front ++ record { slot = slot; instruction = c.in_ok-instruction.instruction } ∷ []) c.loop-slot.invariant.slots in
     let longer : length c.push.new.placed.items ≡ length front + 1 = ap length code ∙ length-append front (p ∷ []) in
     let so_far = goes_on c.args.image.now front c.loop-slot.slot c.in_ok-instruction.instruction _ c.loop-slot.invariant.few within (sym c.in_ok-instruction.ensures) c.loop-slot.invariant.so_far in
+    let some = some_slots c.in_ok-instruction.instruction in
     record {
       slots = omega arith;
       few = omega arith;
       table = table;
-      so_far = rw (longer, code) so_far;
+      so_far = rw (longer, code, c.slots_of.ensures.is) so_far;
     }
 
 pub invariant_of-result : goal.invariant_of-result
