@@ -5,3 +5,4 @@ pub mod Words
 pub mod Reading
 pub mod Writing
 pub mod Images
+pub mod Steps
