@@ -475,7 +475,7 @@ over_a_wide = refl
 
 -- an instruction on the stack: opcode, registers, the offset below its end, an immediate
 abbrev at_end : ℕ → ℕ → ℕ → List ℕ → List ℕ
-at_end opcode registers below imm = (opcode ∷ registers ∷ 256 - below ∷ 0xff ∷ []) ++ imm
+at_end opcode registers below imm = (opcode ∷ registers ∷ (256 - below) ∷ 0xff ∷ []) ++ imm
 
 -- ld64 r0, [r10-8]
 abbrev load_64 : List ℕ

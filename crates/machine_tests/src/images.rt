@@ -1,5 +1,5 @@
 use bpf_isa::{Instruction, IsaFault, decode, encode, image_and_code};
-use machine_spec::{Operation, Size, Source, Test, Width};
+use machine_spec::{Distance, Extension, Operation, Size, Source, Test, Width};
 use std::test::Fail;
 
 const MOVE: [u8; 8] = [0xb7, 0, 0, 0, 0, 0, 0, 0];
@@ -38,10 +38,10 @@ fn instructions() -> [Instruction; 16] {
             Source::Immediate(-2147483135),
         ),
         Instruction::Compute(Width::Bits64, Operation::Add, 3, Source::Register(10)),
-        Instruction::Load(Size::Byte, 0, 1, 0),
-        Instruction::Load(Size::Half, 0, 1, 32767),
-        Instruction::Load(Size::Word, 0, 3, 1),
-        Instruction::Load(Size::Double, 0, 10, -8),
+        Instruction::Load(Size::Byte, Extension::Zero, 0, 1, 0),
+        Instruction::Load(Size::Half, Extension::Zero, 0, 1, 32767),
+        Instruction::Load(Size::Word, Extension::Zero, 0, 3, 1),
+        Instruction::Load(Size::Double, Extension::Zero, 0, 10, -8),
         jump(Test::Equal, 0, 1),
         jump(Test::Greater, 0, 1),
         jump(Test::GreaterOrEqual, 0, 1),
@@ -119,15 +119,28 @@ fn refused_slots(rt: HostRuntime) {
     for (slot, fault) in [
         ([0xdb, 0, 0, 0, 0, 0, 0, 0], IsaFault::NotInProfile(0)),
         ([0x85, 0x10, 0, 0, 1, 0, 0, 0], IsaFault::NotInProfile(0)),
-        ([0x18, 0, 0, 0, 0, 0, 0, 0], IsaFault::NotInProfile(0)),
-        ([0x05, 0, 0, 0, 0, 0, 0, 0], IsaFault::NotInProfile(0)),
-        ([0x62, 0x0f, 0, 0, 0, 0, 0, 0], IsaFault::NotInProfile(0)),
+        ([0x18, 0x10, 0, 0, 0, 0, 0, 0], IsaFault::NotInProfile(0)),
+        ([0x20, 0, 0, 0, 0, 0, 0, 0], IsaFault::NotInProfile(0)),
+        ([0x50, 0, 0, 0, 0, 0, 0, 0], IsaFault::NotInProfile(0)),
+        ([0xc3, 0, 0, 0, 0, 0, 0, 0], IsaFault::NotInProfile(0)),
         ([0xff, 0, 0, 0, 0, 0, 0, 0], IsaFault::Opcode(0)),
+        ([0x99, 0, 0, 0, 0, 0, 0, 0], IsaFault::Opcode(0)),
         ([0x00, 0, 0, 0, 0, 0, 0, 0], IsaFault::Opcode(0)),
         ([0x8f, 0, 0, 0, 0, 0, 0, 0], IsaFault::Opcode(0)),
         ([0xb7, 0x0b, 0, 0, 0, 0, 0, 0], IsaFault::Register(0)),
         ([0xbf, 0xb0, 0, 0, 0, 0, 0, 0], IsaFault::Register(0)),
         ([0x79, 0xbb, 0, 0, 1, 0, 0, 0], IsaFault::Register(0)),
+        ([0x62, 0x0b, 0, 0, 0, 0, 0, 0], IsaFault::Register(0)),
+        ([0x7b, 0xb0, 0, 0, 0, 0, 0, 0], IsaFault::Register(0)),
+        // a wide instruction without its second slot, whose register or offset is refused first
+        ([0x18, 0x0b, 1, 0, 0, 0, 0, 0], IsaFault::Register(0)),
+        ([0x18, 0x01, 1, 0, 0, 0, 0, 0], IsaFault::Unused(0)),
+        ([0x18, 0, 0, 0, 0, 0, 0, 0], IsaFault::Wide(0)),
+        // jumps whose distance is in the other field
+        ([0x05, 0, 0, 0, 1, 0, 0, 0], IsaFault::Unused(0)),
+        ([0x06, 0, 1, 0, 0, 0, 0, 0], IsaFault::Unused(0)),
+        ([0x72, 0x1a, 0, 0, 0, 0, 0, 0], IsaFault::Unused(0)),
+        ([0x73, 0x1a, 0, 0, 1, 0, 0, 0], IsaFault::Unused(0)),
         ([0xb7, 0xb0, 0, 0, 0, 0, 0, 0], IsaFault::Unused(0)),
         ([0x95, 0, 0, 0, 1, 0, 0, 0], IsaFault::Unused(0)),
         ([0x71, 0x10, 0, 0, 0, 0, 0, 1], IsaFault::Unused(0)),
@@ -139,6 +152,86 @@ fn refused_slots(rt: HostRuntime) {
     ] {
         assert_eq!(rt; decode(rt.alloc(), &slot).err(), Some(fault), "at {slot:?}");
     }
+}
+
+/// Jumps, stores, sign-extending loads and a 64-bit immediate, with their fields.
+const MORE_FORMS: [[u8; 8]; 15] = [
+    [0x05, 0, 0xfe, 0xff, 0, 0, 0, 0],
+    [0x06, 0, 0, 0, 0, 0, 0, 0x80],
+    [0x91, 0x10, 0x01, 0, 0, 0, 0, 0],
+    [0x89, 0x32, 0, 0x80, 0, 0, 0, 0],
+    [0x81, 0xa9, 0xf8, 0xff, 0, 0, 0, 0],
+    [0x72, 0x0a, 0xff, 0xff, 0xff, 0, 0, 0],
+    [0x6a, 0x0a, 0xfe, 0xff, 0x02, 0x01, 0, 0],
+    [0x62, 0x0a, 0xf8, 0xff, 0, 0, 0, 0],
+    [0x7a, 0x06, 0, 0, 0xff, 0xff, 0xff, 0xff],
+    [0x73, 0x21, 0x01, 0, 0, 0, 0, 0],
+    [0x6b, 0x3a, 0, 0, 0, 0, 0, 0],
+    [0x63, 0x4a, 0, 0, 0, 0, 0, 0],
+    [0x7b, 0xaa, 0xf8, 0xff, 0, 0, 0, 0],
+    [0x18, 0x01, 0, 0, 0xff, 0xff, 0xff, 0xff],
+    [0, 0, 0, 0, 0x01, 0, 0, 0],
+];
+
+fn more_instructions() -> [Instruction; 14] {
+    [
+        Instruction::Jump(Distance::Short(-2)),
+        Instruction::Jump(Distance::Long(i32::MIN)),
+        Instruction::Load(Size::Byte, Extension::Sign, 0, 1, 1),
+        Instruction::Load(Size::Half, Extension::Sign, 2, 3, -32768),
+        Instruction::Load(Size::Word, Extension::Sign, 9, 10, -8),
+        Instruction::Store(Size::Byte, 10, -1, Source::Immediate(255)),
+        Instruction::Store(Size::Half, 10, -2, Source::Immediate(258)),
+        Instruction::Store(Size::Word, 10, -8, Source::Immediate(0)),
+        Instruction::Store(Size::Double, 6, 0, Source::Immediate(-1)),
+        Instruction::Store(Size::Byte, 1, 1, Source::Register(2)),
+        Instruction::Store(Size::Half, 10, 0, Source::Register(3)),
+        Instruction::Store(Size::Word, 10, 0, Source::Register(4)),
+        Instruction::Store(Size::Double, 10, -8, Source::Register(10)),
+        Instruction::Wide(1, 8_589_934_591),
+    ]
+}
+
+#[test]
+fn more_forms(rt: HostRuntime) -> Result<(), Fail> {
+    let mut image = Vec::new(rt.alloc());
+    for form in &MORE_FORMS {
+        image.extend_from_slice(form)?;
+    }
+    // the slot after a wide instruction's two
+    image.extend_from_slice(&MOVE)?;
+    let code = decode(rt.alloc(), &image)?;
+    assert_eq!(rt; code.len(), 15);
+    for (k, instruction) in more_instructions().iter().enumerate() {
+        assert!(rt; k < code.len());
+        assert_eq!(rt; code.instr(k), *instruction, "at {k}");
+        assert_eq!(rt; code.at(k), Some(k));
+    }
+    assert_eq!(rt; code.at(14), None);
+    assert_eq!(rt; code.at(15), Some(14));
+    assert_eq!(rt; code.slot(14), 15);
+    // jumps over the wide instruction, into its second slot and to itself
+    assert_eq!(rt; code.target(12, Some(2)), Some(14));
+    assert_eq!(rt; code.target(12, Some(1)), None);
+    assert_eq!(rt; code.target(12, Some(0)), Some(13));
+    assert_eq!(rt; encode(rt.alloc(), &code)?.as_slice(), image.as_slice());
+    Ok(())
+}
+
+#[test]
+fn refused_second_slots(rt: HostRuntime) -> Result<(), Fail> {
+    for second in [
+        [0x95, 0, 0, 0, 0, 0, 0, 0],
+        [0, 0x10, 0, 0, 0, 0, 0, 0],
+        [0, 0, 1, 0, 0, 0, 0, 0],
+        [0, 0, 0, 0x80, 0, 0, 0, 0],
+    ] {
+        let mut image = Vec::from_slice(rt.alloc(), &MOVE)?;
+        image.extend_from_slice(&[0x18, 0, 0, 0, 0, 0, 0, 0])?;
+        image.extend_from_slice(&second)?;
+        assert_eq!(rt; decode(rt.alloc(), &image).err(), Some(IsaFault::Wide(1)), "at {second:?}");
+    }
+    Ok(())
 }
 
 #[test]
