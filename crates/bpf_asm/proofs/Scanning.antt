@@ -1,13 +1,18 @@
 -- Walking over a text byte by byte.
-use Rattle.std.proofs.Common.{◌≡◌, ℕ, zero, suc, ◌+◌, ◌-◌, ◌*◌, ◌^◌, ◌<◌, ◌≤◌, Bool, true, false, cond, not, List, [], ◌∷◌, ◌++◌, length, get_or, drop, take, min, refl, sym, ap, subst, ◌∙◌, arith, eqb, append_assoc}
+use Rattle.std.proofs.Common.{◌≡◌, ℕ, zero, suc, ◌+◌, ◌-◌, ◌*◌, ◌^◌, ◌<◌, ◌≤◌, Bool, true, false, cond, not, map, ◌&&◌, ◌==◌, leb, Option, Some, None, Err, List, [], ◌∷◌, ◌++◌, length, get_or, drop, take, min, refl, sym, ap, subst, ◌∙◌, arith, eqb, append_assoc}
 use Rattle.std.proofs.Math.Seq.{drop-cons}
 use Rattle.std.proofs.Math.ListN.{drop_of_length-le}
 use Rattle.std.specs.Prelude.{reverse}
-use Rattle.std.specs.List.{position_or_len, slice_split, onto_first}
-use Rattle.std.proofs.lemmas.List.{take_more, reverse-append, reverse-reverse}
+use Rattle.std.specs.List.{position_or_len, slice_split, onto_first, list_all}
+use Rattle.std.proofs.lemmas.List.{take_more, reverse-append, reverse-reverse, drop-take}
+use Rattle.std.proofs.lemmas.List.Splits.{slice_split_first}
+use Rattle.std.proofs.lemmas.Bool.{and_parts, and_from, leb-true, eq-eqb}
+use Rattle.std.proofs.lemmas.Str.{digit_value_digit}
 use Rattle.std.specs.Str.Parse.{digits_value_after, digits_value}
-use Rattle.std.specs.Char.{digit_value}
-use Rattle.bpf_asm.specs.Reading.{is_space, after_spaces, before_spaces}
+use Rattle.std.specs.Char.{digit_value, is_ascii_digit}
+use Rattle.bpf_asm.specs.declared.fault.LineFault.TheVariants as fault
+use Rattle.bpf_asm.specs.Operands.{read_between, read_place}
+use Rattle.bpf_asm.specs.Reading.{is_space, is_comma, after_spaces, before_spaces, operands_in, single, is_empty}
 
 -- ---- the first byte that passes a test
 
@@ -99,3 +104,71 @@ split_whole p (x ∷ xs) h = onto_whole p x xs (p x) h (split_whole p xs)
 pub value_capped : (digits : List ℕ) (m n : ℕ) → min m (2 ^ 64) ≡ min n (2 ^ 64) → min (digits_value_after 10 m digits) (2 ^ 64) ≡ min (digits_value_after 10 n digits) (2 ^ 64)
 value_capped [] m n same = same
 value_capped (d ∷ digits) m n same = value_capped digits (m * 10 + digit_value d) (n * 10 + digit_value d) (omega (arith, same))
+
+all_at : (p : ℕ → Bool) (xs : List ℕ) (k : ℕ) → list_all p xs ≡ true → k < length xs → p (get_or xs k 0) ≡ true
+all_at p [] k h l = absurd (omega arith)
+all_at p (x ∷ xs) zero h l = (and_parts (p x) (list_all p xs) h).0
+all_at p (x ∷ xs) (suc k) h l = all_at p xs k (and_parts (p x) (list_all p xs) h).1 (omega arith)
+
+digit_value_is : (d : ℕ) → is_ascii_digit d ≡ true → digit_value d + 48 ≡ d
+digit_value_is d h =
+    let parts = and_parts (leb 48 d) (leb d 57) h in
+    digit_value_digit d (leb-true 48 d parts.0, leb-true d 57 parts.1)
+
+-- the number so far with one more digit, and what is left of the digits
+pub value_more : (digits : List ℕ) (k number new : ℕ) (whole : ℕ) → k < length digits → list_all is_ascii_digit digits ≡ true → new ≡ min (10 * number + (get_or digits k 0 - 48)) (2 ^ 64)
+    → min (digits_value_after 10 number (drop k digits)) (2 ^ 64) ≡ whole → min (digits_value_after 10 new (drop (k + 1) digits)) (2 ^ 64) ≡ whole
+value_more digits k number new whole within all is before =
+    let d = get_or digits k 0 in
+    let value = digit_value_is d (all_at is_ascii_digit digits k all within) in
+    value_capped (drop (k + 1) digits) new (number * 10 + digit_value d) (omega (arith, is, value))
+    ∙ ap (λ (ds : List ℕ). min (digits_value_after 10 number ds) (2 ^ 64)) (sym (front_of digits k within)) ∙ before
+
+-- ---- operands
+
+-- a text has one piece at least
+pub record HasPieces (pieces : List (List ℕ)) : Type 0 where
+  pub first : List ℕ
+  pub others : List (List ℕ)
+  pub are : pieces ≡ first ∷ others
+
+onto_pieces : (x : ℕ) (b : Bool) (pieces : List (List ℕ)) → HasPieces (cond b ([] ∷ pieces) (onto_first x pieces))
+onto_pieces x true pieces = record { first = []; others = pieces; are = refl }
+onto_pieces x false [] = record { first = x ∷ []; others = []; are = refl }
+onto_pieces x false (piece ∷ pieces) = record { first = x ∷ piece; others = pieces; are = refl }
+
+pieces_of : (p : ℕ → Bool) (text : List ℕ) → HasPieces (slice_split p text)
+pieces_of p [] = record { first = []; others = []; are = refl }
+pieces_of p (x ∷ text) = onto_pieces x (p x) (slice_split p text)
+
+pub single_no : (operand text : List ℕ) → None ≡ single (operand ∷ operands_in (Some text))
+single_no operand text =
+    let pieces = pieces_of is_comma text in
+    ap (λ (ps : List (List ℕ)). single (operand ∷ map after_spaces ps)) (sym pieces.are)
+
+pub some_operands : (text : List ℕ) → is_empty (operands_in (Some text)) ≡ false
+some_operands text =
+    let pieces = pieces_of is_comma text in
+    ap (λ (ps : List (List ℕ)). is_empty (map after_spaces ps)) pieces.are
+
+pub first_operand : (text operand rest : List ℕ) (end : ℕ) → end < length text → end ≡ position_or_len is_comma text → operand ≡ after_spaces (take end text) → rest ≡ drop (end + 1) text
+    → operands_in (Some text) ≡ operand ∷ operands_in (Some rest)
+first_operand text operand rest end within place is left =
+    ap (map after_spaces) (slice_split_first is_comma text 0 (omega arith))
+    ∙ ap (λ (k : ℕ). after_spaces (take k text) ∷ map after_spaces (slice_split is_comma (drop (k + 1) text))) (sym place)
+    ∙ ap (λ (t : List ℕ). after_spaces (take end text) ∷ map after_spaces (slice_split is_comma t)) (sym left)
+    ∙ ap (λ (o : List ℕ). o ∷ map after_spaces (slice_split is_comma rest)) (sym is)
+
+pub last_operand : (text : List ℕ) (end : ℕ) → length text ≤ end → end ≡ position_or_len is_comma text → operands_in (Some text) ≡ after_spaces text ∷ []
+last_operand text end past place = ap (map after_spaces) (split_whole is_comma text (omega arith))
+
+-- ---- places in memory
+
+pub place_is : (text : List ℕ) → 2 ≤ length text → get_or text 0 0 ≡ 91 → get_or text (length text - 1) 0 ≡ 93 → read_between (take (length text - 1 - 1) (drop 1 text)) ≡ read_place text
+place_is text long opens closes =
+    let one : (get_or text 0 0 == 91) ≡ true = eq-eqb (get_or text 0 0) 91 opens in
+    let other : (get_or text (length text - 1) 0 == 93) ≡ true = eq-eqb (get_or text (length text - 1) 0) 93 closes in
+    let inner : drop 1 (take (1 + (length text - 1 - 1)) text) ≡ take (length text - 1 - 1) (drop 1 text) = drop-take 1 (length text - 1 - 1) text in
+    let size : 1 + (length text - 1 - 1) ≡ length text - 1 = omega arith in
+    ap read_between (sym inner) ∙ ap (λ (k : ℕ). read_between (drop 1 (take k text))) size
+    ∙ ap (λ (b : Bool). cond b (read_between (drop 1 (take (length text - 1) text))) (Err fault.Operand)) (sym (and_from (get_or text 0 0 == 91) (get_or text (length text - 1) 0 == 93) one other))

@@ -27,7 +27,7 @@ fn after_spaces(text: &[u8]) -> &[u8]
             return &text[place..];
         }
     }
-    &text[text.len()..]
+    &[]
 }
 
 /// A text without the spaces at its end.
@@ -41,7 +41,7 @@ fn before_spaces(text: &[u8]) -> &[u8]
         }
         end -= 1;
     }
-    &text[..end]
+    &[]
 }
 
 /// A line without the spaces at its ends.
