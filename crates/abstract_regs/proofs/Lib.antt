@@ -1,6 +1,6 @@
 pub mod ReadParts
-pub mod Sets
 pub mod Proper
+pub mod Stores
 pub mod Moves
 pub mod Calls
 pub mod Passes

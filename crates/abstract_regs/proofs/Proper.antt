@@ -3,13 +3,15 @@ use Rattle.std.proofs.Common.{◌≡◌, ◌≤◌, ℕ, zero, suc, ◌==◌, na
 use Rattle.std.proofs.lemmas.Bool.{and_parts, and_from, leb-true, le-leb}
 use Rattle.std.proofs.lemmas.List.{length-set}
 use Rattle.std.specs.List.{list_all}
+use Rattle.wire_spec.specs.declared.limits.TheConstants.{MAX_KEY, MAX_VALUE}
 use Rattle.machine_spec.specs.declared.instruction.Region.{Region}
 use Rattle.machine_spec.specs.declared.instruction.Region.TheVariants as region
 use Rattle.verifier_spec.specs.declared.interval.Interval.{Interval}
 use Rattle.verifier_spec.specs.declared.state.Abs.{Abs}
 use Rattle.verifier_spec.specs.declared.state.Abs.TheVariants as abs
+use Rattle.verifier_spec.specs.declared.state.StackSet.{StackSet}
 use Rattle.verifier_spec.specs.declared.state.Abstract.{Abstract}
-use Rattle.verifier_spec.specs.Kinds.{kind_at, greatest, least, range_of, is_proper_kind, key_limit, value_limit}
+use Rattle.verifier_spec.specs.Kinds.{kind_at, greatest, least, range_of, is_proper_kind}
 use Rattle.verifier_spec.specs.States.{is_proper}
 use Rattle.verifier_spec.specs.Transfer.{with_kind, with_length}
 
@@ -18,9 +20,9 @@ pub record IsProper (s : Abstract) : Type 0 where
   pub count : (length s.registers == 11) ≡ true
   pub kinds : list_all is_proper_kind s.registers ≡ true
   pub key : nat_le s.key_min s.key_max ≡ true
-  pub key_most : nat_le s.key_max key_limit ≡ true
+  pub key_most : nat_le s.key_max MAX_KEY ≡ true
   pub value : nat_le s.value_min s.value_max ≡ true
-  pub value_most : nat_le s.value_max value_limit ≡ true
+  pub value_most : nat_le s.value_max MAX_VALUE ≡ true
 
 pub proper_parts : (s : Abstract) → is_proper s ≡ true → IsProper s
 unfolding is_proper
@@ -63,6 +65,13 @@ with_kind_proper s r kind proper one =
       value_most = p.value_most;
     })
 
+-- ---- the set of stack bytes
+
+pub with_set_proper : (s : Abstract) (set : StackSet) → is_proper s ≡ true → is_proper (record s { set = set }) ≡ true
+with_set_proper s set proper =
+    let p = proper_parts s proper in
+    proper_from _ (record { count = p.count; kinds = p.kinds; key = p.key; key_most = p.key_most; value = p.value; value_most = p.value_most })
+
 -- ---- the numbers of a kind
 
 -- an interval's ends are in order
@@ -84,16 +93,16 @@ range_ordered s (abs.Addr _ _ _) proper one = tt
 
 pub greatest_limit : (s : Abstract) (region : Region) → is_proper s ≡ true → greatest s region ≤ 65536
 greatest_limit s region.Stack proper = omega arith
-greatest_limit s region.Key proper = let h : s.key_max ≤ key_limit = leb-true _ _ (proper_parts s proper).key_most in omega arith
+greatest_limit s region.Key proper = let h : s.key_max ≤ MAX_KEY = leb-true _ _ (proper_parts s proper).key_most in omega arith
 greatest_limit s region.Value proper = leb-true _ _ (proper_parts s proper).value_most
 
 pub with_length_proper : (s : Abstract) (region : Region) (range : Interval) → is_proper s ≡ true → range.low ≤ range.high → range.high ≤ greatest s region → is_proper (with_length s region range) ≡ true
 with_length_proper s region.Stack range proper ordered most = proper
 with_length_proper s region.Key range proper ordered most =
     let p = proper_parts s proper in
-    let old : s.key_max ≤ key_limit = leb-true _ _ p.key_most in
+    let old : s.key_max ≤ MAX_KEY = leb-true _ _ p.key_most in
     proper_from _ (record { count = p.count; kinds = p.kinds; key = le-leb _ _ ordered; key_most = le-leb _ _ (omega arith); value = p.value; value_most = p.value_most })
 with_length_proper s region.Value range proper ordered most =
     let p = proper_parts s proper in
-    let old : s.value_max ≤ value_limit = leb-true _ _ p.value_most in
+    let old : s.value_max ≤ MAX_VALUE = leb-true _ _ p.value_most in
     proper_from _ (record { count = p.count; kinds = p.kinds; key = p.key; key_most = p.key_most; value = le-leb _ _ ordered; value_most = le-leb _ _ (omega arith) })

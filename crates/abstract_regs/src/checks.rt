@@ -7,11 +7,12 @@ ghost use Rattle.machine_spec.specs.Traps.{writes_frame, calls_no_helper, source
 ghost use Rattle.verifier_spec.specs.Kinds.{kind_at, is_unknown, furthest};
 ghost use Rattle.verifier_spec.specs.Checks.{reads_unknown, is_one_sign, least_displacement, greatest_displacement, can_move, can_compute_kinds, has_wrong_kinds, has_wrong_base_kind, has_wrong_condition_kind, reach_at, reach_of, may_write_record, may_leave_record, may_leave_stack, may_read_unset, has_wrong_argument_kind, may_call_wrongly, may_exit_wrongly, failed_check};
 
-use crate::{kinds, stack_set};
+use crate::kinds;
 use machine_spec::{
     Condition, Direction, Helper, Instruction, MemoryOperand, Operands, Operation, Region,
     STACK_SIZE, Size, Source, Summary, Width,
 };
+use stack_bytes::contains_all;
 use verifier_spec::{Abs, Abstract, Check, Interval};
 
 /// The register that is never written, the stack's end.
@@ -296,7 +297,7 @@ fn has_wrong_condition_kind(condition: Option<Condition>, state: &Abstract) -> b
 
 // ---- bytes that may be read or written
 
-fn byte_count(size: Size) -> u8
+pub fn byte_count(size: Size) -> u8
     ensures { result ≡ byte_count size }
 {
     match size {
@@ -307,7 +308,7 @@ fn byte_count(size: Size) -> u8
     }
 }
 
-fn is_stack(region: Region) -> bool
+pub fn is_stack(region: Region) -> bool
     ensures { result ≡ is_stack region }
 {
     match region {
@@ -326,7 +327,7 @@ fn is_read(direction: Direction) -> bool
     }
 }
 
-fn first_byte(low: i64, offset: i16) -> i128
+pub fn first_byte(low: i64, offset: i16) -> i128
     ensures { result ≡ low +ℤ offset }
 {
     low as i128 + offset as i128
@@ -412,7 +413,7 @@ fn may_leave_stack(memory: Option<MemoryOperand>, state: &Abstract) -> bool
     }
 }
 
-fn first_place(low: i64, offset: i16) -> u64
+pub fn first_place(low: i64, offset: i16) -> u64
     ensures { result ≡ unsigned_abs (low +ℤ offset) }
 {
     first_byte(low, offset).unsigned_abs() as u64
@@ -433,7 +434,7 @@ fn access_reads_unset(state: &Abstract, m: MemoryOperand, base: Abs) -> bool
             if is_read(m.direction) && is_stack(region) {
                 let first = first_place(low, m.offset);
                 let count = reach_length(low, high, m.offset, byte_count(m.size));
-                !stack_set::are_set(&state.set, first, count)
+                !contains_all(&state.set, first, count)
             } else {
                 false
             }

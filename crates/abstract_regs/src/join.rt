@@ -1,10 +1,11 @@
-ghost use Rattle.std.specs.Prelude.{◌≡◌, pos, bit_and, true};
+ghost use Rattle.std.specs.Prelude.{◌≡◌, pos, true};
 ghost use Rattle.verifier_spec.specs.States.{is_proper};
 ghost use Rattle.verifier_spec.specs.Joins.{joined_ranges, joined_kind, pairwise, joined};
 
 use crate::{kinds, order};
 use machine_spec::Region;
-use verifier_spec::{Abs, Abstract, Interval, StackSet};
+use stack_bytes::intersection;
+use verifier_spec::{Abs, Abstract, Interval};
 
 /// The least interval that contains two, if both are intervals of numbers.
 fn joined_ranges(a: Option<Interval>, b: Option<Interval>) -> Abs
@@ -58,16 +59,6 @@ fn joined_kinds(a: &Abstract, b: &Abstract, kinds: &[Abs; 11], others: &[Abs; 11
     joined
 }
 
-fn joined_words(words: &[u64; 8], others: &[u64; 8]) -> [u64; 8]
-    ensures { result ≡ pairwise bit_and words.now others.now }
-{
-    let mut joined = *words;
-    for word in 0..8 {
-        joined[word] = words[word] & others[word];
-    }
-    joined
-}
-
 /// The join of two states.
 #[tactic(auto, using(verifier_spec::proofs::Joins::joined_proper))]
 pub fn joined(a: &Abstract, b: &Abstract) -> Abstract
@@ -80,8 +71,6 @@ pub fn joined(a: &Abstract, b: &Abstract) -> Abstract
         key_max: a.key_max.max(b.key_max),
         value_min: a.value_min.min(b.value_min),
         value_max: a.value_max.max(b.value_max),
-        set: StackSet {
-            words: joined_words(&a.set.words, &b.set.words),
-        },
+        set: intersection(&a.set, &b.set),
     }
 }

@@ -8,7 +8,6 @@ mod kinds;
 mod laws;
 mod order;
 mod ranges;
-mod stack_set;
 mod state;
 mod transfer;
 

@@ -1,11 +1,10 @@
-ghost use Rattle.std.specs.Prelude.{◌≡◌, ◌/◌, ◌%◌, ◌&&◌, ◌||◌, ◌==◌, not, nat_le, slice_index};
-ghost use Rattle.std.specs.Int.{bit_at};
-ghost use Rattle.verifier_spec.specs.Kinds.{is_set, kind_at, same_region, is_kind_within};
+ghost use Rattle.std.specs.Prelude.{◌≡◌, ◌&&◌, nat_le};
+ghost use Rattle.verifier_spec.specs.Kinds.{kind_at, same_region, is_kind_within};
 ghost use Rattle.verifier_spec.specs.States.{each_below, is_within};
 
 use crate::kinds;
-use machine_spec::{Region, STACK_SIZE};
-use verifier_spec::{Abs, Abstract, StackSet};
+use machine_spec::Region;
+use verifier_spec::{Abs, Abstract};
 
 pub fn same_region(a: Region, b: Region) -> bool
     ensures { result ≡ same_region a b }
@@ -92,26 +91,6 @@ fn are_registers_within(inner: &Abstract, outer: &Abstract) -> bool
     true
 }
 
-/// Whether each place of the second set is in the first: each word of eight has its bits.
-fn are_words_within(inner: &[u64; 8], outer: &[u64; 8]) -> bool
-    ensures { result ≡ each_below STACK_SIZE (λ place.
-        not (bit_at (slice_index outer.now (place / 64)) (place % 64) == 1)
-        || (bit_at (slice_index inner.now (place / 64)) (place % 64) == 1)) }
-{
-    for word in 0..8 {
-        if inner[word] & outer[word] != outer[word] {
-            return false;
-        }
-    }
-    true
-}
-
-fn is_set_within(inner: &StackSet, outer: &StackSet) -> bool
-    ensures { result ≡ each_below STACK_SIZE (λ place. not (is_set outer.now place) || is_set inner.now place) }
-{
-    are_words_within(&inner.words, &outer.words)
-}
-
 fn are_bounds_within(inner: &Abstract, outer: &Abstract) -> bool
     ensures { result ≡ (nat_le outer.now.key_min inner.now.key_min && (nat_le inner.now.key_max outer.now.key_max
         && (nat_le outer.now.value_min inner.now.value_min && nat_le inner.now.value_max outer.now.value_max))) }
@@ -128,5 +107,5 @@ pub fn is_within(inner: &Abstract, outer: &Abstract) -> bool
     ensures { result ≡ is_within inner.now outer.now }
 {
     are_registers_within(inner, outer)
-        && (are_bounds_within(inner, outer) && is_set_within(&inner.set, &outer.set))
+        && (are_bounds_within(inner, outer) && stack_bytes::is_within(&inner.set, &outer.set))
 }

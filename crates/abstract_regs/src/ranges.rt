@@ -1,6 +1,6 @@
 ghost use Rattle.std.specs.Prelude.{◌≡◌, ◌&&◌, nat_le, length};
 ghost use Rattle.std.specs.List.{list_all};
-ghost use Rattle.verifier_spec.specs.Kinds.{is_record_region, is_proper_kind, key_limit, value_limit};
+ghost use Rattle.verifier_spec.specs.Kinds.{is_record_region, is_proper_kind};
 ghost use Rattle.verifier_spec.specs.States.{is_proper};
 
 use machine_spec::Region;
@@ -9,12 +9,6 @@ use wire_spec::{MAX_KEY, MAX_VALUE};
 
 /// The furthest that an address's offset may be from 0, either way: 2^32 bytes.
 const FURTHEST: i64 = 4_294_967_296;
-
-/// The greatest length of a key, in bytes.
-pub const KEY_LIMIT: u32 = MAX_KEY as u32;
-
-/// The greatest length of a value, in bytes.
-pub const VALUE_LIMIT: u32 = MAX_VALUE as u32;
 
 fn is_record_region(region: Region) -> bool
     ensures { result ≡ is_record_region region }
@@ -45,11 +39,12 @@ fn are_proper_kinds(kinds: &[Abs; 11]) -> bool
 }
 
 fn are_proper_lengths(key_min: u32, key_max: u32, value_min: u32, value_max: u32) -> bool
-    ensures { result ≡ (nat_le key_min key_max && (nat_le key_max key_limit
-        && (nat_le value_min value_max && nat_le value_max value_limit))) }
+    ensures { result ≡ (nat_le key_min key_max && (nat_le key_max MAX_KEY
+        && (nat_le value_min value_max && nat_le value_max MAX_VALUE))) }
 {
     key_min <= key_max
-        && (key_max <= KEY_LIMIT && (value_min <= value_max && value_max <= VALUE_LIMIT))
+        && (key_max <= MAX_KEY as u32
+            && (value_min <= value_max && value_max <= MAX_VALUE as u32))
 }
 
 /// Whether each kind and the least and greatest lengths are in their ranges.

@@ -10,6 +10,7 @@ use crate::{checks, join, kinds, order, ranges, transfer};
 use machine_spec::{Instruction, Region, STACK_SIZE};
 use std::marker::Model;
 use verifier_spec::{Abs, Abstract, Check, StackSet};
+use wire_spec::{MAX_KEY, MAX_VALUE};
 
 /// What is known before an instruction: a kind for each register, how long at least and at most
 /// the key and the value are, and which stack bytes are certainly set. Its ranges hold: intervals
@@ -91,9 +92,9 @@ impl State {
                     Abs::Addr(Region::Stack, STACK_SIZE as i64, STACK_SIZE as i64),
                 ],
                 key_min: 0,
-                key_max: ranges::KEY_LIMIT,
+                key_max: MAX_KEY as u32,
                 value_min: 0,
-                value_max: ranges::VALUE_LIMIT,
+                value_max: MAX_VALUE as u32,
                 set: StackSet { words: [0; 8] },
             },
         }

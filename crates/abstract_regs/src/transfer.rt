@@ -2,13 +2,17 @@ ghost use Rattle.std.specs.Prelude.{◌≡◌, ◌≤◌, pos, neg_ℤ, ◌+ℤ�
 ghost use Rattle.verifier_spec.specs.Intervals.{from_to};
 ghost use Rattle.verifier_spec.specs.Kinds.{kind_at, greatest, range_of, is_proper_kind, furthest};
 ghost use Rattle.verifier_spec.specs.States.{is_proper};
-ghost use Rattle.verifier_spec.specs.Checks.{can_move, can_compute_kinds, source_kind, failed_check};
-ghost use Rattle.verifier_spec.specs.Transfer.{with_kind, numbers, on_ranges, moved_address, moved_kind, computed_kind, changed_kind, loaded_kind, with_length, with_range, narrowed_range, tested, answer_kind, after_call_kinds, called_kinds, met_edge, jump_edge, falls_to, jumps_to};
+ghost use Rattle.std.specs.Ordering.{int_eq};
+ghost use Rattle.machine_spec.specs.declared.summary.Direction.TheVariants as direction;
+ghost use Rattle.verifier_spec.specs.Checks.{can_move, can_compute_kinds, source_kind, reach_at, may_leave_stack, failed_check};
+ghost use Rattle.verifier_spec.specs.Transfer.{with_kind, numbers, on_ranges, moved_address, moved_kind, computed_kind, changed_kind, loaded_kind, with_stored, with_length, with_range, narrowed_range, tested, answer_kind, after_call_kinds, called_kinds, met_edge, jump_edge, falls_to, jumps_to};
 
 use crate::{checks, kinds};
 use machine_spec::{
-    Change, Condition, Helper, Instruction, Operation, Region, Size, Source, Summary, Test, Width,
+    Change, Condition, Extension, Helper, Instruction, Operation, Region, Size, Source, Summary,
+    Test, Width,
 };
+use stack_bytes::{StackSet, with_places};
 use verifier_spec::{Abs, Abstract, Interval};
 
 // ---- a register's kind
@@ -172,16 +176,64 @@ fn changed_kind(state: &Abstract, change: Change, kind: Abs) -> Abs
     }
 }
 
-fn loaded_kind(size: Size) -> Abs
-    ensures kind { result ≡ loaded_kind size }
+// ---- memory
+
+fn loaded_kind(size: Size, extension: Extension) -> Abs
+    ensures kind { result ≡ loaded_kind size extension }
     ensures proper { is_proper_kind result ≡ true }
 {
-    match size {
-        Size::Byte => Abs::Num(0, u8::MAX as u64),
-        Size::Half => Abs::Num(0, u16::MAX as u64),
-        Size::Word => Abs::Num(0, u32::MAX as u64),
-        Size::Double => Abs::Num(0, u64::MAX),
+    match extension {
+        Extension::Zero => match size {
+            Size::Byte => Abs::Num(0, u8::MAX as u64),
+            Size::Half => Abs::Num(0, u16::MAX as u64),
+            Size::Word => Abs::Num(0, u32::MAX as u64),
+            Size::Double => Abs::Num(0, u64::MAX),
+        },
+        Extension::Sign => Abs::Num(0, u64::MAX),
     }
+}
+
+/// Whether an address from low to high, and the offset, is one place.
+fn is_one_place(low: i64, high: i64, offset: i16) -> bool
+    ensures { result ≡ int_eq (low +ℤ offset) (high +ℤ offset) }
+{
+    checks::first_byte(low, offset) == checks::first_byte(high, offset)
+}
+
+/// The set of stack bytes after a store to base + offset: it sets those at one known place.
+#[tactic(auto, using(crate::proofs::Stores::place_inside))]
+fn with_stored(set: &StackSet, base: Abs, offset: i16, size: Size) -> StackSet
+    requires inside { may_leave_stack (reach_at direction.Write base offset size) ≡ false }
+    ensures { result ≡ with_stored set.now (reach_at direction.Write base offset size) }
+{
+    match base {
+        Abs::Addr(region, low, high) => {
+            if checks::is_stack(region) && is_one_place(low, high, offset) {
+                with_places(
+                    set,
+                    checks::first_place(low, offset),
+                    checks::byte_count(size),
+                )
+            } else {
+                *set
+            }
+        }
+        Abs::None => *set,
+        Abs::Num(_, _) => *set,
+        Abs::Len(_) => *set,
+    }
+}
+
+#[tactic(auto, using(crate::proofs::Passes::store_inside, crate::proofs::Proper::with_set_proper))]
+fn stored(state: &Abstract, size: Size, base: u8, offset: i16, source: Source) -> Abstract
+    requires state { is_proper state.now ≡ true }
+    requires passes { failed_check (Instruction.Store size base offset source) state.now ≡ None }
+    ensures stored { Some result ≡ falls_to (Instruction.Store size base offset source) state.now }
+    ensures proper { is_proper result ≡ true }
+{
+    let mut changed = *state;
+    changed.set = with_stored(&state.set, kinds::kind_at(state, base), offset, size);
+    changed
 }
 
 // ---- conditional jumps by a constant
@@ -376,10 +428,17 @@ pub fn falls_to(instruction: Instruction, state: &Abstract) -> Option<Abstract>
             let kind = kinds::kind_at(state, src);
             Some(with_kind(state, dst, changed_kind(state, change, kind)))
         }
-        Instruction::Load(size, dst, _, _) => Some(with_kind(state, dst, loaded_kind(size))),
+        Instruction::Load(size, extension, dst, _, _) => {
+            Some(with_kind(state, dst, loaded_kind(size, extension)))
+        }
+        Instruction::Store(size, base, offset, source) => {
+            Some(stored(state, size, base, offset, source))
+        }
         Instruction::JumpIf(width, test, dst, source, _) => {
             tested(state, (width, test), false, dst, source)
         }
+        Instruction::Jump(_) => None,
+        Instruction::Wide(dst, number) => Some(with_kind(state, dst, Abs::Num(number, number))),
         Instruction::Call(number) => match checks::helper_of(number) {
             Some(helper) => Some(called(state, helper)),
             None => None,

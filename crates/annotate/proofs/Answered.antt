@@ -1,5 +1,5 @@
 -- What the loader's parts answer, as the load's answer.
-use Rattle.std.proofs.Common.{◌≡◌, ◌≢◌, ℕ, List, Option, Some, Result, Ok, Err, refl, sym, ap, ◌∙◌}
+use Rattle.std.proofs.Common.{◌≡◌, ◌≢◌, ℕ, List, Option, Some, Ok, Err, sym, ap, ◌∙◌}
 use Rattle.machine_spec.specs.declared.instruction.IsaFault.{IsaFault}
 use Rattle.machine_spec.specs.declared.instruction.IsaFault.TheVariants as isa
 use Rattle.machine_spec.specs.declared.instruction.Placed.{Placed}
@@ -9,21 +9,11 @@ use Rattle.verifier_spec.specs.Annotation.{Notes, fault_of}
 use Rattle.verifier_spec.specs.JoinedStates.{joined_states}
 use Rattle.verifier_spec.specs.declared.fault.LoadFault.TheVariants.{Isa}
 use Rattle.verifier_spec.specs.Loading.{load_fault, code_fault, verify_fault}
-use Rattle.bpf_isa.specs.Code.{Answers}
 
 -- a refusal of the image is its reading's
-pub refused_reading : (f : IsaFault) (reading : Result (List Placed) IsaFault) → Answers (Err f) reading → f ≢ isa.Memory → reading ≡ Err f
-refused_reading isa.Size reading h ne = h
-refused_reading (isa.Opcode slot) reading h ne = h
-refused_reading (isa.Register slot) reading h ne = h
-refused_reading (isa.Unused slot) reading h ne = h
-refused_reading (isa.Wide slot) reading h ne = h
-refused_reading (isa.NotInProfile slot) reading h ne = h
-refused_reading isa.Memory reading h ne = absurd (ne refl)
-
-pub isa_fault : (image : List ℕ) (f : IsaFault) → Answers (Err f) (read_image image) → f ≢ isa.Memory → load_fault image ≡ Some (Isa f)
+pub isa_fault : (image : List ℕ) (f : IsaFault) → (f ≢ isa.Memory → read_image image ≡ Err f) → f ≢ isa.Memory → load_fault image ≡ Some (Isa f)
 unfolding load_fault
-isa_fault image f h ne = ap code_fault (refused_reading f (read_image image) h ne)
+isa_fault image f h ne = ap code_fault (h ne)
 
 pub noted_fault : (image : List ℕ) (code : List Placed) (notes : Notes) (fault : Option VerifyFault) → read_image image ≡ Ok code → notes ≡ joined_states code → fault_of code notes ≡ fault
     → load_fault image ≡ verify_fault fault

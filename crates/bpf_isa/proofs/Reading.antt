@@ -10,7 +10,8 @@ use Rattle.machine_spec.specs.declared.instruction.Placed.{Placed}
 use Rattle.machine_spec.specs.declared.instruction.IsaFault.{IsaFault}
 use Rattle.machine_spec.specs.declared.instruction.IsaFault.TheVariants as fault
 use Rattle.machine_spec.specs.Image.{slot_count, slot_after, first_slots_from, first_slots, has_size, read_slot, read_slots, then_placed, read_image, form_at, if_read, slots_of, number_from, number_at, IsCodeOf}
-use Rattle.bpf_isa.specs.Code.{AreBytes, IsTable, IsKept, Refuses, Answers}
+use Rattle.wire_spec.specs.Memory.{AnswersAs}
+use Rattle.bpf_isa.specs.Code.{AreBytes, IsTable, IsKept}
 use Rattle.bpf_isa.proofs.Cases.{on_choice}
 use Rattle.bpf_isa.proofs.Bytes.{next_slot, form_read}
 
@@ -240,20 +241,11 @@ starts image =
 pub table_none : IsTable [] []
 table_none = record { entries = λ slot. refl }
 
-pub refuses : (e : IsaFault) (total : Reading) → total ≡ Err e → Refuses e total
-refuses fault.Size total is = is
-refuses (fault.Opcode slot) total is = is
-refuses (fault.Register slot) total is = is
-refuses (fault.Unused slot) total is = is
-refuses (fault.Wide slot) total is = is
-refuses (fault.NotInProfile slot) total is = is
-refuses fault.Memory total is = tt
-
 pub kept : (image : List ℕ) (code : List Placed) (numbers : List (Option ℕ)) → AreBytes image → has_size image ≡ true → read_slots image (first_slots image) ≡ Ok code → IsTable code numbers → IsKept code numbers
 kept image code numbers bytes size read table =
     record { image = record { image = image; bytes = bytes; is_code = is_code_from image code size read }; table = table }
 
-pub if_ok_code : (image : List ℕ) (r : Reading) → has_size image ≡ true → Answers r (read_slots image (first_slots image)) → IfOk r (λ code. IsCodeOf image code)
+pub if_ok_code : (image : List ℕ) (r : Reading) → has_size image ≡ true → AnswersAs fault.Memory (λ (code : List Placed). code) r (read_slots image (first_slots image)) → IfOk r (λ code. IsCodeOf image code)
 if_ok_code image (Ok code) size read = is_code_from image code size read
 if_ok_code image (Err e) size read = tt
 

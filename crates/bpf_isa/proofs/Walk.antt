@@ -13,8 +13,8 @@ use Rattle.bpf_isa.proofs.Cases.{on_choice}
 use Rattle.bpf_isa.proofs.Slots.{IsSized, sized}
 use Rattle.bpf_isa.proofs.Bytes.{slots_bytes, from_slots, slot_spelled, slot_registers, form_read, next_slot, inside, some_slots}
 
-abbrev slots_of : List Placed → List ℕ
-slots_of code = map (λ placed. placed.slot) code
+abbrev firsts_of : List Placed → List ℕ
+firsts_of code = map (λ placed. placed.slot) code
 
 -- at each slot the instruction that is placed there
 abbrev AreForms : List ℕ → List Placed → Type 0
@@ -37,7 +37,7 @@ one_on image slot p code fits size within read rest =
     let bytes : slots_bytes image slot (slots_of p.instruction) ≡ spelling p.instruction = slot_spelled image slot p.instruction fits read in
     from_slots image slot (slots_of p.instruction) long ∙ ap (λ (t : List ℕ). slots_bytes image slot (slots_of p.instruction) ++ t) rest ∙ ap (λ (t : List ℕ). t ++ spelled code) bytes ∙ sym (flat_map-cons (λ placed. spelling placed.instruction) p code)
 
-goes : (image : List ℕ) → AreBytes image → IsSized image → (steps slot : ℕ) (code : List Placed) → slot_count image ≤ slot + steps → slots_of code ≡ first_slots_from image steps slot → AreForms image code → Goes image slot code
+goes : (image : List ℕ) → AreBytes image → IsSized image → (steps slot : ℕ) (code : List Placed) → slot_count image ≤ slot + steps → firsts_of code ≡ first_slots_from image steps slot → AreForms image code → Goes image slot code
 goes image fits size zero slot [] enough e forms = ended image slot size (omega arith)
 goes image fits size zero slot (p ∷ code) enough e forms = absurd cc
 goes image fits size (suc steps) slot [] enough e forms =
@@ -45,10 +45,10 @@ goes image fits size (suc steps) slot [] enough e forms =
     (λ _. λ e. absurd cc)
     (λ past. λ _. ended image slot size (ltb-false _ _ past))
 goes image fits size (suc steps) slot (p ∷ code) enough e forms =
-    on_choice (ltb slot (slot_count image)) (slot ∷ first_slots_from image steps (slot_after image slot)) [] (slots_of (p ∷ code)) (Goes image slot (p ∷ code)) (sym e)
+    on_choice (ltb slot (slot_count image)) (slot ∷ first_slots_from image steps (slot_after image slot)) [] (firsts_of (p ∷ code)) (Goes image slot (p ∷ code)) (sym e)
     (λ within. λ e.
     let here : slot ≡ p.slot = cc in
-    let later : first_slots_from image steps (slot_after image slot) ≡ slots_of code = cc in
+    let later : first_slots_from image steps (slot_after image slot) ≡ firsts_of code = cc in
     let read : read_slot image slot ≡ Ok p.instruction = form_read image slot p.instruction (ap (form_at image) here ∙ forms 0 p refl) in
     let next = next_slot image slot p.instruction read in
     let some = some_slots p.instruction in
@@ -81,7 +81,7 @@ slots_below image (suc steps) slot k s e =
 pub placed_small : (image : List ℕ) (code : List Placed) (k : ℕ) (p : Placed) → IsCodeOf image code → slice_get code k ≡ Some p → p.slot < 4096
 unfolding first_slots
 placed_small image code k p is at =
-    let slot : slice_get (slots_of code) k ≡ Some p.slot = slice_get-map (λ placed. placed.slot) code k ∙ ap (option_map (λ placed. placed.slot)) at in
+    let slot : slice_get (firsts_of code) k ≡ Some p.slot = slice_get-map (λ placed. placed.slot) code k ∙ ap (option_map (λ placed. placed.slot)) at in
     let below = slots_below image (slot_count image) 0 k p.slot (ap (λ (l : List ℕ). slice_get l k) (sym is.slots) ∙ slot) in
     let few = (sized image is.size).few in
     omega arith

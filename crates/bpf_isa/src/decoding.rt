@@ -3,7 +3,8 @@
 ghost use Rattle.std.specs.Prelude.{◌≡◌, ◌+◌, ◌<◌, ◌≤◌, ◌==◌, [], ◌∷◌, ◌++◌, length, if◌then◌else◌, Some, None, IfOk, OnOk, IsTrue};
 ghost use Rattle.machine_spec.specs.Image as definitions;
 ghost use Rattle.machine_spec.specs.Image.{read_image, read_slots, first_slots, IsCodeOf};
-ghost use Rattle.bpf_isa.specs.Code.{Answers, IsTable};
+ghost use Rattle.wire_spec.specs.Memory.{AnswersAs};
+ghost use Rattle.bpf_isa.specs.Code.{IsTable};
 
 use crate::code::Code;
 use crate::slot;
@@ -71,7 +72,7 @@ fn push(
 /// The code of an image whose size is right.
 fn read_code(alloc: Global, image: &[u8]) -> Result<Code, IsaFault>
     requires { IsTrue (definitions.has_size image.now) }
-    ensures { Answers result (read_slots image.now (first_slots image.now)) }
+    ensures { AnswersAs IsaFault.Memory (λ code. code) result (read_slots image.now (first_slots image.now)) }
 {
     let slots = image.len() / 8;
     let mut placed = Vec::with_capacity(alloc, slots).map_err(|_| IsaFault::Memory)?;
@@ -90,7 +91,7 @@ fn read_code(alloc: Global, image: &[u8]) -> Result<Code, IsaFault>
 #[tactic(auto, unfolding(machine_spec::specs::Image::read_image))]
 pub fn decode(alloc: Global, image: &[u8]) -> Result<Code, IsaFault>
     // What it answers is what the image reads as, unless memory runs out.
-    ensures exact { Answers result (read_image image.now) }
+    ensures exact { AnswersAs IsaFault.Memory (λ code. code) result (read_image image.now) }
     // The code is the image's.
     ensures is_code { IfOk result (λ code. IsCodeOf image.now code) }
 {

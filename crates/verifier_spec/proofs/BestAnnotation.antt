@@ -1,22 +1,21 @@
 -- The joined states of an image's code are within those of every annotation, and an annotation where there is one.
 use Rattle.std.proofs.Common.{◌≡◌, ◌≢◌, ℕ, zero, suc, ◌+◌, ◌<◌, ◌≤◌, ℤ, pos, Bool, true, false, not, cond, ◌==◌, ◌&&◌, int_lt, List, [], ◌∷◌, ◌++◌, length, slice_get, Option, Some, None, is_none, refl, sym, ap, ◌∙◌, subst, inl, inr, ⊎_elim, arith}
 use Rattle.std.specs.List.{list_any}
-use Rattle.std.proofs.lemmas.Bool.{and_parts, and_from, or_parts, cond-true, cond-false, cases_Bool, cases_lt, eq-eqb, eqb-true, not-false, not_from_true, true≢false}
+use Rattle.std.proofs.lemmas.Bool.{and_parts, and_from, or_parts, cond-true, cond-false, cases_Bool, cases_lt, eq-eqb, eqb-true, not-false, not_from_true, true≢false, false≢true}
 use Rattle.std.proofs.lemmas.Option.{none-some, slice_get_within}
 use Rattle.machine_spec.specs.declared.instruction.Instruction.{Instruction}
-use Rattle.machine_spec.specs.declared.instruction.Instruction.TheVariants.{Exit}
+use Rattle.machine_spec.specs.declared.instruction.Instruction.TheVariants.{Move, Compute, Load, Unary, Store, JumpIf, Jump, Wide, Call, Exit}
 use Rattle.machine_spec.specs.declared.instruction.Placed.{Placed}
 use Rattle.machine_spec.specs.Image.{target_of, IsCodeOf}
 use Rattle.machine_spec.specs.Summaries.{summary_of}
 use Rattle.machine_spec.specs.Traps.{first_of}
-use Rattle.machine_spec.proofs.Meanings.{exit_is}
 use Rattle.machine_spec.proofs.Slots.{lands, later_number, number_of_placed, number_below}
 use Rattle.verifier_spec.specs.declared.state.Abstract.{Abstract}
 use Rattle.verifier_spec.specs.declared.fault.Check.{Check}
 use Rattle.verifier_spec.specs.declared.fault.Check.TheVariants as check
 use Rattle.verifier_spec.specs.declared.fault.VerifyFault.{VerifyFault}
 use Rattle.verifier_spec.specs.States.{is_proper, is_within, entry_state}
-use Rattle.verifier_spec.specs.Checks.{checks, failed_check, jump_of, shape_checks, leads_nowhere, leads_back, runs_off}
+use Rattle.verifier_spec.specs.Checks.{checks, failed_check, jump_of, shape_checks, leads_nowhere, leads_back, never_falls, runs_off}
 use Rattle.verifier_spec.specs.Transfer.{falls_to, jumps_to, jump_edge}
 use Rattle.verifier_spec.specs.Annotation.{Notes, note_at, note_of, is_covered, is_edge_covered, are_edges_covered, IsAnnotation, reached_checks, failed_at, fault_or, fault_from, fault_of}
 use Rattle.verifier_spec.specs.JoinedStates.{with_edge, with_edges, if_passed, with_instruction, known_after, joined_states}
@@ -133,9 +132,18 @@ start_covered code some =
 
 -- ---- closed under edges
 
-exit_falls : (i : Instruction) (s : Abstract) (o : Option Abstract) → i ≡ Exit → is_edge_covered (falls_to i s) o ≡ true
+none_falls : (i : Instruction) (s : Abstract) (o : Option Abstract) → never_falls (summary_of i) ≡ true → is_edge_covered (falls_to i s) o ≡ true
 unfolding falls_to
-exit_falls i s o e = subst (λ (x : Instruction). is_edge_covered (falls_to x s) o ≡ true) (sym e) refl
+none_falls (Move width dst source) s o e = absurd (false≢true e)
+none_falls (Compute width operation dst source) s o e = absurd (false≢true e)
+none_falls (Load size extension dst base offset) s o e = absurd (false≢true e)
+none_falls (Unary change dst src) s o e = absurd (false≢true e)
+none_falls (Store size base offset source) s o e = absurd (false≢true e)
+none_falls (JumpIf width test dst source offset) s o e = absurd (false≢true e)
+none_falls (Jump distance) s o e = refl
+none_falls (Wide dst number) s o e = absurd (false≢true e)
+none_falls (Call number) s o e = absurd (false≢true e)
+none_falls Exit s o e = refl
 
 no_jump : (i : Instruction) (s : Abstract) (o : Option Abstract) → jump_of i ≡ None → is_edge_covered (jumps_to i s) o ≡ true
 unfolding jumps_to
@@ -151,9 +159,9 @@ module _ (image : List ℕ) (code : List Placed) (of : IsCodeOf image code) wher
 
   module _ (k : ℕ) (placed : Placed) (s : Abstract) (at : slice_get code k ≡ Some placed) (known : known_after code k k ≡ Some s)
       (passed : failed_check placed.instruction s ≡ None) (shape : first_of (shape_checks code k placed) ≡ None) where
-    shapes : (leads_nowhere code placed.slot (jump_of placed.instruction) ≡ false) × (leads_back (jump_of placed.instruction) ≡ false) × (runs_off code k (summary_of placed.instruction).exits ≡ false)
+    shapes : (leads_nowhere code placed.slot (jump_of placed.instruction) ≡ false) × (leads_back (jump_of placed.instruction) ≡ false) × (runs_off code k (summary_of placed.instruction) ≡ false)
     shapes =
-        none_of_three (leads_nowhere code placed.slot (jump_of placed.instruction)) (leads_back (jump_of placed.instruction)) (runs_off code k (summary_of placed.instruction).exits)
+        none_of_three (leads_nowhere code placed.slot (jump_of placed.instruction)) (leads_back (jump_of placed.instruction)) (runs_off code k (summary_of placed.instruction))
         check.JumpTarget check.BackJump check.RunsOff shape
 
     falls_closed : is_edge_covered (falls_to placed.instruction s) (note_at (joined_states code) (k + 1)) ≡ true
@@ -166,8 +174,8 @@ module _ (image : List ℕ) (code : List Placed) (of : IsCodeOf image code) wher
         (λ below. subst Q (sym (note_joined code (k + 1) below)) (subst P next (falls_known code k placed s at known passed)))
         (λ past.
         let last : k + 1 ≡ length code = omega (arith, slice_get_within code k placed at, past) in
-        exit_falls placed.instruction s (note_at (joined_states code) (k + 1))
-        (exit_is placed.instruction (not-false _ (and_second (k + 1 == length code) (not (summary_of placed.instruction).exits) (eq-eqb (k + 1) (length code) last) shapes.2))))
+        none_falls placed.instruction s (note_at (joined_states code) (k + 1))
+        (not-false _ (and_second (k + 1 == length code) (not (never_falls (summary_of placed.instruction))) (eq-eqb (k + 1) (length code) last) shapes.2)))
         (cases_lt (k + 1) (length code))
 
     target_closed : (t : ℕ) → target_of code placed.slot (jump_of placed.instruction) ≡ Some t

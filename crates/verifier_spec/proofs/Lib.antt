@@ -10,7 +10,6 @@ pub mod Monotone
 pub mod Narrowing
 pub mod NarrowedRanges
 pub mod Order
-pub mod Premises
 pub mod Proper
 pub mod RangesMonotone
 pub mod RangesProper
@@ -18,6 +17,8 @@ pub mod RangesSound
 pub mod Registers
 pub mod Safety
 pub mod Sound
+pub mod StackSets
+pub mod Stores
 pub mod Steps
 pub mod Sums
 pub mod Tighter

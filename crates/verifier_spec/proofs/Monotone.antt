@@ -1,18 +1,23 @@
 -- Checks and transfer keep the order of states: of two states, one within the other, the first passes each check that
 -- the second passes, and what an edge brings from the first is within what it brings from the second.
-use Rattle.std.proofs.Common.{◌≡◌, ℕ, zero, suc, ◌+◌, ◌-◌, ◌<◌, ◌≤◌, ℤ, pos, negsuc, ◌+ℤ◌, neg_ℤ, ◌≤ℤ◌, Bool, true, false, List, [], ◌∷◌, length, get_or, Option, Some, None, unsigned_abs, refl, arith}
+use Rattle.std.proofs.Common.{◌≡◌, ℕ, zero, suc, ◌+◌, ◌-◌, ◌<◌, ◌≤◌, ℤ, pos, negsuc, ◌+ℤ◌, neg_ℤ, ◌≤ℤ◌, Bool, true, false, List, [], ◌∷◌, length, get_or, Option, Some, None, unsigned_abs, ◌&&◌, refl, sym, ap, subst, inl, inr, ⊎_elim, arith}
+use Rattle.std.specs.Ordering.{int_eq}
+use Rattle.std.proofs.lemmas.Bool.Decides.{Decides-int_eq}
 use Rattle.std.specs.List.{list_any}
-use Rattle.std.proofs.lemmas.Bool.{and_parts, and_from, or_parts, or_from, not-false, not_from_true}
+use Rattle.std.proofs.lemmas.Bool.{and_parts, and_from, or_parts, or_from, not-false, not_from_true, cases_Bool, cond-true, cond-false, le-leb}
 use Rattle.std.proofs.lemmas.Int.{ints}
+use Rattle.machine_spec.specs.declared.limits.TheConstants.{STACK_SIZE}
 use Rattle.machine_spec.specs.declared.operation.Width.TheVariants.{Bits32, Bits64}
 use Rattle.machine_spec.specs.declared.instruction.Region.{Region}
 use Rattle.machine_spec.specs.declared.instruction.Region.TheVariants as region
 use Rattle.machine_spec.specs.declared.instruction.Size.{Size}
 use Rattle.machine_spec.specs.declared.instruction.Size.TheVariants as size
+use Rattle.machine_spec.specs.declared.instruction.Extension.{Extension}
+use Rattle.machine_spec.specs.declared.instruction.Extension.TheVariants.{Zero, Sign}
 use Rattle.machine_spec.specs.declared.instruction.Helper.{Helper}
 use Rattle.machine_spec.specs.declared.instruction.Helper.TheVariants.{EmitRecord}
 use Rattle.machine_spec.specs.declared.instruction.Instruction.{Instruction}
-use Rattle.machine_spec.specs.declared.instruction.Instruction.TheVariants.{Move, Compute, Unary, Load, JumpIf, Call, Exit}
+use Rattle.machine_spec.specs.declared.instruction.Instruction.TheVariants.{Move, Compute, Load, Unary, Store, JumpIf, Jump, Wide, Call, Exit}
 use Rattle.machine_spec.specs.declared.summary.Operands.{Operands}
 use Rattle.machine_spec.specs.declared.summary.Operands.TheVariants as operands
 use Rattle.machine_spec.specs.declared.summary.Direction.{Direction}
@@ -22,8 +27,8 @@ use Rattle.machine_spec.specs.declared.summary.Condition.{Condition}
 use Rattle.machine_spec.specs.declared.summary.Summary.{Summary}
 use Rattle.machine_spec.specs.Summaries.{summary_of}
 use Rattle.machine_spec.specs.Values.{byte_count}
-use Rattle.machine_spec.specs.Machine.{helper_of, stack_size}
-use Rattle.machine_spec.specs.Traps.{read_registers}
+use Rattle.machine_spec.specs.Machine.{helper_of}
+use Rattle.machine_spec.specs.Traps.{read_registers, is_stack}
 use Rattle.verifier_spec.specs.declared.state.Abs.{Abs}
 use Rattle.verifier_spec.specs.declared.state.Abs.TheVariants as abs
 use Rattle.verifier_spec.specs.declared.state.StackSet.{StackSet}
@@ -31,15 +36,16 @@ use Rattle.verifier_spec.specs.declared.state.Abstract.{Abstract}
 use Rattle.verifier_spec.specs.Kinds.{is_set, kind_at, is_unknown, is_address_kind, is_kind_within}
 use Rattle.verifier_spec.specs.States.{is_proper, is_within}
 use Rattle.verifier_spec.specs.Checks.{source_kind, reads_unknown, has_wrong_kinds, has_wrong_base_kind, has_wrong_condition_kind, reach_at, reach_of, is_reach_within, may_write_record, may_leave_record, may_leave_stack, are_set, may_read_unset, has_wrong_argument_kind, may_call_wrongly, may_exit_wrongly, failed_check}
-use Rattle.verifier_spec.specs.Transfer.{with_kind, moved_kind, changed_kind, loaded_kind, answer_kind, after_call_kinds, called_kinds, jump_edge, falls_to, jumps_to}
+use Rattle.verifier_spec.specs.Transfer.{with_stored, with_kind, moved_kind, changed_kind, loaded_kind, answer_kind, after_call_kinds, called_kinds, jump_edge, falls_to, jumps_to}
 use Rattle.verifier_spec.specs.Annotation.{is_edge_covered}
 use Rattle.verifier_spec.specs.Soundness.{KeepsOrder}
 use Rattle.verifier_spec.proofs.Order.{IsWithin, within_parts, within_from}
 use Rattle.verifier_spec.proofs.Proper.{proper_parts, proper_kind, source_proper}
 use Rattle.verifier_spec.proofs.Safety.{Passes, passes, failed_from, set_at}
+use Rattle.verifier_spec.proofs.StackSets.{places_kept, places_set, places_only}
 use Rattle.verifier_spec.proofs.Tighter.{tested_within}
 use Rattle.verifier_spec.proofs.Whole.{le_z-true, le-le_z, le_trans_z, negative, gap_is}
-use Rattle.verifier_spec.proofs.Wider.{narrower, other_kinds, kind_within_narrower, kind_within, known_within, number_within, address_within, AreAddresses, addresses_within, ranges_within, can_within, computed_within, changed_within, low_half_within, source_within, within_set}
+use Rattle.verifier_spec.proofs.Wider.{narrower, other_kinds, other_set, kind_within_narrower, kind_within, known_within, number_within, address_within, AreAddresses, addresses_within, ranges_within, can_within, computed_within, changed_within, low_half_within, source_within, within_set}
 
 -- ---- bytes of a region
 
@@ -63,7 +69,7 @@ natural_is (negsuc n) h = absurd (negative n h)
 
 -- the places that a narrower reach may read are among those of a wider one
 set_within : (inner outer : StackSet) (lo hi low high : ℤ) (size : ℕ) → ((q : ℕ) → q < 512 → is_set outer q ≡ true → is_set inner q ≡ true) → low ≤ℤ lo → lo ≤ℤ hi → hi ≤ℤ high → pos 0 ≤ℤ low
-    → (high +ℤ pos size) ≤ℤ pos stack_size
+    → (high +ℤ pos size) ≤ℤ pos STACK_SIZE
     → are_set outer (unsigned_abs low) (unsigned_abs (high +ℤ neg_ℤ low) + size) ≡ true → are_set inner (unsigned_abs lo) (unsigned_abs (hi +ℤ neg_ℤ lo) + size) ≡ true
 set_within inner outer (negsuc m) hi low high size s p order q from to h = absurd (negative m (le_trans_z (pos 0) low (negsuc m) from p))
 set_within inner outer (pos m) (negsuc n) low high size s p order q from to h = absurd (negative n (le_trans_z (pos 0) (pos m) (negsuc n) (le_trans_z (pos 0) low (pos m) from p) order))
@@ -93,6 +99,14 @@ called_pairs P js ks answer q d e h p n = absurd (omega arith)
 answer_kept : (c : Abstract) (helper : Helper) → is_kind_within c (answer_kind helper) (answer_kind helper) ≡ true
 answer_kept c EmitRecord = refl
 
+-- bytes that are set stay so in a store
+stored_kept : (set : StackSet) (at : Region) (low high : ℤ) (size q : ℕ) → q < 512 → is_set set q ≡ true
+    → is_set (with_stored set (Some (record { direction = direction.Write; region = at; low = low; high = high; size = size }))) q ≡ true
+stored_kept set at low high size q inside h = elim (cases_Bool (is_stack at && int_eq low high)) [
+  | inl one ↦ subst (λ s. is_set s q ≡ true) (sym (cond-true _ _ _ one)) (places_kept set (unsigned_abs low) size q inside h)
+  | inr many ↦ subst (λ s. is_set s q ≡ true) (sym (cond-false _ _ _ many)) h
+]
+
 module _ (a b : Abstract) (w : IsWithin a b) (pa : is_proper a ≡ true) (pb : is_proper b ≡ true) where
   record_within : (d : Direction) (at : Region) (lo hi low high offset : ℤ) (size : ℕ) → low ≤ℤ lo → hi ≤ℤ high
       → may_leave_record b (Some (record { direction = d; region = at; low = low +ℤ offset; high = high +ℤ offset; size = size })) ≡ false → may_leave_record a (Some (record { direction = d; region = at; low = lo +ℤ offset; high = hi +ℤ offset; size = size })) ≡ false
@@ -102,7 +116,7 @@ module _ (a b : Abstract) (w : IsWithin a b) (pa : is_proper a ≡ true) (pb : i
 
   stack_within : (d : Direction) (at : Region) (lo hi low high offset : ℤ) (size : ℕ) → low ≤ℤ lo → hi ≤ℤ high
       → may_leave_stack (Some (record { direction = d; region = at; low = low +ℤ offset; high = high +ℤ offset; size = size })) ≡ false → may_leave_stack (Some (record { direction = d; region = at; low = lo +ℤ offset; high = hi +ℤ offset; size = size })) ≡ false
-  stack_within d region.Stack lo hi low high offset size p q c = not_from_true _ (reach_within d region.Stack lo hi low high offset size stack_size stack_size p q (omega arith) (not-false _ c))
+  stack_within d region.Stack lo hi low high offset size p q c = not_from_true _ (reach_within d region.Stack lo hi low high offset size STACK_SIZE STACK_SIZE p q (omega arith) (not-false _ c))
   stack_within d region.Key lo hi low high offset size p q c = refl
   stack_within d region.Value lo hi low high offset size p q c = refl
 
@@ -112,7 +126,7 @@ module _ (a b : Abstract) (w : IsWithin a b) (pa : is_proper a ≡ true) (pb : i
   unset_within direction.Write at lo hi low high offset size p order q c u = refl
   unset_within direction.Read region.Stack lo hi low high offset size p order q c u =
       let t = and_parts _ _ (not-false _ c) in
-      not_from_true _ (set_within a.set b.set (lo +ℤ offset) (hi +ℤ offset) (low +ℤ offset) (high +ℤ offset) size w.set (omega (arith, ints)) (omega (arith, ints)) (omega (arith, ints)) (le_z-true (pos 0) (low +ℤ offset) t.0) (le_z-true ((high +ℤ offset) +ℤ pos size) (pos stack_size) t.1) (not-false _ u))
+      not_from_true _ (set_within a.set b.set (lo +ℤ offset) (hi +ℤ offset) (low +ℤ offset) (high +ℤ offset) size w.set (omega (arith, ints)) (omega (arith, ints)) (omega (arith, ints)) (le_z-true (pos 0) (low +ℤ offset) t.0) (le_z-true ((high +ℤ offset) +ℤ pos size) (pos STACK_SIZE) t.1) (not-false _ u))
   unset_within direction.Read region.Key lo hi low high offset size p order q c u = refl
   unset_within direction.Read region.Value lo hi low high offset size p order q c u = refl
 
@@ -212,11 +226,54 @@ module _ (a b : Abstract) (w : IsWithin a b) (pa : is_proper a ≡ true) (pb : i
   set_edge : (r : ℕ) (j k : Abs) → is_kind_within a j k ≡ true → is_within (with_kind a r j) (with_kind b r k) ≡ true
   set_edge r j k h = within_from _ _ (within_set a b w pa pb r j k h)
 
-  loaded_kept : (size : Size) → is_kind_within a (loaded_kind size) (loaded_kind size) ≡ true
-  loaded_kept size.Byte = refl
-  loaded_kept size.Half = refl
-  loaded_kept size.Word = refl
-  loaded_kept size.Double = refl
+  loaded_kept : (size : Size) (extension : Extension) → is_kind_within a (loaded_kind size extension) (loaded_kind size extension) ≡ true
+  loaded_kept size.Byte Zero = refl
+  loaded_kept size.Half Zero = refl
+  loaded_kept size.Word Zero = refl
+  loaded_kept size.Double Zero = refl
+  loaded_kept size Sign = refl
+
+  -- a store sets the bytes of a narrower address where it sets those of a wider one
+  stored_set : (at : Region) (lo hi low high offset : ℤ) (size q : ℕ) → low ≤ℤ lo → lo ≤ℤ hi → hi ≤ℤ high → q < 512
+      → is_set (with_stored b.set (Some (record { direction = direction.Write; region = at; low = low +ℤ offset; high = high +ℤ offset; size = size }))) q ≡ true
+      → is_set (with_stored a.set (Some (record { direction = direction.Write; region = at; low = lo +ℤ offset; high = hi +ℤ offset; size = size }))) q ≡ true
+  stored_set at lo hi low high offset size q p order r inside h = elim (cases_Bool (is_stack at && int_eq (low +ℤ offset) (high +ℤ offset))) [
+    | inl one ↦
+        let parts : (is_stack at ≡ true) × (int_eq (low +ℤ offset) (high +ℤ offset) ≡ true) = and_parts (is_stack at) (int_eq (low +ℤ offset) (high +ℤ offset)) one in
+        let same : (low +ℤ offset) ≡ (high +ℤ offset) = (Decides-int_eq (low +ℤ offset) (high +ℤ offset)).0 parts.1 in
+        let ends : (lo +ℤ offset) ≡ (hi +ℤ offset) = omega (arith, ints) in
+        let starts : unsigned_abs (low +ℤ offset) ≡ unsigned_abs (lo +ℤ offset) =
+        (let is : (low +ℤ offset) ≡ (lo +ℤ offset) = omega (arith, ints) in ap unsigned_abs is) in
+        let inner = and_from _ _ parts.0 ((Decides-int_eq (lo +ℤ offset) (hi +ℤ offset)).1 ends) in
+        subst (λ s. is_set s q ≡ true) (sym (cond-true _ _ _ inner))
+        (⊎_elim
+        (λ before. places_kept a.set (unsigned_abs (lo +ℤ offset)) size q inside (w.set q inside before))
+        (λ among. places_set a.set (unsigned_abs (lo +ℤ offset)) size q inside (omega (arith, among.0, starts)) (omega (arith, among.1, starts)))
+        (places_only b.set (unsigned_abs (low +ℤ offset)) size q inside (subst (λ s. is_set s q ≡ true) (cond-true _ _ _ one) h)))
+    | inr many ↦
+        stored_kept a.set at (lo +ℤ offset) (hi +ℤ offset) size q inside (w.set q inside (subst (λ s. is_set s q ≡ true) (cond-false _ _ _ many) h))
+  ]
+
+  set_kept : (set outer : StackSet) → ((q : ℕ) → q < 512 → is_set outer q ≡ true → is_set set q ≡ true) → is_within (record a { set = set }) (record b { set = outer }) ≡ true
+  set_kept set outer kept = within_from _ _ (record {
+    kinds = λ q low. kind_within_narrower a (record a { set = set }) (kind_at a q) (kind_at b q) (other_set a set) (w.kinds q low);
+    key_min = w.key_min;
+    key_max = w.key_max;
+    value_min = w.value_min;
+    value_max = w.value_max;
+    set = kept;
+  })
+
+  store_edge : (size : Size) (base : ℕ) (offset : ℤ) → is_address_kind (kind_at b base) ≡ true
+      → is_within (record a { set = with_stored a.set (reach_at direction.Write (kind_at a base) offset size) }) (record b { set = with_stored b.set (reach_at direction.Write (kind_at b base) offset size) }) ≡ true
+  store_edge size base offset address =
+      let x = bases base address in
+      let kept : (q : ℕ) → q < 512 → is_set (with_stored b.set (reach_at direction.Write (kind_at b base) offset size)) q ≡ true → is_set (with_stored a.set (reach_at direction.Write (kind_at a base) offset size)) q ≡ true =
+      rw (x.inner, x.outer) (λ q. stored_set x.at x.lo x.hi x.low x.high offset (byte_count size) q x.from x.order x.to) in
+      set_kept _ _ kept
+
+  same_number : (n : ℕ) → is_kind_within a (abs.Num n n) (abs.Num n n) ≡ true
+  same_number n = and_from _ _ (le-leb n n (omega arith)) (le-leb n n (omega arith))
 
   call_edge : (helper : Option Helper) → is_edge_covered (called_kinds helper a) (called_kinds helper b) ≡ true
   call_edge None = refl
@@ -248,8 +305,11 @@ module _ (a b : Abstract) (w : IsWithin a b) (pa : is_proper a ≡ true) (pb : i
   falls_kept (Unary change dst src) h p =
       let ranges = ranges_within a b (narrower a b w) pa pb (kind_at a src) (kind_at b src) (proper_kind a src pa) (proper_kind b src pb) (kind_within a b w pb src) (not-false _ p.operands) in
       set_edge dst (changed_kind a change (kind_at a src)) (changed_kind b change (kind_at b src)) (changed_within a b change (kind_at a src) (kind_at b src) ranges)
-  falls_kept (Load size dst base offset) h p = set_edge dst (loaded_kind size) (loaded_kind size) (loaded_kept size)
+  falls_kept (Load size extension dst base offset) h p = set_edge dst (loaded_kind size extension) (loaded_kind size extension) (loaded_kept size extension)
+  falls_kept (Store size base offset source) h p = store_edge size base offset (not-false _ p.base)
   falls_kept (JumpIf width test dst source offset) h p = tested_within a b w pa pb width test false dst source h (and_parts _ _ (not-false _ p.condition)).0
+  falls_kept (Jump distance) h p = refl
+  falls_kept (Wide dst number) h p = set_edge dst (abs.Num number number) (abs.Num number number) (same_number number)
   falls_kept (Call number) h p = call_edge (helper_of number)
   falls_kept Exit h p = refl
 

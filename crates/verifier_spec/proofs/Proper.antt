@@ -4,6 +4,7 @@ use Rattle.std.specs.List.{list_all}
 use Rattle.std.proofs.lemmas.Bool.{and_parts, and_from, leb-true, le-leb, ltb-true, lt-ltb, eqb-true, eq-eqb, false≢true}
 use Rattle.std.proofs.lemmas.Option.{same_Some, none-some}
 use Rattle.std.proofs.lemmas.List.{get_or_past}
+use Rattle.wire_spec.specs.declared.limits.TheConstants.{MAX_KEY, MAX_VALUE}
 use Rattle.machine_spec.specs.declared.operation.Width.{Width}
 use Rattle.machine_spec.specs.declared.operation.Width.TheVariants.{Bits32, Bits64}
 use Rattle.machine_spec.specs.declared.instruction.Source.{Source}
@@ -17,7 +18,7 @@ use Rattle.verifier_spec.specs.declared.state.Abs.TheVariants as abs
 use Rattle.verifier_spec.specs.declared.state.Abstract.{Abstract}
 use Rattle.verifier_spec.specs.Intervals.{from_to, IsRangeOf}
 use Rattle.verifier_spec.specs.Checks.{source_kind}
-use Rattle.verifier_spec.specs.Kinds.{kind_at, least, greatest, range_of, is_number_kind, is_proper_kind, key_limit, value_limit}
+use Rattle.verifier_spec.specs.Kinds.{kind_at, least, greatest, range_of, is_number_kind, is_proper_kind}
 use Rattle.verifier_spec.specs.States.{is_proper}
 use Rattle.verifier_spec.specs.Transfer.{with_kind}
 use Rattle.verifier_spec.proofs.Whole.{le_z-true}
@@ -26,9 +27,9 @@ pub record IsProper (a : Abstract) : Type 0 where
   pub eleven : length a.registers ≡ 11
   pub kinds : list_all is_proper_kind a.registers ≡ true
   pub key_order : a.key_min ≤ a.key_max
-  pub key_limited : a.key_max ≤ key_limit
+  pub key_limited : a.key_max ≤ MAX_KEY
   pub value_order : a.value_min ≤ a.value_max
-  pub value_limited : a.value_max ≤ value_limit
+  pub value_limited : a.value_max ≤ MAX_VALUE
 
 pub proper_parts : (a : Abstract) → is_proper a ≡ true → IsProper a
 unfolding is_proper

@@ -13,6 +13,7 @@ use Rattle.machine_spec.specs.Values.{immediate, moves_address}
 use Rattle.verifier_spec.specs.declared.interval.Interval.{Interval}
 use Rattle.verifier_spec.specs.declared.state.Abs.{Abs}
 use Rattle.verifier_spec.specs.declared.state.Abs.TheVariants as abs
+use Rattle.verifier_spec.specs.declared.state.StackSet.{StackSet}
 use Rattle.verifier_spec.specs.declared.state.Abstract.{Abstract}
 use Rattle.verifier_spec.specs.Intervals.{from_to, IsPartOf, IsRangeOf}
 use Rattle.verifier_spec.specs.Kinds.{kind_at, least, greatest, range_of, is_unknown, is_number_kind, is_address_kind, is_proper_kind, is_kind_within, same_region}
@@ -314,6 +315,20 @@ greatest_kept a kinds region.Value = omega arith
 -- a change of the registers' kinds keeps the lengths
 pub other_kinds : (a : Abstract) (kinds : List Abs) → IsNarrower (record a { registers = kinds }) a
 other_kinds a kinds = record { low = least_kept a kinds; high = greatest_kept a kinds }
+
+-- and so does one of the set of stack bytes
+set_least : (a : Abstract) (set : StackSet) (at : Region) → least a at ≤ least (record a { set = set }) at
+set_least a set region.Stack = omega arith
+set_least a set region.Key = omega arith
+set_least a set region.Value = omega arith
+
+set_greatest : (a : Abstract) (set : StackSet) (at : Region) → greatest (record a { set = set }) at ≤ greatest a at
+set_greatest a set region.Stack = omega arith
+set_greatest a set region.Key = omega arith
+set_greatest a set region.Value = omega arith
+
+pub other_set : (a : Abstract) (set : StackSet) → IsNarrower (record a { set = set }) a
+other_set a set = record { low = set_least a set; high = set_greatest a set }
 
 pairs_set : (P : Abs → Abs → Type 0) (js ks : List Abs) (r q : ℕ) (j k : Abs) → length js ≡ length ks → P (get_or js q abs.None) (get_or ks q abs.None) → P j k
     → P (get_or (set js r j) q abs.None) (get_or (set ks r k) q abs.None)

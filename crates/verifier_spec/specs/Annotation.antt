@@ -49,7 +49,7 @@ pub record IsAnnotation (code : List Placed) (notes : Notes) : Type 0 where
   pub long : length notes ≡ length code
   -- the state that every run begins in is within the first
   pub start : is_covered entry_state (note_at notes 0) ≡ true
-  -- jumps lead forward to instructions, and the last instruction is an EXIT
+  -- jumps lead forward to instructions, and the last instruction is an EXIT or a jump without a condition
   pub shape : (k : ℕ) (placed : Placed) → slice_get code k ≡ Some placed → first_of (shape_checks code k placed) ≡ None
   -- each reached instruction passes its checks
   pub checked : (k : ℕ) (placed : Placed) (s : Abstract) → slice_get code k ≡ Some placed → note_at notes k ≡ Some s → failed_check placed.instruction s ≡ None

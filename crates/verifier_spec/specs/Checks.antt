@@ -1,6 +1,7 @@
 -- The checks of an instruction, in the order in which they are told.
-use Rattle.std.specs.Prelude.{ℕ, zero, suc, ◌+◌, ◌^◌, ℤ, pos, ◌+ℤ◌, neg_ℤ, Bool, true, false, ◌==◌, ◌&&◌, ◌||◌, not, nat_lt, nat_le, int_lt, int_le, if◌then◌else◌, List, [], ◌∷◌, length, Option, Some, None, is_none, unsigned_abs}
+use Rattle.std.specs.Prelude.{ℕ, zero, suc, ◌+◌, ◌^◌, ℤ, pos, ◌+ℤ◌, neg_ℤ, Bool, true, false, ◌==◌, ◌&&◌, ◌||◌, not, nat_lt, nat_le, int_lt, int_le, if◌then◌else◌, List, [], ◌∷◌, length, Option, Some, None, is_some, is_none, unsigned_abs}
 use Rattle.std.specs.List.{list_any}
+use Rattle.machine_spec.specs.declared.limits.TheConstants.{STACK_SIZE}
 use Rattle.machine_spec.specs.declared.instruction.Region.{Region}
 use Rattle.machine_spec.specs.declared.instruction.Size.{Size}
 use Rattle.machine_spec.specs.declared.operation.Width.{Width}
@@ -22,7 +23,7 @@ use Rattle.machine_spec.specs.Summaries.{summary_of}
 use Rattle.machine_spec.specs.Image.{target_of}
 use Rattle.machine_spec.specs.Arithmetic.{signed}
 use Rattle.machine_spec.specs.Values.{immediate, moves_address, is_subtraction, byte_count}
-use Rattle.machine_spec.specs.Machine.{helper_of, stack_size}
+use Rattle.machine_spec.specs.Machine.{helper_of}
 use Rattle.machine_spec.specs.Traps.{writes_frame, calls_no_helper, read_registers, is_read, is_stack, first_of}
 use Rattle.verifier_spec.specs.declared.interval.Interval.{Interval}
 use Rattle.verifier_spec.specs.declared.state.Abs.{Abs}
@@ -69,10 +70,9 @@ can_compute_kinds s width operation (abs.Len _) b = is_number_kind b
 can_compute_kinds s width operation (abs.Addr _ low high) b = moves_address width operation && can_move operation low high (range_of s b)
 
 abbrev pub has_wrong_kinds : Operands → Abstract → Bool
-has_wrong_kinds operands.Nothing s = false
-has_wrong_kinds (operands.Any _) s = false
 has_wrong_kinds (operands.Number width source) s = not (is_number_kind (source_kind s width source))
 has_wrong_kinds (operands.Computed width operation dst source) s = not (can_compute_kinds s width operation (kind_at s dst) (source_kind s width source))
+has_wrong_kinds _ s = false
 
 abbrev pub has_wrong_base_kind : Option MemoryOperand → Abstract → Bool
 has_wrong_base_kind (Some m) s = not (is_address_kind (kind_at s m.base))
@@ -94,9 +94,7 @@ pub record Reach : Type 0 where
 
 abbrev pub reach_at : Direction → Abs → ℤ → Size → Option Reach
 reach_at direction (abs.Addr region lo hi) offset size = Some (record { direction = direction; region = region; low = lo +ℤ offset; high = hi +ℤ offset; size = byte_count size })
-reach_at direction abs.None offset size = None
-reach_at direction (abs.Num _ _) offset size = None
-reach_at direction (abs.Len _) offset size = None
+reach_at direction _ offset size = None
 
 abbrev pub reach_of : Option MemoryOperand → Abstract → Option Reach
 reach_of (Some m) s = reach_at m.direction (kind_at s m.base) m.offset m.size
@@ -116,7 +114,7 @@ may_leave_record s (Some reach) = if is_stack reach.region then false else not (
 may_leave_record s None = false
 
 abbrev pub may_leave_stack : Option Reach → Bool
-may_leave_stack (Some reach) = if is_stack reach.region then not (is_reach_within reach stack_size) else false
+may_leave_stack (Some reach) = if is_stack reach.region then not (is_reach_within reach STACK_SIZE) else false
 may_leave_stack None = false
 
 -- so many places from one on are all in the set
@@ -183,14 +181,18 @@ abbrev pub leads_back : Option ℤ → Bool
 leads_back (Some offset) = int_lt offset (pos 0)
 leads_back None = false
 
--- the last instruction is no EXIT
-abbrev pub runs_off : List Placed → ℕ → Bool → Bool
-runs_off code k exits = (k + 1 == length code) && not exits
+-- EXIT or a jump without a condition: the next instruction does not follow on it
+abbrev pub never_falls : Summary → Bool
+never_falls m = m.exits || (is_some m.jump && is_none m.condition)
+
+-- the last instruction is neither
+abbrev pub runs_off : List Placed → ℕ → Summary → Bool
+runs_off code k m = (k + 1 == length code) && not (never_falls m)
 
 -- of instruction number k
 abbrev pub shape_checks : List Placed → ℕ → Placed → List (Bool × Check)
 shape_checks code k placed =
     (leads_nowhere code placed.slot (jump_of placed.instruction), check.JumpTarget)
     ∷ (leads_back (jump_of placed.instruction), check.BackJump)
-    ∷ (runs_off code k (summary_of placed.instruction).exits, check.RunsOff)
+    ∷ (runs_off code k (summary_of placed.instruction), check.RunsOff)
     ∷ []

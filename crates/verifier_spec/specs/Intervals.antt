@@ -9,7 +9,7 @@ use Rattle.machine_spec.specs.declared.operation.Operation.TheVariants.{Add, Sub
 use Rattle.machine_spec.specs.declared.operation.Change.{Change}
 use Rattle.machine_spec.specs.declared.operation.Change.TheVariants.{Negate, Order, SignExtend}
 use Rattle.machine_spec.specs.declared.operation.Test.{Test}
-use Rattle.machine_spec.specs.declared.operation.Test.TheVariants.{Equal, NotEqual, Greater, GreaterOrEqual, Less, LessOrEqual, AnyBit, SignedGreater, SignedGreaterOrEqual, SignedLess, SignedLessOrEqual}
+use Rattle.machine_spec.specs.declared.operation.Test.TheVariants.{Equal, NotEqual, Greater, GreaterOrEqual, Less, LessOrEqual}
 use Rattle.machine_spec.specs.Arithmetic.{bit_count, limit, swapped_bits, extended_bits}
 use Rattle.verifier_spec.specs.declared.interval.Interval.{Interval}
 
@@ -157,11 +157,7 @@ narrowed_64 Less true x c = below x c
 narrowed_64 Less false x c = at_least x c
 narrowed_64 LessOrEqual true x c = at_most x c
 narrowed_64 LessOrEqual false x c = above x c
-narrowed_64 AnyBit _ x c = Some x
-narrowed_64 SignedGreater _ x c = Some x
-narrowed_64 SignedGreaterOrEqual _ x c = Some x
-narrowed_64 SignedLess _ x c = Some x
-narrowed_64 SignedLessOrEqual _ x c = Some x
+narrowed_64 _ _ x c = Some x
 
 -- a test of 32 bits leaves all
 abbrev pub narrowed : Width → Test → Bool → Interval → ℕ → Option Interval

@@ -9,9 +9,8 @@ use Rattle.verifier_spec.specs.Kinds.{range_of, same_region}
 
 -- the least interval that contains two; nothing is known where one of them is no number
 abbrev pub joined_ranges : Option Interval → Option Interval → Abs
-joined_ranges None b = abs.None
-joined_ranges (Some a) None = abs.None
 joined_ranges (Some a) (Some b) = abs.Num (min a.low b.low) (max a.high b.high)
+joined_ranges _ _ = abs.None
 
 -- The join of a kind in one state and a kind in another. A length joined with the same length stays a length; two other
 -- numbers give an interval, a length by the view of its own state.

@@ -1,10 +1,9 @@
 -- Abstract values of registers: their ranges and their order.
 use Rattle.std.specs.Prelude.{ℕ, ◌/◌, ◌%◌, ◌^◌, pos, neg_ℤ, Bool, true, false, ◌==◌, ◌&&◌, nat_lt, nat_le, int_le, slice_index, slice_index_or, Option, Some, None}
 use Rattle.std.specs.Int.{bit_at}
-use Rattle.wire_spec.specs.declared.limits.TheConstants.{MAX_KEY, MAX_VALUE}
+use Rattle.machine_spec.specs.declared.limits.TheConstants.{STACK_SIZE}
 use Rattle.machine_spec.specs.declared.instruction.Region.{Region}
 use Rattle.machine_spec.specs.declared.instruction.Region.TheVariants as region
-use Rattle.machine_spec.specs.Machine.{stack_size}
 use Rattle.verifier_spec.specs.declared.interval.Interval.{Interval}
 use Rattle.verifier_spec.specs.declared.state.Abs.{Abs}
 use Rattle.verifier_spec.specs.declared.state.Abs.TheVariants as abs
@@ -22,46 +21,33 @@ kind_at s r = slice_index_or s.registers r abs.None
 
 -- how long a region is at least, and at most; the stack has 512 bytes
 abbrev pub least : Abstract → Region → ℕ
-least s region.Stack = stack_size
+least s region.Stack = STACK_SIZE
 least s region.Key = s.key_min
 least s region.Value = s.value_min
 
 abbrev pub greatest : Abstract → Region → ℕ
-greatest s region.Stack = stack_size
+greatest s region.Stack = STACK_SIZE
 greatest s region.Key = s.key_max
 greatest s region.Value = s.value_max
 
--- the greatest key and value that a record has
-abbrev pub key_limit : ℕ
-key_limit = MAX_KEY
-
-abbrev pub value_limit : ℕ
-value_limit = MAX_VALUE
-
 -- the numbers that a kind stands for, if it stands for numbers
 abbrev pub range_of : Abstract → Abs → Option Interval
-range_of s abs.None = None
 range_of s (abs.Num lo hi) = Some (from_to lo hi)
 range_of s (abs.Len region) = Some (from_to (least s region) (greatest s region))
-range_of s (abs.Addr _ _ _) = None
+range_of s _ = None
 
 abbrev pub is_unknown : Abs → Bool
 is_unknown abs.None = true
-is_unknown (abs.Num _ _) = false
-is_unknown (abs.Len _) = false
-is_unknown (abs.Addr _ _ _) = false
+is_unknown _ = false
 
 abbrev pub is_number_kind : Abs → Bool
-is_number_kind abs.None = false
 is_number_kind (abs.Num _ _) = true
 is_number_kind (abs.Len _) = true
-is_number_kind (abs.Addr _ _ _) = false
+is_number_kind _ = false
 
 abbrev pub is_address_kind : Abs → Bool
-is_address_kind abs.None = false
-is_address_kind (abs.Num _ _) = false
-is_address_kind (abs.Len _) = false
 is_address_kind (abs.Addr _ _ _) = true
+is_address_kind _ = false
 
 -- ---- ranges of kinds
 
@@ -71,8 +57,7 @@ furthest = 2 ^ 32
 
 abbrev pub is_record_region : Region → Bool
 is_record_region region.Stack = false
-is_record_region region.Key = true
-is_record_region region.Value = true
+is_record_region _ = true
 
 -- an interval is not empty and in range; a length is the key's or the value's
 abbrev pub is_proper_kind : Abs → Bool

@@ -1,12 +1,13 @@
 -- Abstract states: their ranges, their order, and the one that every run begins in.
 use Rattle.std.specs.Prelude.{ℕ, zero, suc, pos, Bool, true, ◌==◌, ◌&&◌, ◌||◌, not, nat_le, [], ◌∷◌, length}
 use Rattle.std.specs.List.{list_all}
+use Rattle.wire_spec.specs.declared.limits.TheConstants.{MAX_KEY, MAX_VALUE}
+use Rattle.machine_spec.specs.declared.limits.TheConstants.{STACK_SIZE}
 use Rattle.machine_spec.specs.declared.instruction.Region.TheVariants as region
-use Rattle.machine_spec.specs.Machine.{stack_size}
 use Rattle.verifier_spec.specs.declared.state.Abs.TheVariants as abs
 use Rattle.verifier_spec.specs.declared.state.StackSet.{StackSet}
 use Rattle.verifier_spec.specs.declared.state.Abstract.{Abstract}
-use Rattle.verifier_spec.specs.Kinds.{is_set, kind_at, is_proper_kind, is_kind_within, key_limit, value_limit}
+use Rattle.verifier_spec.specs.Kinds.{is_set, kind_at, is_proper_kind, is_kind_within}
 
 -- a test holds of every number below one
 unfoldable pub each_below : ℕ → (ℕ → Bool) → Bool
@@ -16,8 +17,8 @@ each_below (suc n) test = each_below n test && test n
 -- The ranges of an abstract state: each kind's, and those of the least and greatest lengths.
 unfoldable pub is_proper : Abstract → Bool
 is_proper s =
-    (length s.registers == 11) && (list_all is_proper_kind s.registers && (nat_le s.key_min s.key_max && (nat_le s.key_max key_limit
-    && (nat_le s.value_min s.value_max && nat_le s.value_max value_limit))))
+    (length s.registers == 11) && (list_all is_proper_kind s.registers && (nat_le s.key_min s.key_max && (nat_le s.key_max MAX_KEY
+    && (nat_le s.value_min s.value_max && nat_le s.value_max MAX_VALUE))))
 
 -- A state is within another: each register is, its least lengths are not smaller and its greatest not greater, and no
 -- fewer bytes are set.
@@ -26,7 +27,7 @@ is_within inner outer =
     each_below 11 (λ r. is_kind_within inner (kind_at inner r) (kind_at outer r))
     && (nat_le outer.key_min inner.key_min && (nat_le inner.key_max outer.key_max
     && (nat_le outer.value_min inner.value_min && (nat_le inner.value_max outer.value_max
-    && each_below stack_size (λ place. not (is_set outer.set place) || is_set inner.set place)))))
+    && each_below STACK_SIZE (λ place. not (is_set outer.set place) || is_set inner.set place)))))
 
 abbrev pub no_places : StackSet
 no_places = record { words = 0 ∷ 0 ∷ 0 ∷ 0 ∷ 0 ∷ 0 ∷ 0 ∷ 0 ∷ [] }
@@ -37,10 +38,10 @@ abbrev pub entry_state : Abstract
 entry_state = record {
   registers =
       abs.None ∷ abs.Addr region.Value (pos 0) (pos 0) ∷ abs.Len region.Value ∷ abs.Addr region.Key (pos 0) (pos 0) ∷ abs.Len region.Key
-      ∷ abs.Num 0 3 ∷ abs.None ∷ abs.None ∷ abs.None ∷ abs.None ∷ abs.Addr region.Stack (pos stack_size) (pos stack_size) ∷ [];
+      ∷ abs.Num 0 3 ∷ abs.None ∷ abs.None ∷ abs.None ∷ abs.None ∷ abs.Addr region.Stack (pos STACK_SIZE) (pos STACK_SIZE) ∷ [];
   key_min = 0;
-  key_max = key_limit;
+  key_max = MAX_KEY;
   value_min = 0;
-  value_max = value_limit;
+  value_max = MAX_VALUE;
   set = no_places;
 }

@@ -1,5 +1,6 @@
 -- What an instruction makes of an abstract state, along each of its edges.
-use Rattle.std.specs.Prelude.{ℕ, ◌-◌, ◌*◌, ◌^◌, ℤ, ◌+ℤ◌, Bool, true, false, List, ◌∷◌, slice_set, Option, Some, None}
+use Rattle.std.specs.Prelude.{ℕ, zero, suc, ◌+◌, ◌-◌, ◌*◌, ◌/◌, ◌%◌, ◌^◌, ℤ, ◌+ℤ◌, Bool, true, false, ◌==◌, ◌&&◌, if◌then◌else◌, bit_or, List, [], ◌∷◌, map, slice_index, slice_set, Option, Some, None, unsigned_abs}
+use Rattle.std.specs.Ordering.{int_eq}
 use Rattle.machine_spec.specs.declared.operation.Width.{Width}
 use Rattle.machine_spec.specs.declared.operation.Width.TheVariants.{Bits32, Bits64}
 use Rattle.machine_spec.specs.declared.operation.Operation.{Operation}
@@ -8,23 +9,28 @@ use Rattle.machine_spec.specs.declared.operation.Test.{Test}
 use Rattle.machine_spec.specs.declared.instruction.Region.{Region}
 use Rattle.machine_spec.specs.declared.instruction.Region.TheVariants as region
 use Rattle.machine_spec.specs.declared.instruction.Size.{Size}
+use Rattle.machine_spec.specs.declared.instruction.Extension.{Extension}
+use Rattle.machine_spec.specs.declared.instruction.Extension.TheVariants.{Zero, Sign}
 use Rattle.machine_spec.specs.declared.instruction.Source.{Source}
 use Rattle.machine_spec.specs.declared.instruction.Source.TheVariants.{Register, Immediate}
 use Rattle.machine_spec.specs.declared.instruction.Instruction.{Instruction}
-use Rattle.machine_spec.specs.declared.instruction.Instruction.TheVariants.{Move, Compute, Unary, Load, JumpIf, Call, Exit}
+use Rattle.machine_spec.specs.declared.instruction.Instruction.TheVariants.{Move, Compute, Load, Unary, Store, JumpIf, Jump, Wide, Call, Exit}
 use Rattle.machine_spec.specs.declared.instruction.Helper.{Helper}
 use Rattle.machine_spec.specs.declared.instruction.Helper.TheVariants.{EmitRecord}
+use Rattle.machine_spec.specs.declared.summary.Direction.TheVariants.{Write}
 use Rattle.machine_spec.specs.declared.summary.Condition.{Condition}
 use Rattle.machine_spec.specs.Summaries.{summary_of}
 use Rattle.machine_spec.specs.Values.{immediate, byte_count}
 use Rattle.machine_spec.specs.Machine.{helper_of}
+use Rattle.machine_spec.specs.Traps.{is_stack}
 use Rattle.verifier_spec.specs.declared.interval.Interval.{Interval}
 use Rattle.verifier_spec.specs.declared.state.Abs.{Abs}
 use Rattle.verifier_spec.specs.declared.state.Abs.TheVariants as abs
+use Rattle.verifier_spec.specs.declared.state.StackSet.{StackSet}
 use Rattle.verifier_spec.specs.declared.state.Abstract.{Abstract}
 use Rattle.verifier_spec.specs.Intervals.{from_to, cut, result_range, changed_range, narrowed}
 use Rattle.verifier_spec.specs.Kinds.{kind_at, range_of}
-use Rattle.verifier_spec.specs.Checks.{source_kind, least_displacement, greatest_displacement}
+use Rattle.verifier_spec.specs.Checks.{source_kind, least_displacement, greatest_displacement, Reach, reach_at}
 
 -- a register's kind changed
 abbrev pub with_kind : Abstract → ℕ → Abs → Abstract
@@ -43,8 +49,7 @@ on_range f None = abs.None
 
 abbrev pub on_ranges : Width → Operation → Option Interval → Option Interval → Abs
 on_ranges width operation (Some a) (Some b) = numbers (result_range width operation a b)
-on_ranges width operation (Some a) None = abs.None
-on_ranges width operation None b = abs.None
+on_ranges width operation _ _ = abs.None
 
 -- an address moved by a number that is read as signed
 abbrev pub moved_address : Operation → Region → ℤ → ℤ → Option Interval → Abs
@@ -67,9 +72,27 @@ computed_kind s width operation (abs.Addr region low high) b = moved_address ope
 abbrev pub changed_kind : Abstract → Change → Abs → Abs
 changed_kind s change kind = on_range (changed_range change) (range_of s kind)
 
--- a number of so many bytes
-abbrev pub loaded_kind : Size → Abs
-loaded_kind size = abs.Num 0 (2 ^ (8 * byte_count size) - 1)
+-- ---- memory
+
+-- a number of so many bytes; one that is sign-extended may be any
+abbrev pub loaded_kind : Size → Extension → Abs
+loaded_kind size Zero = abs.Num 0 (2 ^ (8 * byte_count size) - 1)
+loaded_kind size Sign = abs.Num 0 (2 ^ 64 - 1)
+
+-- a place of the stack, or so many from one on, added to a set of them, which has eight words
+abbrev pub with_place : StackSet → ℕ → StackSet
+with_place set place = record {
+  words = map (λ w. bit_or (slice_index set.words w) (if w == place / 64 then 2 ^ (place % 64) else 0)) (0 ∷ 1 ∷ 2 ∷ 3 ∷ 4 ∷ 5 ∷ 6 ∷ 7 ∷ []);
+}
+
+abbrev pub with_places : StackSet → ℕ → ℕ → StackSet
+with_places set place zero = set
+with_places set place (suc count) = with_places (with_place set place) (place + 1) count
+
+-- a store at one known place of the stack sets its bytes; any other changes nothing that is known
+abbrev pub with_stored : StackSet → Option Reach → StackSet
+with_stored set (Some reach) = if is_stack reach.region && int_eq reach.low reach.high then with_places set (unsigned_abs reach.low) reach.size else set
+with_stored set None = set
 
 -- ---- conditional jumps by a constant
 
@@ -82,10 +105,9 @@ with_length s region.Value range = record s { value_min = range.low; value_max =
 -- a number takes the new interval; a length stays one, and its region's least and greatest lengths are the new ends
 abbrev pub with_range : Abstract → ℕ → Abs → Option Interval → Option Abstract
 with_range s r kind None = None
-with_range s r abs.None (Some range) = Some s
 with_range s r (abs.Num _ _) (Some range) = Some (with_kind s r (numbers range))
 with_range s r (abs.Len region) (Some range) = Some (with_length s region range)
-with_range s r (abs.Addr _ _ _) (Some range) = Some s
+with_range s r _ (Some range) = Some s
 
 abbrev pub narrowed_range : Width → Test → Bool → Option Interval → ℕ → Option Interval
 narrowed_range width test taken (Some range) c = narrowed width test taken range c
@@ -122,8 +144,11 @@ unfoldable pub falls_to : Instruction → Abstract → Option Abstract
 falls_to (Move width dst source) s = Some (with_kind s dst (moved_kind s width (source_kind s width source)))
 falls_to (Compute width operation dst source) s = Some (with_kind s dst (computed_kind s width operation (kind_at s dst) (source_kind s width source)))
 falls_to (Unary change dst src) s = Some (with_kind s dst (changed_kind s change (kind_at s src)))
-falls_to (Load size dst base offset) s = Some (with_kind s dst (loaded_kind size))
+falls_to (Load size extension dst base offset) s = Some (with_kind s dst (loaded_kind size extension))
+falls_to (Store size base offset source) s = Some (record s { set = with_stored s.set (reach_at Write (kind_at s base) offset size) })
 falls_to (JumpIf width test dst source offset) s = tested s width test false dst source
+falls_to (Jump distance) s = None
+falls_to (Wide dst number) s = Some (with_kind s dst (abs.Num number number))
 falls_to (Call number) s = called_kinds (helper_of number) s
 falls_to Exit s = None
 

@@ -10,7 +10,7 @@ pub enum Check {
     /// A jump goes back.
     #[error("V2 BackJump")]
     BackJump,
-    /// The last instruction is no EXIT.
+    /// The last instruction is neither an EXIT nor a jump without a condition.
     #[error("V3 RunsOff")]
     RunsOff,
     /// A register that is read may have no value.
@@ -25,7 +25,7 @@ pub enum Check {
     /// A load could read outside the key or the value.
     #[error("V7 RecordBounds")]
     RecordBounds,
-    /// A load could read outside the stack.
+    /// A load or a store could reach outside the stack.
     #[error("V8 StackBounds")]
     StackBounds,
     /// A load could read a stack byte that is not set.

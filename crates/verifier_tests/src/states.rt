@@ -1,5 +1,7 @@
 use abstract_regs::{Abs, Check, StackSet, State};
-use machine_spec::{Instruction, Operation, Region, Size, Source, Test, Width};
+use machine_spec::{
+    Distance, Extension, Instruction, Operation, Region, Size, Source, Test, Width,
+};
 
 /// The kinds at the start of a run.
 fn first_kinds() -> [Abs; 11] {
@@ -187,17 +189,44 @@ fn sets_registers(rt: HostRuntime) {
 #[test]
 fn loads_numbers(rt: HostRuntime) {
     let state = with_lengths(8, 8, 8, 8).expect(&rt, "in range");
-    for (size, most) in [
-        (Size::Byte, 255),
-        (Size::Half, 65535),
-        (Size::Word, 4_294_967_295),
-        (Size::Double, u64::MAX),
+    for (size, extension, most) in [
+        (Size::Byte, Extension::Zero, 255),
+        (Size::Half, Extension::Zero, 65535),
+        (Size::Word, Extension::Zero, 4_294_967_295),
+        (Size::Double, Extension::Zero, u64::MAX),
+        (Size::Byte, Extension::Sign, u64::MAX),
+        (Size::Half, Extension::Sign, u64::MAX),
+        (Size::Word, Extension::Sign, u64::MAX),
     ] {
-        let load = Instruction::Load(size, 0, 1, 0);
+        let load = Instruction::Load(size, extension, 0, 1, 0);
         assert_eq!(rt;
             kind_after(&state, load, 0),
             Some(Abs::Num(0, most)),
-            "{size:?}"
+            "{size:?} {extension:?}"
+        );
+    }
+    let wide = Instruction::Wide(0, 8_589_934_591);
+    assert_eq!(rt;
+        kind_after(&state, wide, 0),
+        Some(Abs::Num(8_589_934_591, 8_589_934_591))
+    );
+}
+
+#[test]
+fn computes_intervals(rt: HostRuntime) {
+    for (operation, a, b, want) in [
+        (Operation::And, (5, 9), (3, 3), (0, 3)),
+        (Operation::Or, (0, 5), (0, 8), (0, 15)),
+        (Operation::Sub, (5, 9), (2, 3), (2, 7)),
+        (Operation::Mul, (2, 3), (4, 5), (8, 15)),
+        (Operation::LeftShift, (2, 3), (65, 65), (4, 6)),
+    ] {
+        let state = with_two(Abs::Num(a.0, a.1), Abs::Num(b.0, b.1)).expect(&rt, "in range");
+        let compute = Instruction::Compute(Width::Bits64, operation, 1, Source::Register(2));
+        assert_eq!(rt;
+            kind_after(&state, compute, 1),
+            Some(Abs::Num(want.0, want.1)),
+            "{operation:?}"
         );
     }
 }
@@ -279,7 +308,9 @@ fn bounds_lengths(rt: HostRuntime) {
 #[test]
 fn checks_in_order(rt: HostRuntime) {
     let entry = State::entry();
-    let load = |base: u8, offset: i16| Instruction::Load(Size::Byte, 0, base, offset);
+    let load = |base: u8, offset: i16| {
+        Instruction::Load(Size::Byte, Extension::Zero, 0, base, offset)
+    };
     for (instruction, want) in [
         (set(10, Source::Register(0)), Some(Check::Frame)),
         (Instruction::Call(99), Some(Check::Helper)),
@@ -308,6 +339,58 @@ fn checks_in_order(rt: HostRuntime) {
     assert_eq!(rt; address.check(Instruction::Exit), Some(Check::Exit));
 }
 
+/// Of two checks that an instruction fails the one before the other is told.
+#[test]
+fn tells_the_first_of_two_faults(rt: HostRuntime) {
+    let entry = State::entry();
+    let load = |dst: u8, offset: i16| {
+        Instruction::Load(Size::Byte, Extension::Zero, dst, 10, offset)
+    };
+    let store = |base: u8, source: Source| Instruction::Store(Size::Byte, base, 0, source);
+    let zero = Source::Immediate(0);
+    for (instruction, want) in [
+        // V6 and V4, V5, V7, V8, V9
+        (set(10, Source::Register(0)), Check::Frame),
+        (add(10, Source::Register(1)), Check::Frame),
+        (
+            Instruction::Load(Size::Byte, Extension::Zero, 10, 1, 0),
+            Check::Frame,
+        ),
+        (load(10, 0), Check::Frame),
+        (load(10, -1), Check::Frame),
+        // V4 and V5, V10, V7
+        (add(1, Source::Register(0)), Check::Unset),
+        (store(0, zero), Check::Unset),
+        (store(1, Source::Register(0)), Check::Unset),
+        // V5 and V10, V7, V8
+        (store(1, Source::Register(3)), Check::WrongType),
+        (store(10, Source::Register(3)), Check::WrongType),
+        // V10 and V7
+        (store(1, zero), Check::ReadOnly),
+        (store(3, Source::Register(2)), Check::ReadOnly),
+        // V8 and V9
+        (load(0, 0), Check::StackBounds),
+        // V4 and V13
+        (Instruction::Exit, Check::Unset),
+    ] {
+        let failed = entry.check(instruction);
+        assert_eq!(rt; failed, Some(want), "{instruction:?}");
+    }
+    // V4 and V12
+    let bare = with_two(Abs::None, Abs::None).expect(&rt, "in range");
+    assert_eq!(rt; bare.check(Instruction::Call(3)), Some(Check::Unset));
+}
+
+#[test]
+fn jumps_without_a_condition(rt: HostRuntime) {
+    let entry = State::entry();
+    for distance in [Distance::Short(1), Distance::Long(1)] {
+        let (next, target) = edges(&entry, Instruction::Jump(distance));
+        assert!(rt; next.is_none());
+        assert!(rt; are_same(&target.expect(&rt, "taken"), &entry));
+    }
+}
+
 #[test]
 fn keeps_addresses_near(rt: HostRuntime) {
     let edge = 4_294_967_296;
@@ -333,7 +416,9 @@ fn keeps_addresses_near(rt: HostRuntime) {
 
 #[test]
 fn reads_what_is_known_to_be_there(rt: HostRuntime) {
-    let load = |size: Size, base: u8, offset: i16| Instruction::Load(size, 0, base, offset);
+    let load = |size: Size, base: u8, offset: i16| {
+        Instruction::Load(size, Extension::Zero, 0, base, offset)
+    };
     let sixteen = with_lengths(4, 4096, 16, 65536).expect(&rt, "in range");
     let fifteen = with_lengths(4, 4096, 15, 65536).expect(&rt, "in range");
     let refused = Some(Check::RecordBounds);

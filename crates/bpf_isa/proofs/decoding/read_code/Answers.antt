@@ -4,7 +4,7 @@ use Rattle.machine_spec.specs.Image.{slot_count, slots_of}
 use Rattle.machine_spec.specs.declared.instruction.Placed.{Placed}
 use Rattle.bpf_isa.specs.Code.{IsTable}
 use Rattle.bpf_isa.proofs.Bytes.{some_slots}
-use Rattle.bpf_isa.proofs.Reading.{starts, table_none, goes_on, ends, is_done, refuses, kept}
+use Rattle.bpf_isa.proofs.Reading.{starts, table_none, goes_on, ends, is_done, kept}
 use Rattle.bpf_isa.proofs.decoding.read_code.Goals as goal
 
 pub loop-slot-init : goal.loop-slot-init
@@ -18,7 +18,7 @@ returns-in_err-instruction c =
     let p = err_from_is_err_and c.from_residual-in_err-instruction.result c.from_residual-in_err-instruction.ensures.1 in
     let within : c.loop-slot.slot < slot_count c.args.image.now = c.loop-slot-test.true in
     let total = ends c.args.image.now c.loop-slot.placed.items c.loop-slot.slot c.in_err-instruction.field-0.0 _ c.loop-slot.invariant.few within (sym c.in_err-instruction.ensures) c.loop-slot.invariant.so_far in
-    rw (p.1, p.2) (refuses c.in_err-instruction.field-0.0 _ total)
+    rw (p.1, p.2) (λ _. total)
 
 pub loop-slot-preserved : goal.loop-slot-preserved
 loop-slot-preserved c =
@@ -36,7 +36,7 @@ loop-slot-preserved c =
       slots = omega arith;
       few = omega arith;
       table = table;
-      so_far = rw (longer, code, c.slots_of.ensures.is) so_far;
+      so_far = rw (longer, code, c.slots_of-slot.ensures.is) so_far;
     }
 
 pub invariant_of-result : goal.invariant_of-result

@@ -1,6 +1,6 @@
 use Rattle.std.proofs.Common.{◌<◌, length, bit_and, slice_index, refl, ◌∙◌, arith, length-set}
 use Rattle.verifier_spec.proofs.Joins.{pairwise_from, pairwise_more}
-use Rattle.abstract_regs.proofs.join.joined_words.Goals as goal
+use Rattle.stack_bytes.proofs.order.joined_words.Goals as goal
 
 pub loop-word-preserved : goal.loop-word-preserved
 loop-word-preserved c =

@@ -1,8 +1,8 @@
 use Rattle.std.proofs.Common.{rules, arith, sym, inl, inr}
 use Rattle.std.proofs.lemmas.Bool.{cases_Bool}
 use Rattle.verifier_spec.specs.States.{each_below}
-use Rattle.abstract_regs.proofs.Below.{covers, words_cover, word_covers}
-use Rattle.abstract_regs.proofs.order.are_words_within.Goals as goal
+use Rattle.stack_bytes.proofs.Words.{covers, words_cover, word_covers}
+use Rattle.stack_bytes.proofs.order.are_words_within.Goals as goal
 
 pub returns-then-inner-word : goal.returns-then-inner-word
 returns-then-inner-word c = elim (cases_Bool (each_below 512 (covers c.args.inner.now c.args.outer.now))) [

@@ -1,6 +1,6 @@
 use Rattle.std.proofs.Common.{ℕ, ◌<◌}
-use Rattle.abstract_regs.proofs.Below.{HasBits}
-use Rattle.abstract_regs.proofs.order.are_words_within.Given as goal
+use Rattle.stack_bytes.proofs.Words.{HasBits}
+use Rattle.stack_bytes.proofs.order.are_words_within.Given as goal
 
 abbrev pub invariant-loop-word : goal.invariant-loop-word
 invariant-loop-word l = (w : ℕ) → w < l.word → HasBits l.inner l.outer w

@@ -1,0 +1,37 @@
+-- Where a store that stays in the stack writes.
+use Rattle.std.proofs.Common.{◌≡◌, ℕ, ◌+◌, ◌<◌, ◌≤◌, ℤ, pos, negsuc, ◌+ℤ◌, ◌≤ℤ◌, true, false, unsigned_abs, arith}
+use Rattle.std.specs.Ordering.{int_eq}
+use Rattle.std.proofs.lemmas.Bool.{and_parts, not-false, false≢true}
+use Rattle.std.proofs.lemmas.Bool.Decides.{Decides-int_eq}
+use Rattle.std.proofs.lemmas.Int.{ints}
+use Rattle.machine_spec.specs.declared.instruction.Region.{Region}
+use Rattle.machine_spec.specs.declared.instruction.Region.TheVariants as region
+use Rattle.machine_spec.specs.declared.instruction.Size.{Size}
+use Rattle.machine_spec.specs.declared.instruction.Size.TheVariants as size
+use Rattle.machine_spec.specs.declared.summary.Direction.TheVariants.{Write}
+use Rattle.machine_spec.specs.Values.{byte_count}
+use Rattle.machine_spec.specs.Traps.{is_stack}
+use Rattle.verifier_spec.specs.declared.state.Abs.TheVariants as abs
+use Rattle.verifier_spec.specs.Checks.{reach_at, may_leave_stack}
+use Rattle.verifier_spec.proofs.Whole.{le_z-true, negative}
+
+some_byte : (size : Size) → 1 ≤ byte_count size
+some_byte size.Byte = omega arith
+some_byte size.Half = omega arith
+some_byte size.Word = omega arith
+some_byte size.Double = omega arith
+
+abs_below : (z : ℤ) (n : ℕ) → pos 0 ≤ℤ z → (z +ℤ pos n) ≤ℤ pos 512 → 1 ≤ n → unsigned_abs z < 512
+abs_below (pos m) n from to some = omega (arith, ints)
+abs_below (negsuc m) n from to some = absurd (negative m from)
+
+-- at one place it is below the stack's end
+pub place_inside : (at : Region) (low high offset : ℤ) (size : Size) → is_stack at ≡ true → int_eq (low +ℤ offset) (high +ℤ offset) ≡ true
+    → may_leave_stack (reach_at Write (abs.Addr at low high) offset size) ≡ false → unsigned_abs (low +ℤ offset) < 512
+place_inside region.Stack low high offset size stack one inside =
+    let p = and_parts _ _ (not-false _ inside) in
+    let same : (low +ℤ offset) ≡ (high +ℤ offset) = (Decides-int_eq (low +ℤ offset) (high +ℤ offset)).0 one in
+    let end = le_z-true ((high +ℤ offset) +ℤ pos (byte_count size)) (pos 512) p.1 in
+    abs_below (low +ℤ offset) (byte_count size) (le_z-true (pos 0) (low +ℤ offset) p.0) (omega (arith, ints)) (some_byte size)
+place_inside region.Key low high offset size stack one inside = absurd (false≢true stack)
+place_inside region.Value low high offset size stack one inside = absurd (false≢true stack)
