@@ -103,8 +103,14 @@ fn lines(alloc: Global, count: usize) -> Result<String, AllocError> {
 #[test]
 fn the_lowest_line(rt: HostRuntime) -> Result<(), Fail> {
     let alloc = rt.alloc();
-    assert_eq!(rt; fault_of(alloc, "exit\n\n# one\nmov64 r0\nfoo"), Some(AsmFault::Operand(4)));
-    assert_eq!(rt; fault_of(alloc, "foo\nmov64 r11, 0\n"), Some(AsmFault::Word(1)));
+    assert_eq!(rt;
+        fault_of(alloc, "exit\n\n# one\nmov64 r0\nfoo"),
+        Some(AsmFault::Operand(4))
+    );
+    assert_eq!(rt;
+        fault_of(alloc, "foo\nmov64 r11, 0\n"),
+        Some(AsmFault::Word(1))
+    );
     let mut text = lines(alloc, 4095)?;
     text.push_str("imm64 r0, 0\nfoo\n")?;
     assert_eq!(rt; fault_of(alloc, text.as_str()), Some(AsmFault::Size(4096)));

@@ -65,8 +65,8 @@ read_more text line old new number start end within place is added before =
     let later = lines_from text (start + (end + 1)) in
     record {
       so_far = before.so_far ∙ ap (λ (l : List (List ℕ)). before_bytes old (lines_image number (length old) l)) (next_line text start end within place)
-        ∙ ap (λ (l : List ℕ). before_bytes old (lines_image number (length old) (l ∷ later))) (sym is)
-        ∙ added.whatever (λ (size : ℕ). lines_image (number + 1) size later);
+          ∙ ap (λ (l : List ℕ). before_bytes old (lines_image number (length old) (l ∷ later))) (sym is)
+          ∙ added.whatever (λ (size : ℕ). lines_image (number + 1) size later);
     }
 
 pub read_refused : (text line old : List ℕ) (number start end : ℕ) (f : AsmFault) → start ≤ length text → end ≡ position_or_len is_line_feed (drop start text) → line ≡ take end (drop start text)
@@ -97,7 +97,7 @@ added_fits number i old new is fits =
     let small : leb (length old + length (spelling i)) 32768 ≡ true = le-leb _ _ (omega arith) in
     record {
       whatever = λ later. ap (λ (b : Bool). before_bytes old (if_fits number (length old) i later b)) small ∙ twice old (spelling i) (later (length old + length (spelling i)))
-        ∙ ap (λ (l : List ℕ). before_bytes l (later (length old + length (spelling i)))) (sym is) ∙ ap (λ (n : ℕ). before_bytes new (later n)) (sym size);
+          ∙ ap (λ (l : List ℕ). before_bytes l (later (length old + length (spelling i)))) (sym is) ∙ ap (λ (n : ℕ). before_bytes new (later n)) (sym size);
     }
 
 pub refused_past : (number : ℕ) (i : Instruction) (old new : List ℕ) → new ≡ old ++ spelling i → 32768 < length new → IsRefused number (Ok (Some i)) old (asm.Size number)

@@ -21,8 +21,8 @@ use Rattle.bpf_asm.specs.Words.{form_named}
 use Rattle.bpf_asm.specs.Reading.{with_one, with_two, with_three, single, pair, triple, is_empty, read_change, read_stored, read_distance, read_operands, read_form, read_trimmed, some_read, read_line, operands_in, rest_of, is_space, after_spaces, before_spaces}
 
 on_choice : {A : Type 0} (b : Bool) (x y z : A) (P : Type 0) → cond b x y ≡ z → (x ≡ z → P) → (y ≡ z → P) → P
-on_choice true x y z P e yes no = yes e
-on_choice false x y z P e yes no = no e
+on_choice true x y z P e held failed = held e
+on_choice false x y z P e held failed = failed e
 
 -- ---- what a reading that succeeds was made of
 
@@ -31,7 +31,10 @@ pub record IsMade {A B : Type 0} (make : A → B) (reading : Result A LineFault)
   pub reads : reading ≡ Ok from
   pub gives : make from ≡ b
 
-same_ok : {A : Type 0} (a b : A) → Ok {E = LineFault} a ≡ Ok b → a ≡ b
+abbrev read : {A : Type 0} → A → Result A LineFault
+read a = Ok a
+
+same_ok : {A : Type 0} (a b : A) → read a ≡ read b → a ≡ b
 same_ok a b e = cc
 
 made : {A B : Type 0} (make : A → B) (r : Result A LineFault) (b : B) → read_as make r ≡ Ok b → IsMade make r b
@@ -54,9 +57,10 @@ both_second (Err f) (Err g) p e = absurd cc
 
 named_small : (n : Option ℕ) (r : ℕ) → register_named n ≡ Ok r → r ≤ 10
 named_small (Some n) r e = small (leb n 10) refl e
-  where small : (b : Bool) → leb n 10 ≡ b → cond b (Ok n) (Err fault.Register) ≡ Ok r → r ≤ 10
-        small true t e = let same : n ≡ r = same_ok n r e in let below : n ≤ 10 = leb-true n 10 t in omega arith
-        small false t e = absurd cc
+  where
+    small : (b : Bool) → leb n 10 ≡ b → cond b (Ok n) (Err fault.Register) ≡ Ok r → r ≤ 10
+    small true t e = let same : n ≡ r = same_ok n r e in let below : n ≤ 10 = leb-true n 10 t in omega arith
+    small false t e = absurd cc
 named_small None r e = absurd cc
 
 pub register_small : (text : List ℕ) (r : ℕ) → read_register text ≡ Ok r → r ≤ 10

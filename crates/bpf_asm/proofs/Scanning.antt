@@ -29,13 +29,13 @@ passed_none p text = omega arith
 pub passed_more : (p : ℕ → Bool) (text : List ℕ) (k : ℕ) → k < length text → p (get_or text k 0) ≡ false → Passed p text k → Passed p text (k + 1)
 passed_more p text k h fails before =
     let first : position_or_len p (drop k text) ≡ 1 + position_or_len p (drop (k + 1) text) =
-        ap (position_or_len p) (front_of text k h) ∙ ap (λ (b : Bool). cond (not b) (1 + position_or_len p (drop (k + 1) text)) 0) fails in
+    ap (position_or_len p) (front_of text k h) ∙ ap (λ (b : Bool). cond (not b) (1 + position_or_len p (drop (k + 1) text)) 0) fails in
     omega (arith, before, first)
 
 pub passed_here : (p : ℕ → Bool) (text : List ℕ) (k : ℕ) → k < length text → p (get_or text k 0) ≡ true → Passed p text k → position_or_len p text ≡ k
 passed_here p text k h passes before =
     let first : position_or_len p (drop k text) ≡ 0 =
-        ap (position_or_len p) (front_of text k h) ∙ ap (λ (b : Bool). cond (not b) (1 + position_or_len p (drop (k + 1) text)) 0) passes in
+    ap (position_or_len p) (front_of text k h) ∙ ap (λ (b : Bool). cond (not b) (1 + position_or_len p (drop (k + 1) text)) 0) passes in
     omega (arith, before, first)
 
 pub passed_all : (p : ℕ → Bool) (text : List ℕ) (k : ℕ) → length text ≤ k → Passed p text k → position_or_len p text ≡ k

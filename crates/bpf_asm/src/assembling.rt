@@ -30,6 +30,7 @@ fn add(image: &mut Vec<u8>, number: usize, instruction: Instruction) -> Result<(
 }
 
 /// Appends what the line with this number says.
+#[tactic(auto, using(crate::proofs::Registers::line_registers))]
 fn add_line(image: &mut Vec<u8>, number: usize, line: &[u8]) -> Result<(), AsmFault>
     ensures ok { OnOk result (IsAdded number (read_line line.now) image.old.items image.new.items) }
     ensures err { IfErr result (λ f. f ≢ faults.Memory → IsRefused number (read_line line.now) image.old.items f) }

@@ -51,12 +51,7 @@ fn push_place_and_source(
     push_source(text, source)
 }
 
-fn push_condition(
-    text: &mut String,
-    dst: u8,
-    source: Source,
-    offset: i16,
-) -> Result<(), AllocError>
+fn push_condition(text: &mut String, dst: u8, source: Source, offset: i16) -> Result<(), AllocError>
     ensures { OnOk result (string_bytes text.new ≡ string_bytes text.old ++ operands_text (register_text dst ∷ source_text source ∷ distance_text offset ∷ [])) }
 {
     push_register_and_source(text, dst, source)?;
@@ -76,9 +71,7 @@ fn push_change(text: &mut String, change: Change, dst: u8, src: u8) -> Result<()
 {
     match change {
         Change::Negate(_) | Change::Order(_, _) => push_one_register(text, dst),
-        Change::SignExtend(_, _) => {
-            push_register_and_source(text, dst, Source::Register(src))
-        }
+        Change::SignExtend(_, _) => { push_register_and_source(text, dst, Source::Register(src)) }
     }
 }
 

@@ -61,10 +61,7 @@ fn stored(source: Source, text: &[u8]) -> Result<Source, LineFault>
     }
 }
 
-fn place_and_stored(
-    source: Source,
-    rest: Option<&[u8]>,
-) -> Result<((u8, i16), Source), LineFault>
+fn place_and_stored(source: Source, rest: Option<&[u8]>) -> Result<((u8, i16), Source), LineFault>
     ensures { result ≡ with_two operands.read_place (definitions.read_stored source) (pair (operands_in (option_map (λ r. r.now) rest.entry))) }
 {
     match two(rest) {

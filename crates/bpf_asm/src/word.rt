@@ -90,20 +90,76 @@ const FORMS: [Instruction; 86] = [
     Instruction::Wide(0, 0),
     Instruction::Unary(Change::Negate(Width::Bits64), 0, 0),
     Instruction::Unary(Change::Negate(Width::Bits32), 0, 0),
-    Instruction::Unary(Change::Order(ByteOrder::LittleEndian, SwappedWidth::Bits16), 0, 0),
-    Instruction::Unary(Change::Order(ByteOrder::LittleEndian, SwappedWidth::Bits32), 0, 0),
-    Instruction::Unary(Change::Order(ByteOrder::LittleEndian, SwappedWidth::Bits64), 0, 0),
-    Instruction::Unary(Change::Order(ByteOrder::BigEndian, SwappedWidth::Bits16), 0, 0),
-    Instruction::Unary(Change::Order(ByteOrder::BigEndian, SwappedWidth::Bits32), 0, 0),
-    Instruction::Unary(Change::Order(ByteOrder::BigEndian, SwappedWidth::Bits64), 0, 0),
-    Instruction::Unary(Change::Order(ByteOrder::Swapped, SwappedWidth::Bits16), 0, 0),
-    Instruction::Unary(Change::Order(ByteOrder::Swapped, SwappedWidth::Bits32), 0, 0),
-    Instruction::Unary(Change::Order(ByteOrder::Swapped, SwappedWidth::Bits64), 0, 0),
-    Instruction::Unary(Change::SignExtend(Width::Bits64, ExtendedWidth::Bits8), 0, 0),
-    Instruction::Unary(Change::SignExtend(Width::Bits64, ExtendedWidth::Bits16), 0, 0),
-    Instruction::Unary(Change::SignExtend(Width::Bits64, ExtendedWidth::Bits32), 0, 0),
-    Instruction::Unary(Change::SignExtend(Width::Bits32, ExtendedWidth::Bits8), 0, 0),
-    Instruction::Unary(Change::SignExtend(Width::Bits32, ExtendedWidth::Bits16), 0, 0),
+    Instruction::Unary(
+        Change::Order(ByteOrder::LittleEndian, SwappedWidth::Bits16),
+        0,
+        0,
+    ),
+    Instruction::Unary(
+        Change::Order(ByteOrder::LittleEndian, SwappedWidth::Bits32),
+        0,
+        0,
+    ),
+    Instruction::Unary(
+        Change::Order(ByteOrder::LittleEndian, SwappedWidth::Bits64),
+        0,
+        0,
+    ),
+    Instruction::Unary(
+        Change::Order(ByteOrder::BigEndian, SwappedWidth::Bits16),
+        0,
+        0,
+    ),
+    Instruction::Unary(
+        Change::Order(ByteOrder::BigEndian, SwappedWidth::Bits32),
+        0,
+        0,
+    ),
+    Instruction::Unary(
+        Change::Order(ByteOrder::BigEndian, SwappedWidth::Bits64),
+        0,
+        0,
+    ),
+    Instruction::Unary(
+        Change::Order(ByteOrder::Swapped, SwappedWidth::Bits16),
+        0,
+        0,
+    ),
+    Instruction::Unary(
+        Change::Order(ByteOrder::Swapped, SwappedWidth::Bits32),
+        0,
+        0,
+    ),
+    Instruction::Unary(
+        Change::Order(ByteOrder::Swapped, SwappedWidth::Bits64),
+        0,
+        0,
+    ),
+    Instruction::Unary(
+        Change::SignExtend(Width::Bits64, ExtendedWidth::Bits8),
+        0,
+        0,
+    ),
+    Instruction::Unary(
+        Change::SignExtend(Width::Bits64, ExtendedWidth::Bits16),
+        0,
+        0,
+    ),
+    Instruction::Unary(
+        Change::SignExtend(Width::Bits64, ExtendedWidth::Bits32),
+        0,
+        0,
+    ),
+    Instruction::Unary(
+        Change::SignExtend(Width::Bits32, ExtendedWidth::Bits8),
+        0,
+        0,
+    ),
+    Instruction::Unary(
+        Change::SignExtend(Width::Bits32, ExtendedWidth::Bits16),
+        0,
+        0,
+    ),
 ];
 
 fn operation_word_32(operation: Operation) -> &'static str
