@@ -188,9 +188,9 @@ fn put_second(out: &mut Vec<u8>, upper: Option<u32>) -> Result<(), AllocError>
     }
 }
 
-/// Appends the bytes of an instruction.
+/// Appends the bytes of an instruction. It fails only where memory runs out.
 #[tactic(auto, unfolding(crate::specs::Spelling::spelling))]
-fn put(out: &mut Vec<u8>, instruction: Instruction) -> Result<(), AllocError>
+pub fn put(out: &mut Vec<u8>, instruction: Instruction) -> Result<(), AllocError>
     requires { HasRegisters instruction }
     ensures { OnOk result (out.new.items ≡ out.old.items ++ spelling instruction) }
 {

@@ -15,7 +15,7 @@ mod slot;
 
 pub use code::Code;
 pub use decoding::decode;
-pub use encoding::encode;
+pub use encoding::{encode, put};
 pub use laws::image_and_code;
 pub use lookup::form_at;
 pub use machine_spec::{Instruction, IsaFault, Placed};

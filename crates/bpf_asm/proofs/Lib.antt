@@ -1,0 +1,4 @@
+pub mod Scanning
+pub mod Lines
+pub mod Registers
+pub mod Writings

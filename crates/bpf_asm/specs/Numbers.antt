@@ -1,0 +1,45 @@
+-- Numbers and distances as texts spell them. A text is the list of its bytes.
+use Rattle.std.specs.Prelude.{ℕ, ◌^◌, ◌-◌, ℤ, pos, negsuc, neg_ℤ, Bool, not, ◌&&◌, ◌||◌, ◌==◌, nat_lt, int_le, min, if◌then◌else◌, List, ◌∷◌, length, drop, slice_index, Option, Some, None, suc, decimal}
+use Rattle.std.specs.List.{list_all}
+use Rattle.std.specs.Char.{is_ascii_digit}
+use Rattle.std.specs.Str.Parse.{digits_value}
+
+-- one decimal digit or more
+abbrev pub is_digits : List ℕ → Bool
+is_digits text = nat_lt 0 (length text) && list_all is_ascii_digit text
+
+-- digits of which 0 stands first only alone
+abbrev pub is_natural : List ℕ → Bool
+is_natural text = is_digits text && ((length text == 1) || not (slice_index text 0 == 48))
+
+-- The number that digits spell. One past 2^64 counts as 2^64, which is past every range.
+abbrev pub natural : List ℕ → Option ℕ
+natural text = if is_natural text then Some (min (digits_value 10 text) (2 ^ 64)) else None
+
+abbrev pub positive : Option ℕ → Option ℤ
+positive (Some n) = Some (pos n)
+positive None = None
+
+-- 0 has no sign
+abbrev pub negative : Option ℕ → Option ℤ
+negative (Some n) = if n == 0 then None else Some (neg_ℤ (pos n))
+negative None = None
+
+-- `-` (45) stands before a number that is below 0, and nothing before others
+abbrev pub number_of : List ℕ → Option ℤ
+number_of text = if slice_index text 0 == 45 then negative (natural (drop 1 text)) else positive (natural text)
+
+-- `+` (43) stands before a distance, or `-` where it is below 0
+abbrev pub distance_of : List ℕ → Option ℤ
+distance_of text =
+    if slice_index text 0 == 43 then positive (natural (drop 1 text)) else
+    if slice_index text 0 == 45 then negative (natural (drop 1 text)) else None
+
+abbrev pub is_in : ℤ → ℤ → ℤ → Bool
+is_in low high z = int_le low z && int_le z high
+
+-- ---- the texts that are written; that of a number is `signed_decimal`
+
+abbrev pub distance_text : ℤ → List ℕ
+distance_text (pos n) = 43 ∷ decimal n
+distance_text (negsuc n) = 45 ∷ decimal (suc n)

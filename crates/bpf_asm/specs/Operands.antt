@@ -1,0 +1,74 @@
+-- Operands: registers, numbers, distances and the places of bytes in memory; what each reads as, or why it is refused.
+use Rattle.std.specs.Prelude.{ℕ, ◌+◌, ◌-◌, ◌^◌, ℤ, pos, neg_ℤ, unsigned_abs, Bool, not, ◌&&◌, ◌||◌, ◌==◌, nat_le, if◌then◌else◌, List, [], ◌∷◌, ◌++◌, length, take, drop, slice_index, Option, Some, None, Result, Ok, Err, decimal}
+use Rattle.std.specs.List.{position_or_len}
+use Rattle.std.specs.Fmt.{signed_decimal}
+use Rattle.machine_spec.specs.declared.instruction.Source.{Source}
+use Rattle.machine_spec.specs.declared.instruction.Source.TheVariants.{Register, Immediate}
+use Rattle.bpf_asm.specs.declared.fault.LineFault.{LineFault}
+use Rattle.bpf_asm.specs.declared.fault.LineFault.TheVariants as fault
+use Rattle.bpf_asm.specs.Faults.{both, read_as}
+use Rattle.bpf_asm.specs.Numbers.{is_digits, natural, number_of, distance_of, distance_text, is_in}
+
+-- ---- registers
+
+-- r0 to r10
+abbrev pub register_named : Option ℕ → Result ℕ LineFault
+register_named (Some n) = if nat_le n 10 then Ok n else Err fault.Register
+register_named None = Err fault.Register
+
+-- `r` (114) and digits
+abbrev pub read_register : List ℕ → Result ℕ LineFault
+read_register text = if (slice_index text 0 == 114) && is_digits (drop 1 text) then register_named (natural (drop 1 text)) else Err fault.Operand
+
+abbrev pub register_text : ℕ → List ℕ
+register_text r = 114 ∷ decimal r
+
+-- ---- numbers and distances
+
+abbrev pub ranged : ℤ → ℤ → Option ℤ → Result ℤ LineFault
+ranged low high (Some z) = if is_in low high z then Ok z else Err fault.Number
+ranged low high None = Err fault.Operand
+
+-- a signed number of 32 bits
+abbrev pub read_immediate : List ℕ → Result ℤ LineFault
+read_immediate text = ranged (neg_ℤ (pos (2 ^ 31))) (pos (2 ^ 31 - 1)) (number_of text)
+
+-- a number of 64 bits
+abbrev pub read_wide : List ℕ → Result ℕ LineFault
+read_wide text = read_as unsigned_abs (ranged (pos 0) (pos (2 ^ 64 - 1)) (number_of text))
+
+-- a distance of 16 bits
+abbrev pub read_short : List ℕ → Result ℤ LineFault
+read_short text = ranged (neg_ℤ (pos (2 ^ 15))) (pos (2 ^ 15 - 1)) (distance_of text)
+
+-- a distance of 32 bits
+abbrev pub read_long : List ℕ → Result ℤ LineFault
+read_long text = ranged (neg_ℤ (pos (2 ^ 31))) (pos (2 ^ 31 - 1)) (distance_of text)
+
+-- ---- a register or a number
+
+abbrev pub read_source : List ℕ → Result Source LineFault
+read_source text = if slice_index text 0 == 114 then read_as Register (read_register text) else read_as Immediate (read_immediate text)
+
+abbrev pub source_text : Source → List ℕ
+source_text (Register r) = register_text r
+source_text (Immediate imm) = signed_decimal imm
+
+-- ---- places in memory: `[`, a register, a distance, `]`
+
+abbrev pub is_sign : ℕ → Bool
+is_sign byte = (byte == 43) || (byte == 45)
+
+-- what stands between the brackets: a register up to the sign, and a distance
+abbrev pub read_between : List ℕ → Result (ℕ × ℤ) LineFault
+read_between text = both (read_register (take (position_or_len is_sign text) text)) (read_short (drop (position_or_len is_sign text) text))
+
+-- `[` is 91 and `]` is 93
+abbrev pub read_place : List ℕ → Result (ℕ × ℤ) LineFault
+read_place text =
+    if (slice_index text 0 == 91) && (slice_index text (length text - 1) == 93)
+    then read_between (drop 1 (take (length text - 1) text))
+    else Err fault.Operand
+
+abbrev pub place_text : ℕ → ℤ → List ℕ
+place_text base offset = 91 ∷ (register_text base ++ (distance_text offset ++ (93 ∷ [])))

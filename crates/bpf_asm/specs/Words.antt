@@ -1,0 +1,117 @@
+-- The word of each instruction, and the instruction of each word.
+use Rattle.std.specs.Prelude.{ℕ, List, ◌++◌, codes, Option, find}
+use Rattle.std.specs.Str.{bytes_eq}
+use Rattle.machine_spec.specs.declared.operation.Width.{Width}
+use Rattle.machine_spec.specs.declared.operation.Width.TheVariants.{Bits32, Bits64}
+use Rattle.machine_spec.specs.declared.operation.Operation.{Operation}
+use Rattle.machine_spec.specs.declared.operation.Operation.TheVariants.{Add, Sub, Mul, Div, SignedDiv, Or, And, LeftShift, RightShift, Mod, SignedMod, Xor, ArithmeticRightShift}
+use Rattle.machine_spec.specs.declared.operation.SwappedWidth.{SwappedWidth}
+use Rattle.machine_spec.specs.declared.operation.SwappedWidth.TheVariants as swapped
+use Rattle.machine_spec.specs.declared.operation.ExtendedWidth.{ExtendedWidth}
+use Rattle.machine_spec.specs.declared.operation.ExtendedWidth.TheVariants as extended
+use Rattle.machine_spec.specs.declared.operation.ByteOrder.{ByteOrder}
+use Rattle.machine_spec.specs.declared.operation.ByteOrder.TheVariants.{LittleEndian, BigEndian, Swapped}
+use Rattle.machine_spec.specs.declared.operation.Change.{Change}
+use Rattle.machine_spec.specs.declared.operation.Change.TheVariants.{Negate, Order, SignExtend}
+use Rattle.machine_spec.specs.declared.operation.Test.{Test}
+use Rattle.machine_spec.specs.declared.operation.Test.TheVariants.{Equal, NotEqual, Greater, GreaterOrEqual, Less, LessOrEqual, AnyBit, SignedGreater, SignedGreaterOrEqual, SignedLess, SignedLessOrEqual}
+use Rattle.machine_spec.specs.declared.instruction.Size.{Size}
+use Rattle.machine_spec.specs.declared.instruction.Size.TheVariants.{Byte, Half, Word, Double}
+use Rattle.machine_spec.specs.declared.instruction.Extension.{Extension}
+use Rattle.machine_spec.specs.declared.instruction.Extension.TheVariants.{Zero, Sign}
+use Rattle.machine_spec.specs.declared.instruction.Distance.{Distance}
+use Rattle.machine_spec.specs.declared.instruction.Distance.TheVariants.{Short, Long}
+use Rattle.machine_spec.specs.declared.instruction.Source.{Source}
+use Rattle.machine_spec.specs.declared.instruction.Source.TheVariants.{Register, Immediate}
+use Rattle.machine_spec.specs.declared.instruction.Instruction.{Instruction}
+use Rattle.machine_spec.specs.declared.instruction.Instruction.TheVariants.{Move, Compute, Load, Unary, Store, JumpIf, Jump, Wide, Call, Exit}
+use Rattle.bpf_asm.specs.declared.word.TheConstants.{FORMS}
+
+abbrev pub width_text : Width → List ℕ
+width_text Bits32 = codes "32"
+width_text Bits64 = codes "64"
+
+abbrev pub size_text : Size → List ℕ
+size_text Byte = codes "8"
+size_text Half = codes "16"
+size_text Word = codes "32"
+size_text Double = codes "64"
+
+abbrev pub operation_text : Operation → List ℕ
+operation_text Add = codes "add"
+operation_text Sub = codes "sub"
+operation_text Mul = codes "mul"
+operation_text Div = codes "div"
+operation_text SignedDiv = codes "sdiv"
+operation_text Or = codes "or"
+operation_text And = codes "and"
+operation_text LeftShift = codes "lsh"
+operation_text RightShift = codes "rsh"
+operation_text Mod = codes "mod"
+operation_text SignedMod = codes "smod"
+operation_text Xor = codes "xor"
+operation_text ArithmeticRightShift = codes "arsh"
+
+abbrev pub test_text : Test → List ℕ
+test_text Equal = codes "jeq"
+test_text NotEqual = codes "jne"
+test_text Greater = codes "jgt"
+test_text GreaterOrEqual = codes "jge"
+test_text Less = codes "jlt"
+test_text LessOrEqual = codes "jle"
+test_text AnyBit = codes "jset"
+test_text SignedGreater = codes "jsgt"
+test_text SignedGreaterOrEqual = codes "jsge"
+test_text SignedLess = codes "jslt"
+test_text SignedLessOrEqual = codes "jsle"
+
+abbrev pub order_text : ByteOrder → List ℕ
+order_text LittleEndian = codes "le"
+order_text BigEndian = codes "be"
+order_text Swapped = codes "swap"
+
+abbrev pub swapped_text : SwappedWidth → List ℕ
+swapped_text swapped.Bits16 = codes "16"
+swapped_text swapped.Bits32 = codes "32"
+swapped_text swapped.Bits64 = codes "64"
+
+-- how many bits are extended stands after a dot
+abbrev pub extended_text : ExtendedWidth → List ℕ
+extended_text extended.Bits8 = codes ".8"
+extended_text extended.Bits16 = codes ".16"
+extended_text extended.Bits32 = codes ".32"
+
+abbrev pub change_word : Change → List ℕ
+change_word (Negate width) = codes "neg" ++ width_text width
+change_word (Order order width) = order_text order ++ swapped_text width
+change_word (SignExtend width part) = codes "movsx" ++ (width_text width ++ extended_text part)
+
+abbrev pub load_text : Extension → List ℕ
+load_text Zero = codes "ld"
+load_text Sign = codes "lds"
+
+abbrev pub store_text : Source → List ℕ
+store_text (Register _) = codes "stx"
+store_text (Immediate _) = codes "st"
+
+abbrev pub distance_word : Distance → List ℕ
+distance_word (Short _) = codes "ja"
+distance_word (Long _) = codes "jal"
+
+-- The word of an instruction, whatever its fields. A number and a register as second operand have one word, but for a
+-- store.
+abbrev pub word_of : Instruction → List ℕ
+word_of (Move width _ _) = codes "mov" ++ width_text width
+word_of (Compute width operation _ _) = operation_text operation ++ width_text width
+word_of (Load size extension _ _ _) = load_text extension ++ size_text size
+word_of (Unary change _ _) = change_word change
+word_of (Store size _ _ source) = store_text source ++ size_text size
+word_of (JumpIf width test _ _ _) = test_text test ++ width_text width
+word_of (Jump distance) = distance_word distance
+word_of (Wide _ _) = codes "imm64"
+word_of (Call _) = codes "call"
+word_of Exit = codes "exit"
+
+-- the instruction, with 0 in its fields, that has a word
+unfoldable pub form_named : List ℕ → Option Instruction
+form_named word = find (λ form. bytes_eq (word_of form) word) FORMS

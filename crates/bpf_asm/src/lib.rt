@@ -1,0 +1,18 @@
+//! The text of programs: `assemble` gives the image that a text says, or the first line that it
+//! refuses, and `disassemble` the text of code.
+//!
+//! A line says one instruction: a word, and after spaces its operands between commas.
+#![tactic(auto)]
+
+mod assembling;
+mod disassembling;
+mod fault;
+mod line;
+mod number;
+mod operand;
+mod reading;
+mod word;
+
+pub use assembling::assemble;
+pub use disassembling::disassemble;
+pub use fault::AsmFault;
