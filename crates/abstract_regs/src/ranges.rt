@@ -43,8 +43,7 @@ fn are_proper_lengths(key_min: u32, key_max: u32, value_min: u32, value_max: u32
         && (nat_le value_min value_max && nat_le value_max MAX_VALUE))) }
 {
     key_min <= key_max
-        && (key_max <= MAX_KEY as u32
-            && (value_min <= value_max && value_max <= MAX_VALUE as u32))
+        && (key_max <= MAX_KEY as u32 && (value_min <= value_max && value_max <= MAX_VALUE as u32))
 }
 
 /// Whether each kind and the least and greatest lengths are in their ranges.

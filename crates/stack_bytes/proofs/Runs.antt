@@ -1,5 +1,5 @@
 -- Runs of places in a set of stack places.
-use Rattle.std.proofs.Common.{◌≡◌, ℕ, zero, suc, ◌+◌, ◌-◌, ◌<◌, true, false, bit_or, refl, sym, ap, ◌∙◌, arith, sub-one}
+use Rattle.std.proofs.Common.{◌≡◌, ℕ, zero, suc, ◌+◌, ◌-◌, ◌<◌, true, false, bit_or, refl, ap, ◌∙◌, arith, sub-one}
 use Rattle.std.specs.Int.Bits.{or_zero_r}
 use Rattle.verifier_spec.specs.declared.state.StackSet.{StackSet}
 use Rattle.verifier_spec.specs.Kinds.{is_set}

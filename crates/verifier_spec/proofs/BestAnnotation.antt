@@ -1,7 +1,7 @@
 -- The joined states of an image's code are within those of every annotation, and an annotation where there is one.
-use Rattle.std.proofs.Common.{◌≡◌, ◌≢◌, ℕ, zero, suc, ◌+◌, ◌<◌, ◌≤◌, ℤ, pos, Bool, true, false, not, cond, ◌==◌, ◌&&◌, int_lt, List, [], ◌∷◌, ◌++◌, length, slice_get, Option, Some, None, is_none, refl, sym, ap, ◌∙◌, subst, inl, inr, ⊎_elim, arith}
+use Rattle.std.proofs.Common.{◌≡◌, ◌≢◌, ℕ, zero, suc, ◌+◌, ◌<◌, ℤ, Bool, true, false, not, ◌==◌, ◌&&◌, List, [], ◌∷◌, ◌++◌, length, slice_get, Option, Some, None, refl, sym, ◌∙◌, subst, inl, inr, ⊎_elim, arith}
 use Rattle.std.specs.List.{list_any}
-use Rattle.std.proofs.lemmas.Bool.{and_parts, and_from, or_parts, cond-true, cond-false, cases_Bool, cases_lt, eq-eqb, eqb-true, not-false, not_from_true, true≢false, false≢true}
+use Rattle.std.proofs.lemmas.Bool.{and_parts, and_from, or_parts, cond-true, cond-false, cases_Bool, cases_lt, eq-eqb, eqb-true, not-false, true≢false, false≢true}
 use Rattle.std.proofs.lemmas.Option.{none-some, slice_get_within}
 use Rattle.machine_spec.specs.declared.instruction.Instruction.{Instruction}
 use Rattle.machine_spec.specs.declared.instruction.Instruction.TheVariants.{Move, Compute, Load, Unary, Store, JumpIf, Jump, Wide, Call, Exit}
@@ -20,7 +20,7 @@ use Rattle.verifier_spec.specs.Transfer.{falls_to, jumps_to, jump_edge}
 use Rattle.verifier_spec.specs.Annotation.{Notes, note_at, note_of, is_covered, is_edge_covered, are_edges_covered, IsAnnotation, reached_checks, failed_at, fault_or, fault_from, fault_of}
 use Rattle.verifier_spec.specs.JoinedStates.{with_edge, with_edges, if_passed, with_instruction, known_after, joined_states}
 use Rattle.verifier_spec.proofs.Annotations.{none_of_three, covering, there, and_second}
-use Rattle.verifier_spec.proofs.Faults.{Passes, first_of-told, first_of-append, passes_last, at_passes, none_from_each}
+use Rattle.verifier_spec.proofs.Faults.{Passes, first_of-told, first_of-append, at_passes, none_from_each}
 use Rattle.verifier_spec.proofs.JoinedStates.{covered_refl, covered_trans, edge_least, grows_to, falls_known, jumps_known, length-joined_states, note_joined}
 use Rattle.verifier_spec.proofs.Monotone.{check_monotone, falls_monotone, jumps_monotone}
 

@@ -1,24 +1,15 @@
 -- The joined states: they are within every annotation's, and an annotation themselves where there is one.
-use Rattle.std.proofs.Common.{◌≡◌, ◌≢◌, ℕ, zero, suc, ◌+◌, ◌<◌, ◌≤◌, ℤ, pos, Bool, true, false, not, cond, ◌==◌, ◌&&◌, int_lt, List, [], ◌∷◌, ◌++◌, length, slice_get, Option, Some, None, is_none, refl, sym, ap, ◌∙◌, subst, inl, inr, arith, add-one}
-use Rattle.std.proofs.lemmas.Bool.{and_parts, and_from, cond-true, cond-false, cases_Bool, cases_eq, cases_lt, eq-eqb, eqb-true, false≢true, true≢false, not-false}
-use Rattle.std.proofs.lemmas.Option.{none-some, slice_get_within}
-use Rattle.machine_spec.specs.declared.instruction.Instruction.{Instruction}
-use Rattle.machine_spec.specs.declared.instruction.Instruction.TheVariants.{Exit}
+use Rattle.std.proofs.Common.{◌≡◌, ℕ, zero, suc, ◌+◌, ◌<◌, ◌≤◌, true, false, cond, ◌==◌, List, [], ◌∷◌, length, slice_get, Option, Some, None, refl, sym, ap, ◌∙◌, subst, inl, inr, arith}
+use Rattle.std.proofs.lemmas.Bool.{cond-true, cond-false, cases_Bool, cases_eq, eq-eqb, eqb-true, false≢true}
 use Rattle.machine_spec.specs.declared.instruction.Placed.{Placed}
 use Rattle.machine_spec.specs.Image.{target_of}
-use Rattle.machine_spec.specs.Summaries.{summary_of}
-use Rattle.machine_spec.specs.Traps.{first_of}
-use Rattle.machine_spec.proofs.Meanings.{exit_is}
 use Rattle.verifier_spec.specs.declared.state.Abstract.{Abstract}
 use Rattle.verifier_spec.specs.declared.fault.Check.{Check}
-use Rattle.verifier_spec.specs.States.{is_proper, is_within, entry_state}
-use Rattle.verifier_spec.specs.Checks.{failed_check, jump_of, shape_checks, leads_nowhere, leads_back, runs_off}
-use Rattle.verifier_spec.specs.Transfer.{falls_to, jumps_to, jump_edge}
-use Rattle.verifier_spec.specs.Joins.{joined}
-use Rattle.verifier_spec.specs.Annotation.{Notes, note_at, note_of, is_edge_covered, are_edges_covered, IsAnnotation}
+use Rattle.verifier_spec.specs.Checks.{failed_check, jump_of}
+use Rattle.verifier_spec.specs.Transfer.{falls_to, jumps_to}
+use Rattle.verifier_spec.specs.Annotation.{note_at, is_edge_covered}
 use Rattle.verifier_spec.specs.JoinedStates.{joined_notes, with_edge, with_edges, if_passed, with_instruction, known_after, states_from, joined_states}
 use Rattle.verifier_spec.proofs.Joins.{within_refl, within_trans, within_joined_left, within_joined_right, joined_least}
-use Rattle.verifier_spec.proofs.Monotone.{check_monotone, falls_monotone, jumps_monotone}
 
 -- ---- the order of notes
 

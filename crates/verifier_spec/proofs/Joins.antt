@@ -1,5 +1,5 @@
 -- The join of two states: both are within it, and it is within each state that both are within.
-use Rattle.std.proofs.Common.{◌≡◌, ℕ, zero, suc, ◌+◌, ◌/◌, ◌%◌, ◌^◌, ◌<◌, ◌≤◌, ℤ, pos, neg_ℤ, ◌≤ℤ◌, min, max, ◌==◌, ◌&&◌, Bool, true, false, if◌then◌else◌, cond, bit_and, slice_index, nat_le, nat_lt, int_lt, int_le, List, [], ◌∷◌, length, get_or, set, Option, Some, None, refl, sym, ap, ◌∙◌, subst, inl, inr, arith}
+use Rattle.std.proofs.Common.{◌≡◌, ℕ, zero, suc, ◌+◌, ◌/◌, ◌%◌, ◌^◌, ◌<◌, ℤ, pos, neg_ℤ, ◌≤ℤ◌, min, max, ◌==◌, ◌&&◌, true, false, cond, bit_and, slice_index, nat_le, int_lt, int_le, List, [], ◌∷◌, length, get_or, set, refl, sym, ◌∙◌, subst, inl, inr, arith}
 use Rattle.std.specs.Int.{bit_at, int_min, int_max}
 use Rattle.std.specs.Int.Bits.{and_zero_l, and_zero_r}
 use Rattle.std.specs.List.{list_all}
@@ -15,8 +15,8 @@ use Rattle.verifier_spec.specs.declared.state.Abstract.{Abstract}
 use Rattle.verifier_spec.specs.Kinds.{is_set, kind_at, least, greatest, range_of, same_region, is_proper_kind, is_kind_within, furthest}
 use Rattle.verifier_spec.specs.States.{is_proper, is_within}
 use Rattle.verifier_spec.specs.Joins.{joined_ranges, joined_kind, pairwise, joined}
-use Rattle.verifier_spec.proofs.Order.{IsWithin, within_parts, within_from, region_is}
-use Rattle.verifier_spec.proofs.Proper.{IsProper, proper_parts, proper_from, proper_kind, lengths_order}
+use Rattle.verifier_spec.proofs.Order.{within_parts, within_from, region_is}
+use Rattle.verifier_spec.proofs.Proper.{proper_parts, proper_from, lengths_order}
 use Rattle.verifier_spec.proofs.Whole.{le_z-true, le-le_z, le_trans_z}
 use Rattle.verifier_spec.proofs.Wider.{narrower, kind_within_narrower}
 

@@ -1,5 +1,5 @@
 -- The join of two abstract states: the least state that both are within.
-use Rattle.std.specs.Prelude.{ℕ, ℤ, min, max, bit_and, if◌then◌else◌, List, [], ◌∷◌, Option, Some, None}
+use Rattle.std.specs.Prelude.{min, max, bit_and, if◌then◌else◌, List, [], ◌∷◌, Option, Some}
 use Rattle.std.specs.Int.{int_min, int_max}
 use Rattle.verifier_spec.specs.declared.interval.Interval.{Interval}
 use Rattle.verifier_spec.specs.declared.state.Abs.{Abs}

@@ -231,7 +231,10 @@ fn stores(rt: HostRuntime) -> Result<(), Fail> {
     const AND_ON: u64 = 0x0f57_0000_0000_0000; // add64 r7, r5
     let cases: [(&[u64], &str); 17] = [
         // st32 [r10-8], 0
-        (&[0x620a_f8ff_0000_0000, READ_EIGHT, EXIT], "V9 StackUnset at 1"),
+        (
+            &[0x620a_f8ff_0000_0000, READ_EIGHT, EXIT],
+            "V9 StackUnset at 1",
+        ),
         // st64 [r10-8], 0
         (&[0x7a0a_f8ff_0000_0000, READ_EIGHT, EXIT], "accepted 3"),
         // stx64 [r10-8], r2
@@ -298,10 +301,7 @@ fn stores(rt: HostRuntime) -> Result<(), Fail> {
             &[ZERO, IF_EMPTY, WRITE_LAST, READ_LAST, EXIT],
             "V9 StackUnset at 3",
         ),
-        (
-            &[ZERO, WRITE_LAST, IF_EMPTY, READ_LAST, EXIT],
-            "accepted 5",
-        ),
+        (&[ZERO, WRITE_LAST, IF_EMPTY, READ_LAST, EXIT], "accepted 5"),
         // jlt64 r2, 1, +2; st8; ja +1; st8: both ways store it
         (
             &[
