@@ -29,11 +29,9 @@ struct Counts {
 
 fn are_same_emissions(left: &Emissions, right: &Emissions) -> bool {
     left.list.len() == right.list.len()
-        && left
-            .list
-            .iter()
-            .zip(&right.list)
-            .all(|(a, b)| a.out == b.out && a.key == b.key && a.value == b.value)
+        && left.list.iter().zip(&right.list).all(|(a, b)| a.out == b.out
+            && a.key == b.key
+            && a.value == b.value)
 }
 
 /// Whether the plain machine's end is the interpreter's outcome.

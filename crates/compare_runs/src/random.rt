@@ -177,7 +177,10 @@ impl Random {
     /// A store to the stack and a load of what it wrote.
     fn push_store(&mut self, image: &mut Vec<u8>) -> Result<(), AllocError> {
         let place = self.below(STORES.len() as u64) as usize;
-        let (store, store_register, load) = STORES.get(place).copied().unwrap_or((0x7a, 0x7b, 0x79));
+        let (store, store_register, load) = STORES
+            .get(place)
+            .copied()
+            .unwrap_or((0x7a, 0x7b, 0x79));
         let offset = -8 - self.below(24) as i16;
         if self.below(2) == 0 {
             let imm = self.immediate();
