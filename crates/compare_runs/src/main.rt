@@ -7,9 +7,9 @@ mod random;
 
 use annotate::load;
 use bpf_machine::{End, trace};
-use exec::{Emissions, Outcome, Place, is_place, is_within_limits, run};
+use exec::{Emissions, Outcome, Place, Record, is_place, is_within_limits, run};
 use random::Random;
-use std::alloc::Global;
+use std::alloc::{AllocError, Global};
 use std::{env, io};
 
 const PLACE: Place = Place {
@@ -29,11 +29,9 @@ struct Counts {
 
 fn are_same_emissions(left: &Emissions, right: &Emissions) -> bool {
     left.list.len() == right.list.len()
-        && left
-            .list
-            .iter()
-            .zip(&right.list)
-            .all(|(a, b)| a.out == b.out && a.key == b.key && a.value == b.value)
+        && left.list.iter().zip(&right.list).all(|(a, b)| a.out == b.out
+            && a.key == b.key
+            && a.value == b.value)
 }
 
 /// Whether the plain machine's end is the interpreter's outcome.
@@ -45,24 +43,46 @@ fn is_same(end: &End, outcome: &Outcome) -> bool {
     }
 }
 
-/// Runs one program on one record both ways.
-fn compare(alloc: Global, random: &mut Random, counts: &mut Counts) -> io::Result<()> {
-    let image = random.program(alloc)?;
-    let record = random.record(alloc)?;
-    let (end, count) = trace(alloc, &image, &record, &PLACE)?;
-    let Ok(verified) = load(alloc, &image) else {
-        return Ok(());
+/// The interpreter's outcome, if the verifier accepts the program.
+fn outcome_of(alloc: Global, image: &[u8], record: &Record) -> Result<Option<Outcome>, AllocError> {
+    if !is_within_limits(record) || !is_place(&PLACE) {
+        return Ok(None);
+    }
+    match load(alloc, image) {
+        Ok(verified) => Ok(Some(run(alloc, &verified, record, &PLACE)?)),
+        Err(_) => Ok(None),
+    }
+}
+
+impl Counts {
+    /// Runs a program on a record both ways.
+    fn compare(&mut self, alloc: Global, image: &[u8], record: &Record) -> Result<(), AllocError> {
+        let (end, count) = trace(alloc, image, record, &PLACE)?;
+        if let Some(outcome) = outcome_of(alloc, image, record)? {
+            self.accepted = self.accepted.saturating_add(1);
+            self.instructions = self.instructions.saturating_add(count);
+            if !is_same(&end, &outcome) {
+                self.different = self.different.saturating_add(1);
+            }
+        }
+        Ok(())
+    }
+}
+
+/// Compares so many random programs and records.
+fn compared(alloc: Global, programs: u64, seed: u64) -> Result<Counts, AllocError> {
+    let mut random = Random::new(seed);
+    let mut counts = Counts {
+        accepted: 0,
+        instructions: 0,
+        different: 0,
     };
-    if !is_within_limits(&record) || !is_place(&PLACE) {
-        return Ok(());
+    for _ in 0..programs {
+        let image = random.program(alloc)?;
+        let record = random.record(alloc)?;
+        counts.compare(alloc, &image, &record)?;
     }
-    let outcome = run(alloc, &verified, &record, &PLACE)?;
-    counts.accepted = counts.accepted.saturating_add(1);
-    counts.instructions = counts.instructions.saturating_add(count);
-    if !is_same(&end, &outcome) {
-        counts.different = counts.different.saturating_add(1);
-    }
-    Ok(())
+    Ok(counts)
 }
 
 fn main(rt: HostRuntime) -> io::Result<()> {
@@ -76,15 +96,7 @@ fn main(rt: HostRuntime) -> io::Result<()> {
         Some(seed) => seed.as_str().parse().unwrap_or(0),
         None => 0,
     };
-    let mut random = Random::new(seed);
-    let mut counts = Counts {
-        accepted: 0,
-        instructions: 0,
-        different: 0,
-    };
-    for _ in 0..programs {
-        compare(rt.alloc(), &mut random, &mut counts)?;
-    }
+    let counts = compared(rt.alloc(), programs, seed)?;
     println!(rt;
         "{programs} programs, {} accepted, {} instructions, {} different",
         counts.accepted, counts.instructions, counts.different

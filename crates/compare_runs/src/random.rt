@@ -3,8 +3,10 @@
 //! A program is made of pieces that mostly load: arithmetic, loads behind a test of the length,
 //! stores with loads of what they wrote, jumps over a piece, 64-bit immediates and calls.
 
+ghost use Rattle.std.specs.Prelude.{◌<◌};
+
+use bpf_machine::{Headers, Record};
 use bytes::Bytes;
-use exec::{Headers, Record};
 use std::alloc::{AllocError, Global};
 
 /// A source of numbers (splitmix64), which a seed determines.
@@ -85,7 +87,9 @@ impl Random {
     }
 
     /// A number below a limit, or 0 where that is 0.
-    fn below(&mut self, limit: u64) -> u64 {
+    fn below(&mut self, limit: u64) -> u64
+        ensures { 0 < limit → result < limit }
+    {
         let number = self.number();
         if limit == 0 { 0 } else { number % limit }
     }
@@ -148,13 +152,19 @@ impl Random {
     fn push_change(&mut self, image: &mut Vec<u8>) -> Result<(), AllocError> {
         let dst = self.register();
         let src = self.register();
-        let bits = 8 << self.below(3);
+        let bits = self.byte_of(&[8, 16, 32]);
         let fields = match self.below(5) {
             0 => slot(0x87, dst, 0, 0, 0),
             1 => slot(0x84, dst, 0, 0, 0),
-            2 => slot(self.byte_of(&[0xd4, 0xdc, 0xd7]), dst, 0, 0, 2 * bits),
-            3 => slot(0xbf, dst, src, bits as i16, 0),
-            _ => slot(0xbc, dst, src, (bits % 32) as i16, 0),
+            2 => slot(
+                self.byte_of(&[0xd4, 0xdc, 0xd7]),
+                dst,
+                0,
+                0,
+                2 * i32::from(bits),
+            ),
+            3 => slot(0xbf, dst, src, i16::from(bits), 0),
+            _ => slot(0xbc, dst, src, i16::from(bits % 32), 0),
         };
         image.extend_from_slice(&fields)?;
         Ok(())
@@ -177,7 +187,10 @@ impl Random {
     /// A store to the stack and a load of what it wrote.
     fn push_store(&mut self, image: &mut Vec<u8>) -> Result<(), AllocError> {
         let place = self.below(STORES.len() as u64) as usize;
-        let (store, store_register, load) = STORES.get(place).copied().unwrap_or((0x7a, 0x7b, 0x79));
+        let (store, store_register, load) = STORES
+            .get(place)
+            .copied()
+            .unwrap_or((0x7a, 0x7b, 0x79));
         let offset = -8 - self.below(24) as i16;
         if self.below(2) == 0 {
             let imm = self.immediate();

@@ -17,6 +17,7 @@ const EXIT: u64 = 0x9500_0000_0000_0000;
 
 // r1 = 0x1122334455667788
 const WIDE: u64 = 0x1801_0000_8877_6655;
+
 const UPPER: u64 = 0x0000_0000_4433_2211;
 
 const MOVE: u64 = 0xbf10_0000_0000_0000; // mov64 r0, r1
@@ -39,7 +40,11 @@ fn ends(rt: HostRuntime) -> Result<(), Fail> {
         ),
         // the null flags, and the lengths of value and key
         (&[0xbf50_0000_0000_0000, EXIT], None, "rejected 2 after 2"),
-        (&[0xbf20_0000_0000_0000, EXIT], Some(b"12345"), "rejected 5 after 2"),
+        (
+            &[0xbf20_0000_0000_0000, EXIT],
+            Some(b"12345"),
+            "rejected 5 after 2",
+        ),
         (&[0xbf40_0000_0000_0000, EXIT], None, "rejected 3 after 2"),
     ];
     for (slots, value, want) in cases {
@@ -65,22 +70,64 @@ fn numbers(rt: HostRuntime) -> Result<(), Fail> {
     let cases: [(&[u64], &str); 18] = [
         (&[seven, 0x3700_0000_0000_0000, EXIT], "kept 0 after 3"),
         (&[seven, 0x9700_0000_0000_0000, EXIT], "rejected 7 after 3"),
-        (&[above, one, 0x9700_0000_0000_0000, EXIT], "rejected 4294967303 after 3"),
-        (&[above, one, 0x9400_0000_0000_0000, EXIT], "rejected 7 after 3"),
-        (&[least, half, 0x3700_0100_ffff_ffff, EXIT], "rejected 9223372036854775808 after 3"),
-        (&[least, half, 0x9700_0100_ffff_ffff, EXIT], "kept 0 after 3"),
-        (&[minus_seven, 0x3700_0100_0200_0000, EXIT], "rejected 18446744073709551613 after 3"),
-        (&[minus_seven, 0x9700_0100_0200_0000, EXIT], "rejected 18446744073709551615 after 3"),
+        (
+            &[above, one, 0x9700_0000_0000_0000, EXIT],
+            "rejected 4294967303 after 3",
+        ),
+        (
+            &[above, one, 0x9400_0000_0000_0000, EXIT],
+            "rejected 7 after 3",
+        ),
+        (
+            &[least, half, 0x3700_0100_ffff_ffff, EXIT],
+            "rejected 9223372036854775808 after 3",
+        ),
+        (
+            &[least, half, 0x9700_0100_ffff_ffff, EXIT],
+            "kept 0 after 3",
+        ),
+        (
+            &[minus_seven, 0x3700_0100_0200_0000, EXIT],
+            "rejected 18446744073709551613 after 3",
+        ),
+        (
+            &[minus_seven, 0x9700_0100_0200_0000, EXIT],
+            "rejected 18446744073709551615 after 3",
+        ),
         (&[five, 0x3700_0000_ffff_ffff, EXIT], "kept 0 after 3"),
         (&[five, 0x3400_0000_ffff_ffff, EXIT], "kept 0 after 3"),
-        (&[byte, 0xbf10_0800_0000_0000, EXIT], "rejected 18446744073709551488 after 3"),
-        (&[byte, 0xbc10_0800_0000_0000, EXIT], "rejected 4294967168 after 3"),
-        (&[sign, 0xc400_0000_2100_0000, EXIT], "rejected 3221225472 after 3"),
-        (&[WIDE, UPPER, MOVE, 0xd400_0000_1000_0000, EXIT], "rejected 30600 after 4"),
-        (&[WIDE, UPPER, MOVE, 0xdc00_0000_1000_0000, EXIT], "rejected 34935 after 4"),
-        (&[WIDE, UPPER, MOVE, 0xd700_0000_2000_0000, EXIT], "rejected 2289526357 after 4"),
-        (&[WIDE, UPPER, MOVE, EXIT], "rejected 1234605616436508552 after 3"),
-        (&[WIDE, UPPER, MOVE, 0x8400_0000_0000_0000, EXIT], "rejected 2862188664 after 4"),
+        (
+            &[byte, 0xbf10_0800_0000_0000, EXIT],
+            "rejected 18446744073709551488 after 3",
+        ),
+        (
+            &[byte, 0xbc10_0800_0000_0000, EXIT],
+            "rejected 4294967168 after 3",
+        ),
+        (
+            &[sign, 0xc400_0000_2100_0000, EXIT],
+            "rejected 3221225472 after 3",
+        ),
+        (
+            &[WIDE, UPPER, MOVE, 0xd400_0000_1000_0000, EXIT],
+            "rejected 30600 after 4",
+        ),
+        (
+            &[WIDE, UPPER, MOVE, 0xdc00_0000_1000_0000, EXIT],
+            "rejected 34935 after 4",
+        ),
+        (
+            &[WIDE, UPPER, MOVE, 0xd700_0000_2000_0000, EXIT],
+            "rejected 2289526357 after 4",
+        ),
+        (
+            &[WIDE, UPPER, MOVE, EXIT],
+            "rejected 1234605616436508552 after 3",
+        ),
+        (
+            &[WIDE, UPPER, MOVE, 0x8400_0000_0000_0000, EXIT],
+            "rejected 2862188664 after 4",
+        ),
     ];
     for (slots, want) in cases {
         let end = end_of(alloc, slots, None, 1)?;
@@ -99,22 +146,58 @@ fn bytes(rt: HostRuntime) -> Result<(), Fail> {
     let cases: [(&[u64], &str); 15] = [
         (&[0x7110_0100_0000_0000, EXIT], "rejected 254 after 2"),
         (&[0x6910_0000_0000_0000, EXIT], "rejected 65279 after 2"),
-        (&[0x6110_0000_0000_0000, EXIT], "rejected 4244504319 after 2"),
-        (&[0x7910_0000_0000_0000, EXIT], "rejected 17940646550795321087 after 2"),
-        (&[0x9110_0000_0000_0000, EXIT], "rejected 18446744073709551615 after 2"),
-        (&[0x8910_0000_0000_0000, EXIT], "rejected 18446744073709551359 after 2"),
-        (&[0x8110_0000_0000_0000, EXIT], "rejected 18446744073659088639 after 2"),
+        (
+            &[0x6110_0000_0000_0000, EXIT],
+            "rejected 4244504319 after 2",
+        ),
+        (
+            &[0x7910_0000_0000_0000, EXIT],
+            "rejected 17940646550795321087 after 2",
+        ),
+        (
+            &[0x9110_0000_0000_0000, EXIT],
+            "rejected 18446744073709551615 after 2",
+        ),
+        (
+            &[0x8910_0000_0000_0000, EXIT],
+            "rejected 18446744073709551359 after 2",
+        ),
+        (
+            &[0x8110_0000_0000_0000, EXIT],
+            "rejected 18446744073659088639 after 2",
+        ),
         // the key's bytes
         (&[0x7130_0200_0000_0000, EXIT], "rejected 121 after 2"),
         // st8, st16, st32 of -1 over zeros, st64 of -2
-        (&[zero, 0x720a_f8ff_ffff_ffff, load, EXIT], "rejected 255 after 4"),
-        (&[zero, 0x6a0a_f9ff_ffff_ffff, load, EXIT], "rejected 16776960 after 4"),
-        (&[zero, 0x620a_f8ff_ffff_ffff, load, EXIT], "rejected 4294967295 after 4"),
-        (&[0x7a0a_f8ff_feff_ffff, load, EXIT], "rejected 18446744073709551614 after 3"),
+        (
+            &[zero, 0x720a_f8ff_ffff_ffff, load, EXIT],
+            "rejected 255 after 4",
+        ),
+        (
+            &[zero, 0x6a0a_f9ff_ffff_ffff, load, EXIT],
+            "rejected 16776960 after 4",
+        ),
+        (
+            &[zero, 0x620a_f8ff_ffff_ffff, load, EXIT],
+            "rejected 4294967295 after 4",
+        ),
+        (
+            &[0x7a0a_f8ff_feff_ffff, load, EXIT],
+            "rejected 18446744073709551614 after 3",
+        ),
         // stx8, stx32 and stx64 of 0x1122334455667788
-        (&[WIDE, UPPER, zero, 0x731a_f8ff_0000_0000, load, EXIT], "rejected 136 after 5"),
-        (&[WIDE, UPPER, zero, 0x631a_f8ff_0000_0000, load, EXIT], "rejected 1432778632 after 5"),
-        (&[WIDE, UPPER, 0x7b1a_f8ff_0000_0000, load, EXIT], "rejected 1234605616436508552 after 4"),
+        (
+            &[WIDE, UPPER, zero, 0x731a_f8ff_0000_0000, load, EXIT],
+            "rejected 136 after 5",
+        ),
+        (
+            &[WIDE, UPPER, zero, 0x631a_f8ff_0000_0000, load, EXIT],
+            "rejected 1432778632 after 5",
+        ),
+        (
+            &[WIDE, UPPER, 0x7b1a_f8ff_0000_0000, load, EXIT],
+            "rejected 1234605616436508552 after 4",
+        ),
     ];
     for (slots, want) in cases {
         let end = end_of(alloc, slots, Some(value), 1)?;

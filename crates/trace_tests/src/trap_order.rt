@@ -27,7 +27,14 @@ fn trap_order(rt: HostRuntime) -> Result<(), Fail> {
         // K4, then K8: stx64 [r10+0], r0 of nothing
         (&[0x7b0a_0000_0000_0000, EXIT], "K4 after 0"),
         // K4, then K12: a second call, whose r1 is spent
-        (&[0xb701_0000_0000_0000, 0x8500_0000_0300_0000, 0x8500_0000_0300_0000], "K4 after 2"),
+        (
+            &[
+                0xb701_0000_0000_0000,
+                0x8500_0000_0300_0000,
+                0x8500_0000_0300_0000,
+            ],
+            "K4 after 2",
+        ),
         // K5, then K10 and K7: stx64 [r1+0], r1
         (&[0x7b11_0000_0000_0000, EXIT], "K5 after 0"),
         // K5, then K8: stx64 [r10+0], r1

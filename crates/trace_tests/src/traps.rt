@@ -26,10 +26,26 @@ fn traps(rt: HostRuntime) -> Result<(), Fail> {
         (&[FIRST_BYTE, EXIT], None, "K7 after 0"),
         (&[0xff00_0000_0000_0000], None, "K1 after 0"),
         // the last byte, and one past it
-        (&[0x7110_0300_0000_0000, EXIT], Some(&[0, 0, 0, 0]), "kept 0 after 2"),
-        (&[0x7110_0400_0000_0000, EXIT], Some(&[0, 0, 0, 0]), "K7 after 0"),
-        (&[0x6110_0100_0000_0000, EXIT], Some(&[0, 0, 0, 0]), "K7 after 0"),
-        (&[0x7110_ffff_0000_0000, EXIT], Some(&[0, 0, 0, 0]), "K7 after 0"),
+        (
+            &[0x7110_0300_0000_0000, EXIT],
+            Some(&[0, 0, 0, 0]),
+            "kept 0 after 2",
+        ),
+        (
+            &[0x7110_0400_0000_0000, EXIT],
+            Some(&[0, 0, 0, 0]),
+            "K7 after 0",
+        ),
+        (
+            &[0x6110_0100_0000_0000, EXIT],
+            Some(&[0, 0, 0, 0]),
+            "K7 after 0",
+        ),
+        (
+            &[0x7110_ffff_0000_0000, EXIT],
+            Some(&[0, 0, 0, 0]),
+            "K7 after 0",
+        ),
         (&[0x7130_0300_0000_0000, EXIT], None, "K7 after 0"),
         // the stack: unset, half set, past its ends
         (&[LOAD, EXIT], None, "K9 after 0"),
@@ -37,7 +53,11 @@ fn traps(rt: HostRuntime) -> Result<(), Fail> {
         (&[0x79a0_f8fd_0000_0000, EXIT], None, "K8 after 0"),
         (&[0x720a_0000_0000_0000, EXIT], None, "K8 after 0"),
         // into a second slot, outside the image, of a call with src 1, of an atomic operation
-        (&[0x0500_0100_0000_0000, 0x1800_0000_0000_0000, 0, EXIT], None, "K2 after 0"),
+        (
+            &[0x0500_0100_0000_0000, 0x1800_0000_0000_0000, 0, EXIT],
+            None,
+            "K2 after 0",
+        ),
         (&[0x0500_0100_0000_0000, EXIT], None, "K2 after 0"),
         (&[0x8510_0000_0100_0000, EXIT], None, "K1 after 0"),
         (&[ZERO, 0xdb0a_f8ff_0000_0000, EXIT], None, "K1 after 1"),
@@ -49,7 +69,16 @@ fn traps(rt: HostRuntime) -> Result<(), Fail> {
         let end = end_of(alloc, slots, value, 1)?;
         assert_eq!(rt; end.as_str(), want);
     }
-    let wrapping: &[u64] = &[0x1806_0000_ffff_ffff, 0x0000_0000_ffff_ff7f, far, far, far, far, 0x7110_0400_0000_0000, EXIT];
+    let wrapping: &[u64] = &[
+        0x1806_0000_ffff_ffff,
+        0x0000_0000_ffff_ff7f,
+        far,
+        far,
+        far,
+        far,
+        0x7110_0400_0000_0000,
+        EXIT,
+    ];
     let end = end_of(alloc, wrapping, Some(b"1234"), 1)?;
     assert_eq!(rt; end.as_str(), "K7 after 5");
     Ok(())
