@@ -1,12 +1,6 @@
--- The core as this program uses it, and the batches that it appends.
-use Rattle.std.specs.Prelude.{◌≡◌, ℕ, pos, negsuc, List, [], ◌∷◌, length, Option}
-use Rattle.log_spec.specs.Worlds.{World, outputs_of}
+-- The batches that `put` appends.
+use Rattle.std.specs.Prelude.{ℕ, pos, negsuc, List, [], ◌∷◌, Option}
 use Rattle.wire_spec.specs.declared.record.Batch.{Batch}
-
--- one input partition, and one output partition that takes its rows
-pub record IsOne (w : World) : Type 0 where
-  pub inputs : length w.logs ≡ 1
-  pub outputs : outputs_of w 0 ≡ 1
 
 -- a batch of one record without headers, with a timestamp in milliseconds
 abbrev pub put_batch : ℕ → Option (List ℕ) → Option (List ℕ) → Batch
