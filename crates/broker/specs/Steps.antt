@@ -1,9 +1,9 @@
 -- What a step of a book over an input partition does.
 use Rattle.std.specs.Prelude.{◌≡◌, ℕ, ◌<◌, ◌≤◌, List, length, ◌++◌, slice_set, None, IfSome, Result, Ok, Err}
 use Rattle.log_spec.specs.declared.row.Row.{Row}
-use Rattle.log_spec.specs.Logs.{Item as Kept, in_force, records_among, IsItemRows}
+use Rattle.log_spec.specs.Logs.{Item as Kept, in_force, records_among, IsItemRows, IsRowsAt}
 use Rattle.part_log.specs.Parts.{Log, CellNote, log_with}
-use Rattle.worker.specs.Walks.{last, IsRowsAt}
+use Rattle.worker.specs.Walks.{last}
 use Rattle.out_book.specs.Books.{Content, content, log_in, done_of}
 use Rattle.out_book.specs.declared.fault.BookFault.TheVariants as book
 use Rattle.broker.specs.declared.fault.BrokerFault.{BrokerFault}

@@ -1,7 +1,7 @@
 use bytes::Bytes;
 use log_spec::Row;
 use script::{
-    Command, ScriptFault, Source, append_text, deploy_text, first_fault, load_text, parse, push_row,
+    Command, ScriptFault, Source, append_text, close_text, deploy_text, first_fault, load_text, parse, push_row,
 };
 use std::alloc::Global;
 use std::test::Fail;
@@ -42,6 +42,7 @@ fn shown(alloc: Global, line: &str) -> Result<String, Fail> {
             let file = file.text.as_str();
             format!(in alloc; "append {input} {file}")?
         }
+        Some(Command::Close(input)) => format!(in alloc; "close {input}")?,
         Some(Command::Go) => String::from_str(alloc, "go")?,
     };
     Ok(text)
@@ -85,6 +86,9 @@ fn reads_lines(rt: HostRuntime) -> Result<(), Fail> {
         ("append 00 batches.bin", "none"),
         ("append batches.bin", "none"),
         ("append 0 batches.bin 2", "none"),
+        ("close 3", "close 3"),
+        ("close", "none"),
+        ("close 0 0", "none"),
         ("Go", "none"),
         (" ", "none"),
     ] {
@@ -110,8 +114,13 @@ fn tells_faults(rt: HostRuntime) -> Result<(), Fail> {
             Some(ScriptFault::Range),
         ),
         ("partitions 1 1 0", false, true, Some(ScriptFault::Range)),
-        ("partitions 2 1 8", false, true, Some(ScriptFault::Range)),
-        ("partitions 2 1 8", true, true, Some(ScriptFault::Order)),
+        ("partitions 64 64 8", false, true, None),
+        ("partitions 65 1 8", false, true, Some(ScriptFault::Range)),
+        ("partitions 1 65 8", false, true, Some(ScriptFault::Range)),
+        ("partitions 0 1 8", false, true, Some(ScriptFault::Range)),
+        ("partitions 1 0 8", true, true, Some(ScriptFault::Order)),
+        ("close 9", true, true, None),
+        ("close 0", false, true, Some(ScriptFault::Order)),
         ("deploy 0 fwd", true, false, Some(ScriptFault::Order)),
         ("put 9 4611686018427387903 - -", true, true, None),
         (
@@ -136,6 +145,7 @@ fn writes_lines(rt: HostRuntime) -> Result<(), Fail> {
     assert!(rt; load_text(alloc, "fwd", 1)?.as_str() == "load fwd version 1\n");
     assert!(rt; deploy_text(alloc, 0, 3, "fwd", 2)?.as_str() == "deploy 0 index 3 fwd version 2\n");
     assert!(rt; append_text(alloc, 0, 1, 10)?.as_str() == "append 0 index 1 base 10\n");
+    assert!(rt; close_text(alloc, 63, 65_535)?.as_str() == "close 63 index 65535\n");
     let mut text = String::from_str(alloc, "x")?;
     let row = Row {
         input: 0,
@@ -148,7 +158,7 @@ fn writes_lines(rt: HostRuntime) -> Result<(), Fail> {
             list: Vec::new(alloc),
         },
     };
-    push_row(&mut text, 0, &row)?;
-    assert!(rt; text.as_str() == "xrow 0 0 7 1 1000 6bff - 0\n");
+    push_row(&mut text, 3, &row)?;
+    assert!(rt; text.as_str() == "xrow 3 0 7 1 1000 6bff - 0\n");
     Ok(())
 }

@@ -1,56 +1,70 @@
-ghost use Rattle.std.specs.Prelude.{IfOk};
+ghost use Rattle.std.specs.Prelude.{IfOk, IfSome};
 ghost use Rattle.log_spec.specs.Worlds.{FitsEvent};
+ghost use Rattle.log_spec.specs.Logs.{FitsLog};
 
 use bytes::Bytes;
-use machine_spec::IsaFault;
+use log_item::fits_log;
 use std::alloc::{AllocError, Global};
 use std::test::Fail;
-use verifier_spec::{Check, VerifyFault};
 use wire_spec::{Batch, Headers, Record, Records};
-use world::{Event, LoadFault, Name, Refusal, Reply, World, fits_log, run};
+use world::{Event, Name, Row, World, run};
 
 /// mov64 r1, 0; call 3; exit: each record goes to output 0 as it is.
-const FORWARD: [u8; 24] = [
+const FORWARD: &[u8] = &[
     0xb7, 1, 0, 0, 0, 0, 0, 0, 0x85, 0, 0, 0, 3, 0, 0, 0, 0x95, 0, 0, 0, 0, 0, 0, 0,
 ];
 
+/// mov64 r1, 0; call 3; mov64 r1, 1; call 3; exit: to output 0 and then to output 1.
+const FIRST: &[u8] = &[
+    0xb7, 1, 0, 0, 0, 0, 0, 0, 0x85, 0, 0, 0, 3, 0, 0, 0, 0xb7, 1, 0, 0, 1, 0, 0, 0, 0x85, 0, 0, 0,
+    3, 0, 0, 0, 0x95, 0, 0, 0, 0, 0, 0, 0,
+];
+
+/// mov64 r1, 1; call 3; mov64 r1, 0; call 3; exit: to output 1 and then to output 0.
+const SECOND: &[u8] = &[
+    0xb7, 1, 0, 0, 1, 0, 0, 0, 0x85, 0, 0, 0, 3, 0, 0, 0, 0xb7, 1, 0, 0, 0, 0, 0, 0, 0x85, 0, 0, 0,
+    3, 0, 0, 0, 0x95, 0, 0, 0, 0, 0, 0, 0,
+];
+
 /// The value's first byte into r0; exit: nothing is known of the value's length.
-const UNSAFE: [u8; 16] = [0x71, 0x10, 0, 0, 0, 0, 0, 0, 0x95, 0, 0, 0, 0, 0, 0, 0];
+const UNSAFE: &[u8] = &[0x71, 0x10, 0, 0, 0, 0, 0, 0, 0x95, 0, 0, 0, 0, 0, 0, 0];
 
-fn load(alloc: Global, name: &str, image: &[u8]) -> Result<Event, AllocError>
-    ensures { IfOk result (λ event. FitsEvent event) }
-{
-    let name = Name {
-        text: String::from_str(alloc, name)?,
-    };
-    Ok(Event::Load(name, Bytes::copy_from_slice(alloc, image)?))
+/// An event in short. A `Put` is of as many records as its text has bytes, each with the key `k`
+/// and one of the bytes as its value.
+#[derive(Clone, Copy)]
+enum Act {
+    Load(&'static str, &'static [u8]),
+    Mark(usize, &'static str, u32),
+    Put(usize, &'static str),
+    Close(usize),
+    Deliver(usize, usize),
+    Restart(usize),
 }
 
-fn mark(alloc: Global, input: usize, name: &str, version: u32) -> Result<Event, AllocError>
-    ensures { IfOk result (λ event. FitsEvent event) }
-{
-    let name = Name {
-        text: String::from_str(alloc, name)?,
-    };
-    Ok(Event::Mark(input, name, version))
+fn name_of(alloc: Global, text: &str) -> Result<Name, AllocError> {
+    let text = String::from_str(alloc, text)?;
+    Ok(Name { text })
 }
 
-/// A batch of one record with key `k` and value `v` at 1000 milliseconds.
-fn put(alloc: Global, input: usize) -> Result<Event, Fail>
-    ensures { IfOk result (λ event. FitsEvent event) }
-{
-    let key = Bytes::copy_from_slice(alloc, b"k")?;
-    let value = Bytes::copy_from_slice(alloc, b"v")?;
-    let given = Record {
+fn record_of(alloc: Global, value: u8) -> Result<Record, AllocError> {
+    Ok(Record {
         timestamp_delta: 0,
-        key: Some(key),
-        value: Some(value),
+        key: Some(Bytes::copy_from_slice(alloc, b"k")?),
+        value: Some(Bytes::copy_from_slice(alloc, &[value])?),
         headers: Headers {
             list: Vec::new(alloc),
         },
-    };
+    })
+}
+
+/// A batch at 1000 milliseconds; none where it doesn't fit or memory ran out.
+fn batch_of(alloc: Global, values: &str) -> Option<Batch>
+    ensures { IfSome result (λ batch. FitsLog batch) }
+{
     let mut list = Vec::new(alloc);
-    list.push(given)?;
+    for value in values.as_bytes() {
+        list.push(record_of(alloc, *value).ok()?).ok()?;
+    }
     let batch = Batch {
         base_offset: 0,
         leader_epoch: 0,
@@ -61,120 +75,187 @@ fn put(alloc: Global, input: usize) -> Result<Event, Fail>
         records: Records { list },
     };
     if !fits_log(&batch) {
-        Err("the batch fits")?;
+        return None;
     }
-    Ok(Event::Batch(input, batch))
+    Some(batch)
+}
+
+fn event_of(alloc: Global, act: Act) -> Option<Event>
+    ensures { IfSome result (λ event. FitsEvent event) }
+{
+    match act {
+        Act::Load(name, image) => {
+            let image = Bytes::copy_from_slice(alloc, image).ok()?;
+            Some(Event::Load(name_of(alloc, name).ok()?, image))
+        }
+        Act::Mark(input, name, version) => {
+            Some(Event::Mark(input, name_of(alloc, name).ok()?, version))
+        }
+        Act::Put(input, values) => Some(Event::Batch(input, batch_of(alloc, values)?)),
+        Act::Close(input) => Some(Event::Close(input)),
+        Act::Deliver(input, output) => Some(Event::Deliver(input, output)),
+        Act::Restart(input) => Some(Event::Restart(input)),
+    }
+}
+
+/// What a world answers to an event, as a text.
+fn answer(alloc: Global, world: &mut World, act: Act) -> Result<String, Fail> {
+    let event = event_of(alloc, act).ok_or("an event")?;
+    match world.step(alloc, &event) {
+        Ok(reply) => Ok(format!(in alloc; "{reply:?}")?),
+        Err(refusal) => Ok(format!(in alloc; "{refusal}")?),
+    }
+}
+
+/// The one byte of a row's value.
+fn letter_of(row: &Row) -> char {
+    match &row.value {
+        None => '-',
+        Some(value) => value.as_slice().first().map_or('.', |byte| *byte as char),
+    }
+}
+
+/// The rows of a pair of partitions, with its done number and its place: of each row its input, its
+/// offset, its number, its timestamp and its value.
+fn book_text(alloc: Global, world: &World, input: usize, output: usize) -> Result<String, Fail> {
+    let mut text = String::new(alloc);
+    if input >= world.inputs() {
+        return Ok(text);
+    }
+    if output >= world.outputs(input) {
+        return Ok(text);
+    }
+    for row in world.rows(input, output) {
+        let (from, offset, number, timestamp) = (row.input, row.offset, row.number, row.timestamp);
+        let letter = letter_of(row);
+        write!(text, "{from} {offset} {number} {timestamp} {letter}, ")?;
+    }
+    let done = world.done(input, output);
+    let at = world.at(input, output);
+    write!(text, "done {done} at {at}")?;
+    Ok(text)
 }
 
 #[test]
-fn a_record_goes_by_the_program_that_was_marked(rt: HostRuntime) -> Result<(), Fail> {
+fn an_item_is_delivered_once_to_each_output(rt: HostRuntime) -> Result<(), Fail> {
     let alloc = rt.alloc();
-    let mut world = World::new(alloc, 1, 1, 4);
-    let deliver = Event::Deliver(0, 0);
-    assert_eq!(rt;
-        world.step(alloc, &load(alloc, "fwd", &FORWARD)?),
-        Ok(Reply::Loaded(1))
-    );
-    assert_eq!(rt;
-        world.step(alloc, &load(alloc, "fwd", &FORWARD)?),
-        Ok(Reply::Loaded(2))
-    );
-    assert_eq!(rt;
-        world.step(alloc, &mark(alloc, 0, "fwd", 1)?),
-        Ok(Reply::Appended(0, 0))
-    );
-    assert_eq!(rt;
-        world.step(alloc, &put(alloc, 0)?),
-        Ok(Reply::Appended(1, 0))
-    );
-    assert_eq!(rt;
-        world.step(alloc, &put(alloc, 0)?),
-        Ok(Reply::Appended(2, 1))
-    );
-    assert_eq!(rt; world.step(alloc, &deliver), Ok(Reply::Added(0)));
-    assert_eq!(rt; world.step(alloc, &deliver), Ok(Reply::Added(1)));
-    assert_eq!(rt; world.step(alloc, &deliver), Ok(Reply::Added(1)));
-    assert_eq!(rt; world.step(alloc, &deliver), Err(Refusal::NoItem));
+    let mut world = World::new(alloc, 1, 2, 4)?;
+    for (act, want) in [
+        (Act::Load("fwd", FORWARD), "Loaded(1)"),
+        (Act::Mark(0, "fwd", 1), "Appended(0, 0)"),
+        (Act::Put(0, "A"), "Appended(1, 0)"),
+        (Act::Deliver(0, 0), "Added(0)"),
+        (Act::Deliver(0, 0), "Added(1)"),
+        (Act::Deliver(0, 0), "NoItem"),
+        (Act::Restart(0), "Restarted"),
+        (Act::Deliver(0, 0), "Already"),
+        (Act::Deliver(0, 1), "Added(0)"),
+        (Act::Mark(0, "fwd", 2), "NoVersion"),
+    ] {
+        assert_eq!(rt; answer(alloc, &mut world, act)?.as_str(), want);
+    }
+    for (output, want) in [(0, "0 0 0 1000 A, done 2 at 1"), (1, "done 1 at 1")] {
+        assert_eq!(rt; book_text(alloc, &world, 0, output)?.as_str(), want);
+    }
     Ok(())
 }
 
 #[test]
-fn rows_tell_where_they_come_from(rt: HostRuntime) -> Result<(), Fail> {
+fn each_record_goes_by_the_mark_before_it(rt: HostRuntime) -> Result<(), Fail> {
     let alloc = rt.alloc();
-    let events = [
-        put(alloc, 0)?,
-        load(alloc, "fwd", &FORWARD)?,
-        mark(alloc, 0, "fwd", 1)?,
-        put(alloc, 0)?,
-        Event::Deliver(0, 0),
-        Event::Deliver(0, 0),
-        Event::Deliver(0, 0),
-    ];
-    let world = run(alloc, 1, 1, 4, &events)?;
-    assert_eq!(rt; world.done(0, 0), 3);
-    assert_eq!(rt; world.at(0, 0), 3);
-    let rows = world.rows(0, 0);
-    assert_eq!(rt; rows.len(), 1);
-    let row = &rows[0];
-    assert_eq!(rt;
-        (row.input, row.offset, row.number, row.timestamp),
-        (0, 1, 0, 1000)
-    );
-    assert!(rt; matches!(&row.key, Some(key) if key.as_slice() == b"k".as_slice()));
-    assert!(rt; matches!(&row.value, Some(value) if value.as_slice() == b"v".as_slice()));
+    let mut world = World::new(alloc, 2, 2, 8)?;
+    for (act, want) in [
+        (Act::Load("p1", FIRST), "Loaded(1)"),
+        (Act::Load("p2", SECOND), "Loaded(1)"),
+        (Act::Put(1, "xyz"), "Appended(0, 0)"),
+        (Act::Mark(1, "p1", 1), "Appended(1, 3)"),
+        (Act::Put(1, "AB"), "Appended(2, 3)"),
+        (Act::Deliver(1, 0), "Added(0)"),
+        (Act::Mark(1, "p2", 1), "Appended(3, 5)"),
+        (Act::Put(1, "C"), "Appended(4, 5)"),
+        (Act::Load("p1", SECOND), "Loaded(2)"),
+        (Act::Deliver(1, 0), "Added(0)"),
+        (Act::Deliver(1, 0), "Added(2)"),
+        (Act::Deliver(1, 1), "Added(0)"),
+        (Act::Deliver(1, 0), "Added(0)"),
+        (Act::Restart(1), "Restarted"),
+        (Act::Deliver(1, 1), "Already"),
+        (Act::Deliver(1, 1), "Added(0)"),
+        (Act::Deliver(1, 1), "Added(2)"),
+        (Act::Deliver(1, 1), "Added(0)"),
+        (Act::Deliver(1, 1), "Added(1)"),
+        (Act::Deliver(1, 0), "Already"),
+        (Act::Deliver(0, 0), "NoItem"),
+    ] {
+        assert_eq!(rt; answer(alloc, &mut world, act)?.as_str(), want);
+    }
+    for (input, output, want) in [
+        (0, 0, "done 0 at 0"),
+        (1, 0, "1 3 0 1000 A, 1 4 0 1000 B, done 4 at 1"),
+        (1, 1, "1 3 1 1000 A, 1 4 1 1000 B, 1 5 0 1000 C, done 5 at 5"),
+    ] {
+        assert_eq!(rt; book_text(alloc, &world, input, output)?.as_str(), want);
+    }
     Ok(())
 }
 
 #[test]
 fn refusals_come_in_their_order(rt: HostRuntime) -> Result<(), Fail> {
     let alloc = rt.alloc();
-    let mut world = World::new(alloc, 1, 1, 1);
-    let unsafe_load = LoadFault::Verify(VerifyFault {
-        pc: 0,
-        kind: Check::RecordBounds,
-    });
-    let no_size = LoadFault::Isa(IsaFault::Size);
-    assert_eq!(rt;
-        world.step(alloc, &load(alloc, "", &FORWARD)?),
-        Err(Refusal::Name)
-    );
-    assert_eq!(rt;
-        world.step(alloc, &load(alloc, "a_b", &[])?),
-        Err(Refusal::Name)
-    );
-    assert_eq!(rt;
-        world.step(alloc, &load(alloc, "a-b", &[])?),
-        Err(Refusal::Load(no_size))
-    );
-    assert_eq!(rt;
-        world.step(alloc, &load(alloc, "a", &UNSAFE)?),
-        Err(Refusal::Load(unsafe_load))
-    );
-    assert_eq!(rt;
-        world.step(alloc, &mark(alloc, 1, "a", 1)?),
-        Err(Refusal::Partition)
-    );
-    assert_eq!(rt;
-        world.step(alloc, &mark(alloc, 0, "a", 1)?),
-        Err(Refusal::NoVersion)
-    );
-    assert_eq!(rt; world.step(alloc, &put(alloc, 1)?), Err(Refusal::Partition));
-    assert_eq!(rt;
-        world.step(alloc, &Event::Deliver(0, 1)),
-        Err(Refusal::Partition)
-    );
-    assert_eq!(rt;
-        world.step(alloc, &Event::Deliver(0, 0)),
-        Err(Refusal::NoItem)
-    );
-    assert_eq!(rt;
-        world.step(alloc, &put(alloc, 0)?),
-        Ok(Reply::Appended(0, 0))
-    );
-    assert_eq!(rt; world.step(alloc, &put(alloc, 0)?), Err(Refusal::LogFull));
-    assert_eq!(rt;
-        world.step(alloc, &mark(alloc, 0, "a", 1)?),
-        Err(Refusal::NoVersion)
-    );
+    let mut world = World::new(alloc, 64, 64, 2)?;
+    for (act, want) in [
+        (Act::Load("", FORWARD), "C1 Name"),
+        (Act::Load("a_b", &[]), "C1 Name"),
+        (Act::Load("a-b", &[]), "I1 Size"),
+        (Act::Load("a", UNSAFE), "V7 RecordBounds at 0"),
+        (Act::Mark(64, "a", 1), "P1 Partition"),
+        (Act::Mark(63, "a", 1), "NoVersion"),
+        (Act::Put(64, "A"), "P1 Partition"),
+        (Act::Close(64), "P1 Partition"),
+        (Act::Restart(64), "P1 Partition"),
+        (Act::Restart(63), "Restarted"),
+        (Act::Deliver(64, 0), "P1 Partition"),
+        (Act::Deliver(0, 64), "P1 Partition"),
+        (Act::Deliver(63, 63), "NoItem"),
+        (Act::Load("a", FORWARD), "Loaded(1)"),
+        (Act::Close(63), "Appended(0, 0)"),
+        (Act::Put(63, "A"), "L2 Closed"),
+        (Act::Close(63), "L2 Closed"),
+        (Act::Mark(63, "a", 1), "L2 Closed"),
+        (Act::Mark(63, "a", 0), "NoVersion"),
+        (Act::Put(0, "A"), "Appended(0, 0)"),
+        (Act::Close(0), "Appended(1, 1)"),
+        (Act::Put(0, "A"), "L2 Closed"),
+        (Act::Put(1, "A"), "Appended(0, 0)"),
+        (Act::Put(1, "A"), "Appended(1, 1)"),
+        (Act::Put(1, "A"), "L1 Full"),
+        (Act::Close(1), "L1 Full"),
+        (Act::Mark(1, "a", 1), "L1 Full"),
+        (Act::Mark(1, "a", 2), "NoVersion"),
+        (Act::Deliver(63, 63), "Added(0)"),
+        (Act::Deliver(63, 63), "NoItem"),
+    ] {
+        assert_eq!(rt; answer(alloc, &mut world, act)?.as_str(), want);
+    }
+    Ok(())
+}
+
+#[test]
+fn a_run_goes_on_after_a_refused_event(rt: HostRuntime) -> Result<(), Fail> {
+    let alloc = rt.alloc();
+    let mark = event_of(alloc, Act::Mark(0, "fwd", 1)).ok_or("an event")?;
+    let load = event_of(alloc, Act::Load("fwd", FORWARD)).ok_or("an event")?;
+    let again = event_of(alloc, Act::Mark(0, "fwd", 1)).ok_or("an event")?;
+    let put = event_of(alloc, Act::Put(0, "A")).ok_or("an event")?;
+    let events = [
+        mark,
+        load,
+        again,
+        put,
+        Event::Deliver(0, 0),
+        Event::Deliver(0, 0),
+    ];
+    let world = run(alloc, 1, 1, 4, &events)?;
+    assert_eq!(rt; book_text(alloc, &world, 0, 0)?.as_str(), "0 0 0 1000 A, done 2 at 2");
     Ok(())
 }

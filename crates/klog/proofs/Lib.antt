@@ -1,2 +1,1 @@
 pub mod BatchLaws
-pub mod OneLaws

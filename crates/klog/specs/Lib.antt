@@ -1,2 +1,2 @@
-pub mod One
+pub mod Puts
 pub mod Stops

@@ -1,63 +1,76 @@
-//! The core with one input and one output partition.
+//! The core that a script works on, and the batches that it appends.
 
-ghost use Rattle.std.specs.Prelude.{◌≡◌, ◌<◌, ◌≤◌, ◌^◌, nat_lt, length, IfOk};
-ghost use Rattle.script.specs.Faults.{text_size};
+ghost use Rattle.std.specs.Prelude.{◌≡◌, ◌<◌, ◌≤◌, nat_lt, length, true, IfOk};
+ghost use Rattle.script.specs.Faults.{text_size, is_count};
 ghost use Rattle.log_spec.specs.Logs.{FitsLog};
 ghost use Rattle.wire_spec.specs.BatchReading.{batch_at};
 ghost use Rattle.batch.specs.Gives.{Gives};
-ghost use Rattle.log_spec.specs.Worlds.{FitsEvent, book_of, new_world};
-ghost use Rattle.world.specs.Views.{StepsTo};
-ghost use Rattle.klog.specs.One.{IsOne, put_batch};
+ghost use Rattle.log_spec.specs.Worlds.{new_world};
+ghost use Rattle.klog.specs.Puts.{put_batch};
 
+use crate::stop::{Stop, refused};
 use batch::{BatchFault, decode};
 use bytes::Bytes;
-use log_spec::{Event, MAX_CELLS, Refusal, Reply, Row};
+use log_spec::{Event, MAX_CELLS, MAX_PARTITIONS, Refusal};
 use std::alloc::{AllocError, Global};
 use wire_spec::{Batch, Headers, MAX_KEY, MAX_VALUE, Record, Records, TIMESTAMP_END};
 use world::World;
 
-/// A core of one input and one output partition.
-#[derive(Drop)]
-pub struct Core {
-    pub world: World,
-    ghost one: { IsOne world },
+/// A core of so many input and output partitions, whose logs have so many cells each.
+pub fn core_of(
+    alloc: Global,
+    inputs: u64,
+    outputs: u64,
+    cells: u64,
+) -> Result<World, AllocError>
+    requires inputs { is_count inputs MAX_PARTITIONS ≡ true }
+    requires outputs { is_count outputs MAX_PARTITIONS ≡ true }
+    requires cells { is_count cells MAX_CELLS ≡ true }
+    ensures { IfOk result (λ world. world ≡ new_world inputs outputs cells) }
+{
+    World::new(alloc, inputs as usize, outputs as usize, cells as usize)
 }
 
-/// How many input partitions there are.
-const INPUTS: u64 = 1;
+/// Whether there is such an input partition.
+pub fn has_input(world: &World, input: u64) -> bool
+    ensures { result ≡ nat_lt input (length world.now.logs) }
+{
+    input < world.inputs() as u64
+}
 
-impl Core {
-    /// A core whose log has so many cells.
-    pub fn new(alloc: Global, cells: usize) -> Core
-        requires some { 1 ≤ cells }
-        requires most { cells ≤ MAX_CELLS }
-        ensures { result.world ≡ new_world 1 1 cells }
-    {
-        let world = World::new(alloc, 1, 1, cells);
-        Core { world }
+/// How many output partitions there are.
+pub fn outputs(world: &World) -> usize {
+    if world.inputs() == 0 {
+        return 0;
     }
+    world.outputs(0)
+}
 
-    /// Whether there is such an input partition.
-    pub fn has_input(&self, input: u64) -> bool
-        ensures { result ≡ nat_lt input (length self.now.world.logs) }
-    {
-        input < INPUTS
+/// Offers an output partition the items of an input partition, to the last that its log has.
+fn deliver(alloc: Global, world: &mut World, input: usize, output: usize) -> Result<(), Stop> {
+    for _ in 0..u64::MAX {
+        match world.step(alloc, &Event::Deliver(input, output)) {
+            Ok(_) => {}
+            Err(Refusal::NoItem) => return Ok(()),
+            Err(refusal) => return Err(refused(refusal)),
+        }
     }
+    Ok(())
+}
 
-    /// One event.
-    pub fn step(&mut self, alloc: Global, event: &Event) -> Result<Reply, Refusal>
-        requires { FitsEvent event.now }
-        ensures { StepsTo self.old.world event.now result self.new.world }
-    {
-        self.world.step(alloc, event)
+fn deliver_input(alloc: Global, world: &mut World, input: usize) -> Result<(), Stop> {
+    for output in 0..outputs(world) {
+        deliver(alloc, world, input, output)?;
     }
+    Ok(())
+}
 
-    /// The rows of the output partition.
-    pub fn rows(&self) -> &[Row]
-        ensures { result.now ≡ (book_of self.now.world 0 0).rows }
-    {
-        self.world.rows(0, 0)
+/// Offers every item that the logs have to every output partition.
+pub fn deliver_all(alloc: Global, world: &mut World) -> Result<(), Stop> {
+    for input in 0..world.inputs() {
+        deliver_input(alloc, world, input)?;
     }
+    Ok(())
 }
 
 /// The batch at the front of the bytes, and how many of them it takes, or why there is none.

@@ -8,27 +8,28 @@ ghost use Rattle.script.specs.Faults.{text_size, is_in_range};
 ghost use Rattle.log_spec.specs.Logs.{FitsLog};
 ghost use Rattle.log_spec.specs.Worlds.{FitsEvent};
 
-use crate::core_world::{Core, batch_of, next_batch};
+use crate::core_world::{batch_of, core_of, deliver_all, has_input, next_batch, outputs};
 use crate::files::Files;
 use crate::stop::{Stop, refused, unwritten};
 use bytes::Bytes;
 use log_spec::{Event, Name, Refusal, Reply, Row};
 use script::{
-    Command, FileName, ScriptFault, Source, append_text, deploy_text, first_fault, load_text,
-    parse, push_row,
+    Command, FileName, ScriptFault, Source, append_text, close_text, deploy_text, first_fault,
+    load_text, parse, push_row,
 };
 use std::alloc::{AllocError, Global};
 use std::collections::BTreeMap;
 use std::io;
 use std::io::{Read, Write};
 use wire_spec::{Batch, MAX_KEY, MAX_VALUE, TIMESTAMP_END};
+use world::World;
 
 /// What a script has done so far: its core, once `partitions` made it, and the last version that
 /// each name was loaded as.
 #[derive(Drop)]
 pub struct Session {
     alloc: Global,
-    core: Option<Core>,
+    core: Option<World>,
     versions: BTreeMap<String, u32>,
 }
 
@@ -131,7 +132,7 @@ impl Session {
     fn known_input(&self, input: u64) -> Result<(), Stop> {
         match &self.core {
             None => Err(Stop::Line(ScriptFault::Order)),
-            Some(core) if core.has_input(input) => Ok(()),
+            Some(core) if has_input(core, input) => Ok(()),
             Some(_) => Err(Stop::Event(Refusal::Partition)),
         }
     }
@@ -242,24 +243,22 @@ impl Session {
         Ok(())
     }
 
-    /// Offers every item that the log has, then prints all rows.
-    fn go<O: Write>(&mut self, stdout: &mut O) -> Result<(), Stop> {
-        self.deliver_all()?;
-        match &self.core {
-            None => Ok(()),
-            Some(core) => print_rows(self.alloc, stdout, core.rows()),
-        }
+    fn close<O: Write>(&mut self, stdout: &mut O, input: u64) -> Result<(), Stop> {
+        let Reply::Appended(index, _) = self.step(&Event::Close(input as usize))? else {
+            return Ok(());
+        };
+        print(stdout, close_text(self.alloc, input, index)?.as_str())
     }
 
-    fn deliver_all(&mut self) -> Result<(), Stop> {
-        for _ in 0..u64::MAX {
-            match self.step(&Event::Deliver(0, 0)) {
-                Ok(_) => {}
-                Err(Stop::Event(Refusal::NoItem)) => return Ok(()),
-                Err(stop) => return Err(stop),
+    /// Offers every item that the logs have, then prints all rows.
+    fn go<O: Write>(&mut self, stdout: &mut O) -> Result<(), Stop> {
+        match &mut self.core {
+            None => Ok(()),
+            Some(core) => {
+                deliver_all(self.alloc, core)?;
+                print_core(self.alloc, stdout, core)
             }
         }
-        Ok(())
     }
 
     /// One line of the script.
@@ -293,8 +292,8 @@ impl Session {
         requires { is_in_range command ≡ true }
     {
         match command {
-            Command::Partitions(_, _, cells) => {
-                self.core = Some(Core::new(self.alloc, cells as usize));
+            Command::Partitions(inputs, outputs, cells) => {
+                self.core = Some(core_of(self.alloc, inputs, outputs, cells)?);
                 Ok(())
             }
             Command::Load(name, source) => {
@@ -309,6 +308,7 @@ impl Session {
                 let bytes = self.batches(files, input, source)?;
                 self.append_all(stdout, input, bytes)
             }
+            Command::Close(input) => self.close(stdout, input),
             Command::Go => self.go(stdout),
         }
     }
@@ -320,11 +320,38 @@ fn shared(bytes: Vec<u8>) -> Result<Bytes, AllocError>
     Ok(Bytes::from_vec(bytes)?)
 }
 
-fn print_rows<O: Write>(alloc: Global, stdout: &mut O, rows: &[Row]) -> Result<(), Stop> {
+/// The rows of each output partition from each input partition, in this order.
+fn print_core<O: Write>(alloc: Global, stdout: &mut O, core: &World) -> Result<(), Stop> {
+    for output in 0..outputs(core) {
+        print_output(alloc, stdout, core, output)?;
+    }
+    Ok(())
+}
+
+fn print_output<O: Write>(
+    alloc: Global,
+    stdout: &mut O,
+    core: &World,
+    output: usize,
+) -> Result<(), Stop> {
+    for input in 0..core.inputs() {
+        if output < core.outputs(input) {
+            print_rows(alloc, stdout, output, core.rows(input, output))?;
+        }
+    }
+    Ok(())
+}
+
+fn print_rows<O: Write>(
+    alloc: Global,
+    stdout: &mut O,
+    output: usize,
+    rows: &[Row],
+) -> Result<(), Stop> {
     let mut text = String::new(alloc);
     for row in rows {
         text.clear();
-        push_row(&mut text, 0, row)?;
+        push_row(&mut text, output, row)?;
         print(stdout, text.as_str())?;
     }
     Ok(())

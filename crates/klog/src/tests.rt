@@ -100,6 +100,29 @@ fn forwards_a_record(rt: HostRuntime) -> Result<(), Fail> {
     Ok(())
 }
 
+/// Two inputs and two outputs. `both` emits to output 0 and then to output 1, `turned` to 1 and then
+/// to 0.
+const FOUR: &str = "partitions 2 2 8\n\
+    load both hex:b7010000000000008500000003000000b70100000100000085000000030000009500000000000000\n\
+    load turned hex:b7010000010000008500000003000000b70100000000000085000000030000009500000000000000\n\
+    deploy 1 both\nput 1 1000 6b 41\ndeploy 1 turned\nput 1 1001 - 42\nput 0 5 . .\nclose 1\ngo\n";
+
+#[test]
+fn prints_rows_by_output_and_input(rt: HostRuntime) -> Result<(), Fail> {
+    let alloc = rt.alloc();
+    let printed = "load both version 1\nload turned version 1\n\
+        deploy 1 index 0 both version 1\nappend 1 index 1 base 0\n\
+        deploy 1 index 2 turned version 1\nappend 1 index 3 base 1\n\
+        append 0 index 0 base 0\nclose 1 index 4\n\
+        row 0 1 0 0 1000 6b 41 0\nrow 0 1 1 1 1001 - 42 0\n\
+        row 1 1 0 1 1000 6b 41 0\nrow 1 1 1 0 1001 - 42 0\n";
+    let (status, out, err) = called(alloc, &["run", "stdin"], FOUR)?;
+    assert!(rt; err.as_str() == "", "{err}");
+    assert!(rt; out.as_str() == printed, "{out}");
+    assert!(rt; status == 0);
+    Ok(())
+}
+
 #[test]
 fn words_that_can_not_be_had(rt: HostRuntime) -> Result<(), Fail> {
     for (kind, text, status) in [
@@ -225,13 +248,17 @@ fn needs_partitions_first(rt: HostRuntime) -> Result<(), Fail> {
         ("#\ngo", "line 2: S2 Order\n", 1),
         ("load x nothing", "line 1: S2 Order\n", 1),
         ("frob", "line 1: S1 Syntax\n", 1),
-        ("partitions 1 2 8", "line 1: S3 Range\n", 1),
+        ("partitions 1 65 8", "line 1: S3 Range\n", 1),
+        ("partitions 0 1 8", "line 1: S3 Range\n", 1),
         ("partitions 1 1 0", "line 1: S3 Range\n", 1),
         (
             "partitions 1 1 1\nput 0 0 - -\nput 0 0 - -",
             "line 3: L1 Full\n",
             1,
         ),
+        ("partitions 2 1 1\nclose 1\nclose 1", "line 3: L2 Closed\n", 1),
+        ("partitions 2 1 1\nclose 2", "line 2: P1 Partition\n", 1),
+        ("close 0", "line 1: S2 Order\n", 1),
     ] {
         let (told, _out, fault) = called(alloc, &["run", "script"], script)?;
         assert!(rt; fault.as_str() == err, "{script}: {fault}");

@@ -1,2 +1,4 @@
+pub mod Fitting
 pub mod Items
+pub mod Marks
 pub mod Programs

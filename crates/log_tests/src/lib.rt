@@ -9,3 +9,5 @@ mod fixtures;
 mod logs;
 #[cfg(test)]
 mod threads;
+#[cfg(test)]
+mod workers;

@@ -3,7 +3,7 @@ use Rattle.std.specs.Prelude.{ℕ, ◌==◌, nat_lt, nat_eq, if◌then◌else◌
 use Rattle.std.specs.List.{list_all, starts_with}
 use Rattle.std.specs.Str.{bytes_eq}
 use Rattle.script.specs.declared.command.Command.{Command}
-use Rattle.script.specs.declared.command.Command.TheVariants.{Partitions, Load, Deploy, Put, Append, Go}
+use Rattle.script.specs.declared.command.Command.TheVariants.{Partitions, Load, Deploy, Put, Append, Close, Go}
 use Rattle.script.specs.declared.command.Source.{Source}
 use Rattle.script.specs.declared.command.Source.TheVariants.{Line, File}
 use Rattle.script.specs.Words.{words_of, word_at, decimal_of, spelled_bytes, hex_bytes}
@@ -55,6 +55,14 @@ append_of None source = None
 abbrev pub append_line : List (List ℕ) → Option Command
 append_line words = if length words == 3 then append_of (decimal_of (word_at words 1)) (source_of (word_at words 2)) else None
 
+abbrev pub close_of : Option ℕ → Option Command
+close_of (Some input) = Some (Close input)
+close_of None = None
+
+-- `close I`
+abbrev pub close_line : List (List ℕ) → Option Command
+close_line words = if length words == 2 then close_of (decimal_of (word_at words 1)) else None
+
 -- `go`
 abbrev pub go_line : List (List ℕ) → Option Command
 go_line words = if length words == 1 then Some Go else None
@@ -66,6 +74,7 @@ command_of_words words =
     if bytes_eq (word_at words 0) (codes "deploy") then deploy_line words else
     if bytes_eq (word_at words 0) (codes "put") then put_line words else
     if bytes_eq (word_at words 0) (codes "append") then append_line words else
+    if bytes_eq (word_at words 0) (codes "close") then close_line words else
     if bytes_eq (word_at words 0) (codes "go") then go_line words else None
 
 -- the command of words, none of which is empty

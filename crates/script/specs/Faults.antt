@@ -1,9 +1,9 @@
 -- Which commands are refused before anything is done.
-use Rattle.std.specs.Prelude.{ℕ, Bool, true, not, ◌&&◌, ◌==◌, nat_lt, nat_le, if◌then◌else◌, List, length, Option, Some, None}
+use Rattle.std.specs.Prelude.{ℕ, Bool, true, not, ◌&&◌, nat_lt, nat_le, if◌then◌else◌, List, length, Option, Some, None}
 use Rattle.wire_spec.specs.declared.limits.TheConstants.{MAX_KEY, MAX_VALUE, TIMESTAMP_END}
-use Rattle.log_spec.specs.declared.limits.TheConstants.{MAX_CELLS}
+use Rattle.log_spec.specs.declared.limits.TheConstants.{MAX_CELLS, MAX_PARTITIONS}
 use Rattle.script.specs.declared.command.Command.{Command}
-use Rattle.script.specs.declared.command.Command.TheVariants.{Partitions, Load, Deploy, Put, Append, Go}
+use Rattle.script.specs.declared.command.Command.TheVariants.{Partitions, Load, Deploy, Put, Append, Close, Go}
 use Rattle.script.specs.declared.fault.ScriptFault.{ScriptFault}
 use Rattle.script.specs.declared.fault.ScriptFault.TheVariants.{Order, Range}
 
@@ -14,6 +14,7 @@ is_in_order (Load name source) has_begun is_loaded = has_begun
 is_in_order (Deploy input name) has_begun is_loaded = has_begun && is_loaded
 is_in_order (Put input timestamp key value) has_begun is_loaded = has_begun
 is_in_order (Append input source) has_begun is_loaded = has_begun
+is_in_order (Close input) has_begun is_loaded = has_begun
 is_in_order Go has_begun is_loaded = has_begun
 
 -- null has no bytes
@@ -21,14 +22,18 @@ abbrev pub text_size : Option (List ℕ) → ℕ
 text_size None = 0
 text_size (Some bytes) = length bytes
 
--- One input and one output partition, 1 to 65536 cells; timestamps below 2^62, keys of at most 4096 bytes and values of at
--- most 65536.
+abbrev pub is_count : (number most : ℕ) → Bool
+is_count number most = nat_le 1 number && nat_le number most
+
+-- 1 to 64 input and output partitions, 1 to 65536 cells; timestamps below 2^62, keys of at most 4096 bytes and values of
+-- at most 65536
 abbrev pub is_in_range : Command → Bool
-is_in_range (Partitions inputs outputs cells) = (inputs == 1) && ((outputs == 1) && (nat_le 1 cells && nat_le cells MAX_CELLS))
+is_in_range (Partitions inputs outputs cells) = is_count inputs MAX_PARTITIONS && (is_count outputs MAX_PARTITIONS && is_count cells MAX_CELLS)
 is_in_range (Load name source) = true
 is_in_range (Deploy input name) = true
 is_in_range (Put input timestamp key value) = nat_lt timestamp TIMESTAMP_END && (nat_le (text_size key) MAX_KEY && nat_le (text_size value) MAX_VALUE)
 is_in_range (Append input source) = true
+is_in_range (Close input) = true
 is_in_range Go = true
 
 -- the order is looked at before the numbers

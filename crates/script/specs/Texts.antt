@@ -34,6 +34,10 @@ deploy_line input index name version =
 abbrev pub append_line : ℕ → ℕ → ℕ → List ℕ
 append_line input index base = codes "append " ++ (decimal input ++ (codes " index " ++ (decimal index ++ (codes " base " ++ (decimal base ++ 10 ∷ [])))))
 
+-- `close I index X`
+abbrev pub close_line : ℕ → ℕ → List ℕ
+close_line input index = codes "close " ++ (decimal input ++ (codes " index " ++ (decimal index ++ 10 ∷ [])))
+
 -- `row Q I OFFSET NUMBER TS KEY VALUE HEADERS`, of which the last is the number of headers
 abbrev pub row_line : ℕ → Row → List ℕ
 row_line output row =

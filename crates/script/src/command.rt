@@ -3,7 +3,7 @@
 ghost use Rattle.std.specs.Prelude.{◌≡◌, ◌<◌, length, drop, nat_eq, nat_lt, codes, IfOk, if◌then◌else◌};
 ghost use Rattle.std.specs.List.{list_all, starts_with};
 ghost use Rattle.script.specs.Words.{texts, hex_bytes};
-ghost use Rattle.script.specs.Commands.{source_of, partitions_line, load_line, deploy_line, put_line, append_line, go_line, command_of_words, command_from, command_of};
+ghost use Rattle.script.specs.Commands.{source_of, partitions_line, load_line, deploy_line, put_line, append_line, close_line, go_line, command_of_words, command_from, command_of};
 
 use crate::pairs::{bytes_word, hex};
 use crate::words::{number_at, word, words};
@@ -49,6 +49,8 @@ pub enum Command {
     Put(u64, u64, Option<Bytes>, Option<Bytes>),
     /// Appends record batches, one after the other, to an input partition.
     Append(u64, Source),
+    /// Closes the log of an input partition.
+    Close(u64),
     /// Runs the programs on all that was appended, and prints the rows.
     Go,
 }
@@ -157,6 +159,16 @@ fn append(alloc: Global, words: &[&str]) -> Result<Option<Command>, AllocError>
     Ok(Some(Command::Append(input, source)))
 }
 
+fn close(words: &[&str]) -> Option<Command>
+    ensures { result ≡ close_line (texts words.now) }
+{
+    if words.len() != 2 {
+        return None;
+    }
+    let input = number_at(words, 1)?;
+    Some(Command::Close(input))
+}
+
 fn go(words: &[&str]) -> Option<Command>
     ensures { result ≡ go_line (texts words.now) }
 {
@@ -183,6 +195,8 @@ fn command_said(alloc: Global, words: &[&str]) -> Result<Option<Command>, AllocE
         put(alloc, words)
     } else if name == "append" {
         append(alloc, words)
+    } else if name == "close" {
+        Ok(close(words))
     } else if name == "go" {
         Ok(go(words))
     } else {

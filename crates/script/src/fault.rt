@@ -1,11 +1,11 @@
 //! What is refused before anything is done.
 
 ghost use Rattle.std.specs.Prelude.{◌≡◌, true, IfNone};
-ghost use Rattle.script.specs.Faults.{text_size, is_in_order, is_in_range, fault_of};
+ghost use Rattle.script.specs.Faults.{text_size, is_count, is_in_order, is_in_range, fault_of};
 
 use crate::command::Command;
 use bytes::Bytes;
-use log_spec::MAX_CELLS;
+use log_spec::{MAX_CELLS, MAX_PARTITIONS};
 use thiserror::Error;
 use wire_spec::{MAX_KEY, MAX_VALUE, TIMESTAMP_END};
 
@@ -44,13 +44,22 @@ fn is_in_order(command: &Command, has_begun: bool, is_loaded: bool) -> bool
     }
 }
 
+/// Whether a number lies from 1 to the most.
+fn is_count(number: u64, most: u64) -> bool
+    ensures { result ≡ is_count number most }
+{
+    number >= 1 && number <= most
+}
+
 /// Whether a command's numbers and lengths are within their limits.
 fn is_in_range(command: &Command) -> bool
     ensures { result ≡ is_in_range command.now }
 {
     match command {
         Command::Partitions(inputs, outputs, cells) => {
-            *inputs == 1 && *outputs == 1 && *cells >= 1 && *cells <= MAX_CELLS as u64
+            is_count(*inputs, MAX_PARTITIONS as u64)
+                && is_count(*outputs, MAX_PARTITIONS as u64)
+                && is_count(*cells, MAX_CELLS as u64)
         }
         Command::Put(_, timestamp, key, value) => {
             *timestamp < TIMESTAMP_END && size(key) <= MAX_KEY && size(value) <= MAX_VALUE

@@ -1,7 +1,7 @@
 //! The lines that commands print.
 
 ghost use Rattle.std.specs.Prelude.{◌≡◌, ◌<◌, ◌++◌, IfOk, OnOk, string_bytes};
-ghost use Rattle.script.specs.Texts.{load_line, deploy_line, append_line, row_line, bytes_text, hex_text, byte_text, hex_glyph};
+ghost use Rattle.script.specs.Texts.{load_line, deploy_line, append_line, close_line, row_line, bytes_text, hex_text, byte_text, hex_glyph};
 
 use bytes::Bytes;
 use log_spec::Row;
@@ -34,6 +34,13 @@ pub fn append_text(alloc: Global, input: u64, index: usize, base: u64) -> Result
     ensures { IfOk result (λ text. string_bytes text ≡ append_line input index base) }
 {
     format!(in alloc; "append {input} index {index} base {base}\n")
+}
+
+/// The line that tells of a closed log: the index of its end. It fails only where memory runs out.
+pub fn close_text(alloc: Global, input: u64, index: usize) -> Result<String, AllocError>
+    ensures { IfOk result (λ text. string_bytes text ≡ close_line input index) }
+{
+    format!(in alloc; "close {input} index {index}\n")
 }
 
 fn glyph(digit: u8) -> u8

@@ -1,6 +1,7 @@
 ghost use Rattle.std.specs.Prelude.{◌≡◌, ◌<◌, ◌≤◌, length};
 ghost use Rattle.item_rows.specs.ItemRows.{rows_in};
-ghost use Rattle.worker.specs.Walks.{last, IsRowsAt, AreRowsOfLast};
+ghost use Rattle.log_spec.specs.Logs.{IsRowsAt};
+ghost use Rattle.worker.specs.Walks.{last, AreRowsOfLast};
 ghost use Rattle.worker.specs.Processed.{processed};
 
 use item_rows::ItemRows;

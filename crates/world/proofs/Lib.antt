@@ -1,2 +1,4 @@
-pub mod LogViews
+pub mod BookLaws
 pub mod CoreLaws
+pub mod LogLaws
+pub mod RunLaws

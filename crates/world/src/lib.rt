@@ -1,13 +1,14 @@
-//! The broker's pure core
+//! The broker's pure core: logs, a catalogue and books as one value, which events change one after
+//! the other.
 #![tactic(auto)]
 
+mod book;
 mod events;
-mod limits;
 mod log;
-mod readings;
-mod rows;
+mod runs;
+mod state;
 
-pub use crate::events::{World, run};
-pub use crate::limits::fits_log;
+pub use crate::runs::run;
+pub use crate::state::World;
 pub use log_spec::{Event, Name, Refusal, Reply, Row};
 pub use verifier_spec::LoadFault;
