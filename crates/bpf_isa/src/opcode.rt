@@ -203,7 +203,7 @@ fn is_one_of(opcodes: &[u8], opcode: u8) -> bool
     opcodes.iter().any(|known| *known == opcode)
 }
 
-/// Whether RFC 9669 has the opcode, for no instruction or not only for one of the profile.
+/// Whether RFC 9669 has the opcode for an instruction that the profile leaves out.
 #[tactic(auto, unfolding(machine_spec::specs::Opcodes::is_left_out))]
 pub fn is_left_out(opcode: u8) -> bool
     ensures { result ≡ definitions.is_left_out opcode }
