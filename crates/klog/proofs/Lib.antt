@@ -1,2 +1,3 @@
 pub mod BatchLaws
 pub mod OneLaws
+pub mod Written
