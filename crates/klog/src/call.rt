@@ -200,12 +200,7 @@ fn write_out<O: Write>(stdout: &mut O, text: &str) -> Result<(), Stop>
 }
 
 /// Prints a text, and answers the status: 0 where all of it was written, and else 3.
-fn print_text<O: Write, E: Write>(
-    alloc: Global,
-    stdout: &mut O,
-    stderr: &mut E,
-    text: &str,
-) -> u8
+fn print_text<O: Write, E: Write>(alloc: Global, stdout: &mut O, stderr: &mut E, text: &str) -> u8
     ensures status { (result ≡ 0) ⊎ (result ≡ 3) }
     ensures printed { result ≡ 0 → Appends (O.contents stdout.old) (O.contents stdout.new) text.now }
 {

@@ -46,9 +46,7 @@ fn of_file<'a>(
     name: &'a str,
     file: &'a str,
 ) -> Result<clap::Command<'a>, AllocError> {
-    let file = Arg::new(alloc, file)
-        .required(true)
-        .action(ArgAction::Set);
+    let file = Arg::new(alloc, file).required(true).action(ArgAction::Set);
     clap::Command::new(alloc, name).arg(file)
 }
 
