@@ -6,6 +6,8 @@ use Rattle.log_spec.specs.declared.event.Refusal.{Refusal}
 use Rattle.log_spec.specs.declared.event.Refusal.TheVariants as refusal
 use Rattle.klog.specs.declared.stop.Stop.{Stop}
 use Rattle.klog.specs.declared.stop.Stop.TheVariants as stop
+use Rattle.klog.specs.declared.image.Refused.{Refused}
+use Rattle.klog.specs.declared.image.Refused.TheVariants as refused
 
 -- a refusal of the core; want of memory is told as such
 abbrev pub stop_of_refusal : Refusal → Stop
@@ -41,3 +43,8 @@ status_of (stop.Batch _) = 1
 status_of (stop.File _) = 3
 status_of stop.Output = 3
 status_of stop.Memory = 3
+
+-- the same of a call on an image
+abbrev pub status_of_refused : Refused → ℕ
+status_of_refused (refused.Image _) = 1
+status_of_refused refused.Memory = 3

@@ -1,22 +1,25 @@
-//! What the words of a call ask for.
+//! Calls of the program, and what each tells on standard error.
 
-ghost use Rattle.std.specs.Prelude.{◌≡◌, ◌≢◌, ◌≤◌, ◌⊎◌, ◌==◌, ◌&&◌, nat_lt, length, slice_index};
+ghost use Rattle.std.specs.Prelude.{◌≡◌, ◌≢◌, ◌≤◌, ◌⊎◌, OnOk, IfErr};
 ghost use Rattle.std.specs.IoError.{error_kind};
+ghost use Rattle.std.specs.Io.KnownBytes.{Appends};
 ghost use Rattle.std.specs.declared.io.ErrorKind.TheVariants.{OutOfMemory};
-ghost use Rattle.klog.specs.Stops.{status_of};
-ghost use Rattle.klog.specs.declared.call.Misuse.TheVariants.{Memory};
+ghost use Rattle.klog.specs.Stops.{status_of, status_of_refused};
 
 use crate::files::Files;
+use crate::image::{Refused, check, read_image};
 use crate::session::{Session, Unread, read_file, read_whole};
 use crate::stop::{Stop, status_of, unwritten};
-use clap::error::ErrorKind;
-use clap::{Arg, ArgAction, ArgMatches};
+use crate::words::{Call, Misuse, call_of};
 use std::alloc::{AllocError, Global};
 use std::io;
 use std::io::{Read, Write};
 
 /// Everything was done.
 const DONE: u8 = 0;
+
+/// What the call names is refused.
+const REFUSED: u8 = 1;
 
 /// The words are no call of the program.
 const USAGE: u8 = 2;
@@ -26,61 +29,6 @@ const FAILED: u8 = 3;
 
 /// What is told where memory ran out.
 const MEMORY: &str = "memory\n";
-
-/// Why words are not done.
-#[derive(Drop)]
-enum Misuse {
-    /// They are no call of the program.
-    Usage,
-    /// Memory ran out.
-    Memory,
-}
-
-impl From<AllocError> for Misuse {
-    ghost from_gives = { λ _ e. e ≡ Memory };
-
-    fn from(_e: AllocError) -> Misuse {
-        Misuse::Memory
-    }
-}
-
-fn is_option(word: &str) -> bool
-    ensures { result ≡ (nat_lt 1 (length word.now) && (slice_index word.now 0 == 45)) }
-{
-    word.len() > 1 && word.as_bytes()[0] == b'-'
-}
-
-/// The script that the words name. A word that begins with `-` is no file's name, except for `-`.
-fn script_named(alloc: Global, words: &[String]) -> Result<&str, Misuse> {
-    if words.iter().any(|word| is_option(word.as_str())) {
-        return Err(Misuse::Usage);
-    }
-    let operand = Arg::new(alloc, "SCRIPT")
-        .required(true)
-        .action(ArgAction::Set);
-    let run = clap::Command::new(alloc, "run").arg(operand)?;
-    let klog = clap::Command::new(alloc, "klog")
-        .no_binary_name(true)
-        .subcommand(run)?;
-    match klog.try_get_matches_from(words) {
-        Ok(matches) => operand_of(&matches),
-        Err(error) => Err(misuse_of(&error)),
-    }
-}
-
-fn operand_of<'a>(matches: &ArgMatches<'a>) -> Result<&'a str, Misuse> {
-    let Some(run) = matches.subcommand_matches("run") else {
-        return Err(Misuse::Usage);
-    };
-    run.get_str("SCRIPT").ok_or(Misuse::Usage)
-}
-
-fn misuse_of(error: &clap::Error) -> Misuse {
-    match error.kind() {
-        ErrorKind::OutOfMemory => Misuse::Memory,
-        _ => Misuse::Usage,
-    }
-}
 
 /// A text on standard error, as far as it can be written.
 fn say<E: Write>(stderr: &mut E, text: &str) {
@@ -215,9 +163,92 @@ fn run_script<F: Files, O: Write>(
     }
 }
 
-/// Does what the words after the program's name ask for, and answers the status: 0 it is done, 1 a
-/// line of the script is refused, 2 the words are no call, 3 a file can't be read or written or
-/// memory ran out. All but what the script prints goes to standard error.
+/// Does the commands of a script, and answers the status.
+fn run<F: Files, I: Read, O: Write, E: Write>(
+    alloc: Global,
+    files: &mut F,
+    stdin: &mut I,
+    stdout: &mut O,
+    stderr: &mut E,
+    name: &str,
+) -> u8
+    ensures { result ≤ 3 }
+{
+    let script = match script_text(alloc, files, stdin, name) {
+        Ok(script) => script,
+        Err(unread) => return tell_unread(alloc, stderr, name, unread),
+    };
+    match run_script(alloc, files, stdout, script.as_str()) {
+        Ok(()) => DONE,
+        Err(ended) => tell(alloc, stderr, &ended),
+    }
+}
+
+/// Writes all of a text to standard output.
+#[tactic(auto, using(crate::proofs::Written::appended_and_kept))]
+fn write_out<O: Write>(stdout: &mut O, text: &str) -> Result<(), Stop>
+    ensures written { OnOk result (Appends (O.contents stdout.old) (O.contents stdout.new) text.now) }
+    ensures failed { IfErr result (λ stop. status_of stop ≡ 3) }
+{
+    match stdout.write_all(text.as_bytes()) {
+        Err(error) => Err(unwritten(&error)),
+        Ok(()) => match stdout.flush() {
+            Err(error) => Err(unwritten(&error)),
+            Ok(()) => Ok(()),
+        },
+    }
+}
+
+/// Prints a text, and answers the status: 0 where all of it was written, and else 3.
+fn print_text<O: Write, E: Write>(alloc: Global, stdout: &mut O, stderr: &mut E, text: &str) -> u8
+    ensures status { (result ≡ 0) ⊎ (result ≡ 3) }
+    ensures printed { result ≡ 0 → Appends (O.contents stdout.old) (O.contents stdout.new) text.now }
+{
+    match write_out(stdout, text) {
+        Ok(()) => DONE,
+        Err(stop) => tell(alloc, stderr, &Ended { line: 0, stop }),
+    }
+}
+
+/// Says why a call on an image prints nothing, and answers the status. Where there is no memory for
+/// the text, it says that.
+fn tell_refused<E: Write>(alloc: Global, stderr: &mut E, refused: Refused) -> u8
+    ensures { (result ≡ status_of_refused refused) ⊎ (result ≡ 3) }
+{
+    let Refused::Image(fault) = refused else {
+        return tell_memory(stderr);
+    };
+    let Ok(text) = format!(in alloc; "{fault}\n") else {
+        return tell_memory(stderr);
+    };
+    say(stderr, text.as_str());
+    REFUSED
+}
+
+/// Verifies the image in a file and prints how many instructions it has, or says why it is refused;
+/// answers the status.
+fn check_file<F: Files, O: Write, E: Write>(
+    alloc: Global,
+    files: &mut F,
+    stdout: &mut O,
+    stderr: &mut E,
+    name: &str,
+) -> u8
+    ensures { result ≤ 3 }
+{
+    let image = match read_image(alloc, files, name) {
+        Ok(image) => image,
+        Err(unread) => return tell_unread(alloc, stderr, name, unread),
+    };
+    match check(alloc, image.as_slice()) {
+        Ok(text) => print_text(alloc, stdout, stderr, text.as_str()),
+        Err(refused) => tell_refused(alloc, stderr, refused),
+    }
+}
+
+/// Does what the words after the program's name ask for, and answers the status: 0 it is done, 1 an
+/// image or a line of the script is refused, 2 the words are no call, 3 a file can't be read or
+/// written or memory ran out. All but what was asked for goes to standard error.
 pub fn command<F: Files, I: Read, O: Write, E: Write>(
     alloc: Global,
     words: &[String],
@@ -228,17 +259,10 @@ pub fn command<F: Files, I: Read, O: Write, E: Write>(
 ) -> u8
     ensures { result ≤ 3 }
 {
-    let name = match script_named(alloc, words) {
-        Ok(name) => name,
-        Err(Misuse::Usage) => return tell_usage(stderr),
-        Err(Misuse::Memory) => return tell_memory(stderr),
-    };
-    let script = match script_text(alloc, files, stdin, name) {
-        Ok(script) => script,
-        Err(unread) => return tell_unread(alloc, stderr, name, unread),
-    };
-    match run_script(alloc, files, stdout, script.as_str()) {
-        Ok(()) => DONE,
-        Err(ended) => tell(alloc, stderr, &ended),
+    match call_of(alloc, words) {
+        Ok(Call::Check(image)) => check_file(alloc, files, stdout, stderr, image),
+        Ok(Call::Run(script)) => run(alloc, files, stdin, stdout, stderr, script),
+        Err(Misuse::Usage) => tell_usage(stderr),
+        Err(Misuse::Memory) => tell_memory(stderr),
     }
 }

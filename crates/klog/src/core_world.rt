@@ -4,7 +4,8 @@ ghost use Rattle.std.specs.Prelude.{◌≡◌, ◌<◌, ◌≤◌, nat_lt, lengt
 ghost use Rattle.script.specs.Faults.{text_size, is_count};
 ghost use Rattle.log_spec.specs.Logs.{FitsLog};
 ghost use Rattle.wire_spec.specs.BatchReading.{batch_at};
-ghost use Rattle.batch.specs.Gives.{Gives};
+ghost use Rattle.wire_spec.specs.Memory.{AnswersAs};
+ghost use Rattle.wire_spec.specs.declared.fault.BatchFault.TheVariants.{Memory};
 ghost use Rattle.log_spec.specs.Worlds.{new_world};
 ghost use Rattle.klog.specs.Puts.{put_batch};
 
@@ -77,7 +78,7 @@ pub fn deliver_all(alloc: Global, world: &mut World) -> Result<(), Stop> {
 pub fn next_batch(alloc: Global, bytes: &Bytes) -> Result<(Batch, usize), BatchFault>
     ensures fits { IfOk result (λ x. FitsLog x.0) }
     ensures used { IfOk result (λ x. (0 < x.1) × (x.1 ≤ length bytes.now)) }
-    ensures gives { Gives (λ x. x) result (batch_at bytes.now) }
+    ensures gives { AnswersAs Memory (λ x. x) result (batch_at bytes.now) }
 {
     decode(alloc, bytes.clone()?)
 }

@@ -1,12 +1,14 @@
 //! klog: a partitioned commit-log broker whose records pass through verified BPF programs. `klog
-//! run SCRIPT` does the commands of a script.
+//! run SCRIPT` does the commands of a script, `klog check IMAGE` verifies a program.
 #![tactic(auto)]
 
 mod call;
 mod core_world;
 mod files;
+mod image;
 mod session;
 mod stop;
+mod words;
 
 use crate::call::{command, tell_no_words};
 use crate::files::Files;

@@ -1,6 +1,6 @@
 //! The commands of a script, one after the other.
 
-ghost use Rattle.std.specs.Prelude.{◌≡◌, ◌≢◌, ◌<◌, ◌≤◌, ◌^◌, true, IfOk};
+ghost use Rattle.std.specs.Prelude.{◌≡◌, ◌≢◌, ◌<◌, ◌≤◌, ◌^◌, ℕ, List, Some, true, IfOk};
 ghost use Rattle.std.specs.IoError.{error_kind};
 ghost use Rattle.std.specs.declared.io.ErrorKind.TheVariants.{OutOfMemory};
 ghost use Rattle.klog.specs.declared.session.Unread.TheVariants as unread;
@@ -10,6 +10,7 @@ ghost use Rattle.log_spec.specs.Worlds.{FitsEvent};
 
 use crate::core_world::{batch_of, core_of, deliver_all, has_input, next_batch, outputs};
 use crate::files::Files;
+use crate::image::read_image;
 use crate::stop::{Stop, refused, unwritten};
 use bytes::Bytes;
 use log_spec::{Event, Name, Refusal, Reply, Row};
@@ -43,7 +44,9 @@ pub enum Unread {
 }
 
 /// All bytes of a reader.
-pub fn read_whole<R: Read>(alloc: Global, reader: &mut R) -> Result<Vec<u8>, Unread> {
+pub fn read_whole<R: Read>(alloc: Global, reader: &mut R) -> Result<Vec<u8>, Unread>
+    ensures { (left : List ℕ) → R.remaining reader.old ≡ Some left → IfOk result (λ bytes. bytes.items ≡ left) }
+{
     let mut bytes = Vec::new(alloc);
     match reader.read_to_end(&mut bytes) {
         Ok(_) => Ok(bytes),
@@ -51,7 +54,8 @@ pub fn read_whole<R: Read>(alloc: Global, reader: &mut R) -> Result<Vec<u8>, Unr
     }
 }
 
-fn cause_of(error: &io::Error) -> Unread
+/// Why a file can't be read.
+pub fn cause_of(error: &io::Error) -> Unread
     ensures memory { error_kind error.now ≡ OutOfMemory → result ≡ unread.Memory }
     ensures file { error_kind error.now ≢ OutOfMemory → result ≡ unread.File }
 {
@@ -121,7 +125,7 @@ impl Session {
     fn image<F: Files>(&mut self, files: &mut F, source: Source) -> Result<Bytes, Stop> {
         match source {
             Source::Line(image) => Ok(image),
-            Source::File(name) => match read_file(self.alloc, files, name.text.as_str()) {
+            Source::File(name) => match read_image(self.alloc, files, name.text.as_str()) {
                 Err(cause) => Err(stopped_by(name, cause)),
                 Ok(bytes) => Ok(shared(bytes)?),
             },

@@ -73,6 +73,7 @@ pub fn status_of(stop: &Stop) -> u8
 pub fn unwritten(error: &io::Error) -> Stop
     ensures memory { error_kind error.now ≡ OutOfMemory → result ≡ stop.Memory }
     ensures output { error_kind error.now ≢ OutOfMemory → result ≡ stop.Output }
+    ensures status { status_of result ≡ 3 }
 {
     match error.kind() {
         io::ErrorKind::OutOfMemory => Stop::Memory,

@@ -3,7 +3,7 @@ use crate::files::Files;
 use std::alloc::Global;
 use std::collections::BTreeMap;
 use std::io;
-use std::io::{Cursor, Write};
+use std::io::{Cursor, Read, Write};
 use std::test::Fail;
 
 /// Files in memory.
@@ -13,13 +13,34 @@ struct Shelf {
     files: BTreeMap<String, Vec<u8>>,
 }
 
-impl Files for Shelf {
-    type Reader = Cursor<Vec<u8>>;
+/// An opened file, of which no more can be read than its bytes, or its bytes and then its end.
+#[derive(Drop)]
+struct Opened {
+    bytes: Cursor<Vec<u8>>,
+    has_end: bool,
+}
 
-    fn open(&mut self, name: &str) -> io::Result<Cursor<Vec<u8>>> {
+impl Read for Opened {
+    fn read(&mut self, buf: &mut [u8]) -> io::Result<usize> {
+        let count = self.bytes.read(buf)?;
+        if count > 0 || self.has_end {
+            Ok(count)
+        } else {
+            Err(io::Error::from(io::ErrorKind::Other))
+        }
+    }
+}
+
+impl Files for Shelf {
+    type Reader = Opened;
+
+    fn open(&mut self, name: &str) -> io::Result<Opened> {
         match self.files.get(name) {
             None => Err(io::Error::from(io::ErrorKind::NotFound)),
-            Some(bytes) => Ok(Cursor::new(bytes.clone()?)),
+            Some(bytes) => Ok(Opened {
+                bytes: Cursor::new(bytes.clone()?),
+                has_end: !name.starts_with("endless"),
+            }),
         }
     }
 
@@ -47,34 +68,42 @@ impl Write for Full {
     }
 }
 
-/// What a call answers: its status, and what it writes to standard output and error.
-fn called(alloc: Global, words: &[&str], script: &str) -> Result<(u8, String, String), Fail> {
-    let mut files = Shelf {
+/// No files.
+fn empty_shelf(alloc: Global) -> Shelf {
+    Shelf {
         alloc,
         files: BTreeMap::new(alloc),
-    };
-    files.write("forward.bin", &FORWARD)?;
-    files.write("script", script.as_bytes())?;
-    files.write("bad", b"go\xff")?;
-    files.write("batches.bin", &BATCHES)?;
+    }
+}
+
+/// What a call answers: its status, and what it writes to standard output and error.
+fn called_with(
+    alloc: Global,
+    files: &mut Shelf,
+    words: &[&str],
+    input: &[u8],
+) -> Result<(u8, String, String), Fail> {
     let mut all = Vec::new(alloc);
     for word in words {
         all.push(String::from_str(alloc, word)?)?;
     }
-    let mut stdin = Cursor::new(Vec::from_slice(alloc, script.as_bytes())?);
+    let mut stdin = Cursor::new(Vec::from_slice(alloc, input)?);
     let mut stdout = Vec::new(alloc);
     let mut stderr = Vec::new(alloc);
-    let status = command(
-        alloc,
-        &all,
-        &mut files,
-        &mut stdin,
-        &mut stdout,
-        &mut stderr,
-    );
+    let status = command(alloc, &all, files, &mut stdin, &mut stdout, &mut stderr);
     let out = String::from_utf8(stdout).ok().ok_or("text")?;
     let err = String::from_utf8(stderr).ok().ok_or("text")?;
     Ok((status, out, err))
+}
+
+/// The same with a script as a file and as standard input, and some other files.
+fn called(alloc: Global, words: &[&str], script: &str) -> Result<(u8, String, String), Fail> {
+    let mut files = empty_shelf(alloc);
+    files.write("forward.bin", &FORWARD)?;
+    files.write("script", script.as_bytes())?;
+    files.write("bad", b"go\xff")?;
+    files.write("batches.bin", &BATCHES)?;
+    called_with(alloc, &mut files, words, script.as_bytes())
 }
 
 /// mov64 r1, 0; call 3; exit
@@ -275,7 +304,7 @@ fn refuses_words(rt: HostRuntime) -> Result<(), Fail> {
         &[],
         &["run"],
         &["run", "a", "b"],
-        &["check", "script"],
+        &["frob", "script"],
         &["help"],
         &["help", "run"],
         &["run", "--help"],
@@ -307,10 +336,7 @@ fn refuses_words(rt: HostRuntime) -> Result<(), Fail> {
 #[test]
 fn tells_that_output_fails(rt: HostRuntime) -> Result<(), Fail> {
     let alloc = rt.alloc();
-    let mut files = Shelf {
-        alloc,
-        files: BTreeMap::new(alloc),
-    };
+    let mut files = empty_shelf(alloc);
     let words = [
         String::from_str(alloc, "run")?,
         String::from_str(alloc, "stdin")?,
@@ -327,6 +353,63 @@ fn tells_that_output_fails(rt: HostRuntime) -> Result<(), Fail> {
     );
     assert!(rt; status == 3);
     assert!(rt; stderr.as_slice() == b"file stdout\n".as_slice());
+    Ok(())
+}
+
+/// Images, with what `check` prints of them and with which status it ends.
+const IMAGES: [(&[u8], &str, &str, u8); 8] = [
+    (
+        b"\xb7\0\0\0\0\0\0\0\x95\0\0\0\0\0\0\0",
+        "accepted 2 instructions\n",
+        "",
+        0,
+    ),
+    (&FORWARD, "accepted 3 instructions\n", "", 0),
+    (b"", "", "I1 Size\n", 1),
+    (b"\x95\0\0\0\0\0\0\0\0\0\0\0", "", "I1 Size\n", 1),
+    (b"\xdb\0\0\0\0\0\0\0", "", "I6 NotInProfile slot 0\n", 1),
+    (b"\xb7\x0b\0\0\0\0\0\0", "", "I3 Register slot 0\n", 1),
+    (b"\xb7\0\0\0\0\0\0\0", "", "V3 RunsOff at 0\n", 1),
+    (
+        b"\x71\x10\0\0\0\0\0\0\x95\0\0\0\0\0\0\0",
+        "",
+        "V7 RecordBounds at 0\n",
+        1,
+    ),
+];
+
+#[test]
+fn checks_images(rt: HostRuntime) -> Result<(), Fail> {
+    let alloc = rt.alloc();
+    for (image, want_out, want_err, want) in IMAGES {
+        let mut files = empty_shelf(alloc);
+        files.write("image", image)?;
+        let (status, out, err) = called_with(alloc, &mut files, &["check", "image"], b"")?;
+        assert!(rt; out.as_str() == want_out, "{out}{err}");
+        assert!(rt; err.as_str() == want_err, "{err}");
+        assert!(rt; status == want, "{status}");
+    }
+    Ok(())
+}
+
+/// An image of 4,097 slots is not told from one of which no end is read, and one of 4,096 is.
+#[test]
+fn reads_one_byte_past_the_greatest_image(rt: HostRuntime) -> Result<(), Fail> {
+    let alloc = rt.alloc();
+    let script = "partitions 1 1 8\nload a endless";
+    for (count, words, want_err, want) in [
+        (32_769, ["check", "endless"], "I1 Size\n", 1),
+        (32_769, ["run", "stdin"], "line 2: I1 Size\n", 1),
+        (32_768, ["check", "endless"], "file endless\n", 3),
+        (32_768, ["run", "stdin"], "file endless\n", 3),
+    ] {
+        let mut files = empty_shelf(alloc);
+        let bytes = vec![in alloc; 0; count]?;
+        files.write("endless", &bytes)?;
+        let (status, out, err) = called_with(alloc, &mut files, &words, script.as_bytes())?;
+        assert!(rt; out.as_str() == "" && err.as_str() == want_err, "{err}");
+        assert!(rt; status == want, "{status}");
+    }
     Ok(())
 }
 

@@ -2,6 +2,7 @@
 
 use arithmetic::{change, test};
 use machine_spec::{ByteOrder, Change, ExtendedWidth, SwappedWidth, Test, Width};
+use std::process::Abort;
 
 const CHANGES: [(Change, u64, u64); 112] = [
     (Change::Negate(Width::Bits64), 0x0, 0x0),
@@ -620,25 +621,31 @@ const TESTS: [(Test, u64, u64, bool, bool); 77] = [
     (Test::SignedLessOrEqual, 0x80000000, 0x1, false, true),
 ];
 
+fn are_changed_as_in_c<R: Abort>(rt: &R, rows: &[(Change, u64, u64)]) {
+    for (by, a, want) in rows {
+        let changed = change(*by, *a);
+        assert!(rt; changed == *want, "{by:?} {a}: {changed}");
+    }
+}
+
 #[test]
 fn changes_as_in_c(rt: HostRuntime) {
-    for (by, a, want) in CHANGES {
-        assert_eq!(rt; change(by, a), want, "{by:?} {a}");
+    are_changed_as_in_c(&rt, &CHANGES);
+}
+
+/// Whether the tests of the rows hold at 64 and at 32 bits where they do in C.
+fn hold_as_in_c<R: Abort>(rt: &R, rows: &[(Test, u64, u64, bool, bool)]) {
+    for (by, a, b, at_64, at_32) in rows {
+        let wide = test(Width::Bits64, *by, *a, *b);
+        let narrow = test(Width::Bits32, *by, *a, *b);
+        assert!(rt;
+            wide == *at_64 && narrow == *at_32,
+            "{by:?} {a} {b}: {wide} {narrow}"
+        );
     }
 }
 
 #[test]
 fn tests_as_in_c(rt: HostRuntime) {
-    for (by, a, b, at_64, at_32) in TESTS {
-        assert_eq!(rt;
-            test(Width::Bits64, by, a, b),
-            at_64,
-            "{by:?} {a} {b} at 64"
-        );
-        assert_eq!(rt;
-            test(Width::Bits32, by, a, b),
-            at_32,
-            "{by:?} {a} {b} at 32"
-        );
-    }
+    hold_as_in_c(&rt, &TESTS);
 }

@@ -2,6 +2,7 @@
 
 use arithmetic::compute;
 use machine_spec::{Operation, Width};
+use std::process::Abort;
 
 const OPERATIONS: [(Operation, u64, u64, u64, u64); 104] = [
     (Operation::Add, 0x7, 0x0, 0x7, 0x7),
@@ -518,18 +519,19 @@ const OPERATIONS: [(Operation, u64, u64, u64, u64); 104] = [
     ),
 ];
 
-#[test]
-fn operations_as_in_c(rt: HostRuntime) {
-    for (operation, a, b, at_64, at_32) in OPERATIONS {
-        assert_eq!(rt;
-            compute(Width::Bits64, operation, a, b),
-            at_64,
-            "{operation:?} {a} {b} at 64"
-        );
-        assert_eq!(rt;
-            compute(Width::Bits32, operation, a, b),
-            at_32,
-            "{operation:?} {a} {b} at 32"
+/// Whether the operations of the rows give at 64 and at 32 bits what C makes of them.
+fn are_as_in_c<R: Abort>(rt: &R, rows: &[(Operation, u64, u64, u64, u64)]) {
+    for (operation, a, b, at_64, at_32) in rows {
+        let wide = compute(Width::Bits64, *operation, *a, *b);
+        let narrow = compute(Width::Bits32, *operation, *a, *b);
+        assert!(rt;
+            wide == *at_64 && narrow == *at_32,
+            "{operation:?} {a} {b}: {wide} {narrow}"
         );
     }
+}
+
+#[test]
+fn operations_as_in_c(rt: HostRuntime) {
+    are_as_in_c(&rt, &OPERATIONS);
 }
