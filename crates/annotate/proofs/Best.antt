@@ -12,7 +12,9 @@ use Rattle.verifier_spec.specs.Annotation.{Notes, note_at, is_edge_covered, faul
 use Rattle.verifier_spec.specs.JoinedStates.{joined_states}
 use Rattle.verifier_spec.proofs.JoinedStates.{length-joined_states, note_joined}
 use Rattle.verifier_spec.proofs.BestAnnotation.{AreJoinedProper, known_below, no_fault, fault_is_other}
-use Rattle.annotate.specs.Loads.{HasNoAnnotation}
+use Rattle.verifier_spec.specs.declared.fault.LoadFault.TheVariants.{Verify}
+use Rattle.verifier_spec.specs.Loading.{IsAccepted, IsRefusedWith}
+use Rattle.annotate.proofs.Answered.{noted_fault}
 
 note_past : (notes : Notes) (k : ℕ) → length notes ≤ k → note_at notes k ≡ None
 note_past [] k le = refl
@@ -36,13 +38,20 @@ module _ (image : List ℕ) (code : List Placed) (of : IsCodeOf image code) wher
   some_instruction : 0 < length code
   some_instruction = number_below code 0 0 (number_of_zero image code of)
 
-  pub has_none : (notes : Notes) (f : VerifyFault) → read_image image ≡ Ok code → notes ≡ joined_states code → AreJoinedProper code → fault_of code notes ≡ Some f → HasNoAnnotation image
-  has_none notes f read is proper fault other list again annotation =
-      let both = sym read ∙ again in
-      let same : code ≡ other = cc in
-      let P : List Placed → Type 0 = λ c. IsAnnotation c list in
-      let none = no_fault image code of list (subst P (sym same) annotation) proper some_instruction in
+  -- an image whose joined states have a fault is not accepted
+  has_none : (notes : Notes) (f : VerifyFault) → read_image image ≡ Ok code → notes ≡ joined_states code → AreJoinedProper code → fault_of code notes ≡ Some f → ¬ IsAccepted image
+  has_none notes f read is proper fault accepted =
+      let both = sym read ∙ accepted.read in
+      let same : accepted.code ≡ code = cc in
+      let P : List Placed → Type 0 = λ c. IsAnnotation c accepted.notes in
+      let none = no_fault image code of accepted.notes (subst P same accepted.annotation) proper some_instruction in
       none-some f (sym none ∙ ap (λ (ns : Notes). fault_of code ns) (sym is) ∙ fault)
+
+  pub noted_refused : (notes : Notes) (f : VerifyFault) → read_image image ≡ Ok code → notes ≡ joined_states code → AreJoinedProper code → fault_of code notes ≡ Some f → IsRefusedWith image (Verify f)
+  noted_refused notes f read is proper fault = record {
+    not_accepted = has_none notes f read is proper fault;
+    fault_is = noted_fault image code notes (Some f) read is fault;
+  }
 
   pub no_notes_fault : (notes : Notes) (f : VerifyFault) → notes ≡ joined_states code → fault_of code notes ≡ Some f → f.kind ≢ check.Notes
   no_notes_fault notes f is fault = fault_is_other image code of f some_instruction (ap (λ (ns : Notes). fault_of code ns) (sym is) ∙ fault)

@@ -1,5 +1,5 @@
 ghost use Rattle.std.specs.Prelude.{IfErr};
-ghost use Rattle.annotate.specs.Loads.{Loads, IsUnannotated, IsAtStart};
+ghost use Rattle.annotate.specs.Loads.{Loads, IsOfImage, IsAtStart};
 
 use crate::joined_states::joined_states;
 use bpf_isa::decode;
@@ -16,7 +16,7 @@ use verifier_spec::LoadFault;
 /// `IsaFault::Memory` or as `Check::Memory` at 0.
 pub fn load(alloc: Global, image: &[u8]) -> Result<Verified, LoadFault>
     ensures answer { Loads image.now result }
-    ensures unannotated { IfErr result (IsUnannotated image.now) }
+    ensures other { IfErr result IsOfImage }
     ensures memory { IfErr result IsAtStart }
 {
     match decode(alloc, image) {

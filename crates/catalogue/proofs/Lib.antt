@@ -1,2 +1,3 @@
+pub mod LoadFaults
 pub mod TableLaws
 pub mod VersionLaws

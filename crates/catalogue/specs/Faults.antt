@@ -1,7 +1,8 @@
 -- Refusals of a load as faults of the catalogue.
-use Rattle.std.specs.Prelude.{◌≡◌, Option, Some}
+use Rattle.std.specs.Prelude.{ℕ, List, Some}
 use Rattle.log_spec.specs.declared.event.Refusal.{Refusal}
 use Rattle.log_spec.specs.declared.event.Refusal.TheVariants as refusal
+use Rattle.log_spec.specs.Catalogue.{Table, IsLoadRefusal}
 use Rattle.catalogue.specs.declared.fault.CatFault.{CatFault}
 use Rattle.catalogue.specs.declared.fault.CatFault.TheVariants as fault
 
@@ -18,11 +19,11 @@ IsOfLoad refusal.LogClosed = ⊥
 IsOfLoad refusal.LogFull = ⊥
 IsOfLoad refusal.NoItem = ⊥
 
--- The fault of a load whose first refusal this is, memory aside. A load never answers NoReader.
-abbrev pub IsFaultOf : Option Refusal → CatFault → Type 0
-IsFaultOf first fault.Name = first ≡ Some refusal.Name
-IsFaultOf first fault.Full = first ≡ Some refusal.Full
-IsFaultOf first (fault.Load told) = first ≡ Some (refusal.Load told)
-IsFaultOf first fault.NoReader = ⊥
-IsFaultOf first fault.Versions = first ≡ Some refusal.Versions
-IsFaultOf first fault.Memory = Unit {0}
+-- The fault of a load is its first refusal, memory aside. A load never answers NoReader.
+abbrev pub IsFaultOf : Table → List ℕ → List ℕ → CatFault → Type 0
+IsFaultOf table name image fault.Name = IsLoadRefusal table name image (Some refusal.Name)
+IsFaultOf table name image fault.Full = IsLoadRefusal table name image (Some refusal.Full)
+IsFaultOf table name image (fault.Load refused) = IsLoadRefusal table name image (Some (refusal.Load refused))
+IsFaultOf table name image fault.NoReader = ⊥
+IsFaultOf table name image fault.Versions = IsLoadRefusal table name image (Some refusal.Versions)
+IsFaultOf table name image fault.Memory = Unit {0}

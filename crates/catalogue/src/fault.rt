@@ -1,5 +1,6 @@
-ghost use Rattle.std.specs.Prelude.{◌≡◌, ◌≢◌, Option, Some};
-ghost use Rattle.log_spec.specs.declared.event.Refusal.{Refusal};
+ghost use Rattle.std.specs.Prelude.{ℕ, List};
+ghost use Rattle.log_spec.specs.Catalogue.{Table, IsLoadRefusal};
+ghost use Rattle.program_table.specs.Tables.{RefusedAs};
 ghost use Rattle.catalogue.specs.Faults.{IsOfLoad, IsFaultOf};
 
 use log_spec::Refusal;
@@ -32,7 +33,7 @@ pub enum CatFault {
 /// The fault of a load that the table refuses.
 pub fn fault_of(refusal: Refusal) -> CatFault
     requires { IsOfLoad refusal }
-    ensures { (first : Option Refusal) → (refusal ≢ Refusal.Memory → first ≡ Some refusal) → IsFaultOf first result }
+    ensures { (table : Table) (name image : List ℕ) → RefusedAs (IsLoadRefusal table name image) refusal → IsFaultOf table name image result }
 {
     match refusal {
         Refusal::Name => CatFault::Name,

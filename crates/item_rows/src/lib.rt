@@ -2,10 +2,12 @@
 #![tactic(auto)]
 
 mod item;
+mod laws;
 mod origin;
 mod records;
 mod rows;
 
 pub use crate::item::item_rows;
+pub use crate::laws::one_list_of_rows;
 pub use crate::origin::Origin;
 pub use crate::rows::ItemRows;

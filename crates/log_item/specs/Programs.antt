@@ -1,10 +1,37 @@
--- What loading an image returns.
-use Rattle.std.specs.Prelude.{◌≡◌, ℕ, List, None, Result, Ok, Err}
+-- What loading an image returns, and what holds of every run of a program.
+use Rattle.std.specs.Prelude.{◌≡◌, ℕ, ◌+◌, ◌<◌, ◌≤◌, pos, ◌≤ℤ◌, true, List, length, Some, None, Result, Ok, Err, IsSome, unsigned_abs}
+use Rattle.machine_spec.specs.declared.instruction.Instruction.{Instruction}
+use Rattle.machine_spec.specs.declared.instruction.Placed.{Placed}
+use Rattle.machine_spec.specs.declared.outcome.Outcome.{Outcome}
+use Rattle.machine_spec.specs.Summaries.{summary_of}
+use Rattle.machine_spec.specs.Image.{Program, form_at, IsCodeOf}
+use Rattle.machine_spec.specs.Machine.{Input, State, Access, access_of, byte_in}
+use Rattle.machine_spec.specs.Traps.{is_read, trap_at}
+use Rattle.machine_spec.specs.Meaning.{Reaches, Means}
 use Rattle.verifier_spec.specs.declared.fault.LoadFault.{LoadFault}
-use Rattle.verifier_spec.specs.Loading.{load_fault}
+use Rattle.verifier_spec.specs.Loading.{IsAccepted}
 use Rattle.annotate.specs.Loads.{FaultIs}
 
--- a program is accepted, or a refusal of its image is returned
+-- the program of an image that is accepted, or the image's refusal
 abbrev pub ProgramIs : List ℕ → Result (List ℕ) LoadFault → Type 0
-ProgramIs image (Ok program) = (program ≡ image) × (load_fault image ≡ None)
+ProgramIs image (Ok program) = (program ≡ image) × IsAccepted image
 ProgramIs image (Err fault) = FaultIs image fault
+
+-- Each byte that the instruction at a state reads by address is there: it lies in this record's key or value, or is set
+-- in the stack.
+abbrev pub ReadsWithin : Program → Input → State → Type 0
+ReadsWithin program input s =
+    (i : Instruction) (a : Access) (place : ℕ) → form_at program.image s.slot ≡ Some i → access_of (summary_of i).memory s.registers ≡ Some a → is_read a.direction ≡ true
+    → place < a.size → (pos 0 ≤ℤ a.start) × IsSome (byte_in input s.stack a.region (unsigned_abs a.start + place))
+
+-- The program of an image runs to one outcome on an input: it means that and nothing else, after at most as many
+-- instructions as it has; no state on the way has a trap, and none reads a byte that is not there.
+pub record RunsSafely (program : Program) (input : Input) (outcome : Outcome) : Type 0 where
+  pub code : List Placed
+  pub is_code : IsCodeOf program.image code
+  pub count : ℕ
+  pub means : Means program input outcome count
+  pub only : (other : Outcome) (n : ℕ) → Means program input other n → (other ≡ outcome) × (n ≡ count)
+  pub bound : count ≤ length code
+  pub no_trap : (n : ℕ) (s : State) → Reaches program input n s → trap_at program input s ≡ None
+  pub reads : (n : ℕ) (s : State) → Reaches program input n s → ReadsWithin program input s

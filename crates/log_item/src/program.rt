@@ -1,6 +1,7 @@
 ghost use Rattle.std.specs.Prelude.{◌≡◌, ℕ, IfOk};
-ghost use Rattle.log_item.specs.Programs.{ProgramIs};
+ghost use Rattle.log_item.specs.Programs.{ProgramIs, RunsSafely};
 ghost use Rattle.machine_spec.specs.Meaning.{IsPlace, Means};
+ghost use Rattle.machine_spec.specs.declared.outcome.Outcome.{Outcome};
 ghost use Rattle.verifier_spec.specs.StandsFor.{IsWithinLimits};
 
 use bytes::Bytes;
@@ -30,7 +31,8 @@ impl Model for Program {
 }
 
 impl Program {
-    /// The program of an image.
+    /// The program of an image that decodes to code with an annotation. Another one is refused, and
+    /// so is any where memory runs out.
     pub fn new(alloc: Global, image: &Bytes) -> Result<Program, LoadFault>
         ensures { ProgramIs image.now result }
     {
@@ -39,11 +41,16 @@ impl Program {
         Ok(Program { image, verified })
     }
 
-    /// What the program means on a record.
+    /// What the program means on a record: an exit within as many instructions as it has, with no
+    /// trap on the way and no byte read but this record's own and what is set in the stack. It fails
+    /// only where memory runs out.
     pub fn run(&self, alloc: Global, given: &Record, place: &Place) -> Result<Outcome, AllocError>
         requires limits { IsWithinLimits (record { given = given.now; place = place.now }) }
         requires place { IsPlace place.now }
-        ensures { IfOk result (λ outcome. (n : ℕ) × Means (record { image = self.now }) (record { given = given.now; place = place.now }) outcome n) }
+        ensures means { IfOk result (λ outcome. (n : ℕ) × Means (record { image = self.now }) (record { given = given.now; place = place.now }) outcome n) }
+        ensures safe { (outcome : Outcome)
+            × RunsSafely (record { image = self.now }) (record { given = given.now; place = place.now }) outcome
+            × IfOk result (λ answer. answer ≡ outcome) }
     {
         exec::run(alloc, &self.verified, given, place)
     }

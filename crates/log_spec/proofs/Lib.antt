@@ -1,3 +1,4 @@
 pub mod FittingBatches
 pub mod LogLaws
+pub mod OneRows
 pub mod RowOrigins

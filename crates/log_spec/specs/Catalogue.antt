@@ -1,9 +1,8 @@
 -- The catalogue: the images that were loaded, by name.
-use Rattle.std.specs.Prelude.{ℕ, zero, suc, ◌-◌, ◌^◌, Bool, ◌==◌, ◌&&◌, ◌||◌, not, nat_le, if◌then◌else◌, List, [], ◌∷◌, ◌++◌, length, slice_get, Option, Some, None}
+use Rattle.std.specs.Prelude.{ℕ, zero, suc, ◌-◌, ◌^◌, Bool, ◌==◌, ◌&&◌, ◌||◌, not, nat_le, if◌then◌else◌, List, [], ◌∷◌, ◌++◌, length, slice_get, Option, Some, None, ◌≡◌}
 use Rattle.std.specs.List.{list_all, list_any}
 use Rattle.std.specs.Str.{bytes_eq}
-use Rattle.verifier_spec.specs.declared.fault.LoadFault.{LoadFault}
-use Rattle.verifier_spec.specs.Loading.{load_fault}
+use Rattle.verifier_spec.specs.Loading.{IsAccepted, IsRefusedWith}
 use Rattle.log_spec.specs.declared.event.Refusal.{Refusal}
 use Rattle.log_spec.specs.declared.event.Refusal.TheVariants as refusal
 
@@ -46,14 +45,23 @@ is_name name = nat_le 1 (length name) && (nat_le (length name) 32 && list_all is
 abbrev pub most_names : ℕ
 most_names = 64
 
-abbrev pub refused_load : Option LoadFault → Option Refusal
-refused_load (Some fault) = Some (refusal.Load fault)
-refused_load None = None
-
--- the first refusal of a load: the name's form, 64 other names, its versions used up, the image
-abbrev pub load_refusal : Table → List ℕ → List ℕ → Option Refusal
-load_refusal table name image =
+-- the first refusal of a load before its image is read: the name's form, 64 other names, its versions used up
+abbrev pub name_refusal : Table → List ℕ → Option Refusal
+name_refusal table name =
     if not (is_name name) then Some refusal.Name else
     if not (has_name table name) && nat_le most_names (length table) then Some refusal.Full else
-    if nat_le (2 ^ 32 - 1) (length (images_of table name)) then Some refusal.Versions else
-    refused_load (load_fault image)
+    if nat_le (2 ^ 32 - 1) (length (images_of table name)) then Some refusal.Versions else None
+
+-- an image is refused exactly where it does not decode to code that has an annotation, and then with its fault
+abbrev pub IsImageRefusal : List ℕ → Option Refusal → Type 0
+IsImageRefusal image None = IsAccepted image
+IsImageRefusal image (Some (refusal.Load fault)) = IsRefusedWith image fault
+IsImageRefusal image (Some _) = ⊥
+
+abbrev pub IsFirstRefusal : Option Refusal → List ℕ → Option Refusal → Type 0
+IsFirstRefusal (Some earlier) image first = Some earlier ≡ first
+IsFirstRefusal None image first = IsImageRefusal image first
+
+-- the first refusal of a load, or none
+abbrev pub IsLoadRefusal : Table → List ℕ → List ℕ → Option Refusal → Type 0
+IsLoadRefusal table name image first = IsFirstRefusal (name_refusal table name) image first

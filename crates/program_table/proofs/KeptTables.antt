@@ -8,8 +8,7 @@ use Rattle.std.proofs.lemmas.List.{length-append, length-map}
 use Rattle.std.specs.Arc.{arc_value}
 use Rattle.log_spec.specs.declared.event.Refusal.{Refusal}
 use Rattle.log_spec.specs.declared.event.Refusal.TheVariants as refusal
-use Rattle.log_spec.specs.Catalogue.{Table, Entry as Loaded, images_of, has_name, is_name, with_image, refused_load, load_refusal}
-use Rattle.verifier_spec.specs.Loading.{load_fault}
+use Rattle.log_spec.specs.Catalogue.{Table, Entry as Loaded, images_of, has_name, is_name, with_image, IsFirstRefusal, IsLoadRefusal}
 use Rattle.program_table.specs.declared.table.Entry.{Entry}
 use Rattle.program_table.specs.Tables.{table_view, IsTable, LoadsInto}
 
@@ -24,18 +23,22 @@ loaded_again entry image = record { name = entry.name; images = entry.images ++ 
 
 -- ---- what a load that is not refused finds
 
-by_tests : (form known full used : Bool) (last : Option Refusal)
-    → cond (not form) (Some refusal.Name) (cond (not known && full) (Some refusal.Full) (cond used (Some refusal.Versions) last)) ≡ None
+by_tests : (form known full used : Bool)
+    → cond (not form) (Some refusal.Name) (cond (not known && full) (Some refusal.Full) (cond used (Some refusal.Versions) None)) ≡ None
     → ((known ≡ true) ⊎ (full ≡ false)) × (used ≡ false)
-by_tests false known full used last e = absurd cc
-by_tests true true full true last e = absurd cc
-by_tests true true full false last e = (inl refl, refl)
-by_tests true false true used last e = absurd cc
-by_tests true false false true last e = absurd cc
-by_tests true false false false last e = (inr refl, refl)
+by_tests false known full used e = absurd cc
+by_tests true true full true e = absurd cc
+by_tests true true full false e = (inl refl, refl)
+by_tests true false true used e = absurd cc
+by_tests true false false true e = absurd cc
+by_tests true false false false e = (inr refl, refl)
 
-allowed : (table : Table) (name image : List ℕ) → load_refusal table name image ≡ None → ((has_name table name ≡ true) ⊎ (nat_le 64 (length table) ≡ false)) × (nat_le (2 ^ 32 - 1) (length (images_of table name)) ≡ false)
-allowed table name image e = by_tests (is_name name) (has_name table name) (nat_le 64 (length table)) (nat_le (2 ^ 32 - 1) (length (images_of table name))) (refused_load (load_fault image)) e
+none_earlier : (earlier : Option Refusal) (image : List ℕ) → IsFirstRefusal earlier image None → earlier ≡ None
+none_earlier (Some early) image h = h
+none_earlier None image h = refl
+
+allowed : (table : Table) (name image : List ℕ) → IsLoadRefusal table name image None → ((has_name table name ≡ true) ⊎ (nat_le 64 (length table) ≡ false)) × (nat_le (2 ^ 32 - 1) (length (images_of table name)) ≡ false)
+allowed table name image h = by_tests (is_name name) (has_name table name) (nat_le 64 (length table)) (nat_le (2 ^ 32 - 1) (length (images_of table name))) (none_earlier _ image h)
 
 -- ---- one more image
 
@@ -89,7 +92,7 @@ is_table-loaded table next name image (Ok version) is loads =
       some = some-kept table name image is.some;
       few = few-kept table name image (leb-false (2 ^ 32 - 1) (length (images_of table name)) free.1) is.few;
     })
-is_table-loaded table next name image (Err told) is loads = subst IsTable (sym loads.1) is
+is_table-loaded table next name image (Err refused) is loads = subst IsTable (sym loads.1) is
 
 -- the number of programs of the entry at a place
 pub few-at : (entries : List Entry) (k : ℕ) (d : Entry) → IsTable (table_view entries) → k < length entries → length (get_or entries k d).programs.items < 2 ^ 32

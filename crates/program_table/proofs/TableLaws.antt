@@ -1,5 +1,5 @@
 -- Finding a name among the entries of the catalogue.
-use Rattle.std.proofs.Common.{◌≡◌, ℕ, zero, suc, ◌<◌, ◌≤◌, Bool, true, false, List, [], ◌∷◌, ◌++◌, length, take, get_or, set, map, refl, sym, ap, ◌∙◌, arith}
+use Rattle.std.proofs.Common.{◌≡◌, ℕ, zero, suc, ◌<◌, ◌≤◌, Bool, true, false, List, [], ◌∷◌, ◌++◌, length, take, get_or, set, map, refl, sym, ap, subst, ◌∙◌, arith}
 use Rattle.std.specs.Prelude.{◌||◌, ◌-◌, ◌^◌, ◌≢◌, nat_le, slice_get, option_map, Some, None, Option}
 use Rattle.std.proofs.lemmas.Bool.Decides.{nat_tests}
 use Rattle.std.proofs.lemmas.List.{length-map, map_push}
@@ -8,10 +8,9 @@ use Rattle.log_spec.specs.declared.event.Refusal.{Refusal}
 use Rattle.log_spec.specs.declared.event.Refusal.TheVariants as refusal
 use Rattle.std.specs.Arc.{arc_value}
 use Rattle.std.specs.Str.{bytes_eq}
-use Rattle.verifier_spec.specs.Loading.{load_fault}
-use Rattle.log_spec.specs.Catalogue.{Table, images_of, image_of, with_image, has_name, is_name, load_refusal, refused_load, Entry as Loaded}
+use Rattle.log_spec.specs.Catalogue.{Table, images_of, image_of, with_image, has_name, is_name, name_refusal, IsImageRefusal, IsFirstRefusal, IsLoadRefusal, Entry as Loaded}
 use Rattle.program_table.specs.declared.table.Entry.{Entry}
-use Rattle.program_table.specs.Tables.{entry_view, table_view, version_of, RefusedAs}
+use Rattle.program_table.specs.Tables.{entry_view, table_view, version_of}
 
 or_false : (a b : Bool) → (a || b) ≡ false → (a ≡ false) × (b ≡ false)
 or_false true b e = absurd cc
@@ -74,33 +73,44 @@ with_image-absent (entry ∷ table) name image h =
 -- ---- which refusal comes first
 
 -- of a name that is loaded, after its form: its versions, then the image
-pub refusal_named : (table : Table) (name image : List ℕ) → is_name name ≡ true → has_name table name ≡ true → length (images_of table name) < 2 ^ 32 - 1
-    → load_refusal table name image ≡ refused_load (load_fault image)
-refusal_named table name image form named lt =
+pub refusal_named : (table : Table) (name : List ℕ) → is_name name ≡ true → has_name table name ≡ true → length (images_of table name) < 2 ^ 32 - 1
+    → name_refusal table name ≡ None
+refusal_named table name form named lt =
     let room : nat_le (2 ^ 32 - 1) (length (images_of table name)) ≡ false = grind (arith, nat_tests) in
     rw (form, named, room) refl
 
-pub refusal_versions : (table : Table) (name image : List ℕ) → is_name name ≡ true → has_name table name ≡ true → 2 ^ 32 - 1 ≤ length (images_of table name)
-    → load_refusal table name image ≡ Some refusal.Versions
-refusal_versions table name image form named le =
+pub refusal_versions : (table : Table) (name : List ℕ) → is_name name ≡ true → has_name table name ≡ true → 2 ^ 32 - 1 ≤ length (images_of table name)
+    → name_refusal table name ≡ Some refusal.Versions
+refusal_versions table name form named le =
     let full : nat_le (2 ^ 32 - 1) (length (images_of table name)) ≡ true = grind (arith, nat_tests) in
     rw (form, named, full) refl
 
 -- of a new name: whether there is room, then the image
-pub refusal_new : (table : Table) (name image : List ℕ) → is_name name ≡ true → has_name table name ≡ false → length table < 64
-    → load_refusal table name image ≡ refused_load (load_fault image)
-refusal_new table name image form new lt =
+pub refusal_new : (table : Table) (name : List ℕ) → is_name name ≡ true → has_name table name ≡ false → length table < 64
+    → name_refusal table name ≡ None
+refusal_new table name form new lt =
     let room : nat_le 64 (length table) ≡ false = grind (arith, nat_tests) in
     rw (form, new, room, images_of-absent table name new) refl
 
-pub refusal_full : (table : Table) (name image : List ℕ) → is_name name ≡ true → has_name table name ≡ false → 64 ≤ length table
-    → load_refusal table name image ≡ Some refusal.Full
-refusal_full table name image form new le =
+pub refusal_full : (table : Table) (name : List ℕ) → is_name name ≡ true → has_name table name ≡ false → 64 ≤ length table
+    → name_refusal table name ≡ Some refusal.Full
+refusal_full table name form new le =
     let full : nat_le 64 (length table) ≡ true = grind (arith, nat_tests) in
     rw (form, new, full) refl
 
-pub refusal_form : (table : Table) (name image : List ℕ) → is_name name ≡ false → load_refusal table name image ≡ Some refusal.Name
-refusal_form table name image form = rw form refl
+refusal_form : (table : Table) (name : List ℕ) → is_name name ≡ false → name_refusal table name ≡ Some refusal.Name
+refusal_form table name form = rw form refl
+
+-- a refusal before the image is read is the load's
+pub refused_early : (table : Table) (name image : List ℕ) (early : Refusal) → name_refusal table name ≡ Some early → IsLoadRefusal table name image (Some early)
+refused_early table name image early e = subst (λ (o : Option Refusal). IsFirstRefusal o image (Some early)) (sym e) refl
+
+-- else the image's is
+pub refused_image : (table : Table) (name image : List ℕ) (first : Option Refusal) → name_refusal table name ≡ None → IsImageRefusal image first → IsLoadRefusal table name image first
+refused_image table name image first e h = subst (λ (o : Option Refusal). IsFirstRefusal o image first) (sym e) h
+
+pub refused_form : (table : Table) (name image : List ℕ) → is_name name ≡ false → IsLoadRefusal table name image (Some refusal.Name)
+refused_form table name image form = refused_early table name image refusal.Name (refusal_form table name form)
 
 -- ---- what a load that changes an entry leaves
 
@@ -132,15 +142,8 @@ version_of-previous images (suc k) ne =
     let e : suc k - 1 ≡ k = omega arith in
     rw e refl
 
--- a refusal that is told of the image is told of the load
-pub told_through : (first second : Option Refusal) (told : Refusal) → first ≡ second → RefusedAs second told → RefusedAs first told
-told_through first second told e h = λ ne. e ∙ h ne
-
 pub map-push : {A B : Type 0} (f : A → B) (xs ys : List A) (x : A) → xs ≡ ys ++ x ∷ [] → map f xs ≡ map f ys ++ f x ∷ []
 map-push f xs ys x e = ap (map f) e ∙ map_push f ys x
-
-pub no_refusal : (table : Table) (name image : List ℕ) → load_refusal table name image ≡ refused_load (load_fault image) → load_fault image ≡ None → load_refusal table name image ≡ None
-no_refusal table name image e h = e ∙ ap refused_load h
 
 -- the image of the program at a place, and of none past the end
 pub image_at : {A : Type 0} (image : A → List ℕ) (programs : List A) (k : ℕ) (found : A) → k < length programs → found ≡ get_or programs k found

@@ -3,8 +3,8 @@ ghost use Rattle.std.specs.List.{list_all};
 ghost use Rattle.program_table.specs.declared.table.Entry.{Entry};
 ghost use Rattle.std.specs.Arc.{arc_value};
 ghost use Rattle.std.specs.Str.{bytes_eq};
-ghost use Rattle.verifier_spec.specs.Loading.{load_fault};
-ghost use Rattle.log_spec.specs.Catalogue.{refused_load, images_of, image_of, has_name, is_name, is_name_byte, with_image};
+ghost use Rattle.verifier_spec.specs.Loading.{IsAccepted};
+ghost use Rattle.log_spec.specs.Catalogue.{IsImageRefusal, images_of, image_of, has_name, is_name, is_name_byte, with_image};
 ghost use Rattle.program_table.specs.Tables.{entry_view, table_view, LatestIs, LoadsInto, RefusedAs, version_of};
 ghost use Rattle.annotate.specs.Loads.{FaultIs};
 
@@ -91,7 +91,7 @@ fn place_of(entries: &[Entry], name: &Name) -> Option<usize>
 
 /// The refusal of a load whose image is refused.
 fn refusal_of(fault: LoadFault) -> Refusal
-    ensures { (image : List ℕ) → FaultIs image fault → RefusedAs (refused_load (load_fault image)) result }
+    ensures { (image : List ℕ) → FaultIs image fault → RefusedAs (IsImageRefusal image) result }
 {
     match fault {
         LoadFault::Isa(IsaFault::Memory) => Refusal::Memory,
@@ -105,8 +105,8 @@ fn refusal_of(fault: LoadFault) -> Refusal
 
 fn program_of(alloc: Global, image: &Bytes) -> Result<Arc<Program>, Refusal>
     ensures program { IfOk result (λ program. arc_value program ≡ image.now) }
-    ensures accepted { OnOk result (load_fault image.now ≡ None) }
-    ensures refused { IfErr result (λ told. RefusedAs (refused_load (load_fault image.now)) told) }
+    ensures accepted { OnOk result (IsAccepted image.now) }
+    ensures refused { IfErr result (λ refused. RefusedAs (IsImageRefusal image.now) refused) }
 {
     match Program::new(alloc, image) {
         Err(fault) => Err(refusal_of(fault)),

@@ -12,7 +12,7 @@ pub returns-in-Kept : goal.returns-in-Kept
 returns-in-Kept c =
     let image = c.args.program.now in let place = c.args.place.now in let given = c.args.given.now in
     let one = c.args.all.now in let two = c.push_rows.new.all in
-    let ran = c.in_ok-emissions.ensures in
+    let ran = c.in_ok-emissions.ensures.means in
     let means = subst (λ (o : Outcome). Means (record { image = image }) (record { given = given; place = place }) o ran.0) c.in-Kept.is ran.1 in
     on_ok c.push_rows.result (Adds one two (λ q here. here ≡ rows_to q place 0 c.emissions.inside.list.items)) (Adds one two (λ q here. IsRecordRows q (Some image) place given here))
     c.push_rows.ensures
@@ -22,7 +22,7 @@ returns-in-Kept c =
 pub returns-in-Rejected : goal.returns-in-Rejected
 returns-in-Rejected c =
     let image = c.args.program.now in let place = c.args.place.now in let given = c.args.given.now in
-    let ran = c.in_ok-emissions.ensures in
+    let ran = c.in_ok-emissions.ensures.means in
     let means = subst (λ (o : Outcome). Means (record { image = image }) (record { given = given; place = place }) o ran.0) c.in-Rejected.is ran.1 in
     outcome_rows image place given (Rejected c.in-Rejected.field-0) ran.0 c.args.all.now c.args.all.now means
     (adds_none c.args.all.now (λ q here. here ≡ rows_of q place (Rejected c.in-Rejected.field-0)) (λ q. refl))

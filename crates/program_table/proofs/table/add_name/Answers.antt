@@ -1,27 +1,29 @@
 use Rattle.std.proofs.Common.{◌<◌, ◌≤◌, ◌+◌, ◌++◌, ◌∷◌, [], List, ℕ, length, ap, sym, ◌∙◌, refl, arith}
 use Rattle.std.proofs.lemmas.List.{length-map}
+use Rattle.std.specs.Prelude.{Some, None}
+use Rattle.log_spec.specs.declared.event.Refusal.TheVariants as refusal
 use Rattle.program_table.specs.Tables.{table_view, entry_view}
-use Rattle.program_table.proofs.TableLaws.{images_of-absent, with_image-absent, refusal_new, refusal_full, no_refusal}
+use Rattle.program_table.proofs.TableLaws.{images_of-absent, with_image-absent, refusal_new, refusal_full, refused_early, refused_image}
 use Rattle.program_table.proofs.table.add_name.Goals as goal
 
 pub returns-then-len-ge-MOST_NAMES : goal.returns-then-len-ge-MOST_NAMES
 returns-then-len-ge-MOST_NAMES c =
     let items = c.args.entries.now.items in
     let le : 64 ≤ length (table_view items) = omega (arith, length-map items entry_view, c.args.entries.now.ok.0) in
-    (λ _. refusal_full (table_view items) c.args.name.now c.args.image.now c.requires.form c.requires.new le, refl)
+    (λ _. refused_early (table_view items) c.args.name.now c.args.image.now refusal.Full (refusal_full (table_view items) c.args.name.now c.requires.form c.requires.new le), refl)
 
 pub returns-in-Err : goal.returns-in-Err
 returns-in-Err c =
     let items = c.args.entries.now.items in
     let lt : length (table_view items) < 64 = omega (arith, length-map items entry_view, c.args.entries.now.ok.0) in
-    (λ ne. refusal_new (table_view items) c.args.name.now c.args.image.now c.requires.form c.requires.new lt ∙ c.in-Err.ensures.refused ne, refl)
+    (λ ne. refused_image (table_view items) c.args.name.now c.args.image.now (Some c.in-Err.refusal) (refusal_new (table_view items) c.args.name.now c.requires.form c.requires.new lt) (c.in-Err.ensures.refused ne), refl)
 
 pub returns-in-Ok-add_entry : goal.returns-in-Ok-add_entry
 returns-in-Ok-add_entry c =
     let items = c.args.entries.now.items in
     let lt : length (table_view items) < 64 = omega (arith, length-map items entry_view, c.args.entries.now.ok.0) in
     let none = images_of-absent (table_view items) c.args.name.now c.requires.new in (
-      no_refusal (table_view items) c.args.name.now c.args.image.now (refusal_new (table_view items) c.args.name.now c.args.image.now c.requires.form c.requires.new lt) c.in-Ok.ensures.accepted,
+      refused_image (table_view items) c.args.name.now c.args.image.now None (refusal_new (table_view items) c.args.name.now c.requires.form c.requires.new lt) c.in-Ok.ensures.accepted,
       ap (λ (images : List (List ℕ)). length images + 1) (sym none),
       c.in-Ok-add_entry.ensures.ok ∙ ap (λ (image : List ℕ). table_view items ++ record { name = c.args.name.now; images = image ∷ [] } ∷ []) c.in-Ok.ensures.program
           ∙ sym (with_image-absent (table_view items) c.args.name.now c.args.image.now c.requires.new),

@@ -1,5 +1,5 @@
 use Rattle.std.proofs.Common.{◌≡◌, List, ℕ, ◌∷◌, ◌++◌, [], sym, ap, subst, refl, ◌∙◌, ◌+◌, length, Some, None}
-use Rattle.log_spec.specs.Catalogue.{Table, images_of, load_refusal, with_image}
+use Rattle.log_spec.specs.Catalogue.{Table, images_of, IsLoadRefusal, with_image}
 use Rattle.catalogue.specs.Faults.{IsFaultOf}
 use Rattle.program_table.specs.Tables.{LatestIs}
 use Rattle.catalogue.proofs.VersionLaws.{version_is}
@@ -16,8 +16,8 @@ latest_of-requires g c = λ e.
 pub returns-in-Err : goal.returns-in-Err
 returns-in-Err g c =
     let same : c.in-Ok.next ≡ c.args.self.now = c.in-Ok.ensures ∙ (c.behind-self.view_is ∙ (c.published.ensures ∙ c.self.view_is)) in (
-      subst (λ (table : Table). IsFaultOf (load_refusal table c.args.name.now c.args.image.now) c.fault_of.result) same
-          (c.fault_of.ensures (load_refusal c.in-Ok.next c.args.name.now c.args.image.now) c.in-Err.ensures.0),
+      subst (λ (table : Table). IsFaultOf table c.args.name.now c.args.image.now c.fault_of.result) same
+          (c.fault_of.ensures c.in-Ok.next c.args.name.now c.args.image.now c.in-Err.ensures.0),
       refl,
     )
 
@@ -34,7 +34,7 @@ returns-in-Ok-publish g c =
     let number : known.number ≡ version = last.0 ∙ sym loaded.1 in
     let named : known.name ≡ name = c.in-Ok-latest_of.ensures.0 in
     let all : known ≡ record { name = name; number = version; image = image } = version_is known name image version named number last.1 in (
-      subst (λ (t : Table). load_refusal t name image ≡ None) same loaded.0,
+      subst (λ (t : Table). IsLoadRefusal t name image None) same loaded.0,
       subst (λ (t : Table). version ≡ length (images_of t name) + 1) same loaded.1,
       all,
       subst (λ (t : Table). c.publish.new.self ≡ with_image t name image) same (c.in-Ok-publish.ensures.ok ∙ loaded.2),

@@ -1,0 +1,96 @@
+-- A state without a trap reads no byte that is not there.
+use Rattle.std.proofs.Common.{◌≡◌, ℕ, zero, suc, ◌+◌, ◌<◌, ◌≤◌, ℤ, pos, ◌≤ℤ◌, Bool, true, false, not, ◌&&◌, if◌then◌else◌, nat_lt, nat_le, int_lt, List, [], ◌∷◌, length, get_or, slice_get, Option, Some, None, is_none, is_some, IsSome, unsigned_abs, unwrap_or, refl, sym, ap, subst, ◌∙◌, arith}
+use Rattle.std.proofs.lemmas.Bool.{and_parts, or_parts, leb-true, not-false, not-true, false≢true}
+use Rattle.std.proofs.lemmas.Option.{same_Some, none-some, slice_get-get_or}
+use Rattle.std.proofs.lemmas.Int.{ints}
+use Rattle.machine_spec.specs.declared.instruction.Instruction.{Instruction}
+use Rattle.machine_spec.specs.declared.instruction.Region.{Region}
+use Rattle.machine_spec.specs.declared.instruction.Region.TheVariants as region
+use Rattle.machine_spec.specs.declared.instruction.Trap.TheVariants as trap
+use Rattle.machine_spec.specs.Summaries.{summary_of}
+use Rattle.machine_spec.specs.Image.{Program, slot_count, form_at}
+use Rattle.machine_spec.specs.Machine.{Input, State, Access, access_of, byte_in, bytes_of, length_of, stack_size}
+use Rattle.machine_spec.specs.Traps.{is_within, is_stack, is_read, has_unset, leaves_record, leaves_stack, reads_unset, first_of, traps, trap_of, trap_at}
+use Rattle.verifier_spec.proofs.Safety.{none_hold}
+use Rattle.log_item.specs.Programs.{ReadsWithin}
+
+-- a byte of a list that is long enough
+has_byte : (bytes : List ℕ) (k : ℕ) → k < length bytes → IsSome (slice_get bytes k)
+has_byte bytes k below = ap is_some (slice_get-get_or bytes k 0 below)
+
+there : (byte : Option ℕ) → is_none byte ≡ false → IsSome byte
+there (Some b) h = refl
+there None h = absurd (false≢true (sym h))
+
+-- where none is unset, each is set
+set_at : (stack : ℕ → Option ℕ) (from count place : ℕ) → has_unset stack from count ≡ false → place < count → IsSome (stack (from + place))
+set_at stack from zero place h below = absurd (omega arith)
+set_at stack from (suc count) zero h below =
+    let here : from ≡ from + 0 = omega arith in
+    let p = or_parts (is_none (stack from)) (has_unset stack (from + 1) count) h in
+    subst (λ (k : ℕ). IsSome (stack k)) here (there (stack from) p.0)
+set_at stack from (suc count) (suc place) h below =
+    let next : (from + 1) + place ≡ from + suc place = omega arith in
+    let p = or_parts (is_none (stack from)) (has_unset stack (from + 1) count) h in
+    subst (λ (k : ℕ). IsSome (stack k)) next (set_at stack (from + 1) count place p.1 (omega arith))
+
+from_zero : (start : ℤ) → int_lt start (pos 0) ≡ false → pos 0 ≤ℤ start
+from_zero start h = grind (arith, ints)
+
+-- bytes within a length
+pub record AreWithin (start : ℤ) (size len : ℕ) : Type 0 where
+  pub start_is : pos 0 ≤ℤ start
+  pub end_is : unsigned_abs start + size ≤ len
+
+within : (start : ℤ) (size len : ℕ) → not (is_within start size len) ≡ false → AreWithin start size len
+within start size len h =
+    let p = and_parts (not (int_lt start (pos 0))) (nat_le (unsigned_abs start + size) len) (not-false (is_within start size len) h) in
+    record { start_is = from_zero start (not-true (int_lt start (pos 0)) p.0); end_is = leb-true (unsigned_abs start + size) len p.1 }
+
+module _ (input : Input) (stack : ℕ → Option ℕ) (start : ℤ) (size place : ℕ) (below : place < size) where
+  in_record : (bytes : List ℕ) → not (is_within start size (length bytes)) ≡ false → (pos 0 ≤ℤ start) × IsSome (slice_get bytes (unsigned_abs start + place))
+  in_record bytes h =
+      let w = within start size (length bytes) h in
+      (w.start_is, has_byte bytes (unsigned_abs start + place) (omega (arith, w.end_is, below)))
+
+  in_region : (r : Region) (reads : Bool) → reads ≡ true
+      → (if is_stack r then false else not (is_within start size (length_of input r))) ≡ false
+      → (if is_stack r then not (is_within start size stack_size) else false) ≡ false
+      → (if reads && is_stack r then has_unset stack (unsigned_abs start) size else false) ≡ false
+      → (pos 0 ≤ℤ start) × IsSome (byte_in input stack r (unsigned_abs start + place))
+  in_region r false is inside on_stack set = absurd (false≢true is)
+  in_region region.Stack true is inside on_stack set = ((within start size stack_size on_stack).start_is, set_at stack (unsigned_abs start) size place set below)
+  in_region region.Key true is inside on_stack set = in_record (bytes_of input.given.key) inside
+  in_region region.Value true is inside on_stack set = in_record (bytes_of input.given.value) inside
+
+-- the conditions on the bytes of an access
+pub record IsInside (input : Input) (s : State) (a : Option Access) : Type 0 where
+  pub inside : leaves_record input a ≡ false
+  pub on_stack : leaves_stack a ≡ false
+  pub set : reads_unset s.stack a ≡ false
+
+access_inside : (input : Input) (s : State) (o : Option Access) (a : Access) (place : ℕ) → IsInside input s o → o ≡ Some a → is_read a.direction ≡ true → place < a.size
+    → (pos 0 ≤ℤ a.start) × IsSome (byte_in input s.stack a.region (unsigned_abs a.start + place))
+access_inside input s o a place h e reads below =
+    let is = subst (λ (access : Option Access). IsInside input s access) e h in
+    in_region input s.stack a.start a.size place below a.region (is_read a.direction) reads is.inside is.on_stack is.set
+
+module _ (program : Program) (input : Input) (s : State) (free : trap_at program input s ≡ None) where
+  no_traps : (i : Instruction) → form_at program.image s.slot ≡ Some i → first_of (traps program input (summary_of i) s) ≡ None
+  unfolding trap_at
+  no_traps i form = from (nat_lt s.slot (slot_count program.image)) (form_at program.image s.slot) form free
+    where
+      from : (b : Bool) (o : Option Instruction) → o ≡ Some i → (if b then trap_of program input o s else Some trap.RanOff) ≡ None → first_of (traps program input (summary_of i) s) ≡ None
+      from true (Some j) f e = subst (λ x. first_of (traps program input (summary_of x) s) ≡ None) (same_Some j i f) e
+      from true None f e = absurd (none-some i f)
+      from false o f e = absurd (none-some trap.RanOff (sym e))
+
+  pub reads_within : ReadsWithin program input s
+  reads_within i a place form access reads below =
+      let none = none_hold (traps program input (summary_of i) s) (no_traps i form) in
+      let inside : IsInside input s (access_of (summary_of i).memory s.registers) = record {
+        inside = none.1.1.1.1.1.1.1.0;
+        on_stack = none.1.1.1.1.1.1.1.1.0;
+        set = none.1.1.1.1.1.1.1.1.1.0;
+      } in
+      access_inside input s (access_of (summary_of i).memory s.registers) a place inside access reads below
