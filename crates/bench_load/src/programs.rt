@@ -9,11 +9,16 @@ const ZERO: [u8; 8] = [0xb7, 0, 0, 0, 0, 0, 0, 0]; // mov64 r0, 0
 
 const EXIT: [u8; 8] = [0x95, 0, 0, 0, 0, 0, 0, 0];
 
-/// Registers that are chosen: all that a program has at entry, and two more.
-const REGISTERS: [u8; 8] = [0, 1, 2, 3, 4, 5, 6, 10];
+const LENGTH: [u8; 8] = [0xbf, 0x26, 0, 0, 0, 0, 0, 0]; // mov64 r6, r2
 
-/// Registers that are written: not r10.
-const WRITTEN: [u8; 8] = [0, 0, 1, 2, 3, 4, 6, 6];
+/// Registers that are read: mostly numbers.
+const REGISTERS: [u8; 8] = [0, 2, 4, 6, 0, 2, 6, 1];
+
+/// Registers that are written.
+const WRITTEN: [u8; 8] = [0, 0, 0, 0, 6, 6, 6, 7];
+
+/// Registers that jumps test.
+const TESTED: [u8; 8] = [2, 2, 2, 4, 0, 0, 6, 6];
 
 /// Moves and arithmetic by a constant: MOV64, ADD64, SUB64, AND64, RSH64, MUL32, OR64, MOD32.
 const BY_CONSTANT: [u8; 8] = [0xb7, 0x07, 0x17, 0x57, 0x77, 0x24, 0x47, 0x94];
@@ -30,8 +35,11 @@ const LOADS: [u8; 8] = [0x71, 0x71, 0x71, 0x69, 0x69, 0x61, 0x79, 0x79];
 /// Constants near those that matter.
 const CONSTANTS: [u8; 8] = [0, 1, 2, 3, 4, 8, 16, 100];
 
-/// Bases of loads: the value, the key, the stack and a copy.
-const BASES: [u8; 8] = [1, 1, 1, 3, 3, 6, 10, 2];
+/// Offsets of loads.
+const OFFSETS: [u8; 8] = [0, 0, 0, 1, 1, 2, 3, 7];
+
+/// Bases of loads: mostly the value.
+const BASES: [u8; 8] = [1, 1, 1, 1, 1, 1, 3, 10];
 
 fn one_of(random: &mut Random, choices: &[u8; 8]) -> u8 {
     choices[random.below(8) as usize]
@@ -59,14 +67,14 @@ fn load(random: &mut Random) -> [u8; 8] {
     let opcode = one_of(random, &LOADS);
     let dst = one_of(random, &WRITTEN);
     let src = one_of(random, &BASES);
-    let offset = one_of(random, &CONSTANTS);
+    let offset = one_of(random, &OFFSETS);
     [opcode, registers(dst, src), offset, 0, 0, 0, 0, 0]
 }
 
 /// A jump over at most as many instructions as follow it before the last.
 fn jump(random: &mut Random, left: u8) -> [u8; 8] {
     let opcode = one_of(random, &JUMPS);
-    let dst = one_of(random, &BASES);
+    let dst = one_of(random, &TESTED);
     let over = random.below(u64::from(left) + 1) as u8;
     let imm = one_of(random, &CONSTANTS);
     [opcode, dst, over, 0, imm, 0, 0, 0]
@@ -84,11 +92,17 @@ fn instruction(random: &mut Random, left: u8) -> [u8; 8] {
     }
 }
 
-/// r0 = 0, up to 15 instructions of which about a third are branches, EXIT.
+/// r0 = 0, r6 = r2, out where the value is shorter than some constant, 2 to 11 instructions of which
+/// about a third are branches, EXIT.
 pub fn random_image(alloc: Global, random: &mut Random) -> Option<Vec<u8>> {
-    let count = random.below(14) as u8 + 2;
+    let count = random.below(10) as u8 + 2;
     let mut image = Vec::new(alloc);
     image.extend_from_slice(&ZERO).ok()?;
+    image.extend_from_slice(&LENGTH).ok()?;
+    let least = one_of(random, &CONSTANTS);
+    image
+        .extend_from_slice(&[0xa5, 2, count, 0, least, 0, 0, 0])
+        .ok()?; // jlt64 r2, least, +count
     for k in 0..count {
         let slot = instruction(random, count - 1 - k);
         image.extend_from_slice(&slot).ok()?;
