@@ -9,12 +9,10 @@ mod audit;
 mod broker;
 mod fault;
 mod parts;
-mod start;
 mod stepped;
 
 pub use crate::audit::{Audit, AuditedRows};
 pub use crate::broker::Broker;
 pub use crate::fault::BrokerFault;
 pub use crate::parts::Parts;
-pub use crate::start::{Ended, Until};
 pub use crate::stepped::Stepped;

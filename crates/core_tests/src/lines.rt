@@ -1,7 +1,8 @@
 use bytes::Bytes;
 use log_spec::Row;
 use script::{
-    Command, ScriptFault, Source, append_text, close_text, deploy_text, first_fault, load_text, parse, push_row,
+    Command, ScriptFault, Source, append_text, close_text, deploy_text, first_fault, load_text,
+    parse, push_row,
 };
 use std::alloc::Global;
 use std::test::Fail;

@@ -192,7 +192,11 @@ fn each_record_goes_by_the_mark_before_it(rt: HostRuntime) -> Result<(), Fail> {
     for (input, output, want) in [
         (0, 0, "done 0 at 0"),
         (1, 0, "1 3 0 1000 A, 1 4 0 1000 B, done 4 at 1"),
-        (1, 1, "1 3 1 1000 A, 1 4 1 1000 B, 1 5 0 1000 C, done 5 at 5"),
+        (
+            1,
+            1,
+            "1 3 1 1000 A, 1 4 1 1000 B, 1 5 0 1000 C, done 5 at 5",
+        ),
     ] {
         assert_eq!(rt; book_text(alloc, &world, input, output)?.as_str(), want);
     }
@@ -256,6 +260,9 @@ fn a_run_goes_on_after_a_refused_event(rt: HostRuntime) -> Result<(), Fail> {
         Event::Deliver(0, 0),
     ];
     let world = run(alloc, 1, 1, 4, &events)?;
-    assert_eq!(rt; book_text(alloc, &world, 0, 0)?.as_str(), "0 0 0 1000 A, done 2 at 2");
+    assert_eq!(rt;
+        book_text(alloc, &world, 0, 0)?.as_str(),
+        "0 0 0 1000 A, done 2 at 2"
+    );
     Ok(())
 }

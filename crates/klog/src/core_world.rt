@@ -18,12 +18,7 @@ use wire_spec::{Batch, Headers, MAX_KEY, MAX_VALUE, Record, Records, TIMESTAMP_E
 use world::World;
 
 /// A core of so many input and output partitions, whose logs have so many cells each.
-pub fn core_of(
-    alloc: Global,
-    inputs: u64,
-    outputs: u64,
-    cells: u64,
-) -> Result<World, AllocError>
+pub fn core_of(alloc: Global, inputs: u64, outputs: u64, cells: u64) -> Result<World, AllocError>
     requires inputs { is_count inputs MAX_PARTITIONS ≡ true }
     requires outputs { is_count outputs MAX_PARTITIONS ≡ true }
     requires cells { is_count cells MAX_CELLS ≡ true }

@@ -285,7 +285,11 @@ fn needs_partitions_first(rt: HostRuntime) -> Result<(), Fail> {
             "line 3: L1 Full\n",
             1,
         ),
-        ("partitions 2 1 1\nclose 1\nclose 1", "line 3: L2 Closed\n", 1),
+        (
+            "partitions 2 1 1\nclose 1\nclose 1",
+            "line 3: L2 Closed\n",
+            1,
+        ),
         ("partitions 2 1 1\nclose 2", "line 2: P1 Partition\n", 1),
         ("close 0", "line 1: S2 Order\n", 1),
     ] {

@@ -9,5 +9,3 @@ mod fixtures;
 mod logs;
 #[cfg(test)]
 mod threads;
-#[cfg(test)]
-mod workers;
