@@ -1,2 +1,3 @@
+pub mod CoreLaws
 pub mod TableLaws
 pub mod VersionLaws

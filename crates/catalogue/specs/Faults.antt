@@ -26,3 +26,12 @@ IsFaultOf first (fault.Load told) = first ≡ Some (refusal.Load told)
 IsFaultOf first fault.NoReader = ⊥
 IsFaultOf first fault.Versions = first ≡ Some refusal.Versions
 IsFaultOf first fault.Memory = Unit {0}
+
+-- A find fails where it gets no reading or memory runs out, and for nothing else.
+abbrev pub IsFindFault : CatFault → Type 0
+IsFindFault fault.Name = ⊥
+IsFindFault fault.Full = ⊥
+IsFindFault (fault.Load told) = ⊥
+IsFindFault fault.NoReader = Unit {0}
+IsFindFault fault.Versions = ⊥
+IsFindFault fault.Memory = Unit {0}
