@@ -1,6 +1,6 @@
 -- A fault that isn't for memory has the core's refusal behind it.
 use Rattle.std.proofs.Common.{◌≡◌, refl}
-use Rattle.std.specs.Prelude.{◌≢◌, Option, Some, None}
+use Rattle.std.specs.Prelude.{◌≢◌, Option, Some}
 use Rattle.log_spec.specs.declared.event.Refusal.{Refusal}
 use Rattle.log_spec.specs.declared.event.Refusal.TheVariants as refusal
 use Rattle.catalogue.specs.declared.fault.CatFault.{CatFault}

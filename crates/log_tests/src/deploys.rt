@@ -33,11 +33,20 @@ fn deploy_some<Id: Names, R: Wait + Abort>(
     let (version, known) = broker.load(rt, alloc, &fwd, &image)?;
     assert_eq!(rt; version, 1);
     let mut finder = broker.finder(rt, alloc)?;
-    assert_eq!(rt; deploy(rt, alloc, &broker, 0, "fwd", &mut finder, &known), Ok((0, 1)));
+    assert_eq!(rt;
+        deploy(rt, alloc, &broker, 0, "fwd", &mut finder, &known),
+        Ok((0, 1))
+    );
     let (version, _second) = broker.load(rt, alloc, &fwd, &image)?;
     assert_eq!(rt; version, 2);
-    assert_eq!(rt; deploy(rt, alloc, &broker, 0, "fwd", &mut finder, &known), Ok((1, 2)));
-    assert_eq!(rt; (mark_at(&broker, 0), mark_at(&broker, 1)), (Some(1), Some(2)));
+    assert_eq!(rt;
+        deploy(rt, alloc, &broker, 0, "fwd", &mut finder, &known),
+        Ok((1, 2))
+    );
+    assert_eq!(rt;
+        (mark_at(&broker, 0), mark_at(&broker, 1)),
+        (Some(1), Some(2))
+    );
     refuse_all(rt, alloc, &broker, &mut finder, &known)
 }
 
@@ -57,8 +66,14 @@ fn refuse_all<Id: Names, C, R: Wait + Abort>(
         (0, "other", no_reader, BrokerFault::NoProgram),
         (0, "fwd", no_reader, full),
     ] {
-        assert_eq!(rt; deploy(rt, alloc, broker, input, name, &mut lost, known), Err(want_lost));
-        assert_eq!(rt; deploy(rt, alloc, broker, input, name, finder, known), Err(want));
+        assert_eq!(rt;
+            deploy(rt, alloc, broker, input, name, &mut lost, known),
+            Err(want_lost)
+        );
+        assert_eq!(rt;
+            deploy(rt, alloc, broker, input, name, finder, known),
+            Err(want)
+        );
     }
     Ok(())
 }

@@ -9,12 +9,11 @@ use log_spec::Name;
 use part_log::Names;
 use std::alloc::Global;
 use std::marker::Brand;
-use std::mem;
 use std::process::Abort;
 use std::sync::{Mutex, Wait};
 use std::test::Fail;
-use std::thread;
 use std::thread::Threads;
+use std::{mem, thread};
 
 const LOADS: usize = 1_000;
 

@@ -42,7 +42,8 @@ const fn bad(name: &'static str, image: &'static [u8], fault: CatFault) -> Load 
     }
 }
 
-fn load<R: Wait + Drop>(
+/// The version of a load, or its fault.
+fn version_of<R: Wait + Drop>(
     alloc: Global,
     catalogue: &mut Catalogue<R>,
     name: &str,
@@ -62,15 +63,14 @@ fn load<R: Wait + Drop>(
     }
 }
 
-fn load_all<R: Wait + Abort>(
-    rt: &R,
-    alloc: Global,
-    catalogue: &mut Catalogue<&R>,
-    loads: &[Load],
-) {
+fn load_all<R: Wait + Abort>(rt: &R, alloc: Global, catalogue: &mut Catalogue<&R>, loads: &[Load]) {
     for row in loads {
         let name = row.name;
-        assert_eq!(rt; load(alloc, catalogue, name, row.image), row.want, "{name}");
+        assert_eq!(rt;
+            version_of(alloc, catalogue, name, row.image),
+            row.want,
+            "{name}"
+        );
     }
 }
 
@@ -94,7 +94,10 @@ fn loads_have_their_version_or_first_refusal(rt: HostRuntime) -> Result<(), Fail
     load_all(&rt, alloc, &mut catalogue, &few);
     for number in 3..64 {
         let name = format!(in alloc; "name-{number}")?;
-        assert_eq!(rt; load(alloc, &mut catalogue, name.as_str(), &FORWARD), Ok(1));
+        assert_eq!(rt;
+            version_of(alloc, &mut catalogue, name.as_str(), &FORWARD),
+            Ok(1)
+        );
     }
     let full = [
         bad("new", &FORWARD, CatFault::Full),
@@ -134,7 +137,10 @@ fn finders_find_the_last_version(rt: HostRuntime) -> Result<(), Fail> {
     let (_two, second) = catalogue.load(alloc, &fwd, &image)?;
     assert_eq!(rt; find(alloc, &mut finder, &fwd, &first), Ok(Some(2)));
     drop(catalogue);
-    assert_eq!(rt; find(alloc, &mut finder, &fwd, &second), Err(CatFault::NoReader));
+    assert_eq!(rt;
+        find(alloc, &mut finder, &fwd, &second),
+        Err(CatFault::NoReader)
+    );
     Ok(())
 }
 
