@@ -1,7 +1,10 @@
-//! Measures how fast threads append to logs. Given how many turns to take, it fills logs of several
-//! sizes by one, two and four producers and prints what an append took in the best turn; given
-//! nothing, it prints nothing.
+//! Measures how fast threads append to logs and find programs. Given how many turns to take, it
+//! fills logs of several sizes by one, two and four producers and prints what an append took in the
+//! best turn, and then how many programs one and four readers find a second while a writer loads;
+//! given nothing, it prints nothing.
 #![tactic(auto)]
+
+mod finds;
 
 ghost use Rattle.std.specs.Prelude.{◌≡◌, ◌≤◌};
 ghost use Rattle.log_spec.specs.Logs.{FitsLog};
@@ -9,6 +12,7 @@ ghost use Rattle.broker.specs.Layouts.{IsNamed, IsCount};
 
 use broker::{Broker, Parts};
 use bytes::Bytes;
+use catalogue::Catalogue;
 use part_log::{LoggedBatch, Names};
 use std::alloc::{AllocError, Global};
 use std::io::ErrorKind;
@@ -59,10 +63,10 @@ fn if_fits(batch: Batch) -> Option<LoggedBatch> {
 
 /// Appends batches of the producer's own until that were so many, or the log is full; how many
 /// appends that were.
-fn fill<Id: Names, R: Wait>(
+fn fill<Id: Names, C, R: Wait>(
     rt: &R,
     alloc: Global,
-    broker: &Broker<Id>,
+    broker: &Broker<Id, C>,
     input: usize,
     most: usize,
 ) -> Result<u64, AllocError> {
@@ -88,13 +92,13 @@ fn nanos(took: Duration, appends: u64) -> f64 {
 fn turn<Id: Names + Send + Sync, R: Threads + Wait + Clock + Sync>(
     rt: &R,
     alloc: Global,
-    parts: Parts,
+    parts: Parts<Catalogue<&R>>,
     producers: usize,
 ) -> io::Result<f64>
     requires cells { IsNamed Id.cells parts.cells }
     requires outputs { parts.outputs ≡ Id.outputs }
 {
-    let made: Broker<Id> = Broker::new(alloc, parts)?;
+    let made: Broker<Id, Catalogue<&R>> = Broker::new(alloc, parts)?;
     let broker = &made;
     let inputs = broker.inputs();
     let producer = move |number: usize| -> u64 {
@@ -124,7 +128,7 @@ fn measure<R: Threads + Wait + Clock + Print + Sync>(
 {
     let mut least = f64::INFINITY;
     for _ in 0..turns {
-        let parts = Parts::new(alloc, inputs, 1, cells)?;
+        let parts = Parts::new(rt, alloc, inputs, 1, cells)?;
         least = least.min(turn::<Brand, R>(rt, alloc, parts, producers)?);
     }
     println!(rt;
@@ -134,11 +138,15 @@ fn measure<R: Threads + Wait + Clock + Print + Sync>(
 }
 
 /// What an append took among the first thousand of a log, and among its last thousand.
-fn ends<Id: Names, R: Wait + Clock>(rt: &R, alloc: Global, parts: Parts) -> io::Result<(f64, f64)>
+fn ends<Id: Names, R: Wait + Clock>(
+    rt: &R,
+    alloc: Global,
+    parts: Parts<Catalogue<&R>>,
+) -> io::Result<(f64, f64)>
     requires cells { IsNamed Id.cells parts.cells }
     requires outputs { parts.outputs ≡ Id.outputs }
 {
-    let broker: Broker<Id> = Broker::new(alloc, parts)?;
+    let broker: Broker<Id, Catalogue<&R>> = Broker::new(alloc, parts)?;
     let start = Instant::now(rt)?;
     let count = fill(rt, alloc, &broker, 0, 1_000)?;
     let first = nanos(start.elapsed(rt)?, count);
@@ -153,7 +161,7 @@ fn measure_ends<R: Wait + Clock + Print>(rt: &R, alloc: Global, turns: u32) -> i
     let mut first = f64::INFINITY;
     let mut last = f64::INFINITY;
     for _ in 0..turns {
-        let parts = Parts::new(alloc, 1, 1, MOST_CELLS)?;
+        let parts = Parts::new(rt, alloc, 1, 1, MOST_CELLS)?;
         let (early, late) = ends::<Brand, R>(rt, alloc, parts)?;
         first = first.min(early);
         last = last.min(late);
@@ -169,13 +177,15 @@ fn measure_all<R: Threads + Wait + Clock + Print + Sync>(
     turns: u32,
 ) -> io::Result<()> {
     measure_ends(rt, alloc, turns)?;
-    measure(rt, alloc, 1, 1_000, 1, turns)?;
-    measure(rt, alloc, 1, 10_000, 1, turns)?;
-    measure(rt, alloc, 1, MOST_CELLS, 1, turns)?;
-    measure(rt, alloc, 2, MOST_CELLS, 2, turns)?;
-    measure(rt, alloc, 4, MOST_CELLS, 4, turns)?;
-    measure(rt, alloc, 1, MOST_CELLS, 2, turns)?;
-    measure(rt, alloc, 1, MOST_CELLS, 4, turns)
+    for cells in [1_000, 10_000, MOST_CELLS] {
+        measure(rt, alloc, 1, cells, 1, turns)?;
+        for producers in [2, 4] {
+            measure(rt, alloc, producers, cells, producers, turns)?;
+            measure(rt, alloc, 1, cells, producers, turns)?;
+        }
+    }
+    finds::measure(rt, alloc, 1, turns)?;
+    finds::measure(rt, alloc, 4, turns)
 }
 
 fn main(rt: HostRuntime) -> io::Result<()> {

@@ -1,5 +1,6 @@
 pub mod Answers
 pub mod Audits
+pub mod Deployments
 pub mod ItemRanges
 pub mod Layouts
 pub mod Steps

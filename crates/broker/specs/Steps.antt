@@ -7,7 +7,7 @@ use Rattle.worker.specs.Walks.{last}
 use Rattle.out_book.specs.Books.{Content, content, log_in, done_of}
 use Rattle.out_book.specs.declared.fault.BookFault.TheVariants as book
 use Rattle.broker.specs.declared.fault.BrokerFault.{BrokerFault}
-use Rattle.broker.specs.declared.fault.BrokerFault.TheVariants.{Partition, NoProgram, Memory, Log as LogRefuses, Book as BookRefuses}
+use Rattle.broker.specs.declared.fault.BrokerFault.TheVariants.{Partition, NoProgram, Memory, Catalogue as CatalogueRefuses, Log as LogRefuses, Book as BookRefuses}
 use Rattle.broker.specs.declared.stepped.Stepped.{Stepped}
 use Rattle.broker.specs.declared.stepped.Stepped.TheVariants.{Added, Nothing}
 
@@ -29,6 +29,7 @@ IsStepFault inputs input old (BookRefuses book.Partition) = length old.logs ≤ 
 IsStepFault inputs input old (BookRefuses book.Memory) = input < inputs
 IsStepFault inputs input old (BookRefuses (book.Gap expected)) = ⊥
 IsStepFault inputs input old NoProgram = ⊥
+IsStepFault inputs input old (CatalogueRefuses fault) = ⊥
 IsStepFault inputs input old (LogRefuses fault) = ⊥
 
 -- Of a broker with so many partitions, and a log with so many cells.
@@ -48,4 +49,5 @@ PutIs outputs old walk (Err (BookRefuses book.Partition)) new = ⊥
 PutIs outputs old walk (Err (BookRefuses (book.Gap expected))) new = ⊥
 PutIs outputs old walk (Err Partition) new = ⊥
 PutIs outputs old walk (Err NoProgram) new = ⊥
+PutIs outputs old walk (Err (CatalogueRefuses fault)) new = ⊥
 PutIs outputs old walk (Err (LogRefuses fault)) new = ⊥

@@ -1,3 +1,4 @@
+use catalogue::CatFault;
 use out_book::BookFault;
 use part_log::LogFault;
 use thiserror::Error;
@@ -14,6 +15,9 @@ pub enum BrokerFault {
     /// Memory ran out, and neither in a log nor in the catalogue nor in a book.
     #[error("P3 Memory")]
     Memory,
+    /// The catalogue refuses it, or gives no reader or no reading.
+    #[error("{0}")]
+    Catalogue(CatFault),
     /// The log refuses it.
     #[error("{0}")]
     Log(LogFault),

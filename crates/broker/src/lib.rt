@@ -1,13 +1,16 @@
-//! One broker, which threads share: the logs of its input partitions and the books of its output
-//! partitions.
+//! One broker, which threads share: the logs of its input partitions, the books of its output
+//! partitions and the catalogue of programs.
 //!
 //! The crate is a thin layer. It finds the partition that is named, and refuses one that isn't
-//! there; what is done to a log or a book stands in the contracts of `part_log` and `out_book`.
+//! there; what is done to a log, a book or the catalogue stands in the contracts of `part_log`,
+//! `out_book` and `catalogue`.
 #![tactic(auto)]
 
 mod audit;
 mod broker;
+mod deploy;
 mod fault;
+mod load;
 mod parts;
 mod stepped;
 

@@ -1,3 +1,4 @@
+pub mod CoreLaws
 pub mod LoadFaults
 pub mod TableLaws
 pub mod VersionLaws

@@ -27,3 +27,12 @@ IsFaultOf table name image (fault.Load refused) = IsLoadRefusal table name image
 IsFaultOf table name image fault.NoReader = ⊥
 IsFaultOf table name image fault.Versions = IsLoadRefusal table name image (Some refusal.Versions)
 IsFaultOf table name image fault.Memory = Unit {0}
+
+-- A find fails where it gets no reading or memory runs out, and for nothing else.
+abbrev pub IsFindFault : CatFault → Type 0
+IsFindFault fault.Name = ⊥
+IsFindFault fault.Full = ⊥
+IsFindFault (fault.Load told) = ⊥
+IsFindFault fault.NoReader = Unit {0}
+IsFindFault fault.Versions = ⊥
+IsFindFault fault.Memory = Unit {0}

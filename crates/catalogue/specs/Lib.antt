@@ -1,3 +1,4 @@
 pub mod Catalogues
+pub mod CoreTie
 pub mod Faults
 pub mod Versions

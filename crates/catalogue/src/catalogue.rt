@@ -1,7 +1,8 @@
-ghost use Rattle.std.specs.Prelude.{◌≡◌, ◌≢◌, [], Some, IfOk, OnOk, OnErr};
+ghost use Rattle.std.specs.Prelude.{◌≡◌, ◌≢◌, [], Some, IfOk, IfErr, OnOk, OnErr};
 ghost use Rattle.log_spec.specs.Catalogue.{images_of};
 ghost use Rattle.program_table.specs.Tables.{LatestIs};
 ghost use Rattle.catalogue.specs.Catalogues.{Publishes};
+ghost use Rattle.catalogue.specs.declared.fault.CatFault.TheVariants.{NoReader};
 
 use crate::edition::Edition;
 use crate::fault::{CatFault, fault_of};
@@ -50,15 +51,13 @@ fn latest_of(alloc: Global, table: &Table, name: &Name) -> Result<Known, AllocEr
 
 impl<R: Wait + Drop> Catalogue<R> {
     /// With no name.
-    pub fn new(rt: R, alloc: Global) -> Result<Catalogue<R>, CatFault>
+    pub fn new(rt: R, alloc: Global) -> Result<Catalogue<R>, AllocError>
         ensures { IfOk result (λ catalogue. catalogue ≡ []) }
     {
         let first = Edition::new(alloc, Table::new(alloc));
         let second = Edition::new(alloc, Table::new(alloc));
-        match WriteHandle::new(alloc, rt, first, second, READERS) {
-            Ok(writer) => Ok(Catalogue { writer }),
-            Err(_) => Err(CatFault::Memory),
-        }
+        let writer = WriteHandle::new(alloc, rt, first, second, READERS)?;
+        Ok(Catalogue { writer })
     }
 
     /// Loads an image under a name and publishes the table with it. Returns the name's version,
@@ -102,7 +101,8 @@ impl<R: Wait + Drop> Catalogue<R> {
 
     /// A reader, which has seen no version yet. Fails where 64 readers are there or none can be made.
     pub fn reader(&self, alloc: Global) -> Result<Finder, CatFault>
-        ensures { IfOk result (λ finder. finder ≡ []) }
+        ensures ok { IfOk result (λ finder. finder ≡ []) }
+        ensures err { IfErr result (λ fault. fault ≡ NoReader) }
     {
         match self.writer.handle() {
             Ok(handle) => Ok(Finder::new(alloc, handle)),

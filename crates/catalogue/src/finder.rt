@@ -1,6 +1,7 @@
-ghost use Rattle.std.specs.Prelude.{◌≡◌, ◌≢◌, ◌<◌, List, ℕ, [], length, Option, None, Some, true, take, slice_index_or, option_map, IfOk, IfNone, IfSome, OnOk, OnErr};
+ghost use Rattle.std.specs.Prelude.{◌≡◌, ◌≢◌, ◌<◌, List, ℕ, [], length, Option, None, Some, true, take, slice_index_or, option_map, IfOk, IfErr, IfNone, IfSome, OnOk, OnErr};
 ghost use Rattle.std.specs.Arc.{arc_value};
 ghost use Rattle.std.specs.Str.{bytes_eq};
+ghost use Rattle.catalogue.specs.Faults.{IsFindFault};
 ghost use Rattle.catalogue.specs.Versions.{Version, number_and_image, under_name, among, newer, Finds, Keeps, IsNoOlder, IsThisOrLater};
 
 use crate::edition::Edition;
@@ -91,7 +92,8 @@ fn newer<'a>(
 
 /// Another owner of a version's program.
 fn shared(found: Option<(u32, &Arc<Program>)>) -> Result<Option<(u32, Arc<Program>)>, CatFault>
-    ensures { IfOk result (λ copy. number_and_image copy ≡ option_map (λ found. (found.0, arc_value found.1.now)) found.entry) }
+    ensures ok { IfOk result (λ copy. number_and_image copy ≡ option_map (λ found. (found.0, arc_value found.1.now)) found.entry) }
+    ensures err { IfErr result IsFindFault }
 {
     match found {
         None => Ok(None),
@@ -106,7 +108,9 @@ fn shared(found: Option<(u32, &Arc<Program>)>) -> Result<Option<(u32, Arc<Progra
 fn read_version(
     handle: &mut ReadHandle<Edition>,
     name: &Name,
-) -> Result<Option<(u32, Arc<Program>)>, CatFault> {
+) -> Result<Option<(u32, Arc<Program>)>, CatFault>
+    ensures { IfErr result IsFindFault }
+{
     match handle.enter() {
         None => Err(CatFault::NoReader),
         Some(edition) => shared(edition.table.latest(name)),
@@ -120,7 +124,8 @@ fn newest(
     read: &Option<(u32, Arc<Program>)>,
     name: &Name,
 ) -> Result<Option<(u32, Arc<Program>)>, CatFault>
-    ensures { IfOk result (λ found. number_and_image found ≡ newer (newer (under_name known.now name.now) (among seen.now name.now)) (number_and_image read.now)) }
+    ensures ok { IfOk result (λ found. number_and_image found ≡ newer (newer (under_name known.now name.now) (among seen.now name.now)) (number_and_image read.now)) }
+    ensures err { IfErr result IsFindFault }
 {
     let read = match read {
         Some(read) => Some((read.0, &read.1)),
@@ -161,6 +166,7 @@ fn find_newest(
 ) -> Result<Option<(u32, Arc<Program>)>, CatFault>
     ensures ok { IfOk result (λ found. Finds known.now name.now (number_and_image read.now) seen.old.items seen.new.items (number_and_image found)) }
     ensures err { OnErr result (seen.new.items ≡ seen.old.items) }
+    ensures fault { IfErr result IsFindFault }
 {
     let Some((version, program)) = newest(known, seen, read, name)? else {
         return Ok(None);
@@ -198,6 +204,7 @@ impl Finder {
         ensures known { IfOk result (λ found. known.now.name ≡ name.now → IsThisOrLater known.now (number_and_image found)) }
         ensures never_back { (other : List ℕ) → IsNoOlder (among self.old other) (among self.new other) }
         ensures err { OnErr result (self.new ≡ self.old) }
+        ensures fault { IfErr result IsFindFault }
     {
         let read = read_version(&mut self.handle, name)?;
         find_newest(alloc, &mut self.seen, &read, name, known)

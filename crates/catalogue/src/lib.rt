@@ -11,8 +11,10 @@ mod edition;
 mod fault;
 mod finder;
 mod known;
+mod laws;
 
 pub use crate::catalogue::Catalogue;
 pub use crate::fault::CatFault;
 pub use crate::finder::Finder;
 pub use crate::known::Known;
+pub use crate::laws::follows_core;

@@ -3,6 +3,7 @@ ghost use Rattle.broker.specs.Layouts.{IsNamed};
 
 use crate::fixtures::batch_of;
 use broker::{Audit, Broker, Parts, Stepped};
+use catalogue::Catalogue;
 use part_log::{Names, Receipt};
 use std::alloc::Global;
 use std::marker::Brand;
@@ -13,14 +14,18 @@ use std::test::Fail;
 #[test]
 fn a_step_takes_one_item(rt: HostRuntime) -> Result<(), Fail> {
     let alloc = rt.alloc();
-    take_one::<Brand, _>(&rt, alloc, Parts::new(alloc, 1, 2, 2)?)
+    take_one::<Brand, _>(&rt, alloc, Parts::new(&rt, alloc, 1, 2, 2)?)
 }
 
-fn take_one<Id: Names, R: Wait + Abort>(rt: &R, alloc: Global, parts: Parts) -> Result<(), Fail>
+fn take_one<Id: Names, R: Wait + Abort>(
+    rt: &R,
+    alloc: Global,
+    parts: Parts<Catalogue<&R>>,
+) -> Result<(), Fail>
     requires cells { IsNamed Id.cells parts.cells }
     requires outputs { parts.outputs ≡ Id.outputs }
 {
-    let broker: Broker<Id> = Broker::new(alloc, parts)?;
+    let broker: Broker<Id, Catalogue<&R>> = Broker::new(alloc, parts)?;
     assert_eq!(rt; step(rt, alloc, &broker, 0), Some(Stepped::Nothing));
     let batch = batch_of(alloc, 3, 1000).ok_or("a batch")?;
     let receipt = broker.append(rt, alloc, 0, batch)?;
@@ -33,10 +38,10 @@ fn take_one<Id: Names, R: Wait + Abort>(rt: &R, alloc: Global, parts: Parts) -> 
 }
 
 /// A step of an output partition's book over input partition 0.
-fn step<Id: Names, R: Wait>(
+fn step<Id: Names, C, R: Wait>(
     rt: &R,
     alloc: Global,
-    broker: &Broker<Id>,
+    broker: &Broker<Id, C>,
     output: usize,
 ) -> Option<Stepped> {
     if output >= broker.outputs() {
@@ -57,9 +62,9 @@ fn step<Id: Names, R: Wait>(
 }
 
 /// How many rows a receipt's item has in an output partition's book; none where it is not done.
-fn audit<Id: Names, R: Wait>(
+fn audit<Id: Names, C, R: Wait>(
     rt: &R,
-    broker: &Broker<Id>,
+    broker: &Broker<Id, C>,
     output: usize,
     receipt: &Receipt<Id>,
 ) -> Option<u64> {

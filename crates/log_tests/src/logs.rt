@@ -3,6 +3,7 @@ ghost use Rattle.broker.specs.Layouts.{IsNamed};
 
 use crate::fixtures::{batch_of, forward, name_of};
 use broker::{Broker, BrokerFault, Parts};
+use catalogue::{CatFault, Catalogue};
 use out_book::BookFault;
 use part_log::{Cells, Item, LogFault, Names, PartLog};
 use std::alloc::Global;
@@ -39,14 +40,18 @@ fn close_one<Id: Names, R: Wait + Abort>(rt: &R, alloc: Global, cells: Cells) ->
 #[test]
 fn a_full_log_takes_nothing(rt: HostRuntime) -> Result<(), Fail> {
     let alloc = rt.alloc();
-    fill_one::<Brand, _>(&rt, alloc, Parts::new(alloc, 1, 2, 1)?)
+    fill_one::<Brand, _>(&rt, alloc, Parts::new(&rt, alloc, 1, 2, 1)?)
 }
 
-fn fill_one<Id: Names, R: Wait + Abort>(rt: &R, alloc: Global, parts: Parts) -> Result<(), Fail>
+fn fill_one<Id: Names, R: Wait + Abort>(
+    rt: &R,
+    alloc: Global,
+    parts: Parts<Catalogue<&R>>,
+) -> Result<(), Fail>
     requires cells { IsNamed Id.cells parts.cells }
     requires outputs { parts.outputs ≡ Id.outputs }
 {
-    let broker: Broker<Id> = Broker::new(alloc, parts)?;
+    let broker: Broker<Id, Catalogue<&R>> = Broker::new(alloc, parts)?;
     assert_eq!(rt;
         (broker.inputs(), broker.outputs(), broker.cells(0)),
         (1, 2, 1)
@@ -78,7 +83,7 @@ fn fill_one<Id: Names, R: Wait + Abort>(rt: &R, alloc: Global, parts: Parts) -> 
 }
 
 /// How many records the first item of an input has, if it is there.
-fn find<Id: Names>(broker: &Broker<Id>, input: usize) -> Option<u64> {
+fn find<Id: Names, C>(broker: &Broker<Id, C>, input: usize) -> Option<u64> {
     if input >= broker.inputs() {
         return None;
     }
@@ -95,6 +100,11 @@ fn faults_have_their_texts(rt: HostRuntime) -> Result<(), Fail> {
         (BrokerFault::Partition, "P1 Partition"),
         (BrokerFault::NoProgram, "P2 NoProgram"),
         (BrokerFault::Memory, "P3 Memory"),
+        (BrokerFault::Catalogue(CatFault::Name), "C1 Name"),
+        (BrokerFault::Catalogue(CatFault::Full), "C2 Full"),
+        (BrokerFault::Catalogue(CatFault::NoReader), "C4 NoReader"),
+        (BrokerFault::Catalogue(CatFault::Versions), "C5 Versions"),
+        (BrokerFault::Catalogue(CatFault::Memory), "C6 Memory"),
         (BrokerFault::Log(LogFault::Full), "L1 Full"),
         (BrokerFault::Log(LogFault::Closed), "L2 Closed"),
         (BrokerFault::Log(LogFault::Clash), "L3 Clash"),

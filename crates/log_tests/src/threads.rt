@@ -3,6 +3,7 @@ ghost use Rattle.broker.specs.Layouts.{IsNamed};
 
 use crate::fixtures::batch_of;
 use broker::{Broker, BrokerFault, Parts};
+use catalogue::Catalogue;
 use part_log::{Item, LogFault, Names, Receipt, Trail};
 use std::alloc::{AllocError, Global};
 use std::marker::Brand;
@@ -40,18 +41,18 @@ struct Report {
 #[test]
 fn producers_and_readers_share_logs(rt: HostRuntime) -> Result<(), Fail> {
     let alloc = rt.alloc();
-    share::<Brand, _>(&rt, alloc, Parts::new(alloc, INPUTS, 1, CELLS)?)
+    share::<Brand, _>(&rt, alloc, Parts::new(&rt, alloc, INPUTS, 1, CELLS)?)
 }
 
 fn share<Id: Names + Send + Sync, R: Threads + Wait + Abort + Sync>(
     rt: &R,
     alloc: Global,
-    parts: Parts,
+    parts: Parts<Catalogue<&R>>,
 ) -> Result<(), Fail>
     requires cells { IsNamed Id.cells parts.cells }
     requires outputs { parts.outputs ≡ Id.outputs }
 {
-    let broker: Broker<Id> = Broker::new(alloc, parts)?;
+    let broker: Broker<Id, Catalogue<&R>> = Broker::new(alloc, parts)?;
     let reports = run_all(rt, alloc, &broker)?;
     let mut taken = 0usize;
     for input in 0..INPUTS {
@@ -69,10 +70,10 @@ fn share<Id: Names + Send + Sync, R: Threads + Wait + Abort + Sync>(
     Ok(())
 }
 
-fn run_all<Id: Names + Send + Sync, R: Threads + Wait + Sync>(
+fn run_all<Id: Names + Send + Sync, C: Send, R: Threads + Wait + Sync>(
     rt: &R,
     alloc: Global,
-    broker: &Broker<Id>,
+    broker: &Broker<Id, C>,
 ) -> Result<Vec<Option<Report>>, AllocError> {
     let one = move |number: usize| -> Option<Report> {
         if number < PRODUCERS {
@@ -85,10 +86,10 @@ fn run_all<Id: Names + Send + Sync, R: Threads + Wait + Sync>(
 }
 
 /// Appends until the log is full, and reads back what each receipt is of.
-fn produce<Id: Names, R: Wait>(
+fn produce<Id: Names, C, R: Wait>(
     rt: &R,
     alloc: Global,
-    broker: &Broker<Id>,
+    broker: &Broker<Id, C>,
     number: usize,
 ) -> Option<Report> {
     let input = number % INPUTS;
@@ -122,7 +123,11 @@ fn produce<Id: Names, R: Wait>(
 }
 
 /// The timestamp of a batch that a trail knows.
-fn timestamp_of<Id: Names>(broker: &Broker<Id>, trail: &Trail<Id>, index: usize) -> Option<i64> {
+fn timestamp_of<Id: Names, C>(
+    broker: &Broker<Id, C>,
+    trail: &Trail<Id>,
+    index: usize,
+) -> Option<i64> {
     let input = trail.partition();
     if input >= broker.inputs() || index >= trail.len() {
         return None;
@@ -136,7 +141,7 @@ fn timestamp_of<Id: Names>(broker: &Broker<Id>, trail: &Trail<Id>, index: usize)
 }
 
 /// Reads the items in order as they come, at most a million times.
-fn consume<Id: Names>(alloc: Global, broker: &Broker<Id>, input: usize) -> Option<Report> {
+fn consume<Id: Names, C>(alloc: Global, broker: &Broker<Id, C>, input: usize) -> Option<Report> {
     if input >= broker.inputs() {
         return None;
     }
@@ -164,10 +169,10 @@ fn consume<Id: Names>(alloc: Global, broker: &Broker<Id>, input: usize) -> Optio
 }
 
 /// The batches of a log in order: the records before each, and its timestamp; at the end all records.
-fn items_of<Id: Names, R: Wait>(
+fn items_of<Id: Names, C, R: Wait>(
     rt: &R,
     alloc: Global,
-    broker: &Broker<Id>,
+    broker: &Broker<Id, C>,
     input: usize,
 ) -> Option<Vec<Taken>> {
     let trail = broker.trail(rt, input).ok()?;

@@ -1,0 +1,46 @@
+//! Deployments: marks of programs that a finder finds.
+
+ghost use Rattle.std.specs.Prelude.{List, ℕ};
+ghost use Rattle.catalogue.specs.Versions.{IsNoOlder, among};
+ghost use Rattle.broker.specs.Deployments.{DeployIs};
+
+use crate::broker::Broker;
+use crate::fault::BrokerFault;
+use catalogue::{Finder, Known};
+use log_spec::Name;
+use part_log::{Names, Receipt};
+use program_table::share_name;
+use std::alloc::Global;
+use std::sync::Wait;
+
+impl<Id: Names, C> Broker<Id, C> {
+    /// Deploys a name's newest version to an input partition: its mark is appended to the log, and
+    /// the records after it go through that program. Returns the mark's receipt and the version. It
+    /// is the newest that the finder finds: under the name of `known` that version or a later one.
+    pub fn deploy<R: Wait>(
+        &self,
+        rt: &R,
+        alloc: Global,
+        input: usize,
+        name: &Name,
+        finder: &mut Finder,
+        known: &Known,
+    ) -> Result<(Receipt<Id>, u32), BrokerFault>
+        ensures deployed { DeployIs self.now input name.now known.now finder.old result finder.new }
+        ensures never_back { (other : List ℕ) → IsNoOlder (among finder.old other) (among finder.new other) }
+    {
+        let log = self.log(input)?;
+        let Ok(marked) = share_name(alloc, name) else {
+            return Err(BrokerFault::Memory);
+        };
+        let (version, program) = match finder.find(alloc, name, known) {
+            Err(fault) => return Err(BrokerFault::Catalogue(fault)),
+            Ok(None) => return Err(BrokerFault::NoProgram),
+            Ok(Some(found)) => found,
+        };
+        match log.mark(rt, alloc, marked, version, program) {
+            Ok(receipt) => Ok((receipt, version)),
+            Err(fault) => Err(BrokerFault::Log(fault)),
+        }
+    }
+}

@@ -1,0 +1,45 @@
+//! Loads of programs into a broker's catalogue.
+
+ghost use Rattle.std.specs.Prelude.{◌≡◌, [], IfOk, IfErr};
+ghost use Rattle.broker.specs.Deployments.{LoadIs, IsNoReader};
+
+use crate::broker::Broker;
+use crate::fault::BrokerFault;
+use bytes::Bytes;
+use catalogue::{Catalogue, Finder, Known};
+use log_spec::Name;
+use part_log::Names;
+use std::alloc::Global;
+use std::sync::Wait;
+
+impl<Id: Names, W: Wait + Drop> Broker<Id, Catalogue<W>> {
+    /// Loads an image under a name. Returns the name's version, from 1, and what is then known of
+    /// it. What a load does to the catalogue is said by `Catalogue::load`.
+    pub fn load<R: Wait>(
+        &self,
+        rt: &R,
+        alloc: Global,
+        name: &Name,
+        image: &Bytes,
+    ) -> Result<(u32, Known), BrokerFault>
+        ensures { LoadIs name.now image.now result }
+    {
+        let mut catalogue = self.catalogue().lock(rt);
+        match catalogue.load(alloc, name, image) {
+            Ok(loaded) => Ok(loaded),
+            Err(fault) => Err(BrokerFault::Catalogue(fault)),
+        }
+    }
+
+    /// A finder, which has seen no version yet.
+    pub fn finder<R: Wait>(&self, rt: &R, alloc: Global) -> Result<Finder, BrokerFault>
+        ensures ok { IfOk result (λ finder. finder ≡ []) }
+        ensures err { IfErr result IsNoReader }
+    {
+        let catalogue = self.catalogue().lock(rt);
+        match catalogue.reader(alloc) {
+            Ok(finder) => Ok(finder),
+            Err(fault) => Err(BrokerFault::Catalogue(fault)),
+        }
+    }
+}

@@ -1,0 +1,35 @@
+-- What a load of the live catalogue is in the core.
+use Rattle.std.specs.Prelude.{◌≡◌, ◌≢◌, ℕ, List, Option, Some, None, Result, Ok, Err}
+use Rattle.log_spec.specs.declared.event.Event.TheVariants as event
+use Rattle.log_spec.specs.declared.event.Refusal.{Refusal}
+use Rattle.log_spec.specs.declared.event.Reply.TheVariants.{Loaded}
+use Rattle.log_spec.specs.Catalogue.{Table}
+use Rattle.log_spec.specs.Worlds.{World, IsRefusal, Happens}
+use Rattle.catalogue.specs.declared.fault.CatFault.{CatFault}
+use Rattle.log_spec.specs.declared.event.Refusal.TheVariants as refusal
+use Rattle.catalogue.specs.declared.fault.CatFault.TheVariants as fault
+use Rattle.catalogue.specs.Versions.{Version}
+use Rattle.catalogue.specs.Catalogues.{Publishes}
+
+-- The refusal of the core with the fault's number; none for a fault that the core doesn't have, and for memory.
+abbrev pub refusal_for : CatFault → Option Refusal
+refusal_for fault.Name = Some refusal.Name
+refusal_for fault.Full = Some refusal.Full
+refusal_for (fault.Load why) = Some (refusal.Load why)
+refusal_for fault.NoReader = None
+refusal_for fault.Versions = Some refusal.Versions
+refusal_for fault.Memory = None
+
+-- The core doesn't refuse the event either, and has its reply and its table; or, where memory didn't run out, it refuses the
+-- event for the same, and both tables stay.
+abbrev pub DoesInCore : World → List ℕ → List ℕ → Result (ℕ × Version) CatFault → Table → Type 0
+DoesInCore w name image (Ok loaded) next =
+    IsRefusal w (event.Load name image) None × Happens w (event.Load name image) (Loaded loaded.0) (record w { table = next })
+DoesInCore w name image (Err told) next =
+    (next ≡ w.table) × (told ≢ fault.Memory → (first : Refusal) × (refusal_for told ≡ Some first) × IsRefusal w (event.Load name image) (Some first))
+
+-- A load over the table of a world does there what the core's event does.
+abbrev pub FollowsCore : Type 0
+FollowsCore =
+    (w : World) (name image : List ℕ) (result : Result (ℕ × Version) CatFault) (next : Table) → Publishes w.table name image result next
+    → DoesInCore w name image result next
