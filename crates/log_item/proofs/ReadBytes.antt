@@ -9,7 +9,8 @@ use Rattle.machine_spec.specs.declared.instruction.Region.TheVariants as region
 use Rattle.machine_spec.specs.declared.instruction.Trap.TheVariants as trap
 use Rattle.machine_spec.specs.Summaries.{summary_of}
 use Rattle.machine_spec.specs.Image.{Program, slot_count, form_at}
-use Rattle.machine_spec.specs.Machine.{Input, State, Access, access_of, byte_in, bytes_of, length_of, stack_size}
+use Rattle.machine_spec.specs.Machine.{Input, State, Access, access_of, byte_in, bytes_of, length_of}
+use Rattle.machine_spec.specs.declared.limits.TheConstants.{STACK_SIZE}
 use Rattle.machine_spec.specs.Traps.{is_within, is_stack, is_read, has_unset, leaves_record, leaves_stack, reads_unset, first_of, traps, trap_of, trap_at}
 use Rattle.verifier_spec.proofs.Safety.{none_hold}
 use Rattle.log_item.specs.Programs.{ReadsWithin}
@@ -55,11 +56,11 @@ module _ (input : Input) (stack : ℕ → Option ℕ) (start : ℤ) (size place 
 
   in_region : (r : Region) (reads : Bool) → reads ≡ true
       → (if is_stack r then false else not (is_within start size (length_of input r))) ≡ false
-      → (if is_stack r then not (is_within start size stack_size) else false) ≡ false
+      → (if is_stack r then not (is_within start size STACK_SIZE) else false) ≡ false
       → (if reads && is_stack r then has_unset stack (unsigned_abs start) size else false) ≡ false
       → (pos 0 ≤ℤ start) × IsSome (byte_in input stack r (unsigned_abs start + place))
   in_region r false is inside on_stack set = absurd (false≢true is)
-  in_region region.Stack true is inside on_stack set = ((within start size stack_size on_stack).start_is, set_at stack (unsigned_abs start) size place set below)
+  in_region region.Stack true is inside on_stack set = ((within start size STACK_SIZE on_stack).start_is, set_at stack (unsigned_abs start) size place set below)
   in_region region.Key true is inside on_stack set = in_record (bytes_of input.given.key) inside
   in_region region.Value true is inside on_stack set = in_record (bytes_of input.given.value) inside
 
