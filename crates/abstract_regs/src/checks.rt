@@ -7,12 +7,12 @@ ghost use Rattle.machine_spec.specs.Traps.{writes_frame, calls_no_helper, source
 ghost use Rattle.verifier_spec.specs.Kinds.{kind_at, is_unknown, furthest};
 ghost use Rattle.verifier_spec.specs.Checks.{reads_unknown, is_one_sign, least_displacement, greatest_displacement, can_move, can_compute_kinds, has_wrong_kinds, has_wrong_base_kind, has_wrong_condition_kind, reach_at, reach_of, may_write_record, may_leave_record, may_leave_stack, may_read_unset, has_wrong_argument_kind, may_call_wrongly, may_exit_wrongly, failed_check};
 
-use state_order::kinds;
 use machine_spec::{
     Condition, Direction, Helper, Instruction, MemoryOperand, Operands, Operation, Region,
     STACK_SIZE, Size, Source, Summary, Width,
 };
 use stack_bytes::contains_all;
+use state_order::kinds;
 use verifier_spec::{Abs, Abstract, Check, Interval};
 
 /// The register that is never written, the stack's end.

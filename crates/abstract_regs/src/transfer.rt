@@ -8,12 +8,12 @@ ghost use Rattle.verifier_spec.specs.Checks.{can_move, can_compute_kinds, source
 ghost use Rattle.verifier_spec.specs.Transfer.{with_kind, numbers, on_ranges, moved_address, moved_kind, computed_kind, changed_kind, loaded_kind, with_stored, with_length, with_range, narrowed_range, tested, answer_kind, after_call_kinds, called_kinds, met_edge, jump_edge, falls_to, jumps_to};
 
 use crate::checks;
-use state_order::kinds;
 use machine_spec::{
     Change, Condition, Extension, Helper, Instruction, Operation, Region, Size, Source, Summary,
     Test, Width,
 };
 use stack_bytes::{StackSet, with_places};
+use state_order::kinds;
 use verifier_spec::{Abs, Abstract, Interval};
 
 // ---- a register's kind

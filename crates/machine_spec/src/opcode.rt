@@ -1,6 +1,6 @@
 use crate::{
-    ByteOrder, Change, Distance, Extension, Instruction, Operation, Size, Source, SwappedWidth, Test,
-    Width,
+    ByteOrder, Change, Distance, Extension, Instruction, Operation, Size, Source, SwappedWidth,
+    Test, Width,
 };
 
 const REGISTER: Source = Source::Register(0);
