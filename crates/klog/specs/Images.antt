@@ -1,11 +1,7 @@
 -- What the calls on one image print of it.
-use Rattle.std.specs.Prelude.{ℕ, ◌+◌, ◌*◌, take, List, [], ◌∷◌, ◌++◌, length, Option, Some, None, Result, Ok, Err, codes, decimal}
+use Rattle.std.specs.Prelude.{◌≡◌, ℕ, ◌+◌, ◌*◌, take, List, [], ◌∷◌, ◌++◌, length, Result, Ok, Err, codes, decimal}
 use Rattle.machine_spec.specs.declared.limits.TheConstants.{MAX_SLOTS}
-use Rattle.machine_spec.specs.declared.instruction.IsaFault.{IsaFault}
-use Rattle.machine_spec.specs.declared.instruction.Placed.{Placed}
-use Rattle.machine_spec.specs.Image.{read_image}
-use Rattle.verifier_spec.specs.declared.fault.LoadFault.{LoadFault}
-use Rattle.verifier_spec.specs.Loading.{load_fault}
+use Rattle.verifier_spec.specs.Loading.{IsAccepted, IsRefusedWith}
 use Rattle.klog.specs.declared.image.Refused.{Refused}
 use Rattle.klog.specs.declared.image.Refused.TheVariants as refused
 
@@ -17,15 +13,12 @@ first_bytes bytes = take (MAX_SLOTS * 8 + 1) bytes
 abbrev pub accepted_line : ℕ → List ℕ
 accepted_line count = codes "accepted " ++ (decimal count ++ (codes " instructions" ++ 10 ∷ []))
 
--- how many instructions an image has that reads so
-abbrev pub count_of : Result (List Placed) IsaFault → ℕ
-count_of (Ok code) = length code
-count_of (Err fault) = 0
+-- An image is refused with its fault; nothing is said where memory ran out.
+abbrev pub IsRefusal : List ℕ → Refused → Type 0
+IsRefusal image (refused.Image fault) = IsRefusedWith image fault
+IsRefusal image refused.Memory = Unit {0}
 
-abbrev pub verdict : Option LoadFault → ℕ → Result (List ℕ) Refused
-verdict (Some fault) count = Err (refused.Image fault)
-verdict None count = Ok (accepted_line count)
-
--- what `check` prints of an image, or why it is refused
-abbrev pub checked : List ℕ → Result (List ℕ) Refused
-checked image = verdict (load_fault image) (count_of (read_image image))
+-- What `check` prints of an image, seen by view: how many instructions its code has, where that has an annotation.
+abbrev pub ChecksAs : {X : Type 0} → List ℕ → (X → List ℕ) → Result X Refused → Type 0
+ChecksAs image view (Ok text) = (accepted : IsAccepted image) × (view text ≡ accepted_line (length accepted.code))
+ChecksAs image view (Err told) = IsRefusal image told

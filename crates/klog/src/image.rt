@@ -1,16 +1,13 @@
 //! Images of programs: how much of a file is read as one, and what `check` prints.
 
-ghost use Rattle.std.specs.Prelude.{◌≡◌, List, ℕ, Ok, Some, IfOk, string_bytes};
+ghost use Rattle.std.specs.Prelude.{◌≡◌, List, ℕ, Some, IfOk, string_bytes};
 ghost use Rattle.annotate.specs.Loads.{FaultIs};
-ghost use Rattle.wire_spec.specs.Memory.{IsFault, AnswersAs};
-ghost use Rattle.klog.specs.declared.image.Refused.TheVariants.{Memory};
-ghost use Rattle.klog.specs.Images.{first_bytes, accepted_line, checked};
+ghost use Rattle.klog.specs.Images.{first_bytes, accepted_line, IsRefusal, ChecksAs};
 
 use crate::files::Files;
 use crate::session::{Unread, cause_of, read_whole};
-use bpf_isa::image_and_code;
 use machine_spec::{IsaFault, MAX_SLOTS};
-use std::alloc::Global;
+use std::alloc::{AllocError, Global};
 use std::io::Read;
 use verifier_spec::{Check, LoadFault};
 
@@ -47,7 +44,7 @@ pub fn read_image<F: Files>(alloc: Global, files: &mut F, name: &str) -> Result<
 
 /// The refusal of an image that is not loaded.
 fn refusal_of(fault: LoadFault) -> Refused
-    ensures { (image : List ℕ) → FaultIs image fault → IsFault Memory result (checked image) }
+    ensures { (image : List ℕ) → FaultIs image fault → IsRefusal image result }
 {
     match fault {
         LoadFault::Isa(IsaFault::Memory) => Refused::Memory,
@@ -60,24 +57,23 @@ fn refusal_of(fault: LoadFault) -> Refused
 }
 
 /// The line that says how many instructions an accepted program has.
-fn accepted(alloc: Global, count: usize) -> Result<String, Refused>
-    ensures { AnswersAs Memory string_bytes result (Ok (accepted_line count)) }
+fn accepted(alloc: Global, count: usize) -> Result<String, AllocError>
+    ensures { IfOk result (λ text. string_bytes text ≡ accepted_line count) }
 {
-    match format!(in alloc; "accepted {count} instructions\n") {
-        Ok(text) => Ok(text),
-        Err(_) => Err(Refused::Memory),
-    }
+    Ok(format!(in alloc; "accepted {count} instructions\n")?)
 }
 
 /// What `check` prints of an image: how many instructions the program has that the verifier
 /// accepts, or why it is refused.
 pub fn check(alloc: Global, image: &[u8]) -> Result<String, Refused>
-    ensures { AnswersAs Memory string_bytes result (checked image.now) }
+    ensures { ChecksAs image.now string_bytes result }
 {
-    image_and_code();
     let verified = match annotate::load(alloc, image) {
         Err(fault) => return Err(refusal_of(fault)),
         Ok(verified) => verified,
     };
-    accepted(alloc, verified.code().len())
+    match accepted(alloc, verified.code().len()) {
+        Ok(text) => Ok(text),
+        Err(_) => Err(Refused::Memory),
+    }
 }

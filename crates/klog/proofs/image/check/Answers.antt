@@ -1,17 +1,15 @@
-use Rattle.std.proofs.Common.{◌≡◌, ℕ, List, length, refl, sym, subst, rules}
-use Rattle.std.specs.Prelude.{Result, Ok, string_bytes}
-use Rattle.wire_spec.specs.Memory.{AnswersAs}
-use Rattle.machine_spec.specs.Image.{read_image}
-use Rattle.klog.specs.declared.image.Refused.{Refused}
-use Rattle.klog.specs.declared.image.Refused.TheVariants.{Memory}
-use Rattle.klog.specs.Images.{accepted_line, checked}
+use Rattle.std.proofs.Common.{◌≡◌, List, ℕ, length, rules, sym, ap, ◌∙◌, subst}
+use Rattle.std.specs.Prelude.{string_bytes}
+use Rattle.klog.specs.Images.{accepted_line}
 use Rattle.klog.proofs.image.check.Goals as goal
 
-pub returns : goal.returns
-returns c =
-    let image = c.args.image.now in
-    let code = c.in-Ok.verified.code in
-    let reads : read_image image ≡ Ok code = (c.image_and_code.ensures.reads image code).0 c.in-Ok.ensures.answer.code in
-    let count : c.len.result ≡ length code = search rules in
-    let said : checked image ≡ Ok (accepted_line c.len.result) = rw (c.in-Ok.ensures.answer.no_fault, reads, count) refl in
-    subst (λ (s : Result (List ℕ) Refused). AnswersAs Memory string_bytes c.accepted.result s) (sym said) c.accepted.ensures
+pub returns-in-Err : goal.returns-in-Err
+returns-in-Err c = c.refusal_of.ensures c.args.image.now c.in-Err.ensures.answer
+
+pub returns-in-Ok-accepted : goal.returns-in-Ok-accepted
+returns-in-Ok-accepted c =
+    let count : c.len.result ≡ length c.in-Ok.verified.code = search rules in
+    let answer = c.in-Ok.ensures.answer in (
+      record { code = c.in-Ok.verified.code; read = answer.read; notes = c.in-Ok.verified.notes; annotation = answer.annotation },
+      c.in-Ok-accepted.ensures ∙ ap accepted_line count,
+    )
