@@ -1,5 +1,7 @@
 use bpf_isa::{Instruction, IsaFault, decode, encode, image_and_code};
 use machine_spec::{Distance, Extension, Operation, Size, Source, Test, Width};
+use std::alloc::Global;
+use std::process::Abort;
 use std::test::Fail;
 
 const MOVE: [u8; 8] = [0xb7, 0, 0, 0, 0, 0, 0, 0];
@@ -114,44 +116,51 @@ fn arithmetic_forms(rt: HostRuntime) -> Result<(), Fail> {
     Ok(())
 }
 
+/// Slots that are no instruction, each with the refusal of the image that is this slot.
+const REFUSED: [([u8; 8], IsaFault); 29] = [
+    ([0xdb, 0, 0, 0, 0, 0, 0, 0], IsaFault::NotInProfile(0)),
+    ([0x85, 0x10, 0, 0, 1, 0, 0, 0], IsaFault::NotInProfile(0)),
+    ([0x18, 0x10, 0, 0, 0, 0, 0, 0], IsaFault::NotInProfile(0)),
+    ([0x20, 0, 0, 0, 0, 0, 0, 0], IsaFault::NotInProfile(0)),
+    ([0x50, 0, 0, 0, 0, 0, 0, 0], IsaFault::NotInProfile(0)),
+    ([0xc3, 0, 0, 0, 0, 0, 0, 0], IsaFault::NotInProfile(0)),
+    ([0xff, 0, 0, 0, 0, 0, 0, 0], IsaFault::Opcode(0)),
+    ([0x99, 0, 0, 0, 0, 0, 0, 0], IsaFault::Opcode(0)),
+    ([0x00, 0, 0, 0, 0, 0, 0, 0], IsaFault::Opcode(0)),
+    ([0x8f, 0, 0, 0, 0, 0, 0, 0], IsaFault::Opcode(0)),
+    ([0xb7, 0x0b, 0, 0, 0, 0, 0, 0], IsaFault::Register(0)),
+    ([0xbf, 0xb0, 0, 0, 0, 0, 0, 0], IsaFault::Register(0)),
+    ([0x79, 0xbb, 0, 0, 1, 0, 0, 0], IsaFault::Register(0)),
+    ([0x62, 0x0b, 0, 0, 0, 0, 0, 0], IsaFault::Register(0)),
+    ([0x7b, 0xb0, 0, 0, 0, 0, 0, 0], IsaFault::Register(0)),
+    // a wide instruction without its second slot, whose register or offset is refused first
+    ([0x18, 0x0b, 1, 0, 0, 0, 0, 0], IsaFault::Register(0)),
+    ([0x18, 0x01, 1, 0, 0, 0, 0, 0], IsaFault::Unused(0)),
+    ([0x18, 0, 0, 0, 0, 0, 0, 0], IsaFault::Wide(0)),
+    // jumps whose distance is in the other field
+    ([0x05, 0, 0, 0, 1, 0, 0, 0], IsaFault::Unused(0)),
+    ([0x06, 0, 1, 0, 0, 0, 0, 0], IsaFault::Unused(0)),
+    ([0x72, 0x1a, 0, 0, 0, 0, 0, 0], IsaFault::Unused(0)),
+    ([0x73, 0x1a, 0, 0, 1, 0, 0, 0], IsaFault::Unused(0)),
+    ([0xb7, 0xb0, 0, 0, 0, 0, 0, 0], IsaFault::Unused(0)),
+    ([0x95, 0, 0, 0, 1, 0, 0, 0], IsaFault::Unused(0)),
+    ([0x71, 0x10, 0, 0, 0, 0, 0, 1], IsaFault::Unused(0)),
+    // an offset that selects no quotient and no extension, a byte order of 8 bits
+    ([0x37, 0x01, 2, 0, 5, 0, 0, 0], IsaFault::Unused(0)),
+    ([0xbc, 0x21, 32, 0, 0, 0, 0, 0], IsaFault::Unused(0)),
+    ([0xb7, 0x01, 8, 0, 5, 0, 0, 0], IsaFault::Unused(0)),
+    ([0xd4, 0x01, 0, 0, 8, 0, 0, 0], IsaFault::Unused(0)),
+];
+
+fn are_refused<R: Abort>(rt: &R, alloc: Global, rows: &[([u8; 8], IsaFault)]) {
+    for (slot, fault) in rows {
+        assert_eq!(rt; decode(alloc, slot).err(), Some(*fault), "at {slot:?}");
+    }
+}
+
 #[test]
 fn refused_slots(rt: HostRuntime) {
-    for (slot, fault) in [
-        ([0xdb, 0, 0, 0, 0, 0, 0, 0], IsaFault::NotInProfile(0)),
-        ([0x85, 0x10, 0, 0, 1, 0, 0, 0], IsaFault::NotInProfile(0)),
-        ([0x18, 0x10, 0, 0, 0, 0, 0, 0], IsaFault::NotInProfile(0)),
-        ([0x20, 0, 0, 0, 0, 0, 0, 0], IsaFault::NotInProfile(0)),
-        ([0x50, 0, 0, 0, 0, 0, 0, 0], IsaFault::NotInProfile(0)),
-        ([0xc3, 0, 0, 0, 0, 0, 0, 0], IsaFault::NotInProfile(0)),
-        ([0xff, 0, 0, 0, 0, 0, 0, 0], IsaFault::Opcode(0)),
-        ([0x99, 0, 0, 0, 0, 0, 0, 0], IsaFault::Opcode(0)),
-        ([0x00, 0, 0, 0, 0, 0, 0, 0], IsaFault::Opcode(0)),
-        ([0x8f, 0, 0, 0, 0, 0, 0, 0], IsaFault::Opcode(0)),
-        ([0xb7, 0x0b, 0, 0, 0, 0, 0, 0], IsaFault::Register(0)),
-        ([0xbf, 0xb0, 0, 0, 0, 0, 0, 0], IsaFault::Register(0)),
-        ([0x79, 0xbb, 0, 0, 1, 0, 0, 0], IsaFault::Register(0)),
-        ([0x62, 0x0b, 0, 0, 0, 0, 0, 0], IsaFault::Register(0)),
-        ([0x7b, 0xb0, 0, 0, 0, 0, 0, 0], IsaFault::Register(0)),
-        // a wide instruction without its second slot, whose register or offset is refused first
-        ([0x18, 0x0b, 1, 0, 0, 0, 0, 0], IsaFault::Register(0)),
-        ([0x18, 0x01, 1, 0, 0, 0, 0, 0], IsaFault::Unused(0)),
-        ([0x18, 0, 0, 0, 0, 0, 0, 0], IsaFault::Wide(0)),
-        // jumps whose distance is in the other field
-        ([0x05, 0, 0, 0, 1, 0, 0, 0], IsaFault::Unused(0)),
-        ([0x06, 0, 1, 0, 0, 0, 0, 0], IsaFault::Unused(0)),
-        ([0x72, 0x1a, 0, 0, 0, 0, 0, 0], IsaFault::Unused(0)),
-        ([0x73, 0x1a, 0, 0, 1, 0, 0, 0], IsaFault::Unused(0)),
-        ([0xb7, 0xb0, 0, 0, 0, 0, 0, 0], IsaFault::Unused(0)),
-        ([0x95, 0, 0, 0, 1, 0, 0, 0], IsaFault::Unused(0)),
-        ([0x71, 0x10, 0, 0, 0, 0, 0, 1], IsaFault::Unused(0)),
-        // an offset that selects no quotient and no extension, a byte order of 8 bits
-        ([0x37, 0x01, 2, 0, 5, 0, 0, 0], IsaFault::Unused(0)),
-        ([0xbc, 0x21, 32, 0, 0, 0, 0, 0], IsaFault::Unused(0)),
-        ([0xb7, 0x01, 8, 0, 5, 0, 0, 0], IsaFault::Unused(0)),
-        ([0xd4, 0x01, 0, 0, 8, 0, 0, 0], IsaFault::Unused(0)),
-    ] {
-        assert_eq!(rt; decode(rt.alloc(), &slot).err(), Some(fault), "at {slot:?}");
-    }
+    are_refused(&rt, rt.alloc(), &REFUSED);
 }
 
 /// Jumps, stores, sign-extending loads and a 64-bit immediate, with their fields.
