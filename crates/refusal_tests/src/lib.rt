@@ -1,6 +1,5 @@
-//! Tests of what calls leave where memory runs out. By `rt try --test --fail-alloc 1..` each is run
-//! once for every request for memory, which is refused then; each call that was refused is made
-//! again.
+//! Tests of what calls leave where memory runs out. By `rt try --test --fail-alloc N` the request
+//! for memory with this number is refused; each call that was refused is made again.
 #![tactic(auto)]
 
 #[cfg(test)]
