@@ -1,7 +1,6 @@
-//! Measures how fast threads append to logs and find programs. Given how many turns to take, it
-//! fills logs of several sizes by one, two and four producers and prints what an append took in the
-//! best turn;
-//! given nothing, it prints nothing.
+//! Measures how fast threads append to logs. Given how many turns to take, it fills logs of several
+//! sizes by one, two and four producers and prints what an append took in the best turn; given
+//! nothing, it prints nothing.
 #![tactic(auto)]
 
 ghost use Rattle.std.specs.Prelude.{◌≡◌, ◌≤◌};
