@@ -16,6 +16,9 @@ import subprocess
 import sys
 
 U64 = 1 << 64
+
+# Each helper's number: whether it takes an output in r1, and the greatest number that it answers.
+HELPERS = {3: (True, 3), 6: (True, 3), 7: (False, (1 << 62) - 1), 8: (False, (1 << 62) - 1), 9: (False, 63)}
 TOP = (0, U64 - 1)
 
 
@@ -264,11 +267,11 @@ def shape_fault(code, k):
 def state_fault(i, s):
     if i[0] in ("mov", "alu", "change", "wide") and i[1] == 10 or i[0] == "load" and i[2] == 10:
         return "V6 Frame"
-    if i[0] == "call" and i[1] != 3:
+    if i[0] == "call" and i[1] not in HELPERS:
         return "V11 Helper"
     read = {"mov": lambda: [i[2]], "alu": lambda: [("reg", i[1]), i[2]], "change": lambda: [("reg", i[2])], "load": lambda: [("reg", i[3])],
             "store": lambda: [("reg", i[2]), i[3]], "ja": lambda: [], "wide": lambda: [],
-            "jump": lambda: [("reg", i[2]), i[3]], "call": lambda: [("reg", 1)], "exit": lambda: [("reg", 0)]}[i[0]]()
+            "jump": lambda: [("reg", i[2]), i[3]], "call": lambda: [("reg", 1)] if HELPERS[i[1]][0] else [], "exit": lambda: [("reg", 0)]}[i[0]]()
     if any(source_kind(s, r) is None for r in read):
         return "V4 Unset"
     if i[0] == "mov" and i[3] == 32 and source_kind(s, i[2])[0] == "addr" or i[0] == "change" and s.regs[i[2]][0] == "addr":
@@ -290,7 +293,7 @@ def state_fault(i, s):
             return "V8 StackBounds" if region == "stack" else "V7 RecordBounds"
         if region == "stack" and i[0] == "load" and not s.set >= set(range(lo + i[4], hi + i[4] + i[1])):
             return "V9 StackUnset"
-    if i[0] == "call" and s.regs[1][0] == "addr":
+    if i[0] == "call" and HELPERS[i[1]][0] and s.regs[1][0] == "addr":
         return "V12 HelperArg"
     if i[0] == "exit" and s.regs[0][0] == "addr":
         return "V13 Exit"
@@ -362,7 +365,7 @@ def edges(code, k, s):
     elif i[0] == "wide":
         t.regs[i[1]] = ("num", i[2], i[2])
     elif i[0] == "call":
-        t.regs[0] = ("num", 0, 3)
+        t.regs[0] = ("num", 0, HELPERS[i[1]][1])
         t.regs[1:6] = [None] * 5
     return [(k + 1, t)]
 
@@ -446,8 +449,8 @@ def changed(change, a):
     return signed(a % (1 << change[2]), change[2]) % (1 << change[1])
 
 
-def run(code, record, outputs):
-    """The emissions of a record that is kept, or its reject code."""
+def run(code, record, outputs, place):
+    """The emissions of a record that is kept, or its reject code. The place is its offset, timestamp and input."""
     stack = [None] * 512
     bytes_of = {"key": record.key or b"", "value": record.value or b"", "stack": stack}
     regs = [None] * 11
@@ -482,7 +485,7 @@ def run(code, record, outputs):
             region, at = regs[i[3]]
             at += i[4]
             assert 0 <= at and at + i[1] <= len(bytes_of[region]), "trap: bounds"
-            assert None not in bytes_of[region][at:at + i[1]], "trap: unset byte"
+            assert None not in list(bytes_of[region][at:at + i[1]]), "trap: unset byte"
             regs[i[2]] = int.from_bytes(bytes(bytes_of[region][at:at + i[1]]), "little", signed=i[5]) % U64
         elif i[0] == "store":
             (region, at), a = regs[i[2]], word(i[3])
@@ -497,12 +500,14 @@ def run(code, record, outputs):
             assert isinstance(regs[i[2]], int) and isinstance(word(i[3]), int), "trap: type"
             if holds(i[5], i[1], regs[i[2]], word(i[3])):
                 pc = code.target(pc - 1, i[4])
+        elif i[1] in (7, 8, 9):
+            regs[0], regs[1:6] = place[i[1] - 7], [None] * 5
         else:
             out = regs[1]
             assert isinstance(out, int), "trap: argument"
             answer = 1 if out >= outputs else 2 if len(record.key or b"") > 4096 else 3 if len(emitted) >= 16 else 0
             if answer == 0:
-                emitted.append(out)
+                emitted.append((out, record.value, record.headers) if i[1] == 3 else (out, None, []))
             regs[0], regs[1:6] = answer, [None] * 5
 
 
@@ -687,17 +692,23 @@ def name_ok(name):
     return re.match(r"[A-Za-z0-9-]{1,32}\Z", name, re.A) is not None
 
 
+class Log:
+    """The items of an input partition, and how many records they have."""
+
+    def __init__(self):
+        self.items, self.base, self.closed = [], 0, False
+
+
 class Broker:
     def __init__(self, faults):
         self.out, self.faults = [], faults
-        self.cells, self.log, self.loaded, self.begun = 0, [], {}, False
-        self.base, self.rows, self.done = 0, [], 0
+        self.cells, self.logs, self.outputs, self.loaded = 0, None, 0, {}
 
     def line(self, text):
         if not text or text.startswith("#"):
             return
         words = text.split(" ")
-        counts = {"partitions": 4, "load": 3, "deploy": 3, "put": 5, "append": 3, "go": 1}
+        counts = {"partitions": 4, "load": 3, "deploy": 3, "put": 5, "append": 3, "close": 2, "go": 1}
         if "" in words or counts.get(words[0]) != len(words):
             raise Refused("S1 Syntax")
         getattr(self, words[0])(*words[1:])
@@ -706,15 +717,18 @@ class Broker:
         if not fine:
             raise Refused("S2 Order")
 
+    def begun(self):
+        return self.logs is not None
+
     def partitions(self, inputs, outputs, cells):
         inputs, outputs, cells = number(inputs), number(outputs), number(cells)
-        self.order(not self.begun)
-        if inputs != 1 or outputs != 1 or not 1 <= cells <= 65536:
+        self.order(not self.begun())
+        if not 1 <= inputs <= 64 or not 1 <= outputs <= 64 or not 1 <= cells <= 65536:
             raise Refused("S3 Range")
-        self.begun, self.cells = True, cells
+        self.logs, self.outputs, self.cells = [Log() for _ in range(inputs)], outputs, cells
 
     def load(self, name, file):
-        self.order(self.begun)
+        self.order(self.begun())
         image = source_bytes(file)
         if not name_ok(name):
             raise Refused("C1 Name")
@@ -728,65 +742,83 @@ class Broker:
         self.out.append("load %s version %d" % (name, len(self.loaded[name])))
 
     def known(self, number):
-        if number != 0:
+        if number >= len(self.logs):
             raise Refused("P1 Partition")
+
+    def add(self, i, item):
+        """Where the item stands: its index, and how many records are before it."""
+        log = self.logs[i]
+        if log.closed:
+            raise Refused("L2 Closed")
+        if len(log.items) >= self.cells:
+            raise Refused("L1 Full")
+        log.items.append(item)
+        return len(log.items) - 1, log.base
 
     def deploy(self, i, name):
         i = number(i)
-        self.order(self.begun and name in self.loaded)
+        self.order(self.begun() and name in self.loaded)
         self.known(i)
-        self.full()
-        self.log.append(("mark", self.loaded[name][-1]))
-        self.out.append("deploy 0 index %d %s version %d" % (len(self.log) - 1, name, len(self.loaded[name])))
+        index, _ = self.add(i, ("mark", self.loaded[name][-1]))
+        self.out.append("deploy %d index %d %s version %d" % (i, index, name, len(self.loaded[name])))
 
-    def full(self):
-        if len(self.log) >= self.cells:
-            raise Refused("L1 Full")
-
-    def batch(self, base, records):
-        self.full()
-        self.log.append(("batch", base, records, self.base))
-        self.out.append("append 0 index %d base %d" % (len(self.log) - 1, self.base))
-        self.base += len(records)
+    def batch(self, i, base, records):
+        index, offset = self.add(i, ("batch", base, records, self.logs[i].base))
+        self.out.append("append %d index %d base %d" % (i, index, offset))
+        self.logs[i].base += len(records)
 
     def put(self, i, time, key, value):
         i, time, key, value = number(i), number(time), part(key), part(value)
-        self.order(self.begun)
+        self.order(self.begun())
         if time >= 1 << 62 or len(key or b"") > 4096 or len(value or b"") > 65536:
             raise Refused("S3 Range")
         self.known(i)
-        self.batch(time, [Record(0, key, value, [])])
+        self.batch(i, time, [Record(0, key, value, [])])
 
     def append(self, i, file):
         i = number(i)
-        self.order(self.begun)
+        self.order(self.begun())
         data = source_bytes(file)
         self.known(i)
         while data:
             base, records, used = read_batch(data)
-            self.batch(base, records)
+            self.batch(i, base, records)
             data = data[used:]
 
-    def go(self):
-        self.order(self.begun)
-        program = None
-        rows = []
-        for item in self.log:
+    def close(self, i):
+        i = number(i)
+        self.order(self.begun())
+        self.known(i)
+        index, _ = self.add(i, ("end",))
+        self.logs[i].closed = True
+        self.out.append("close %d index %d" % (i, index))
+
+    def rows(self, i):
+        """The rows that an input partition gives, each with its output."""
+        program, rows = None, []
+        for item in self.logs[i].items:
             if item[0] == "mark":
                 program = item[1]
+            if item[0] != "batch" or program is None:
                 continue
             _, base, records, offset = item
             for k, record in enumerate(records):
-                if program is None:
-                    continue
-                end = run(program, record, 1)
+                end = run(program, record, self.outputs, (offset + k, base + record.delta, i))
                 if isinstance(end, int):
                     self.faults["rejected"] += 1
                     continue
-                for n, _out in enumerate(end):
-                    rows.append("row 0 0 %d %d %d %s %s %d" % (
-                        offset + k, n, base + record.delta, shown(record.key), shown(record.value), len(record.headers)))
-        self.out += rows
+                for n, (out, value, headers) in enumerate(end):
+                    rows.append((out, "row %d %d %d %d %d %s %s %d" % (
+                        out, i, offset + k, n, base + record.delta, shown(record.key), shown(value), len(headers))))
+        return rows
+
+    def go(self):
+        self.order(self.begun())
+        rows = [self.rows(i) for i in range(len(self.logs))]
+        for out in range(self.outputs):
+            for given in rows:
+                self.out += [row for place, row in given if place == out]
+        self.faults["rows"] += sum(map(len, rows))
 
 
 def shown(part):
@@ -850,9 +882,9 @@ def some_slot(rng, left):
         klass, code, by_register = rng.choice([5, 5, 5, 6]), rng.choice([1, 2, 3, 5, 10, 11] * 3 + list(TESTS)), rng.random() < 0.15
         fields = (code << 4 | 8 * by_register | klass, rng.choice([2, 2, 2, 4, 5, r()]), r() if by_register else 0, jump(), 0 if by_register else small())
     elif kind < 0.95:
-        return struct.pack("<BBhi", 0xB7, 1, 0, rng.choice([0, 0, 0, 1, 9])) + struct.pack("<BBhi", 0x85, 0, 0, rng.choice([3, 3, 3, 3, 3, 4, 99]))
+        return struct.pack("<BBhi", 0xB7, 1, 0, rng.choice([0, 0, 0, 1, 2, 9])) + struct.pack("<BBhi", 0x85, 0, 0, rng.choice([3, 3, 3, 6, 6, 7, 8, 9, 99]))
     elif kind < 0.97:
-        fields = (0x85, 0, 0, 0, rng.choice([3, 3, 0, 1, -1]))
+        fields = (0x85, 0, 0, 0, rng.choice([3, 6, 7, 8, 9, 0, 10, -1]))
     else:
         fields = (0x95, 0, 0, 0, 0)
     opcode, dst, src, offset, imm = fields
@@ -920,31 +952,41 @@ def some_batch(rng):
     return data
 
 
-def some_line(rng, names):
+def some_line(rng, names, inputs):
     kind = rng.random()
     name = rng.choice(names)
+    known = [str(i) for i in range(inputs)]
+    given = rng.choice(known) if rng.random() < 0.97 else rng.choice([str(inputs), "64", "1180591620717411303424", "00", "-1", "x"])
     if kind < 0.3:
         return "load %s hex:%s" % (name, (some_image(rng) if rng.random() < 0.15 else accepted_image(rng)).hex())
     if kind < 0.5:
-        return "deploy %s %s" % (rng.choice(["0"] * 100 + ["1", "64", "1180591620717411303424", "00", "-1"]), name)
+        return "deploy %s %s" % (given, name)
     if kind < 0.75:
         time = rng.choice(["0", "1000", str((1 << 62) - 1)] * 40 + [str(1 << 62), str(1 << 70), "01", "+1"])
-        return "put %s %s %s %s" % (rng.choice(["0"] * 100 + ["1", "x"]), time, word_of(some_bytes(rng)), word_of(some_bytes(rng)))
+        return "put %s %s %s %s" % (given, time, word_of(some_bytes(rng)), word_of(some_bytes(rng)))
     if kind < 0.88:
         data = b"".join(some_batch(rng) for _ in range(rng.choice([0, 1, 1, 1, 2])))
-        return "append %s hex:%s" % (rng.choice(["0"] * 100 + ["1", "x"]), data.hex())
+        return "append %s hex:%s" % (given, data.hex())
+    if kind < 0.9:
+        return "close %s" % given
     if kind < 0.985:
         return "go"
     return rng.choice(["", "#x", "frob", "go ", " go", "go  x", "partitions 1 1 8", "load a", "load a.b hex:", "load a nothing", "load %s hex:" % ("n" * 33),
                        "put 0 0 6 .", "put 0 0 6K .", "put 0 0 .. .", "deploy 0", "append 0 nothing", "load q hex:00FF", "go\r", "go\t"])
 
 
+# the image of a program that emits each record to output 0
+FORWARD = "b70100000000000085000000030000009500000000000000"
+
+
 def some_script(rng):
     cells = rng.choice(["64", "64", "64", "8", "1", "3"] * 8 + ["0", "65537", "08", "65536"])
-    head = rng.choice(["partitions 1 1 %s" % cells] * 60 + ["partitions 1 2 8", "partitions 2 1 8", "go", "# c\npartitions 1 1 8", "partitions 0 1 8"])
+    inputs, outputs = rng.choice([(1, 1), (1, 2), (2, 1), (2, 3), (3, 2), (5, 5)])
+    head = rng.choice(["partitions %d %d %s" % (inputs, outputs, cells)] * 60 + ["partitions 64 64 8", "partitions 65 1 8", "partitions 1 65 8", "go",
+                      "# c\npartitions 1 1 8", "partitions 0 1 8"])
     names = ["a"] if rng.random() < 0.7 else ["a", "b-1", "Long-name-of-thirty-two-letters1"]
-    good = "load a hex:b70100000000000085000000030000009500000000000000\ndeploy 0 a\n" if rng.random() < 0.5 else ""
-    lines = [some_line(rng, names) for _ in range(rng.choice([1, 2, 3, 5, 8, 12]))]
+    good = "load a hex:%s\ndeploy %d a\n" % (accepted_image(rng).hex() if rng.random() < 0.7 else FORWARD, rng.randrange(inputs)) if rng.random() < 0.8 else ""
+    lines = [some_line(rng, names, inputs) for _ in range(rng.choice([1, 2, 3, 5, 8, 12, 20]))]
     return head + "\n" + good + "\n".join(lines) + rng.choice(["", "\n", "\ngo", "\ngo\n"])
 
 

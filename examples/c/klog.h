@@ -1,4 +1,4 @@
-/* What a transform of klog has: its entry's arguments and the helper.
+/* What a transform of klog has: its entry's arguments and the helpers.
  *
  * A transform is one function. A stock clang makes its image so:
  *     clang -target bpf -O2 -mcpu=v3 -c NAME.c -o NAME.o
@@ -20,5 +20,14 @@ typedef unsigned long long u64;
 /* Emits the record as it is to an output partition. The result is 0, or why nothing was emitted: 1, there is no such
  * output; 2, the key is too long; 3, sixteen emissions were made before. */
 static u64 (*const emit_record)(u64 output) = (void *)3;
+
+/* Emits the record's key with a null value and no headers, as a deletion. The result is that of emit_record. */
+static u64 (*const emit_null)(u64 output) = (void *)6;
+
+/* Where the record stands: its offset in its input partition, its timestamp in milliseconds, both below 2^62, and
+ * its input partition, below 64. */
+static u64 (*const record_offset)(void) = (void *)7;
+static u64 (*const record_timestamp)(void) = (void *)8;
+static u64 (*const record_partition)(void) = (void *)9;
 
 u64 transform(const u8 *value, u64 value_length, const u8 *key, u64 key_length, u64 nulls);

@@ -1,56 +1,20 @@
 ghost use Rattle.std.specs.Prelude.{◌≡◌, ◌+◌, pos, neg_ℤ, ◌+ℤ◌, ◌&&◌, int_le, unsigned_abs};
-ghost use Rattle.std.specs.List.{list_any};
+ghost use Rattle.std.specs.List.{list_any, flat_map};
 ghost use Rattle.machine_spec.specs.Arithmetic.{signed};
-ghost use Rattle.machine_spec.specs.Values.{moves_address, is_subtraction, byte_count};
-ghost use Rattle.machine_spec.specs.Machine.{helper_of};
-ghost use Rattle.machine_spec.specs.Traps.{writes_frame, calls_no_helper, source_registers, operand_registers, base_registers, condition_registers, call_registers, helper_registers, is_read, is_stack};
+ghost use Rattle.machine_spec.specs.Traps.{source_registers, operand_registers, base_registers, condition_registers, argument_registers, arguments_of};
 ghost use Rattle.verifier_spec.specs.Kinds.{kind_at, is_unknown, furthest};
-ghost use Rattle.verifier_spec.specs.Checks.{reads_unknown, is_one_sign, least_displacement, greatest_displacement, can_move, can_compute_kinds, has_wrong_kinds, has_wrong_base_kind, has_wrong_condition_kind, reach_at, reach_of, may_write_record, may_leave_record, may_leave_stack, may_read_unset, has_wrong_argument_kind, may_call_wrongly, may_exit_wrongly, failed_check};
+ghost use Rattle.verifier_spec.specs.Checks.{reads_unknown, is_one_sign, least_displacement, greatest_displacement, can_move, can_compute_kinds, has_wrong_kinds, has_wrong_base_kind, has_wrong_condition_kind, reach_at, reach_of, may_write_record, may_leave_record, may_leave_stack, may_read_unset, is_wrong_argument_kind, may_exit_wrongly, failed_check};
 
 use machine_spec::{
-    Condition, Direction, Helper, Instruction, MemoryOperand, Operands, Operation, Region,
-    STACK_SIZE, Size, Source, Summary, Width,
+    Argument, Condition, Helper, Instruction, MemoryOperand, Operands, Operation, STACK_SIZE,
+    Source, Summary, Width,
 };
 use stack_bytes::contains_all;
 use state_order::kinds;
 use verifier_spec::{Abs, Abstract, Check, Interval};
 
-/// The register that is never written, the stack's end.
-const FRAME: u8 = 10;
-
 /// The first number that is negative where it is read as signed: 2^63.
 const FIRST_NEGATIVE: u64 = 9_223_372_036_854_775_808;
-
-// ---- registers that are written, helpers that there are
-
-fn writes_frame(register: Option<u8>) -> bool
-    ensures { result ≡ writes_frame register }
-{
-    match register {
-        Some(r) => r == FRAME,
-        None => false,
-    }
-}
-
-/// The helper with a number.
-pub fn helper_of(number: i32) -> Option<Helper>
-    ensures { result ≡ helper_of number }
-{
-    if number == 3 {
-        Some(Helper::EmitRecord)
-    } else {
-        None
-    }
-}
-
-fn calls_no_helper(call: Option<i32>) -> bool
-    ensures { result ≡ calls_no_helper call }
-{
-    match call {
-        Some(number) => helper_of(number).is_none(),
-        None => false,
-    }
-}
 
 // ---- registers that are read
 
@@ -66,15 +30,6 @@ fn is_unknown_source(state: &Abstract, source: Source) -> bool
     match source {
         Source::Register(register) => is_unknown_at(state, register),
         Source::Immediate(_) => false,
-    }
-}
-
-fn has_unknown_argument(state: &Abstract, helper: Option<Helper>) -> bool
-    ensures { result ≡ list_any (λ r. is_unknown (kind_at state.now r)) (helper_registers helper) }
-{
-    match helper {
-        Some(Helper::EmitRecord) => is_unknown_at(state, 1),
-        None => false,
     }
 }
 
@@ -109,11 +64,32 @@ fn is_unknown_in_condition(state: &Abstract, condition: Option<Condition>) -> bo
     }
 }
 
-fn is_unknown_in_call(state: &Abstract, call: Option<i32>) -> bool
-    ensures { result ≡ list_any (λ r. is_unknown (kind_at state.now r)) (call_registers call) }
+fn is_unknown_argument(state: &Abstract, argument: Argument) -> bool
+    ensures { result ≡ list_any (λ r. is_unknown (kind_at state.now r)) (argument_registers argument) }
 {
-    match call {
-        Some(number) => has_unknown_argument(state, helper_of(number)),
+    match argument {
+        Argument::Nothing => false,
+        Argument::Number(register) => is_unknown_at(state, register),
+    }
+}
+
+fn is_one_unknown(state: &Abstract, arguments: &[Argument]) -> bool
+    ensures { result ≡ list_any (λ a. list_any (λ r. is_unknown (kind_at state.now r)) (argument_registers a)) arguments.now }
+{
+    for argument in arguments {
+        if is_unknown_argument(state, *argument) {
+            return true;
+        }
+    }
+    false
+}
+
+#[tactic(auto, using(crate::proofs::ReadParts::reads_each))]
+fn is_unknown_in_call(state: &Abstract, helper: Option<Helper>) -> bool
+    ensures { result ≡ list_any (λ r. is_unknown (kind_at state.now r)) (flat_map argument_registers (arguments_of helper)) }
+{
+    match helper {
+        Some(helper) => is_one_unknown(state, &helper.signature().arguments),
         None => false,
     }
 }
@@ -125,7 +101,7 @@ fn reads_unknown(summary: Summary, state: &Abstract) -> bool
     is_unknown_operand(state, summary.takes)
         || is_unknown_base(state, summary.memory)
         || is_unknown_in_condition(state, summary.condition)
-        || is_unknown_in_call(state, summary.call)
+        || is_unknown_in_call(state, summary.helper())
         || (summary.exits && is_unknown_at(state, 0))
 }
 
@@ -135,49 +111,6 @@ fn is_one_sign(range: Interval) -> bool
     ensures { result ≡ is_one_sign range }
 {
     range.high < FIRST_NEGATIVE || FIRST_NEGATIVE <= range.low
-}
-
-fn is_subtraction(operation: Operation) -> bool
-    ensures { result ≡ is_subtraction operation }
-{
-    match operation {
-        Operation::Sub => true,
-        Operation::Add
-        | Operation::Mul
-        | Operation::Div
-        | Operation::SignedDiv
-        | Operation::Or
-        | Operation::And
-        | Operation::LeftShift
-        | Operation::RightShift
-        | Operation::Mod
-        | Operation::SignedMod
-        | Operation::Xor
-        | Operation::ArithmeticRightShift => false,
-    }
-}
-
-/// Whether an operation moves an address by a number.
-fn moves_address(width: Width, operation: Operation) -> bool
-    ensures { result ≡ moves_address width operation }
-{
-    match width {
-        Width::Bits32 => false,
-        Width::Bits64 => match operation {
-            Operation::Add | Operation::Sub => true,
-            Operation::Mul
-            | Operation::Div
-            | Operation::SignedDiv
-            | Operation::Or
-            | Operation::And
-            | Operation::LeftShift
-            | Operation::RightShift
-            | Operation::Mod
-            | Operation::SignedMod
-            | Operation::Xor
-            | Operation::ArithmeticRightShift => false,
-        },
-    }
 }
 
 /// A number read as signed, in as many bits as its negative needs.
@@ -197,7 +130,7 @@ fn negative(number: u64) -> i128
 pub fn least_displacement(operation: Operation, range: Interval) -> i128
     ensures { result ≡ least_displacement operation range }
 {
-    if is_subtraction(operation) {
+    if operation.is_subtraction() {
         negative(range.high)
     } else {
         signed(range.low)
@@ -208,7 +141,7 @@ pub fn least_displacement(operation: Operation, range: Interval) -> i128
 pub fn greatest_displacement(operation: Operation, range: Interval) -> i128
     ensures { result ≡ greatest_displacement operation range }
 {
-    if is_subtraction(operation) {
+    if operation.is_subtraction() {
         negative(range.low)
     } else {
         signed(range.high)
@@ -249,7 +182,7 @@ fn can_compute(state: &Abstract, width: Width, operation: Operation, to: Abs, by
         Abs::Num(_, _) => kinds::is_number(by),
         Abs::Len(_) => kinds::is_number(by),
         Abs::Addr(_, low, high) => {
-            moves_address(width, operation)
+            operation.moves_address(width)
                 && can_move(operation, low, high, kinds::range_of(state, by))
         }
     }
@@ -297,36 +230,6 @@ fn has_wrong_condition_kind(condition: Option<Condition>, state: &Abstract) -> b
 
 // ---- bytes that may be read or written
 
-pub fn byte_count(size: Size) -> u8
-    ensures { result ≡ byte_count size }
-{
-    match size {
-        Size::Byte => 1,
-        Size::Half => 2,
-        Size::Word => 4,
-        Size::Double => 8,
-    }
-}
-
-pub fn is_stack(region: Region) -> bool
-    ensures { result ≡ is_stack region }
-{
-    match region {
-        Region::Stack => true,
-        Region::Key => false,
-        Region::Value => false,
-    }
-}
-
-fn is_read(direction: Direction) -> bool
-    ensures { result ≡ is_read direction }
-{
-    match direction {
-        Direction::Read => true,
-        Direction::Write => false,
-    }
-}
-
 pub fn first_byte(low: i64, offset: i16) -> i128
     ensures { result ≡ low +ℤ offset }
 {
@@ -351,7 +254,7 @@ fn access_writes_record(m: MemoryOperand, base: Abs) -> bool
     ensures { result ≡ may_write_record (reach_at m.direction base m.offset m.size) }
 {
     match base {
-        Abs::Addr(region, _, _) => !is_read(m.direction) && !is_stack(region),
+        Abs::Addr(region, _, _) => !m.direction.is_read() && !region.is_stack(),
         Abs::None => false,
         Abs::Num(_, _) => false,
         Abs::Len(_) => false,
@@ -373,7 +276,7 @@ fn access_leaves_record(state: &Abstract, m: MemoryOperand, base: Abs) -> bool
     match base {
         Abs::Addr(region, low, high) => {
             let length = kinds::least(state, region);
-            !is_stack(region) && !is_reach_within(low, high, m.offset, byte_count(m.size), length)
+            !region.is_stack() && !is_reach_within(low, high, m.offset, m.size.byte_count(), length)
         }
         Abs::None => false,
         Abs::Num(_, _) => false,
@@ -395,8 +298,8 @@ fn access_leaves_stack(m: MemoryOperand, base: Abs) -> bool
 {
     match base {
         Abs::Addr(region, low, high) => {
-            is_stack(region)
-                && !is_reach_within(low, high, m.offset, byte_count(m.size), STACK_SIZE as u32)
+            region.is_stack()
+                && !is_reach_within(low, high, m.offset, m.size.byte_count(), STACK_SIZE as u32)
         }
         Abs::None => false,
         Abs::Num(_, _) => false,
@@ -431,9 +334,9 @@ fn access_reads_unset(state: &Abstract, m: MemoryOperand, base: Abs) -> bool
 {
     match base {
         Abs::Addr(region, low, high) => {
-            if is_read(m.direction) && is_stack(region) {
+            if m.direction.is_read() && region.is_stack() {
                 let first = first_place(low, m.offset);
-                let count = reach_length(low, high, m.offset, byte_count(m.size));
+                let count = reach_length(low, high, m.offset, m.size.byte_count());
                 !contains_all(&state.set, first, count)
             } else {
                 false
@@ -456,20 +359,31 @@ fn may_read_unset(memory: Option<MemoryOperand>, state: &Abstract) -> bool
 
 // ---- calls and the exit
 
-fn has_wrong_argument(helper: Option<Helper>, state: &Abstract) -> bool
-    ensures { result ≡ has_wrong_argument_kind helper state.now }
+fn is_wrong_argument(state: &Abstract, argument: Argument) -> bool
+    ensures { result ≡ is_wrong_argument_kind state.now argument }
 {
-    match helper {
-        Some(Helper::EmitRecord) => !kinds::is_number(kinds::kind_at(state, 1)),
-        None => false,
+    match argument {
+        Argument::Nothing => false,
+        Argument::Number(register) => !kinds::is_number(kinds::kind_at(state, register)),
     }
 }
 
-fn may_call_wrongly(call: Option<i32>, state: &Abstract) -> bool
-    ensures { result ≡ may_call_wrongly call state.now }
+fn has_wrong_argument(state: &Abstract, arguments: &[Argument]) -> bool
+    ensures { result ≡ list_any (is_wrong_argument_kind state.now) arguments.now }
 {
-    match call {
-        Some(number) => has_wrong_argument(helper_of(number), state),
+    for argument in arguments {
+        if is_wrong_argument(state, *argument) {
+            return true;
+        }
+    }
+    false
+}
+
+fn may_call_wrongly(state: &Abstract, helper: Option<Helper>) -> bool
+    ensures { result ≡ list_any (is_wrong_argument_kind state.now) (arguments_of helper) }
+{
+    match helper {
+        Some(helper) => has_wrong_argument(state, &helper.signature().arguments),
         None => false,
     }
 }
@@ -488,9 +402,9 @@ pub fn failed_check(instruction: Instruction, state: &Abstract) -> Option<Check>
     ensures { result ≡ failed_check instruction state.now }
 {
     let summary = Summary::of(instruction);
-    if writes_frame(summary.writes) {
+    if summary.writes_frame() {
         Some(Check::Frame)
-    } else if calls_no_helper(summary.call) {
+    } else if summary.calls_no_helper() {
         Some(Check::Helper)
     } else if reads_unknown(summary, state) {
         Some(Check::Unset)
@@ -508,7 +422,7 @@ pub fn failed_check(instruction: Instruction, state: &Abstract) -> Option<Check>
         Some(Check::StackBounds)
     } else if may_read_unset(summary.memory, state) {
         Some(Check::StackUnset)
-    } else if may_call_wrongly(summary.call, state) {
+    } else if may_call_wrongly(state, summary.helper()) {
         Some(Check::HelperArg)
     } else if may_exit_wrongly(summary.exits, state) {
         Some(Check::Exit)

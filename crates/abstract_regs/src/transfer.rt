@@ -209,12 +209,8 @@ fn with_stored(set: &StackSet, base: Abs, offset: i16, size: Size) -> StackSet
 {
     match base {
         Abs::Addr(region, low, high) => {
-            if checks::is_stack(region) && is_one_place(low, high, offset) {
-                with_places(
-                    set,
-                    checks::first_place(low, offset),
-                    checks::byte_count(size),
-                )
+            if region.is_stack() && is_one_place(low, high, offset) {
+                with_places(set, checks::first_place(low, offset), size.byte_count())
             } else {
                 *set
             }
@@ -343,9 +339,7 @@ fn answer_kind(helper: Helper) -> Abs
     ensures kind { result ≡ answer_kind helper }
     ensures proper { is_proper_kind result ≡ true }
 {
-    match helper {
-        Helper::EmitRecord => Abs::Num(0, 3),
-    }
+    Abs::Num(0, helper.signature().greatest)
 }
 
 #[tactic(auto, using(crate::proofs::Calls::after_call_eleven))]
@@ -440,7 +434,7 @@ pub fn falls_to(instruction: Instruction, state: &Abstract) -> Option<Abstract>
         }
         Instruction::Jump(_) => None,
         Instruction::Wide(dst, number) => Some(with_kind(state, dst, Abs::Num(number, number))),
-        Instruction::Call(number) => match checks::helper_of(number) {
+        Instruction::Call(number) => match Helper::with_number(number) {
             Some(helper) => Some(called(state, helper)),
             None => None,
         },

@@ -2,37 +2,16 @@
 //! are run; with none the program does nothing.
 #![tactic(auto)]
 
-use abstract_regs::State;
-use bpf_isa::decode;
+mod kinds;
+
+use crate::kinds::{ARITHMETIC, Kind, OTHERS, PLAIN};
 use bytes::Bytes;
 use exec::{Headers, Outcome, Place, Record, is_place, is_within_limits, run};
-use machine_spec::Region;
-use notes::{Verified, check};
+use notes::Verified;
 use std::alloc::Global;
 use std::rt::Clock;
 use std::time::Instant;
 use std::{env, io};
-use verifier_spec::{Abs, StackSet};
-
-// mov64 r0, 0
-const ZERO: [u8; 8] = [0xb7, 0, 0, 0, 0, 0, 0, 0];
-
-// jlt64 r2, 1, +1
-const OVER_ONE: [u8; 8] = [0xa5, 2, 1, 0, 1, 0, 0, 0];
-
-// jlt64 r2, 1, +4093
-const OVER_ALL: [u8; 8] = [0xa5, 2, 0xfd, 0x0f, 1, 0, 0, 0];
-
-// add64 r0, r2
-const ADD_LENGTH: [u8; 8] = [0x0f, 0x20, 0, 0, 0, 0, 0, 0];
-
-// ld8 r0, [r1+0]
-const FIRST_BYTE: [u8; 8] = [0x71, 0x10, 0, 0, 0, 0, 0, 0];
-
-// jeq64 r2, 70000, +0
-const NEVER: [u8; 8] = [0x15, 2, 0, 0, 0x70, 0x11, 1, 0];
-
-const EXIT: [u8; 8] = [0x95, 0, 0, 0, 0, 0, 0, 0];
 
 const VALUE: &[u8] = b"0123456789012345678901234567890123456789012345678901234567890123";
 
@@ -43,47 +22,20 @@ const PLACE: Place = Place {
     outputs: 1,
 };
 
-/// A state that knows that r0 is a number, r1, r2 and the value's least length.
-fn state(value_min: u32) -> Option<State> {
-    let mut registers = [Abs::None; 11];
-    registers[0] = Abs::Num(0, u64::MAX);
-    registers[1] = Abs::Addr(Region::Value, 0, 0);
-    registers[2] = Abs::Len(Region::Value);
-    let set = StackSet { words: [0; 8] };
-    State::new(registers, 0, 4096, value_min, 65_536, set)
-}
-
-/// The bytes of the program: r0 = 0, a jump, so many times one instruction, EXIT.
-fn image(alloc: Global, jump: &[u8], body: &[u8], times: usize) -> Option<Vec<u8>> {
-    let mut image = Vec::new(alloc);
-    image.extend_from_slice(&ZERO).ok()?;
-    image.extend_from_slice(jump).ok()?;
-    for _ in 0..times {
-        image.extend_from_slice(body).ok()?;
+/// The text of a program: its head, its body so many times, EXIT.
+fn text_of(alloc: Global, kind: &Kind) -> Option<String> {
+    let mut text = String::from_str(alloc, kind.head).ok()?;
+    for _ in 0..kind.times {
+        text.push_str(kind.body).ok()?;
     }
-    image.extend_from_slice(&EXIT).ok()?;
-    Some(image)
+    text.push_str("exit\n").ok()?;
+    Some(text)
 }
 
-/// A state for each of its instructions.
-fn states(alloc: Global, times: usize) -> Option<Vec<Option<State>>> {
-    let any = state(0)?;
-    let some = state(1)?;
-    let mut states = Vec::new(alloc);
-    states.push(Some(State::entry())).ok()?;
-    states.push(Some(any)).ok()?;
-    for _ in 0..times {
-        states.push(Some(some)).ok()?;
-    }
-    states.push(Some(any)).ok()?;
-    Some(states)
-}
-
-fn program(alloc: Global, jump: &[u8], body: &[u8], times: usize) -> Option<Verified> {
-    let image = image(alloc, jump, body, times)?;
-    let states = states(alloc, times)?;
-    let code = decode(alloc, &image).ok()?;
-    check(alloc, code, states).ok()
+fn program_of(alloc: Global, kind: &Kind) -> Option<Verified> {
+    let text = text_of(alloc, kind)?;
+    let image = bpf_asm::assemble(alloc, text.as_str()).ok()?;
+    annotate::load(alloc, &image).ok()
 }
 
 fn record(alloc: Global) -> Option<Record> {
@@ -184,32 +136,29 @@ fn time_program<R: Print + Clock>(
     Ok(())
 }
 
-/// Makes a program and times it.
-fn time_body<R: Print + Clock>(
+/// Makes the programs and times them.
+fn time_kinds<R: Print + Clock>(
     rt: &R,
     alloc: Global,
-    name: &str,
-    body: &[u8],
+    kinds: &[Kind],
     rounds: u32,
 ) -> io::Result<()> {
-    match program(alloc, &OVER_ALL, body, 4093) {
-        Some(program) => time_program(rt, alloc, name, &program, rounds),
-        None => Ok(()),
+    for kind in kinds {
+        match program_of(alloc, kind) {
+            Some(program) => {
+                let rounds = rounds.saturating_mul(kind.runs);
+                time_program(rt, alloc, kind.name, &program, rounds)?;
+            }
+            None => println!(rt; "{}: not a program", kind.name)?,
+        }
     }
-}
-
-fn time_short<R: Print + Clock>(rt: &R, alloc: Global, rounds: u32) -> io::Result<()> {
-    match program(alloc, &OVER_ONE, &FIRST_BYTE, 1) {
-        Some(program) => time_program(rt, alloc, "short", &program, rounds),
-        None => Ok(()),
-    }
+    Ok(())
 }
 
 fn time_all<R: Print + Clock>(rt: &R, alloc: Global, rounds: u32) -> io::Result<()> {
-    time_short(rt, alloc, rounds.saturating_mul(256))?;
-    time_body(rt, alloc, "sums", &ADD_LENGTH, rounds)?;
-    time_body(rt, alloc, "loads", &FIRST_BYTE, rounds)?;
-    time_body(rt, alloc, "jumps", &NEVER, rounds)
+    time_kinds(rt, alloc, &PLAIN, rounds)?;
+    time_kinds(rt, alloc, &ARITHMETIC, rounds)?;
+    time_kinds(rt, alloc, &OTHERS, rounds)
 }
 
 fn main(rt: HostRuntime) -> io::Result<()> {

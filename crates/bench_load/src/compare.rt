@@ -21,16 +21,16 @@ const WIDENINGS: u32 = 4;
 /// How many programs were accepted and refused, how many lists of wider states were checked, how
 /// often memory ran out, and how often the two differed.
 #[derive(Drop)]
-pub struct Tally {
-    pub accepted: u64,
-    pub refused: u64,
-    pub widened: u64,
-    pub out_of_memory: u64,
-    pub differ: u64,
+pub(crate) struct Tally {
+    pub(crate) accepted: u64,
+    pub(crate) refused: u64,
+    pub(crate) widened: u64,
+    pub(crate) out_of_memory: u64,
+    pub(crate) differ: u64,
 }
 
 impl Tally {
-    pub fn new() -> Tally {
+    pub(crate) fn new() -> Tally {
         Tally {
             accepted: 0,
             refused: 0,
@@ -219,7 +219,7 @@ fn compare_refused(
 }
 
 /// Makes a program and compares what the two answer.
-pub fn compare_one(alloc: Global, random: &mut Random, tally: &mut Tally) {
+pub(crate) fn compare_one(alloc: Global, random: &mut Random, tally: &mut Tally) {
     let Some(image) = random_image(alloc, random) else {
         count(&mut tally.out_of_memory);
         return;

@@ -94,7 +94,7 @@ fn instruction(random: &mut Random, left: u8) -> [u8; 8] {
 
 /// r0 = 0, r6 = r2, out where the value is shorter than some constant, 2 to 11 instructions of which
 /// about a third are branches, EXIT.
-pub fn random_image(alloc: Global, random: &mut Random) -> Option<Vec<u8>> {
+pub(crate) fn random_image(alloc: Global, random: &mut Random) -> Option<Vec<u8>> {
     let count = random.below(10) as u8 + 2;
     let mut image = Vec::new(alloc);
     image.extend_from_slice(&ZERO).ok()?;
@@ -113,7 +113,7 @@ pub fn random_image(alloc: Global, random: &mut Random) -> Option<Vec<u8>> {
 
 /// r0 = 0, so many times a jump over a move, 23 moves for each 500 branches, EXIT: 2,048 instructions
 /// with 1,000 branches, 4,096 with 2,000 (and two moves more).
-pub fn branching(alloc: Global, branches: u32) -> Option<Vec<u8>> {
+pub(crate) fn branching(alloc: Global, branches: u32) -> Option<Vec<u8>> {
     let mut image = Vec::new(alloc);
     image.extend_from_slice(&ZERO).ok()?;
     for branch in 0..branches {

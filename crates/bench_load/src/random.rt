@@ -2,12 +2,12 @@ ghost use Rattle.std.specs.Prelude.{◌<◌};
 
 /// Numbers that look random: a linear congruence modulo 2^64, of which the upper half is used.
 #[derive(Drop)]
-pub struct Random {
+pub(crate) struct Random {
     state: u64,
 }
 
 impl Random {
-    pub fn new(seed: u64) -> Random {
+    pub(crate) fn new(seed: u64) -> Random {
         Random { state: seed }
     }
 
@@ -20,7 +20,7 @@ impl Random {
     }
 
     /// A number below one.
-    pub fn below(&mut self, limit: u64) -> u64
+    pub(crate) fn below(&mut self, limit: u64) -> u64
         requires { 0 < limit }
         ensures { result < limit }
     {

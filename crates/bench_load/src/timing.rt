@@ -17,7 +17,7 @@ fn load_all(alloc: Global, image: &[u8], rounds: u32) -> usize {
 }
 
 /// How many nanoseconds the rounds take, and how many instructions the program has.
-pub fn nanos_of<R: Clock>(
+pub(crate) fn nanos_of<R: Clock>(
     rt: &R,
     alloc: Global,
     image: &[u8],

@@ -1,7 +1,10 @@
-//! Measures how fast threads append to logs. Given how many turns to take, it fills logs of several
-//! sizes by one, two and four producers and prints what an append took in the best turn; given
+//! Measures how fast threads append to logs and find programs. Given how many turns to take, it fills
+//! logs of several sizes by one, two and four producers and prints what an append took in the best
+//! turn, and then how many programs one and four readers find a second while a writer loads; given
 //! nothing, it prints nothing.
 #![tactic(auto)]
+
+mod finds;
 
 ghost use Rattle.std.specs.Prelude.{◌≡◌, ◌≤◌};
 ghost use Rattle.log_spec.specs.Logs.{FitsLog};
@@ -181,7 +184,8 @@ fn measure_all<R: Threads + Wait + Clock + Print + Sync>(
             measure(rt, alloc, 1, cells, producers, turns)?;
         }
     }
-    Ok(())
+    finds::measure(rt, alloc, 1, turns)?;
+    finds::measure(rt, alloc, 4, turns)
 }
 
 fn main(rt: HostRuntime) -> io::Result<()> {

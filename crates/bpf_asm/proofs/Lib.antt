@@ -2,3 +2,10 @@ pub mod Scanning
 pub mod Lines
 pub mod Registers
 pub mod Writings
+pub mod NumberTexts
+pub mod PlainTexts
+pub mod OperandTexts
+pub mod Ranges
+pub mod NamedForms
+pub mod LineTexts
+pub mod CodeTexts

@@ -1,5 +1,5 @@
 -- The image of lines, line after line.
-use Rattle.std.proofs.Common.{◌≡◌, ℕ, suc, ◌+◌, ◌-◌, ◌*◌, ◌<◌, ◌≤◌, Bool, true, false, List, [], ◌∷◌, ◌++◌, length, drop, take, Option, Some, None, Result, Ok, Err, refl, sym, ap, subst, ◌∙◌, arith, leb, ltb, cond, append_assoc}
+use Rattle.std.proofs.Common.{◌≡◌, ℕ, ◌+◌, ◌-◌, ◌<◌, ◌≤◌, Bool, true, false, List, [], ◌∷◌, ◌++◌, length, drop, take, Some, Result, Ok, Err, refl, sym, ap, subst, ◌∙◌, arith, leb, ltb, cond, append_assoc}
 use Rattle.std.proofs.lemmas.List.{drop-drop, length-append, length-drop, take_all, append-nil}
 use Rattle.std.proofs.lemmas.Bool.{ltb-true, ltb-false, le-leb, lt-leb}
 use Rattle.std.proofs.lemmas.List.Splits.{slice_split_first}
@@ -10,7 +10,7 @@ use Rattle.bpf_asm.specs.declared.fault.AsmFault.{AsmFault}
 use Rattle.bpf_asm.specs.Reading.{is_line_feed, read_line}
 use Rattle.bpf_asm.specs.declared.fault.AsmFault.TheVariants as asm
 use Rattle.bpf_asm.specs.Steps.{IsAdded, IsRefused}
-use Rattle.bpf_asm.specs.Images.{before_bytes, with_line, lines_image}
+use Rattle.bpf_asm.specs.Images.{before_bytes, lines_image}
 use Rattle.bpf_asm.proofs.Scanning.{split_whole}
 
 -- the lines from a place on, which is past the text's end after the last
@@ -88,7 +88,7 @@ twice : (old bytes : List ℕ) (r : Result (List ℕ) AsmFault) → before_bytes
 twice old bytes (Ok others) = ap Ok (sym (append_assoc old bytes others))
 twice old bytes (Err f) = refl
 
-abbrev if_fits : ℕ → ℕ → Instruction → (ℕ → Result (List ℕ) AsmFault) → Bool → Result (List ℕ) AsmFault
+abbrev pub if_fits : ℕ → ℕ → Instruction → (ℕ → Result (List ℕ) AsmFault) → Bool → Result (List ℕ) AsmFault
 if_fits number size i later fits = cond fits (before_bytes (spelling i) (later (size + length (spelling i)))) (Err (asm.Size number))
 
 pub added_fits : (number : ℕ) (i : Instruction) (old new : List ℕ) → new ≡ old ++ spelling i → length new ≤ 32768 → IsAdded number (Ok (Some i)) old new

@@ -1,5 +1,5 @@
 -- Walking over a text byte by byte.
-use Rattle.std.proofs.Common.{◌≡◌, ℕ, zero, suc, ◌+◌, ◌-◌, ◌*◌, ◌^◌, ◌<◌, ◌≤◌, Bool, true, false, cond, not, map, ◌&&◌, ◌==◌, leb, Option, Some, None, Err, List, [], ◌∷◌, ◌++◌, length, get_or, drop, take, min, refl, sym, ap, subst, ◌∙◌, arith, eqb, append_assoc}
+use Rattle.std.proofs.Common.{◌≡◌, ℕ, zero, suc, ◌+◌, ◌-◌, ◌*◌, ◌^◌, ◌<◌, ◌≤◌, Bool, true, false, cond, not, map, ◌==◌, leb, Some, None, Err, List, [], ◌∷◌, ◌++◌, length, get_or, drop, take, min, refl, sym, ap, subst, ◌∙◌, arith}
 use Rattle.std.proofs.Math.Seq.{drop-cons}
 use Rattle.std.proofs.Math.ListN.{drop_of_length-le}
 use Rattle.std.specs.Prelude.{reverse}
@@ -8,7 +8,7 @@ use Rattle.std.proofs.lemmas.List.{take_more, reverse-append, reverse-reverse, d
 use Rattle.std.proofs.lemmas.List.Splits.{slice_split_first}
 use Rattle.std.proofs.lemmas.Bool.{and_parts, and_from, leb-true, eq-eqb}
 use Rattle.std.proofs.lemmas.Str.{digit_value_digit}
-use Rattle.std.specs.Str.Parse.{digits_value_after, digits_value}
+use Rattle.std.specs.Str.Parse.{digits_value_after}
 use Rattle.std.specs.Char.{digit_value, is_ascii_digit}
 use Rattle.bpf_asm.specs.declared.fault.LineFault.TheVariants as fault
 use Rattle.bpf_asm.specs.Operands.{read_between, read_place}

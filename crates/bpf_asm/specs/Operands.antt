@@ -1,5 +1,5 @@
 -- Operands: registers, numbers, distances and the places of bytes in memory; what each reads as, or why it is refused.
-use Rattle.std.specs.Prelude.{ℕ, ◌+◌, ◌-◌, ◌^◌, ℤ, pos, neg_ℤ, unsigned_abs, Bool, not, ◌&&◌, ◌||◌, ◌==◌, nat_le, if◌then◌else◌, List, [], ◌∷◌, ◌++◌, length, take, drop, slice_index, Option, Some, None, Result, Ok, Err, decimal}
+use Rattle.std.specs.Prelude.{ℕ, ◌-◌, ◌^◌, ℤ, pos, neg_ℤ, unsigned_abs, Bool, ◌&&◌, ◌||◌, ◌==◌, nat_le, if◌then◌else◌, List, [], ◌∷◌, ◌++◌, length, take, drop, slice_index, Option, Some, None, Result, Ok, Err, decimal}
 use Rattle.std.specs.List.{position_or_len}
 use Rattle.std.specs.Fmt.{signed_decimal}
 use Rattle.machine_spec.specs.declared.instruction.Source.{Source}

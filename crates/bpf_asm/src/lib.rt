@@ -7,6 +7,7 @@
 mod assembling;
 mod disassembling;
 mod fault;
+mod laws;
 mod line;
 mod number;
 mod operand;
@@ -16,3 +17,4 @@ mod word;
 pub use assembling::assemble;
 pub use disassembling::disassemble;
 pub use fault::AsmFault;
+pub use laws::text_and_image;

@@ -12,8 +12,7 @@ use Rattle.machine_spec.specs.declared.instruction.Region.{Region}
 use Rattle.machine_spec.specs.declared.instruction.Size.{Size}
 use Rattle.machine_spec.specs.declared.instruction.Extension.{Extension}
 use Rattle.machine_spec.specs.declared.instruction.Extension.TheVariants as extension
-use Rattle.machine_spec.specs.declared.instruction.Helper.{Helper}
-use Rattle.machine_spec.specs.declared.instruction.Helper.TheVariants.{EmitRecord}
+use Rattle.machine_spec.specs.declared.helper.Helper.{Helper}
 use Rattle.machine_spec.specs.declared.instruction.Source.{Source}
 use Rattle.machine_spec.specs.declared.instruction.Source.TheVariants.{Register, Immediate}
 use Rattle.machine_spec.specs.declared.instruction.Instruction.{Instruction}
@@ -21,7 +20,7 @@ use Rattle.machine_spec.specs.declared.instruction.Instruction.TheVariants.{Move
 use Rattle.machine_spec.specs.Arithmetic.{signed}
 use Rattle.machine_spec.specs.Values.{Value, Nothing, Number, Address, Registers, operand, moved, moves_address, is_subtraction, displacement, result_of, changed, is_taken, extended}
 use Rattle.machine_spec.specs.Image.{Program, slot_count, slot_after, first_slots_from, first_slots, is_first_slot, jump_target, distance_of}
-use Rattle.machine_spec.specs.Machine.{Input, State, Access, with_register, entry_register, loaded, helper_of, answer_to, after_call, called, landing, after}
+use Rattle.machine_spec.specs.Machine.{Input, State, Access, with_register, entry_register, loaded, helper_of, effect_of, after_call, called, landing, after}
 use Rattle.machine_spec.specs.Traps.{is_target}
 use Rattle.machine_spec.specs.Meaning.{Step, Reaches}
 use Rattle.bpf_machine.specs.Views.{IsNear}
@@ -144,18 +143,13 @@ near_extended b extension.Zero size input stack None = tt
 near_extended b extension.Sign size input stack (Some a) = tt
 near_extended b extension.Sign size input stack None = tt
 
-near_answer : (b : ℕ) (out : Value) (input : Input) (s : State) → IsNearBy b (answer_to out input s)
-near_answer b Nothing input s = tt
-near_answer b (Number n) input s = tt
-near_answer b (Address region at) input s = tt
-
 near_after_call : (b : ℕ) (registers : Registers) (answer : Value) (r : ℕ) → ((q : ℕ) → IsNearBy b (registers q)) → IsNearBy b answer → IsNearBy b (after_call registers answer r)
 near_after_call b registers answer r near new =
     cond_both (r == 0) answer (if nat_le r 5 then Nothing else registers r) (λ v. IsNearBy b v) (λ e. new)
     (λ e. cond_both (nat_le r 5) Nothing (registers r) (λ v. IsNearBy b v) (λ f. tt) (λ f. near r))
 
 near_called : (b : ℕ) (helper : Option Helper) (input : Input) (s : State) → ((r : ℕ) → IsNearBy b (s.registers r)) → (r : ℕ) → IsNearBy b ((called helper input s).registers r)
-near_called b (Some EmitRecord) input s near r = near_after_call b s.registers (answer_to (s.registers 1) input s) r near (near_answer b (s.registers 1) input s)
+near_called b (Some helper) input s near r = near_after_call b s.registers (Number (effect_of helper input s).answer) r near tt
 near_called b None input s near r = near r
 
 near_set : (b : ℕ) (registers : Registers) (dst : ℕ) (value : Value) → ((r : ℕ) → IsNearBy b (registers r)) → IsNearBy (b + 2 ^ 63) value → (r : ℕ) → IsNearBy (b + 2 ^ 63) (with_register registers dst value r)

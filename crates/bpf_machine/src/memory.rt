@@ -32,17 +32,6 @@ pub struct Span {
     pub size: u8,
 }
 
-fn count_of(size: Size) -> u8
-    ensures { result ≡ byte_count size }
-{
-    match size {
-        Size::Byte => 1,
-        Size::Half => 2,
-        Size::Word => 4,
-        Size::Double => 8,
-    }
-}
-
 pub fn start_of(at: i128, offset: i16) -> i128
     requires { unsigned_abs at < 2 ^ 126 }
     ensures { result ≡ at +ℤ offset }
@@ -60,7 +49,7 @@ pub fn span_at(direction: Direction, base: Tagged, offset: i16, size: Size) -> O
             direction,
             region,
             start: start_of(at, offset),
-            size: count_of(size),
+            size: size.byte_count(),
         }),
         Tagged::Nothing => None,
         Tagged::Number(_) => None,

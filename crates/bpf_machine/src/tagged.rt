@@ -1,6 +1,7 @@
 //! Values with tags, and arithmetic on them.
 ghost use Rattle.std.specs.Prelude.{◌≡◌, ◌<◌, ◌^◌, ◌+ℤ◌, unsigned_abs};
 ghost use Rattle.machine_spec.specs.Values as values;
+ghost use Rattle.machine_spec.specs.Machine.{number_held};
 ghost use Rattle.bpf_machine.specs.Views.{value_of, IsNear};
 
 use arithmetic::{change, compute, test};
@@ -44,6 +45,17 @@ pub fn is_address(value: Tagged) -> bool
     }
 }
 
+/// The number in a register that has one.
+pub fn number_held(value: Tagged) -> u64
+    ensures { result ≡ number_held (value_of value) }
+{
+    match value {
+        Tagged::Nothing => 0,
+        Tagged::Number(number) => number,
+        Tagged::Address(_, _) => 0,
+    }
+}
+
 /// What a move of a width moves.
 pub fn moved(width: Width, value: Tagged) -> Tagged
     ensures { value_of result ≡ values.moved width (value_of value) }
@@ -58,54 +70,11 @@ pub fn moved(width: Width, value: Tagged) -> Tagged
     }
 }
 
-fn is_subtraction(operation: Operation) -> bool
-    ensures { result ≡ values.is_subtraction operation }
-{
-    match operation {
-        Operation::Sub => true,
-        Operation::Add
-        | Operation::Mul
-        | Operation::Div
-        | Operation::SignedDiv
-        | Operation::Or
-        | Operation::And
-        | Operation::LeftShift
-        | Operation::RightShift
-        | Operation::Mod
-        | Operation::SignedMod
-        | Operation::Xor
-        | Operation::ArithmeticRightShift => false,
-    }
-}
-
-/// Whether an operation moves an address by a number.
-fn moves_address(width: Width, operation: Operation) -> bool
-    ensures { result ≡ values.moves_address width operation }
-{
-    match width {
-        Width::Bits32 => false,
-        Width::Bits64 => match operation {
-            Operation::Add | Operation::Sub => true,
-            Operation::Mul
-            | Operation::Div
-            | Operation::SignedDiv
-            | Operation::Or
-            | Operation::And
-            | Operation::LeftShift
-            | Operation::RightShift
-            | Operation::Mod
-            | Operation::SignedMod
-            | Operation::Xor
-            | Operation::ArithmeticRightShift => false,
-        },
-    }
-}
-
 /// How far an operation moves an address by a number, which is read as signed.
 fn displacement(operation: Operation, number: u64) -> i128
     ensures { result ≡ values.displacement operation number }
 {
-    if is_subtraction(operation) {
+    if operation.is_subtraction() {
         -i128::from(number.cast_signed())
     } else {
         i128::from(number.cast_signed())
@@ -132,7 +101,7 @@ fn moved_address(
 {
     match second {
         Tagged::Number(number) => {
-            if moves_address(width, operation) {
+            if operation.moves_address(width) {
                 Tagged::Address(region, moved_offset(at, operation, number))
             } else {
                 Tagged::Nothing
@@ -172,7 +141,7 @@ pub fn can_compute(width: Width, operation: Operation, first: Tagged, second: Ta
     match first {
         Tagged::Nothing => false,
         Tagged::Number(_) => is_number(second),
-        Tagged::Address(_, _) => is_number(second) && moves_address(width, operation),
+        Tagged::Address(_, _) => is_number(second) && operation.moves_address(width),
     }
 }
 

@@ -1,11 +1,10 @@
 //! The trap of a state, if there is one.
 ghost use Rattle.std.specs.Prelude.{◌≡◌, ℕ, ◌+◌, ◌<◌, ◌^◌, is_none};
-ghost use Rattle.std.specs.List.{list_any};
+ghost use Rattle.std.specs.List.{list_any, flat_map};
 ghost use Rattle.machine_spec.specs.Image.{jump_target};
 ghost use Rattle.machine_spec.specs.Values as values;
-ghost use Rattle.machine_spec.specs.Machine.{helper_of};
 ghost use Rattle.machine_spec.specs.Traps as definitions;
-ghost use Rattle.machine_spec.specs.Traps.{source_registers, operand_registers, base_registers, condition_registers, call_registers, helper_registers, first_of, traps};
+ghost use Rattle.machine_spec.specs.Traps.{source_registers, operand_registers, base_registers, condition_registers, argument_registers, arguments_of, first_of, traps};
 ghost use Rattle.bpf_machine.specs.Views.{registers_of, stack_of, access_in, IsNear};
 ghost use Rattle.bpf_machine.specs.States.{program_of, input_of, state_of};
 
@@ -16,43 +15,8 @@ use crate::slots::is_first_slot;
 use crate::stack::Stack;
 use crate::tagged::{Tagged, can_compute, is_address, is_nothing, is_number, is_taken};
 use machine_spec::{
-    Condition, Direction, Helper, MemoryOperand, Operands, Region, STACK_SIZE, Source, Summary,
-    Trap,
+    Argument, Condition, Helper, MemoryOperand, Operands, STACK_SIZE, Source, Summary, Trap,
 };
-
-/// The register that is never written, the stack's end.
-const FRAME: u8 = 10;
-
-// ---- registers that are written, helpers that there are
-
-fn writes_frame(register: Option<u8>) -> bool
-    ensures { result ≡ definitions.writes_frame register }
-{
-    match register {
-        Some(r) => r == FRAME,
-        None => false,
-    }
-}
-
-/// The helper with a number.
-pub fn helper_of(number: i32) -> Option<Helper>
-    ensures { result ≡ helper_of number }
-{
-    if number == 3 {
-        Some(Helper::EmitRecord)
-    } else {
-        None
-    }
-}
-
-fn calls_no_helper(call: Option<i32>) -> bool
-    ensures { result ≡ definitions.calls_no_helper call }
-{
-    match call {
-        Some(number) => helper_of(number).is_none(),
-        None => false,
-    }
-}
 
 // ---- registers that are read
 
@@ -102,20 +66,34 @@ fn is_condition_nothing(registers: &[Tagged; REGISTERS], condition: Option<Condi
     }
 }
 
-fn is_argument_nothing(registers: &[Tagged; REGISTERS], helper: Option<Helper>) -> bool
-    ensures { result ≡ list_any (λ r. values.is_nothing (registers_of registers.now r)) (helper_registers helper) }
+fn is_argument_nothing(registers: &[Tagged; REGISTERS], argument: Argument) -> bool
+    ensures { result ≡ list_any (λ r. values.is_nothing (registers_of registers.now r)) (argument_registers argument) }
 {
-    match helper {
-        Some(Helper::EmitRecord) => has_nothing(registers, 1),
-        None => false,
+    match argument {
+        Argument::Nothing => false,
+        Argument::Number(register) => has_nothing(registers, register),
     }
 }
 
-fn is_call_nothing(registers: &[Tagged; REGISTERS], call: Option<i32>) -> bool
-    ensures { result ≡ list_any (λ r. values.is_nothing (registers_of registers.now r)) (call_registers call) }
+fn is_one_nothing(registers: &[Tagged; REGISTERS], arguments: &[Argument]) -> bool
+    ensures { result ≡ list_any (λ a. list_any (λ r. values.is_nothing (registers_of registers.now r))
+        (argument_registers a)) arguments.now }
 {
-    match call {
-        Some(number) => is_argument_nothing(registers, helper_of(number)),
+    for argument in arguments {
+        if is_argument_nothing(registers, *argument) {
+            return true;
+        }
+    }
+    false
+}
+
+#[tactic(auto, using(crate::proofs::ReadParts::reads_each))]
+fn is_call_nothing(registers: &[Tagged; REGISTERS], helper: Option<Helper>) -> bool
+    ensures { result ≡ list_any (λ r. values.is_nothing (registers_of registers.now r))
+        (flat_map argument_registers (arguments_of helper)) }
+{
+    match helper {
+        Some(helper) => is_one_nothing(registers, &helper.signature().arguments),
         None => false,
     }
 }
@@ -128,7 +106,7 @@ fn reads_nothing(summary: Summary, registers: &[Tagged; REGISTERS]) -> bool
     is_operand_nothing(registers, summary.takes)
         || is_base_nothing(registers, summary.memory)
         || is_condition_nothing(registers, summary.condition)
-        || is_call_nothing(registers, summary.call)
+        || is_call_nothing(registers, summary.helper())
         || (summary.exits && has_nothing(registers, 0))
 }
 
@@ -177,30 +155,11 @@ fn is_within(start: i128, size: u8, length: usize) -> bool
     0 <= start && start.unsigned_abs() + size as u128 <= length as u128
 }
 
-fn is_stack(region: Region) -> bool
-    ensures { result ≡ definitions.is_stack region }
-{
-    match region {
-        Region::Stack => true,
-        Region::Key => false,
-        Region::Value => false,
-    }
-}
-
-fn is_read(direction: Direction) -> bool
-    ensures { result ≡ definitions.is_read direction }
-{
-    match direction {
-        Direction::Read => true,
-        Direction::Write => false,
-    }
-}
-
 fn writes_record(span: Option<Span>) -> bool
     ensures { result ≡ definitions.writes_record (access_in span) }
 {
     match span {
-        Some(span) => !is_read(span.direction) && !is_stack(span.region),
+        Some(span) => !span.direction.is_read() && !span.region.is_stack(),
         None => false,
     }
 }
@@ -210,7 +169,7 @@ fn leaves_record(run: &Run, span: Option<Span>) -> bool
 {
     match span {
         Some(span) => {
-            if is_stack(span.region) {
+            if span.region.is_stack() {
                 false
             } else {
                 !is_within(span.start, span.size, run.length_of(span.region))
@@ -225,7 +184,7 @@ fn leaves_stack(span: Option<Span>) -> bool
 {
     match span {
         Some(span) => {
-            if is_stack(span.region) {
+            if span.region.is_stack() {
                 !is_within(span.start, span.size, STACK_SIZE)
             } else {
                 false
@@ -262,7 +221,7 @@ fn reads_unset(stack: &Stack, span: Option<Span>) -> bool
 {
     match span {
         Some(span) => {
-            if is_read(span.direction) && is_stack(span.region) {
+            if span.direction.is_read() && span.region.is_stack() {
                 has_unset(stack, span.start.unsigned_abs(), span.size)
             } else {
                 false
@@ -274,20 +233,31 @@ fn reads_unset(stack: &Stack, span: Option<Span>) -> bool
 
 // ---- calls, jumps and the exit
 
-fn has_wrong_argument(helper: Option<Helper>, registers: &[Tagged; REGISTERS]) -> bool
-    ensures { result ≡ definitions.has_wrong_argument helper (registers_of registers.now) }
+fn is_wrong_argument(registers: &[Tagged; REGISTERS], argument: Argument) -> bool
+    ensures { result ≡ definitions.is_wrong_argument (registers_of registers.now) argument }
 {
-    match helper {
-        Some(Helper::EmitRecord) => !is_number(get(registers, 1)),
-        None => false,
+    match argument {
+        Argument::Nothing => false,
+        Argument::Number(register) => !is_number(get(registers, register)),
     }
 }
 
-fn calls_wrongly(call: Option<i32>, registers: &[Tagged; REGISTERS]) -> bool
-    ensures { result ≡ definitions.calls_wrongly call (registers_of registers.now) }
+fn has_wrong_argument(registers: &[Tagged; REGISTERS], arguments: &[Argument]) -> bool
+    ensures { result ≡ list_any (definitions.is_wrong_argument (registers_of registers.now)) arguments.now }
 {
-    match call {
-        Some(number) => has_wrong_argument(helper_of(number), registers),
+    for argument in arguments {
+        if is_wrong_argument(registers, *argument) {
+            return true;
+        }
+    }
+    false
+}
+
+fn calls_wrongly(registers: &[Tagged; REGISTERS], helper: Option<Helper>) -> bool
+    ensures { result ≡ list_any (definitions.is_wrong_argument (registers_of registers.now)) (arguments_of helper) }
+{
+    match helper {
+        Some(helper) => has_wrong_argument(registers, &helper.signature().arguments),
         None => false,
     }
 }
@@ -360,9 +330,9 @@ pub fn trap_of(run: &Run, summary: Summary, machine: &Machine) -> Option<Trap>
 {
     let registers = &machine.registers;
     let span = span_of(summary.memory, registers);
-    if writes_frame(summary.writes) {
+    if summary.writes_frame() {
         Some(Trap::Frame)
-    } else if calls_no_helper(summary.call) {
+    } else if summary.calls_no_helper() {
         Some(Trap::Helper)
     } else if reads_nothing(summary, registers) {
         Some(Trap::Unset)
@@ -380,7 +350,7 @@ pub fn trap_of(run: &Run, summary: Summary, machine: &Machine) -> Option<Trap>
         Some(Trap::StackBounds)
     } else if reads_unset(&machine.stack, span) {
         Some(Trap::StackUnset)
-    } else if calls_wrongly(summary.call, registers) {
+    } else if calls_wrongly(registers, summary.helper()) {
         Some(Trap::HelperArgument)
     } else if exits_wrongly(summary.exits, registers) {
         Some(Trap::Exit)

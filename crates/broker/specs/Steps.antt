@@ -32,11 +32,18 @@ IsStepFault inputs input old NoProgram = ⊥
 IsStepFault inputs input old (CatalogueRefuses fault) = ⊥
 IsStepFault inputs input old (LogRefuses fault) = ⊥
 
--- Of a broker with so many partitions, and a log with so many cells.
-abbrev pub StepIs : ℕ → ℕ → ℕ → ℕ → Content → CellNote → Result Stepped BrokerFault → Content → Type 0
-StepIs inputs outputs cells input old note (Ok (Added count)) new = IsStep outputs input old note count new
-StepIs inputs outputs cells input old note (Ok Nothing) new = (new ≡ old) × (done_of old.logs input < cells → note.known ≡ None)
-StepIs inputs outputs cells input old note (Err fault) new = (new ≡ old) × IsStepFault inputs input old fault
+-- an input partition of a broker: its number, how many cells its log has, and how many partitions the broker has
+pub record Source : Type 0 where
+  pub input : ℕ
+  pub cells : ℕ
+  pub inputs : ℕ
+  pub outputs : ℕ
+
+-- a step of a book over an input partition
+abbrev pub StepIs : Source → Content → CellNote → Result Stepped BrokerFault → Content → Type 0
+StepIs source old note (Ok (Added count)) new = IsStep source.outputs source.input old note count new
+StepIs source old note (Ok Nothing) new = (new ≡ old) × (done_of old.logs source.input < source.cells → note.known ≡ None)
+StepIs source old note (Err fault) new = (new ≡ old) × IsStepFault source.inputs source.input old fault
 
 -- The item where a walk stands is added to a book that waits for it, or memory ran out.
 abbrev pub PutIs : ℕ → Content → Log → Result ℕ BrokerFault → Content → Type 0

@@ -31,7 +31,8 @@ fn are_same_emissions(left: &Emissions, right: &Emissions) -> bool {
     left.list.len() == right.list.len()
         && left.list.iter().zip(&right.list).all(|(a, b)| a.out == b.out
             && a.key == b.key
-            && a.value == b.value)
+            && a.value == b.value
+            && a.headers.list.len() == b.headers.list.len())
 }
 
 /// Whether the plain machine's end is the interpreter's outcome.

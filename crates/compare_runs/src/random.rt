@@ -11,7 +11,7 @@ use std::alloc::{AllocError, Global};
 
 /// A source of numbers (splitmix64), which a seed determines.
 #[derive(Drop)]
-pub struct Random {
+pub(crate) struct Random {
     state: u64,
 }
 
@@ -22,6 +22,9 @@ const OPERATIONS: [u8; 12] = [
 const TESTS: [u8; 11] = [
     0x10, 0x20, 0x30, 0x40, 0x50, 0x60, 0x70, 0xa0, 0xb0, 0xc0, 0xd0,
 ];
+
+/// The helpers that are called.
+const HELPERS: [u8; 5] = [3, 6, 7, 8, 9];
 
 /// The registers that hold numbers from the beginning on.
 const NUMBERS: [u8; 5] = [0, 6, 7, 8, 9];
@@ -74,11 +77,11 @@ fn slot(opcode: u8, dst: u8, src: u8, offset: i16, imm: i32) -> [u8; 8] {
 }
 
 impl Random {
-    pub fn new(seed: u64) -> Random {
+    pub(crate) fn new(seed: u64) -> Random {
         Random { state: seed }
     }
 
-    pub fn number(&mut self) -> u64 {
+    pub(crate) fn number(&mut self) -> u64 {
         self.state = self.state.wrapping_add(0x9e37_79b9_7f4a_7c15);
         let mut mixed = self.state;
         mixed = (mixed ^ (mixed >> 30)).wrapping_mul(0xbf58_476d_1ce4_e5b9);
@@ -239,12 +242,13 @@ impl Random {
         Ok(())
     }
 
-    /// Perhaps a call that emits, then r0 and the exit.
+    /// Perhaps a call, then r0 and the exit.
     fn push_end(&mut self, image: &mut Vec<u8>) -> Result<(), AllocError> {
         if self.below(2) == 0 {
             let out = self.below(3) as i32;
             image.extend_from_slice(&slot(0xb7, 1, 0, 0, out))?;
-            image.extend_from_slice(&slot(0x85, 0, 0, 0, 3))?;
+            let number = i32::from(self.byte_of(&HELPERS));
+            image.extend_from_slice(&slot(0x85, 0, 0, 0, number))?;
         }
         match self.below(4) {
             0 => image.extend_from_slice(&slot(0xb7, 0, 0, 0, 0))?,
@@ -259,7 +263,7 @@ impl Random {
     }
 
     /// The image of a program. One of sixteen has a byte changed, and need not decode.
-    pub fn program(&mut self, alloc: Global) -> Result<Vec<u8>, AllocError> {
+    pub(crate) fn program(&mut self, alloc: Global) -> Result<Vec<u8>, AllocError> {
         let mut image = Vec::new(alloc);
         for register in NUMBERS {
             self.push_wide(&mut image, register)?;
@@ -296,7 +300,7 @@ impl Random {
         Ok(Some(Bytes::copy_from_slice(alloc, &bytes)?))
     }
 
-    pub fn record(&mut self, alloc: Global) -> Result<Record, AllocError> {
+    pub(crate) fn record(&mut self, alloc: Global) -> Result<Record, AllocError> {
         Ok(Record {
             timestamp_delta: 0,
             key: self.text(alloc)?,

@@ -1,7 +1,5 @@
-//! Tests of the core and of script lines by their public calls.
+//! Tests of the core by its public calls.
 #![tactic(auto)]
 
-#[cfg(test)]
-mod lines;
 #[cfg(test)]
 mod worlds;

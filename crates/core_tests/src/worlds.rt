@@ -3,16 +3,12 @@ ghost use Rattle.log_spec.specs.Worlds.{FitsEvent};
 ghost use Rattle.log_spec.specs.Logs.{FitsLog};
 
 use bytes::Bytes;
-use log_item::fits_log;
+use fixtures::{FORWARD, batch_at, name_of};
 use std::alloc::{AllocError, Global};
+use std::process::Abort;
 use std::test::Fail;
 use wire_spec::{Batch, Headers, Record, Records};
-use world::{Event, Name, Row, World, run};
-
-/// mov64 r1, 0; call 3; exit: each record goes to output 0 as it is.
-const FORWARD: &[u8] = &[
-    0xb7, 1, 0, 0, 0, 0, 0, 0, 0x85, 0, 0, 0, 3, 0, 0, 0, 0x95, 0, 0, 0, 0, 0, 0, 0,
-];
+use world::{Event, Row, World, run};
 
 /// mov64 r1, 0; call 3; mov64 r1, 1; call 3; exit: to output 0 and then to output 1.
 const FIRST: &[u8] = &[
@@ -41,11 +37,6 @@ enum Act {
     Restart(usize),
 }
 
-fn name_of(alloc: Global, text: &str) -> Result<Name, AllocError> {
-    let text = String::from_str(alloc, text)?;
-    Ok(Name { text })
-}
-
 fn record_of(alloc: Global, value: u8) -> Result<Record, AllocError> {
     Ok(Record {
         timestamp_delta: 0,
@@ -57,27 +48,19 @@ fn record_of(alloc: Global, value: u8) -> Result<Record, AllocError> {
     })
 }
 
+fn records_of(alloc: Global, values: &str) -> Result<Records, AllocError> {
+    let mut list = Vec::new(alloc);
+    for value in values.as_bytes() {
+        list.push(record_of(alloc, *value)?)?;
+    }
+    Ok(Records { list })
+}
+
 /// A batch at 1000 milliseconds; none where it doesn't fit or memory ran out.
 fn batch_of(alloc: Global, values: &str) -> Option<Batch>
     ensures { IfSome result (λ batch. FitsLog batch) }
 {
-    let mut list = Vec::new(alloc);
-    for value in values.as_bytes() {
-        list.push(record_of(alloc, *value).ok()?).ok()?;
-    }
-    let batch = Batch {
-        base_offset: 0,
-        leader_epoch: 0,
-        base_timestamp: 1000,
-        producer_id: -1,
-        producer_epoch: -1,
-        base_sequence: -1,
-        records: Records { list },
-    };
-    if !fits_log(&batch) {
-        return None;
-    }
-    Some(batch)
+    batch_at(1000, records_of(alloc, values).ok()?)
 }
 
 fn event_of(alloc: Global, act: Act) -> Option<Event>
@@ -136,119 +119,147 @@ fn book_text(alloc: Global, world: &World, input: usize, output: usize) -> Resul
     Ok(text)
 }
 
+/// Does what each row says, and compares the answer with the row's text.
+fn answer_all<R: Abort>(
+    rt: &R,
+    alloc: Global,
+    world: &mut World,
+    rows: &[(Act, &str)],
+) -> Result<(), Fail> {
+    for (act, want) in rows {
+        let said = answer(alloc, world, *act)?;
+        assert_eq!(rt; said.as_str(), *want);
+    }
+    Ok(())
+}
+
+/// Compares the rows of an input partition in an output partition with each text.
+fn compare_books<R: Abort>(
+    rt: &R,
+    alloc: Global,
+    world: &World,
+    books: &[(usize, usize, &str)],
+) -> Result<(), Fail> {
+    for (input, output, want) in books {
+        let text = book_text(alloc, world, *input, *output)?;
+        assert_eq!(rt; text.as_str(), *want);
+    }
+    Ok(())
+}
+
+const DELIVERED_ONCE: [(Act, &str); 10] = [
+    (Act::Load("fwd", &FORWARD), "Loaded(1)"),
+    (Act::Mark(0, "fwd", 1), "Appended(0, 0)"),
+    (Act::Put(0, "A"), "Appended(1, 0)"),
+    (Act::Deliver(0, 0), "Added(0)"),
+    (Act::Deliver(0, 0), "Added(1)"),
+    (Act::Deliver(0, 0), "NoItem"),
+    (Act::Restart(0), "Restarted"),
+    (Act::Deliver(0, 0), "Already"),
+    (Act::Deliver(0, 1), "Added(0)"),
+    (Act::Mark(0, "fwd", 2), "NoVersion"),
+];
+
+const ONE_ITEM_BOOKS: [(usize, usize, &str); 2] = [
+    (0, 0, "0 0 0 1000 A, done 2 at 1"),
+    (0, 1, "done 1 at 1"),
+];
+
 #[test]
 fn an_item_is_delivered_once_to_each_output(rt: HostRuntime) -> Result<(), Fail> {
     let alloc = rt.alloc();
     let mut world = World::new(alloc, 1, 2, 4)?;
-    for (act, want) in [
-        (Act::Load("fwd", FORWARD), "Loaded(1)"),
-        (Act::Mark(0, "fwd", 1), "Appended(0, 0)"),
-        (Act::Put(0, "A"), "Appended(1, 0)"),
-        (Act::Deliver(0, 0), "Added(0)"),
-        (Act::Deliver(0, 0), "Added(1)"),
-        (Act::Deliver(0, 0), "NoItem"),
-        (Act::Restart(0), "Restarted"),
-        (Act::Deliver(0, 0), "Already"),
-        (Act::Deliver(0, 1), "Added(0)"),
-        (Act::Mark(0, "fwd", 2), "NoVersion"),
-    ] {
-        assert_eq!(rt; answer(alloc, &mut world, act)?.as_str(), want);
-    }
-    for (output, want) in [(0, "0 0 0 1000 A, done 2 at 1"), (1, "done 1 at 1")] {
-        assert_eq!(rt; book_text(alloc, &world, 0, output)?.as_str(), want);
-    }
-    Ok(())
+    answer_all(&rt, alloc, &mut world, &DELIVERED_ONCE)?;
+    compare_books(&rt, alloc, &world, &ONE_ITEM_BOOKS)
 }
+
+const BETWEEN_MARKS: [(Act, &str); 21] = [
+    (Act::Load("p1", FIRST), "Loaded(1)"),
+    (Act::Load("p2", SECOND), "Loaded(1)"),
+    (Act::Put(1, "xyz"), "Appended(0, 0)"),
+    (Act::Mark(1, "p1", 1), "Appended(1, 3)"),
+    (Act::Put(1, "AB"), "Appended(2, 3)"),
+    (Act::Deliver(1, 0), "Added(0)"),
+    (Act::Mark(1, "p2", 1), "Appended(3, 5)"),
+    (Act::Put(1, "C"), "Appended(4, 5)"),
+    (Act::Load("p1", SECOND), "Loaded(2)"),
+    (Act::Deliver(1, 0), "Added(0)"),
+    (Act::Deliver(1, 0), "Added(2)"),
+    (Act::Deliver(1, 1), "Added(0)"),
+    (Act::Deliver(1, 0), "Added(0)"),
+    (Act::Restart(1), "Restarted"),
+    (Act::Deliver(1, 1), "Already"),
+    (Act::Deliver(1, 1), "Added(0)"),
+    (Act::Deliver(1, 1), "Added(2)"),
+    (Act::Deliver(1, 1), "Added(0)"),
+    (Act::Deliver(1, 1), "Added(1)"),
+    (Act::Deliver(1, 0), "Already"),
+    (Act::Deliver(0, 0), "NoItem"),
+];
+
+const MARKED_BOOKS: [(usize, usize, &str); 3] = [
+    (0, 0, "done 0 at 0"),
+    (1, 0, "1 3 0 1000 A, 1 4 0 1000 B, done 4 at 1"),
+    (
+        1,
+        1,
+        "1 3 1 1000 A, 1 4 1 1000 B, 1 5 0 1000 C, done 5 at 5",
+    ),
+];
 
 #[test]
 fn each_record_goes_by_the_mark_before_it(rt: HostRuntime) -> Result<(), Fail> {
     let alloc = rt.alloc();
     let mut world = World::new(alloc, 2, 2, 8)?;
-    for (act, want) in [
-        (Act::Load("p1", FIRST), "Loaded(1)"),
-        (Act::Load("p2", SECOND), "Loaded(1)"),
-        (Act::Put(1, "xyz"), "Appended(0, 0)"),
-        (Act::Mark(1, "p1", 1), "Appended(1, 3)"),
-        (Act::Put(1, "AB"), "Appended(2, 3)"),
-        (Act::Deliver(1, 0), "Added(0)"),
-        (Act::Mark(1, "p2", 1), "Appended(3, 5)"),
-        (Act::Put(1, "C"), "Appended(4, 5)"),
-        (Act::Load("p1", SECOND), "Loaded(2)"),
-        (Act::Deliver(1, 0), "Added(0)"),
-        (Act::Deliver(1, 0), "Added(2)"),
-        (Act::Deliver(1, 1), "Added(0)"),
-        (Act::Deliver(1, 0), "Added(0)"),
-        (Act::Restart(1), "Restarted"),
-        (Act::Deliver(1, 1), "Already"),
-        (Act::Deliver(1, 1), "Added(0)"),
-        (Act::Deliver(1, 1), "Added(2)"),
-        (Act::Deliver(1, 1), "Added(0)"),
-        (Act::Deliver(1, 1), "Added(1)"),
-        (Act::Deliver(1, 0), "Already"),
-        (Act::Deliver(0, 0), "NoItem"),
-    ] {
-        assert_eq!(rt; answer(alloc, &mut world, act)?.as_str(), want);
-    }
-    for (input, output, want) in [
-        (0, 0, "done 0 at 0"),
-        (1, 0, "1 3 0 1000 A, 1 4 0 1000 B, done 4 at 1"),
-        (
-            1,
-            1,
-            "1 3 1 1000 A, 1 4 1 1000 B, 1 5 0 1000 C, done 5 at 5",
-        ),
-    ] {
-        assert_eq!(rt; book_text(alloc, &world, input, output)?.as_str(), want);
-    }
-    Ok(())
+    answer_all(&rt, alloc, &mut world, &BETWEEN_MARKS)?;
+    compare_books(&rt, alloc, &world, &MARKED_BOOKS)
 }
+
+const REFUSED: [(Act, &str); 30] = [
+    (Act::Load("", &FORWARD), "C1 Name"),
+    (Act::Load("a_b", &[]), "C1 Name"),
+    (Act::Load("a-b", &[]), "I1 Size"),
+    (Act::Load("a", UNSAFE), "V7 RecordBounds at 0"),
+    (Act::Mark(64, "a", 1), "P1 Partition"),
+    (Act::Mark(63, "a", 1), "NoVersion"),
+    (Act::Put(64, "A"), "P1 Partition"),
+    (Act::Close(64), "P1 Partition"),
+    (Act::Restart(64), "P1 Partition"),
+    (Act::Restart(63), "Restarted"),
+    (Act::Deliver(64, 0), "P1 Partition"),
+    (Act::Deliver(0, 64), "P1 Partition"),
+    (Act::Deliver(63, 63), "NoItem"),
+    (Act::Load("a", &FORWARD), "Loaded(1)"),
+    (Act::Close(63), "Appended(0, 0)"),
+    (Act::Put(63, "A"), "L2 Closed"),
+    (Act::Close(63), "L2 Closed"),
+    (Act::Mark(63, "a", 1), "L2 Closed"),
+    (Act::Mark(63, "a", 0), "NoVersion"),
+    (Act::Put(0, "A"), "Appended(0, 0)"),
+    (Act::Close(0), "Appended(1, 1)"),
+    (Act::Put(0, "A"), "L2 Closed"),
+    (Act::Put(1, "A"), "Appended(0, 0)"),
+    (Act::Put(1, "A"), "Appended(1, 1)"),
+    (Act::Put(1, "A"), "L1 Full"),
+    (Act::Close(1), "L1 Full"),
+    (Act::Mark(1, "a", 1), "L1 Full"),
+    (Act::Mark(1, "a", 2), "NoVersion"),
+    (Act::Deliver(63, 63), "Added(0)"),
+    (Act::Deliver(63, 63), "NoItem"),
+];
 
 #[test]
 fn refusals_come_in_their_order(rt: HostRuntime) -> Result<(), Fail> {
     let alloc = rt.alloc();
     let mut world = World::new(alloc, 64, 64, 2)?;
-    for (act, want) in [
-        (Act::Load("", FORWARD), "C1 Name"),
-        (Act::Load("a_b", &[]), "C1 Name"),
-        (Act::Load("a-b", &[]), "I1 Size"),
-        (Act::Load("a", UNSAFE), "V7 RecordBounds at 0"),
-        (Act::Mark(64, "a", 1), "P1 Partition"),
-        (Act::Mark(63, "a", 1), "NoVersion"),
-        (Act::Put(64, "A"), "P1 Partition"),
-        (Act::Close(64), "P1 Partition"),
-        (Act::Restart(64), "P1 Partition"),
-        (Act::Restart(63), "Restarted"),
-        (Act::Deliver(64, 0), "P1 Partition"),
-        (Act::Deliver(0, 64), "P1 Partition"),
-        (Act::Deliver(63, 63), "NoItem"),
-        (Act::Load("a", FORWARD), "Loaded(1)"),
-        (Act::Close(63), "Appended(0, 0)"),
-        (Act::Put(63, "A"), "L2 Closed"),
-        (Act::Close(63), "L2 Closed"),
-        (Act::Mark(63, "a", 1), "L2 Closed"),
-        (Act::Mark(63, "a", 0), "NoVersion"),
-        (Act::Put(0, "A"), "Appended(0, 0)"),
-        (Act::Close(0), "Appended(1, 1)"),
-        (Act::Put(0, "A"), "L2 Closed"),
-        (Act::Put(1, "A"), "Appended(0, 0)"),
-        (Act::Put(1, "A"), "Appended(1, 1)"),
-        (Act::Put(1, "A"), "L1 Full"),
-        (Act::Close(1), "L1 Full"),
-        (Act::Mark(1, "a", 1), "L1 Full"),
-        (Act::Mark(1, "a", 2), "NoVersion"),
-        (Act::Deliver(63, 63), "Added(0)"),
-        (Act::Deliver(63, 63), "NoItem"),
-    ] {
-        assert_eq!(rt; answer(alloc, &mut world, act)?.as_str(), want);
-    }
-    Ok(())
+    answer_all(&rt, alloc, &mut world, &REFUSED)
 }
 
 #[test]
 fn a_run_goes_on_after_a_refused_event(rt: HostRuntime) -> Result<(), Fail> {
     let alloc = rt.alloc();
     let mark = event_of(alloc, Act::Mark(0, "fwd", 1)).ok_or("an event")?;
-    let load = event_of(alloc, Act::Load("fwd", FORWARD)).ok_or("an event")?;
+    let load = event_of(alloc, Act::Load("fwd", &FORWARD)).ok_or("an event")?;
     let again = event_of(alloc, Act::Mark(0, "fwd", 1)).ok_or("an event")?;
     let put = event_of(alloc, Act::Put(0, "A")).ok_or("an event")?;
     let events = [

@@ -1,5 +1,5 @@
 -- Four bytes, and blocks of sixteen, at a time.
-use Rattle.std.proofs.Common.{◌≡◌, ℕ, zero, suc, ◌+◌, ◌*◌, ◌/◌, ◌^◌, ◌<◌, ◌≤◌, List, [], ◌∷◌, ◌++◌, length, get_or, take, drop, refl, sym, ◌∙◌, ap, arith, append_assoc, append-nil}
+use Rattle.std.proofs.Common.{◌≡◌, ℕ, zero, suc, ◌+◌, ◌*◌, ◌/◌, ◌^◌, ◌<◌, ◌≤◌, List, [], ◌∷◌, ◌++◌, length, get_or, take, drop, refl, sym, ◌∙◌, ap, arith, append_assoc, append-nil, length-take-le}
 use Rattle.std.specs.Int.Bits.{bit_and, bit_xor, xor_assoc, and_mask}
 use Rattle.std.specs.List.{concat}
 use Rattle.std.specs.Simd.{first_chunks}
@@ -123,6 +123,19 @@ concat-first_chunks n zero xs = let none : zero * n ≡ 0 = omega arith in rw no
 concat-first_chunks n (suc k) xs =
     let more : suc k * n ≡ n + k * n = omega arith in
     ap (λ ys. take n xs ++ ys) (concat-first_chunks n k (drop n xs)) ∙ rw more (sym (take-add n (k * n) xs))
+
+length-first_chunks : (n k : ℕ) (xs : List ℕ) → length (first_chunks n k xs) ≡ k
+length-first_chunks n zero xs = refl
+length-first_chunks n (suc k) xs = ap suc (length-first_chunks n k (drop n xs))
+
+-- the bytes of the blocks of a list
+pub blocks-are : (k : ℕ) (xs : List ℕ) (blocks : List (List ℕ)) → blocks ≡ first_chunks 16 k xs → k * 16 ≤ length xs
+    → Each1 (λ b. b < 256) xs → (length (concat blocks) ≡ 16 * length blocks) × Each1 (λ b. b < 256) (concat blocks)
+blocks-are k xs blocks e within fits =
+    let whole : concat blocks ≡ take (k * 16) xs = ap concat e ∙ concat-first_chunks 16 k xs in
+    let count : length blocks ≡ k = ap length e ∙ length-first_chunks 16 k xs in
+    let long : length (concat blocks) ≡ k * 16 = ap length whole ∙ length-take-le (k * 16) xs within in
+    (omega arith, rw whole (Each1-chunk (λ b. b < 256) 0 (k * 16) xs fits))
 
 -- the remainder after the blocks of a list and what is left
 pub after-blocks : (r n k : ℕ) (xs left : List ℕ) (blocks : List (List ℕ)) → blocks ≡ first_chunks n k xs → left ≡ drop (k * n) xs

@@ -1,5 +1,9 @@
 pub mod Blocks
 pub mod Division
+pub mod Folding
 pub mod Linear
+pub mod Numbers
+pub mod Places
+pub mod Sparse
 pub mod Steps
 pub mod Table

@@ -5,16 +5,18 @@
 //! block to block: division is linear, so each byte of a block adds what a table has for its place.
 #![tactic(auto)]
 
-ghost use Rattle.std.specs.Prelude.{◌≡◌, ℕ, ◌+◌, ◌*◌, ◌<◌, ◌≤◌, bit_xor, slice_index};
+ghost use Rattle.std.specs.Prelude.{◌≡◌, ℕ, ◌+◌, ◌*◌, ◌<◌, ◌≤◌, List, length, bit_xor, slice_index};
 ghost use Rattle.std.specs.List.{concat};
 ghost use Rattle.std.specs.Simd.Lanes.{Each1};
 ghost use Rattle.wire_spec.specs.Checksum.{remainder, checksum};
 ghost use Rattle.crc32c.specs.Register.{after, word_at};
 
 mod tables;
+mod window;
 
 use std::simd::prelude::*;
 use tables::entry;
+use window::after_many;
 
 // The remainder after one more byte.
 #[inline(always)]
@@ -56,16 +58,24 @@ fn fold_word(word: u32, row: usize) -> u32
         ^ entry(row, word >> 24)
 }
 
-// The remainder after one more block, whose words each count by what stands behind them.
+// The remainder after one more block by its words, which each count by what stands behind them.
 #[inline(always)]
-fn after_block(r: u32, block: &[u8; 16]) -> u32
-    ensures { result ≡ after r block.now }
+fn after_words(r: u32, words: [u32; 4]) -> u32
+    ensures { (block : List ℕ) → length block ≡ 16 → Each1 (λ b. b < 256) block
+        → ((j : ℕ) → j < 4 → slice_index words j ≡ word_at block (4 * j)) → result ≡ after r block }
 {
-    let words = words(*block);
     fold_word(words[3], 0)
         ^ fold_word(words[2], 4)
         ^ fold_word(words[1], 8)
         ^ fold_word(words[0] ^ r, 12)
+}
+
+// The remainder after one more block.
+#[inline(always)]
+fn after_block(r: u32, block: &[u8; 16]) -> u32
+    ensures { result ≡ after r block.now }
+{
+    after_words(r, words(*block))
 }
 
 // The remainder after the blocks.
@@ -78,12 +88,20 @@ fn after_blocks(mut r: u32, blocks: &[[u8; 16]]) -> u32
     r
 }
 
+// From how many blocks on it pays to take blocks away over the window: 10 KiB.
+const MANY: usize = 640;
+
 /// The checksum of the bytes, sixteen at a time by sixteen tables of 1 KiB each. It takes no memory.
 pub fn sum(bytes: &[u8]) -> u32
     ensures { result ≡ checksum bytes.now }
 {
     let (blocks, rest) = bytes.as_chunks::<16>();
-    after_bytes(after_blocks(u32::MAX, blocks), rest) ^ u32::MAX
+    let r = if blocks.len() < MANY {
+        after_blocks(u32::MAX, blocks)
+    } else {
+        after_many(u32::MAX, blocks)
+    };
+    after_bytes(r, rest) ^ u32::MAX
 }
 
 /// The checksum of the bytes, as [`sum`] gives it, one byte at a time by one table: the slower way,

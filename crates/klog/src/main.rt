@@ -1,19 +1,13 @@
 //! klog: a partitioned commit-log broker whose records pass through verified BPF programs. `klog
-//! run SCRIPT` does the commands of a script, `klog check IMAGE` verifies a program.
+//! run SCRIPT` does the commands of a script, `klog check IMAGE` verifies a program, `klog asm TEXT
+//! IMAGE` makes the image of a program's text, and `klog dis IMAGE` prints that text.
 #![tactic(auto)]
 
-mod call;
-mod core_world;
-mod files;
-mod image;
-mod session;
-mod stop;
-mod words;
-
-use crate::call::{command, tell_no_words};
-use crate::files::Files;
+use commands::{Files, command, tell_no_words};
 use std::io::BufWriter;
 use std::process::ExitCode;
+use std::sync::Wait;
+use std::thread::Threads;
 use std::{env, fs, io};
 
 /// The files of the system.
@@ -29,14 +23,14 @@ impl<R: fs::Files> Files for HostFiles<'_, R> {
         fs::open(self.rt, name)
     }
 
-    fn write(&mut self, name: &str, bytes: &[u8]) -> io::Result<()> {
-        fs::write(self.rt, name, bytes)
+    fn write(&mut self, name: &str, content: &[u8]) -> io::Result<()> {
+        fs::write(self.rt, name, content)
     }
 }
 
-/// The call that the system's words ask for. It fails before it begins where memory runs out or a
-/// word is not UTF-8.
-fn called(rt: &HostRuntime) -> io::Result<u8> {
+/// The call that the system's words ask for, with leave to start threads. It fails before it begins
+/// where memory runs out or a word is not UTF-8.
+fn called<T: Threads + Wait + Sync>(threads: &T, rt: &HostRuntime) -> io::Result<u8> {
     let alloc = rt.alloc();
     let mut words = Vec::new(alloc);
     for word in env::args(rt)?.skip(1) {
@@ -47,6 +41,7 @@ fn called(rt: &HostRuntime) -> io::Result<u8> {
     let mut stderr = rt.stderr();
     let mut stdin = rt.stdin();
     let status = command(
+        threads,
         alloc,
         &words,
         &mut files,
@@ -58,12 +53,9 @@ fn called(rt: &HostRuntime) -> io::Result<u8> {
 }
 
 fn main(rt: HostRuntime) -> ExitCode {
-    let status = match called(&rt) {
+    let status = match called(&rt, &rt) {
         Ok(status) => status,
         Err(error) => tell_no_words(&mut rt.stderr(), &error),
     };
     ExitCode::from(status)
 }
-
-#[cfg(test)]
-mod tests;

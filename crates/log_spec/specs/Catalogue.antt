@@ -1,10 +1,8 @@
 -- The catalogue: the images that were loaded, by name.
 use Rattle.std.specs.Prelude.{ℕ, zero, suc, ◌-◌, ◌^◌, Bool, ◌==◌, ◌&&◌, ◌||◌, not, nat_le, if◌then◌else◌, List, [], ◌∷◌, ◌++◌, length, slice_get, Option, Some, None, ◌≡◌}
-use Rattle.std.specs.List.{list_all, list_any}
-use Rattle.std.specs.Str.{bytes_eq}
+use Rattle.std.specs.{List.list_all, List.list_any, Str.bytes_eq}
 use Rattle.verifier_spec.specs.Loading.{IsAccepted, IsRefusedWith}
 use Rattle.log_spec.specs.declared.event.Refusal.{Refusal}
-use Rattle.log_spec.specs.declared.event.Refusal.TheVariants as refusal
 
 -- a name, and the images that were accepted under it, oldest first: version v is number v - 1
 pub record Entry : Type 0 where
@@ -48,14 +46,14 @@ most_names = 64
 -- the first refusal of a load before its image is read: the name's form, 64 other names, its versions used up
 abbrev pub name_refusal : Table → List ℕ → Option Refusal
 name_refusal table name =
-    if not (is_name name) then Some refusal.Name else
-    if not (has_name table name) && nat_le most_names (length table) then Some refusal.Full else
-    if nat_le (2 ^ 32 - 1) (length (images_of table name)) then Some refusal.Versions else None
+    if not (is_name name) then Some Refusal.Name else
+    if not (has_name table name) && nat_le most_names (length table) then Some Refusal.Full else
+    if nat_le (2 ^ 32 - 1) (length (images_of table name)) then Some Refusal.Versions else None
 
 -- an image is refused exactly where it does not decode to code that has an annotation, and then with its fault
 abbrev pub IsImageRefusal : List ℕ → Option Refusal → Type 0
 IsImageRefusal image None = IsAccepted image
-IsImageRefusal image (Some (refusal.Load fault)) = IsRefusedWith image fault
+IsImageRefusal image (Some (Refusal.Load fault)) = IsRefusedWith image fault
 IsImageRefusal image (Some _) = ⊥
 
 abbrev pub IsFirstRefusal : Option Refusal → List ℕ → Option Refusal → Type 0

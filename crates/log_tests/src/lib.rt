@@ -1,18 +1,9 @@
-//! Tests of logs and the catalogue that threads share, by the public calls of `part_log`,
-//! `catalogue` and `broker`.
+//! Tests of logs that threads share, by the public calls of `part_log` and `broker`.
 #![tactic(auto)]
 
 #[cfg(test)]
-mod books;
-#[cfg(test)]
-mod deploys;
-#[cfg(test)]
-mod fixtures;
-#[cfg(test)]
-mod loads;
+mod heads;
 #[cfg(test)]
 mod logs;
-#[cfg(test)]
-mod names;
 #[cfg(test)]
 mod threads;

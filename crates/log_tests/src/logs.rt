@@ -1,40 +1,111 @@
 ghost use Rattle.std.specs.Prelude.{◌≡◌, ◌≤◌, length};
 ghost use Rattle.broker.specs.Layouts.{IsNamed};
 
-use crate::fixtures::{batch_of, forward, name_of};
 use broker::{Broker, BrokerFault, Parts};
+use bytes::Bytes;
 use catalogue::{CatFault, Catalogue};
+use fixtures::{FORWARD, batch_of, name_of};
 use out_book::BookFault;
-use part_log::{Cells, Item, LogFault, Names, PartLog};
+use part_log::{Cells, LogFault, Names, PartLog, Program, Receipt};
 use std::alloc::Global;
 use std::marker::Brand;
 use std::process::Abort;
-use std::sync::Wait;
+use std::sync::{Arc, Wait};
 use std::test::Fail;
+
+/// The forwarding program.
+fn forward(alloc: Global) -> Option<Arc<Program>> {
+    let image = Bytes::copy_from_slice(alloc, &FORWARD).ok()?;
+    let program = Program::new(alloc, &image).ok()?;
+    Arc::new(alloc, program).ok()
+}
+
+/// Where an item is put: its partition, its index, and the number of records before it.
+fn place_of<Id: Names>(receipt: &Receipt<Id>) -> (usize, usize, u64) {
+    (receipt.partition(), receipt.index(), receipt.base())
+}
+
+fn mark<Id: Names, R: Wait>(
+    rt: &R,
+    alloc: Global,
+    log: &PartLog<Id>,
+) -> Result<(usize, usize, u64), LogFault> {
+    let Some(program) = forward(alloc) else {
+        return Err(LogFault::Memory);
+    };
+    let Ok(name) = name_of(alloc, "fwd") else {
+        return Err(LogFault::Memory);
+    };
+    Ok(place_of(&log.mark(rt, alloc, name, 1, program)?))
+}
+
+fn put<Id: Names, R: Wait>(
+    rt: &R,
+    alloc: Global,
+    log: &PartLog<Id>,
+    count: usize,
+) -> Result<(usize, usize, u64), LogFault> {
+    let Some(batch) = batch_of(alloc, count, 1000) else {
+        return Err(LogFault::Memory);
+    };
+    Ok(place_of(&log.append(rt, alloc, batch)?))
+}
+
+fn end<Id: Names, R: Wait>(
+    rt: &R,
+    alloc: Global,
+    log: &PartLog<Id>,
+) -> Result<(usize, usize, u64), LogFault> {
+    Ok(place_of(&log.close(rt, alloc)?))
+}
 
 #[test]
 fn a_closed_log_takes_nothing(rt: HostRuntime) -> Result<(), Fail> {
     let alloc = rt.alloc();
-    close_one::<Brand, _>(&rt, alloc, Cells::new(alloc, 3)?)
+    close_one::<Brand, _>(&rt, alloc, Cells::new(alloc, 3)?);
+    Ok(())
 }
 
-fn close_one<Id: Names, R: Wait + Abort>(rt: &R, alloc: Global, cells: Cells) -> Result<(), Fail>
+fn close_one<Id: Names, R: Wait + Abort>(rt: &R, alloc: Global, cells: Cells)
     requires { cells ≡ Id.cells 0 }
 {
     let log: PartLog<Id> = PartLog::new(0, cells);
-    let program = forward(alloc).ok_or("a program")?;
-    let name = name_of(alloc, "fwd")?;
-    let mark = log.mark(rt, alloc, name, 1, program)?;
-    assert_eq!(rt; (mark.partition(), mark.index(), mark.base()), (0, 0, 0));
-    let batch = batch_of(alloc, 2, 1000).ok_or("a batch")?;
-    let put = log.append(rt, alloc, batch)?;
-    assert_eq!(rt; (put.partition(), put.index(), put.base()), (0, 1, 0));
-    let end = log.close(rt, alloc)?;
-    assert_eq!(rt; (end.partition(), end.index(), end.base()), (0, 2, 2));
-    let batch = batch_of(alloc, 1, 1000).ok_or("a batch")?;
-    assert_eq!(rt; log.append(rt, alloc, batch).err(), Some(LogFault::Closed));
-    assert_eq!(rt; log.close(rt, alloc).err(), Some(LogFault::Closed));
-    Ok(())
+    assert_eq!(rt; mark(rt, alloc, &log), Ok((0, 0, 0)));
+    assert_eq!(rt; put(rt, alloc, &log, 2), Ok((0, 1, 0)));
+    assert_eq!(rt; end(rt, alloc, &log), Ok((0, 2, 2)));
+    assert_eq!(rt; put(rt, alloc, &log, 1), Err(LogFault::Closed));
+    assert_eq!(rt; end(rt, alloc, &log), Err(LogFault::Closed));
+}
+
+fn append<Id: Names, C, R: Wait>(
+    rt: &R,
+    alloc: Global,
+    broker: &Broker<Id, C>,
+    input: usize,
+    count: usize,
+) -> Result<(usize, usize, u64), BrokerFault> {
+    let Some(batch) = batch_of(alloc, count, 1000) else {
+        return Err(BrokerFault::Memory);
+    };
+    Ok(place_of(&broker.append(rt, alloc, input, batch)?))
+}
+
+fn close<Id: Names, C, R: Wait>(
+    rt: &R,
+    alloc: Global,
+    broker: &Broker<Id, C>,
+    input: usize,
+) -> Result<(usize, usize, u64), BrokerFault> {
+    Ok(place_of(&broker.close(rt, alloc, input)?))
+}
+
+fn trail_len<Id: Names, C, R: Wait>(
+    rt: &R,
+    broker: &Broker<Id, C>,
+    input: usize,
+) -> Result<usize, BrokerFault> {
+    let trail = broker.trail(rt, input)?;
+    Ok(trail.len())
 }
 
 #[test]
@@ -52,34 +123,29 @@ fn fill_one<Id: Names, R: Wait + Abort>(
     requires outputs { parts.outputs ≡ Id.outputs }
 {
     let broker: Broker<Id, Catalogue<&R>> = Broker::new(alloc, parts)?;
-    assert_eq!(rt;
-        (broker.inputs(), broker.outputs(), broker.cells(0)),
-        (1, 2, 1)
-    );
-    assert_eq!(rt; find(&broker, 0), None);
-    for (turn, want) in [(0, None), (1, Some(BrokerFault::Log(LogFault::Full)))] {
-        let batch = batch_of(alloc, 3, turn).ok_or("a batch")?;
-        match broker.append(rt, alloc, 0, batch) {
-            Ok(receipt) => assert_eq!(rt; (receipt.index(), receipt.base(), None), (0, 0, want)),
-            Err(fault) => assert_eq!(rt; Some(fault), want),
-        }
-    }
-    assert_eq!(rt;
-        broker.close(rt, alloc, 0).err(),
-        Some(BrokerFault::Log(LogFault::Full))
-    );
-    assert_eq!(rt; find(&broker, 0), Some(3));
-    let batch = batch_of(alloc, 1, 0).ok_or("a batch")?;
-    assert_eq!(rt;
-        broker.append(rt, alloc, 1, batch).err(),
-        Some(BrokerFault::Partition)
-    );
-    assert_eq!(rt;
-        broker.close(rt, alloc, 1).err(),
-        Some(BrokerFault::Partition)
-    );
-    assert_eq!(rt; broker.trail(rt, 1).err(), Some(BrokerFault::Partition));
+    let counts = (broker.inputs(), broker.outputs(), broker.cells(0));
+    assert_eq!(rt; counts, (1, 2, 1));
+    take_one(rt, alloc, &broker);
+    refuse_all(rt, alloc, &broker);
     Ok(())
+}
+
+/// A log of one cell takes one item.
+fn take_one<Id: Names, C, R: Wait + Abort>(rt: &R, alloc: Global, broker: &Broker<Id, C>) {
+    assert_eq!(rt; find(broker, 0), None);
+    assert_eq!(rt; append(rt, alloc, broker, 0, 3), Ok((0, 0, 0)));
+    assert_eq!(rt; find(broker, 0), Some(3));
+}
+
+/// Where the one log is full, and where there is no log.
+fn refuse_all<Id: Names, C, R: Wait + Abort>(rt: &R, alloc: Global, broker: &Broker<Id, C>) {
+    let full = BrokerFault::Log(LogFault::Full);
+    for (input, want) in [(0, full), (1, BrokerFault::Partition)] {
+        assert_eq!(rt; append(rt, alloc, broker, input, 1), Err(want));
+        assert_eq!(rt; close(rt, alloc, broker, input), Err(want));
+    }
+    assert_eq!(rt; find(broker, 0), Some(3));
+    assert_eq!(rt; trail_len(rt, broker, 1), Err(BrokerFault::Partition));
 }
 
 /// How many records the first item of an input has, if it is there.
@@ -93,28 +159,29 @@ fn find<Id: Names, C>(broker: &Broker<Id, C>, input: usize) -> Option<u64> {
     Some(item.records())
 }
 
+const TEXTS: [(BrokerFault, &str); 15] = [
+    (BrokerFault::Partition, "P1 Partition"),
+    (BrokerFault::NoProgram, "P2 NoProgram"),
+    (BrokerFault::Memory, "P3 Memory"),
+    (BrokerFault::Catalogue(CatFault::Name), "C1 Name"),
+    (BrokerFault::Catalogue(CatFault::Full), "C2 Full"),
+    (BrokerFault::Catalogue(CatFault::NoReader), "C4 NoReader"),
+    (BrokerFault::Catalogue(CatFault::Versions), "C5 Versions"),
+    (BrokerFault::Catalogue(CatFault::Memory), "C6 Memory"),
+    (BrokerFault::Log(LogFault::Full), "L1 Full"),
+    (BrokerFault::Log(LogFault::Closed), "L2 Closed"),
+    (BrokerFault::Log(LogFault::Clash), "L3 Clash"),
+    (BrokerFault::Log(LogFault::Memory), "L4 Memory"),
+    (BrokerFault::Book(BookFault::Gap(2)), "O1 Gap expected 2"),
+    (BrokerFault::Book(BookFault::Partition), "O2 Partition"),
+    (BrokerFault::Book(BookFault::Memory), "O3 Memory"),
+];
+
 #[test]
 fn faults_have_their_texts(rt: HostRuntime) -> Result<(), Fail> {
-    let alloc = rt.alloc();
-    for (fault, want) in [
-        (BrokerFault::Partition, "P1 Partition"),
-        (BrokerFault::NoProgram, "P2 NoProgram"),
-        (BrokerFault::Memory, "P3 Memory"),
-        (BrokerFault::Catalogue(CatFault::Name), "C1 Name"),
-        (BrokerFault::Catalogue(CatFault::Full), "C2 Full"),
-        (BrokerFault::Catalogue(CatFault::NoReader), "C4 NoReader"),
-        (BrokerFault::Catalogue(CatFault::Versions), "C5 Versions"),
-        (BrokerFault::Catalogue(CatFault::Memory), "C6 Memory"),
-        (BrokerFault::Log(LogFault::Full), "L1 Full"),
-        (BrokerFault::Log(LogFault::Closed), "L2 Closed"),
-        (BrokerFault::Log(LogFault::Clash), "L3 Clash"),
-        (BrokerFault::Log(LogFault::Memory), "L4 Memory"),
-        (BrokerFault::Book(BookFault::Gap(2)), "O1 Gap expected 2"),
-        (BrokerFault::Book(BookFault::Partition), "O2 Partition"),
-        (BrokerFault::Book(BookFault::Memory), "O3 Memory"),
-    ] {
-        let text = format!(in alloc; "{fault}")?;
-        assert_eq!(rt; text.as_str(), want);
+    for (fault, want) in &TEXTS {
+        let text = format!(in rt.alloc(); "{fault}")?;
+        assert_eq!(rt; text.as_str(), *want);
     }
     Ok(())
 }

@@ -1,9 +1,9 @@
 ghost use Rattle.std.specs.Prelude.{◌≡◌, ◌<◌, ◌≤◌, length};
 ghost use Rattle.broker.specs.Layouts.{IsNamed};
 
-use crate::fixtures::batch_of;
 use broker::{Broker, BrokerFault, Parts};
 use catalogue::Catalogue;
+use fixtures::batch_of;
 use part_log::{Item, LogFault, Names, Receipt, Trail};
 use std::alloc::{AllocError, Global};
 use std::marker::Brand;

@@ -1,4 +1,6 @@
 pub mod Readings
+pub mod ReadParts
+pub mod Helpers
 pub mod Meanings
 pub mod Results
 pub mod Runs

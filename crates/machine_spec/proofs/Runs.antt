@@ -148,11 +148,11 @@ call helper = slot 0x85 0 0 helper
 abbrev pub exit : List ℕ
 exit = slot 0x95 0 0 0
 
--- a record with the key `k` and a value, the first of its partition, and so many output partitions
-abbrev of_value : ℕ → Option (List ℕ) → Input
-of_value outputs value = record {
+-- a record with the key `k` and a value, the first of its partition, where there are two output partitions
+abbrev of_value : Option (List ℕ) → Input
+of_value value = record {
   given = record { timestamp_delta = pos 0; key = Some (107 ∷ []); value = value; headers = [] };
-  place = record { partition = 0; offset = 0; timestamp = 1000; outputs = outputs };
+  place = record { partition = 0; offset = 0; timestamp = 1000; outputs = 2 };
 }
 
 abbrev forwarded : Emission
@@ -161,59 +161,6 @@ forwarded = record { out = 0; key = Some (107 ∷ []); value = Some (118 ∷ [])
 abbrev repeated : ℕ → List ℕ → List ℕ
 repeated zero bytes = []
 repeated (suc n) bytes = bytes ++ repeated n bytes
-
--- ---- outcomes
-
--- mov64 r0, 0; exit
-nothing_kept : run 9 (move_to 0 0 ++ exit) (of_value 1 None) ≡ Some (Out (Kept []) 2)
-unfolding read_slot read_fields template_of is_left_out first_slots trap_at after
-nothing_kept = refl
-
--- mov64 r1, 0; call 3; exit: the record goes to output 0
-record_forwarded : run 9 (move_to 1 0 ++ (call 3 ++ exit)) (of_value 1 (Some (118 ∷ []))) ≡ Some (Out (Kept (forwarded ∷ [])) 3)
-unfolding read_slot read_fields template_of is_left_out first_slots trap_at after
-record_forwarded = refl
-
--- mov64 r1, 9; call 3; exit: there is no output 9
-no_such_output : run 9 (move_to 1 9 ++ (call 3 ++ exit)) (of_value 2 None) ≡ Some (Out (Rejected 1) 3)
-unfolding read_slot read_fields template_of is_left_out first_slots trap_at after
-no_such_output = refl
-
--- the seventeenth emission is not added
-seventeenth_emission : run 40 (repeated 17 (move_to 1 0 ++ call 3) ++ exit) (of_value 1 None) ≡ Some (Out (Rejected 3) 35)
-unfolding read_slot read_fields template_of is_left_out first_slots trap_at after
-seventeenth_emission = refl
-
--- mov64 r0, -1; add64 r0, 6; exit: 64-bit sums wrap
-sum_wraps : run 9 ((0xb7 ∷ 0 ∷ 0 ∷ 0 ∷ 0xff ∷ 0xff ∷ 0xff ∷ 0xff ∷ []) ++ (slot 0x07 0 0 6 ++ exit)) (of_value 1 None) ≡ Some (Out (Rejected 5) 3)
-unfolding read_slot read_fields template_of is_left_out first_slots trap_at after
-sum_wraps = refl
-
--- mov64 r0, 0; jlt64 r2, 1, +1; ld8 r0, [r1+0]; exit: the value's first byte, if it has one
-abbrev first_byte : List ℕ
-first_byte = move_to 0 0 ++ (slot 0xa5 2 1 1 ++ (slot 0x71 0x10 0 0 ++ exit))
-
--- of the value 07
-first_byte_of_one : run 9 first_byte (of_value 1 (Some (7 ∷ []))) ≡ Some (Out (Rejected 7) 4)
-unfolding read_slot read_fields template_of is_left_out first_slots trap_at after
-first_byte_of_one = refl
-
--- of the empty value
-first_byte_of_empty : run 9 first_byte (of_value 1 (Some [])) ≡ Some (Out (Kept []) 3)
-unfolding read_slot read_fields template_of is_left_out first_slots trap_at after
-first_byte_of_empty = refl
-
--- of the null value
-first_byte_of_null : run 9 first_byte (of_value 1 None) ≡ Some (Out (Kept []) 3)
-unfolding read_slot read_fields template_of is_left_out first_slots trap_at after
-first_byte_of_null = refl
-
--- ld16 r0, [r1+1]; exit: the low byte stands first
-two_bytes : run 9 (slot 0x69 0x10 1 0 ++ exit) (of_value 1 (Some (9 ∷ 2 ∷ 1 ∷ []))) ≡ Some (Out (Rejected 258) 2)
-unfolding read_slot read_fields template_of is_left_out first_slots trap_at after
-two_bytes = refl
-
--- ---- arithmetic
 
 -- an instruction on r0, whose immediate is given by its bytes
 abbrev on_r0 : ℕ → ℕ → List ℕ → List ℕ
@@ -225,253 +172,12 @@ minus_two = 0xfe ∷ 0xff ∷ 0xff ∷ 0xff ∷ []
 abbrev small : ℕ → List ℕ
 small n = n ∷ 0 ∷ 0 ∷ 0 ∷ []
 
--- r0 after mov64 r0, -2 and an instruction, if it is not 0
-abbrev of_minus_two : List ℕ → Option End
-of_minus_two instruction = run 9 (on_r0 0xb7 0 minus_two ++ (instruction ++ exit)) (of_value 1 None)
-
--- add32 r0, 6: the sum of the low halves wraps at 32 bits, and the upper half becomes 0
-sum_of_32_bits : of_minus_two (on_r0 0x04 0 (small 6)) ≡ Some (Out (Rejected 4) 3)
-unfolding read_slot read_fields template_of is_left_out first_slots trap_at after
-sum_of_32_bits = refl
-
--- sub64 r0, 1
-difference_wraps : of_minus_two (on_r0 0x17 0 (small 1)) ≡ Some (Out (Rejected (2 ^ 64 - 3)) 3)
-unfolding read_slot read_fields template_of is_left_out first_slots trap_at after
-difference_wraps = refl
-
--- mov32 r0, -2
-moved_low_half : of_minus_two (on_r0 0xb4 0 minus_two) ≡ Some (Out (Rejected (2 ^ 32 - 2)) 3)
-unfolding read_slot read_fields template_of is_left_out first_slots trap_at after
-moved_low_half = refl
-
--- div64 r0, 3
-unsigned_quotient : of_minus_two (on_r0 0x37 0 (small 3)) ≡ Some (Out (Rejected ((2 ^ 64 - 2) / 3)) 3)
-unfolding read_slot read_fields template_of is_left_out first_slots trap_at after
-unsigned_quotient = refl
-
--- sdiv64 r0, -2
-signed_quotient : of_minus_two (on_r0 0x37 1 minus_two) ≡ Some (Out (Rejected 1) 3)
-unfolding read_slot read_fields template_of is_left_out first_slots trap_at after
-signed_quotient = refl
-
--- mod32 r0, 5
-unsigned_remainder : of_minus_two (on_r0 0x94 0 (small 5)) ≡ Some (Out (Rejected ((2 ^ 32 - 2) % 5)) 3)
-unfolding read_slot read_fields template_of is_left_out first_slots trap_at after
-unsigned_remainder = refl
-
--- mod32 r0, 0 keeps the low half alone
-remainder_by_zero : of_minus_two (on_r0 0x94 0 (small 0)) ≡ Some (Out (Rejected (2 ^ 32 - 2)) 3)
-unfolding read_slot read_fields template_of is_left_out first_slots trap_at after
-remainder_by_zero = refl
-
--- smod64 r0, 5
-signed_remainder : of_minus_two (on_r0 0x97 1 (small 5)) ≡ Some (Out (Rejected (2 ^ 64 - 2)) 3)
-unfolding read_slot read_fields template_of is_left_out first_slots trap_at after
-signed_remainder = refl
-
--- lsh64 r0, 65: the count is taken modulo 64
-count_of_64 : of_minus_two (on_r0 0x67 0 (small 65)) ≡ Some (Out (Rejected (2 ^ 64 - 4)) 3)
-unfolding read_slot read_fields template_of is_left_out first_slots trap_at after
-count_of_64 = refl
-
--- arsh32 r0, 1
-sign_kept : of_minus_two (on_r0 0xc4 0 (small 1)) ≡ Some (Out (Rejected (2 ^ 32 - 1)) 3)
-unfolding read_slot read_fields template_of is_left_out first_slots trap_at after
-sign_kept = refl
-
--- neg64 r0
-negative : of_minus_two (on_r0 0x87 0 (small 0)) ≡ Some (Out (Rejected 2) 3)
-unfolding read_slot read_fields template_of is_left_out first_slots trap_at after
-negative = refl
-
--- le16 r0
-low_bytes : of_minus_two (on_r0 0xd4 0 (small 16)) ≡ Some (Out (Rejected 0xfffe) 3)
-unfolding read_slot read_fields template_of is_left_out first_slots trap_at after
-low_bytes = refl
-
--- be16 r0
-big_endian : of_minus_two (on_r0 0xdc 0 (small 16)) ≡ Some (Out (Rejected 0xfeff) 3)
-unfolding read_slot read_fields template_of is_left_out first_slots trap_at after
-big_endian = refl
-
--- swap64 r0
-swapped_bytes : of_minus_two (on_r0 0xd7 0 (small 64)) ≡ Some (Out (Rejected 0xfeff_ffff_ffff_ffff) 3)
-unfolding read_slot read_fields template_of is_left_out first_slots trap_at after
-swapped_bytes = refl
-
--- movsx32.8 r0, r0
-extended_in_32 : of_minus_two (on_r0 0xbc 8 (small 0)) ≡ Some (Out (Rejected (2 ^ 32 - 2)) 3)
-unfolding read_slot read_fields template_of is_left_out first_slots trap_at after
-extended_in_32 = refl
-
--- movsx64.32 r0, r0
-extended_in_64 : of_minus_two (on_r0 0xbf 32 (small 0)) ≡ Some (Out (Rejected (2 ^ 64 - 2)) 3)
-unfolding read_slot read_fields template_of is_left_out first_slots trap_at after
-extended_in_64 = refl
-
--- mov64 r3, r1; add64 r3, 2; sub64 r3, 1; ld8 r0, [r3+0]; exit: the value's second byte
-second_byte : run 9 (slot 0xbf 0x13 0 0 ++ (slot 0x07 3 0 2 ++ (slot 0x17 3 0 1 ++ (slot 0x71 0x30 0 0 ++ exit)))) (of_value 1 (Some (7 ∷ 8 ∷ 9 ∷ []))) ≡ Some (Out (Rejected 8) 5)
-unfolding read_slot read_fields template_of is_left_out first_slots trap_at after
-second_byte = refl
-
--- ---- jumps
-
--- mov64 r0, 1; a jump over the next by r2 and a number; mov64 r0, 0; exit: rejected by 1 where the jump is taken
-abbrev jump_over : ℕ → ℕ → List ℕ
-jump_over opcode number = move_to 0 1 ++ (slot opcode 2 1 number ++ (move_to 0 0 ++ exit))
-
-abbrev taken : Option End
-taken = Some (Out (Rejected 1) 3)
-
-abbrev not_taken : Option End
-not_taken = Some (Out (Kept []) 4)
-
--- with the numbers 2, 3 and 4, of a value of three bytes
-abbrev jumps : ℕ → List (Option End)
-jumps opcode = map (λ number. run 9 (jump_over opcode number) (of_value 1 (Some (7 ∷ 8 ∷ 9 ∷ [])))) (2 ∷ 3 ∷ 4 ∷ [])
-
--- jeq64
-if_equal : jumps 0x15 ≡ not_taken ∷ taken ∷ not_taken ∷ []
-unfolding read_slot read_fields template_of is_left_out first_slots trap_at after
-if_equal = refl
-
--- jgt64
-if_greater : jumps 0x25 ≡ taken ∷ not_taken ∷ not_taken ∷ []
-unfolding read_slot read_fields template_of is_left_out first_slots trap_at after
-if_greater = refl
-
--- jge64
-if_greater_or_equal : jumps 0x35 ≡ taken ∷ taken ∷ not_taken ∷ []
-unfolding read_slot read_fields template_of is_left_out first_slots trap_at after
-if_greater_or_equal = refl
-
--- jne64
-if_not_equal : jumps 0x55 ≡ taken ∷ not_taken ∷ taken ∷ []
-unfolding read_slot read_fields template_of is_left_out first_slots trap_at after
-if_not_equal = refl
-
--- jlt64
-if_less : jumps 0xa5 ≡ not_taken ∷ not_taken ∷ taken ∷ []
-unfolding read_slot read_fields template_of is_left_out first_slots trap_at after
-if_less = refl
-
--- jle64
-if_less_or_equal : jumps 0xb5 ≡ not_taken ∷ taken ∷ taken ∷ []
-unfolding read_slot read_fields template_of is_left_out first_slots trap_at after
-if_less_or_equal = refl
-
--- jset64
-if_any_bit : jumps 0x45 ≡ taken ∷ taken ∷ not_taken ∷ []
-unfolding read_slot read_fields template_of is_left_out first_slots trap_at after
-if_any_bit = refl
-
--- jsgt64
-if_signed_greater : jumps 0x65 ≡ taken ∷ not_taken ∷ not_taken ∷ []
-unfolding read_slot read_fields template_of is_left_out first_slots trap_at after
-if_signed_greater = refl
-
--- jsge64
-if_signed_greater_or_equal : jumps 0x75 ≡ taken ∷ taken ∷ not_taken ∷ []
-unfolding read_slot read_fields template_of is_left_out first_slots trap_at after
-if_signed_greater_or_equal = refl
-
--- jslt64
-if_signed_less : jumps 0xc5 ≡ not_taken ∷ not_taken ∷ taken ∷ []
-unfolding read_slot read_fields template_of is_left_out first_slots trap_at after
-if_signed_less = refl
-
--- jsle64
-if_signed_less_or_equal : jumps 0xd5 ≡ not_taken ∷ taken ∷ taken ∷ []
-unfolding read_slot read_fields template_of is_left_out first_slots trap_at after
-if_signed_less_or_equal = refl
-
--- jeq32
-if_equal_32 : jumps 0x16 ≡ not_taken ∷ taken ∷ not_taken ∷ []
-unfolding read_slot read_fields template_of is_left_out first_slots trap_at after
-if_equal_32 = refl
-
--- jslt32
-if_signed_less_32 : jumps 0xc6 ≡ not_taken ∷ not_taken ∷ taken ∷ []
-unfolding read_slot read_fields template_of is_left_out first_slots trap_at after
-if_signed_less_32 = refl
-
--- mov32 r2, -2; mov64 r0, 1; a jump over the next by r2 and -2; mov64 r0, 0; exit
-abbrev by_minus_two : ℕ → Option End
-by_minus_two opcode =
-    run 9 ((0xb4 ∷ 2 ∷ 0 ∷ 0 ∷ minus_two) ++ (move_to 0 1 ++ ((opcode ∷ 2 ∷ 1 ∷ 0 ∷ minus_two) ++ (move_to 0 0 ++ exit)))) (of_value 1 None)
-
--- jeq32: the low halves are equal
-low_halves_equal : by_minus_two 0x16 ≡ Some (Out (Rejected 1) 4)
-unfolding read_slot read_fields template_of is_left_out first_slots trap_at after
-low_halves_equal = refl
-
--- jeq64: the numbers are not
-numbers_differ : by_minus_two 0x15 ≡ Some (Out (Kept []) 5)
-unfolding read_slot read_fields template_of is_left_out first_slots trap_at after
-numbers_differ = refl
-
--- jsgt64: as a signed number of 64 bits it is greater
-signed_greater : by_minus_two 0x65 ≡ Some (Out (Rejected 1) 4)
-unfolding read_slot read_fields template_of is_left_out first_slots trap_at after
-signed_greater = refl
-
--- jgt64: as an unsigned number it is not
-unsigned_greater : by_minus_two 0x25 ≡ Some (Out (Kept []) 5)
-unfolding read_slot read_fields template_of is_left_out first_slots trap_at after
-unsigned_greater = refl
-
--- mov64 r0, 1; jgt64 r2, r4, +1; mov64 r0, 0; exit: a value of three bytes is longer than a key of one
-longer_than_the_key : run 9 (move_to 0 1 ++ (slot 0x2d 0x42 1 0 ++ (move_to 0 0 ++ exit))) (of_value 1 (Some (7 ∷ 8 ∷ 9 ∷ []))) ≡ taken
-unfolding read_slot read_fields template_of is_left_out first_slots trap_at after
-longer_than_the_key = refl
-
--- mov64 r0, 1; jlt64 r2, -1, +1; mov64 r0, 0; exit: the immediate is sign-extended, and the test unsigned
-below_all_ones : run 9 (move_to 0 1 ++ ((0xa5 ∷ 2 ∷ 1 ∷ 0 ∷ 0xff ∷ 0xff ∷ 0xff ∷ 0xff ∷ []) ++ (move_to 0 0 ++ exit))) (of_value 1 None) ≡ taken
-unfolding read_slot read_fields template_of is_left_out first_slots trap_at after
-below_all_ones = refl
-
--- mov64 r0, 1; a jump without a condition over the next; mov64 r0, 0; exit
-abbrev jumped_over : ℕ → ℕ → ℕ → List ℕ
-jumped_over opcode offset imm = move_to 0 1 ++ (slot opcode 0 offset imm ++ (move_to 0 0 ++ exit))
-
--- ja +1: the distance is in the offset
-always : run 9 (jumped_over 0x05 1 0) (of_value 1 None) ≡ Some (Out (Rejected 1) 3)
-unfolding read_slot read_fields template_of is_left_out first_slots trap_at after
-always = refl
-
--- jal +1: the distance is in the immediate
-always_long : run 9 (jumped_over 0x06 0 1) (of_value 1 None) ≡ Some (Out (Rejected 1) 3)
-unfolding read_slot read_fields template_of is_left_out first_slots trap_at after
-always_long = refl
-
--- ja +0 goes on to the next
-nowhere : run 9 (jumped_over 0x05 0 0) (of_value 1 None) ≡ Some (Out (Kept []) 4)
-unfolding read_slot read_fields template_of is_left_out first_slots trap_at after
-nowhere = refl
+abbrev all_ones : List ℕ
+all_ones = 0xff ∷ 0xff ∷ 0xff ∷ 0xff ∷ []
 
 -- imm64 r0, number
 abbrev wide_move : List ℕ → List ℕ → List ℕ
 wide_move lower upper = (0x18 ∷ 0 ∷ 0 ∷ 0 ∷ lower) ++ ((0 ∷ 0 ∷ 0 ∷ 0 ∷ []) ++ upper)
-
-abbrev all_ones : List ℕ
-all_ones = 0xff ∷ 0xff ∷ 0xff ∷ 0xff ∷ []
-
--- imm64 r0, 8589934591; exit: both halves are unsigned, and the next slot is the one after the second
-wide_number : run 9 (wide_move all_ones (small 1) ++ exit) (of_value 1 None) ≡ Some (Out (Rejected 8589934591) 2)
-unfolding read_slot read_fields template_of is_left_out first_slots trap_at after
-wide_number = refl
-
--- imm64 r0, 18446744069414584320; exit
-wide_upper_half : run 9 (wide_move (small 0) all_ones ++ exit) (of_value 1 None) ≡ Some (Out (Rejected 0xffff_ffff_0000_0000) 2)
-unfolding read_slot read_fields template_of is_left_out first_slots trap_at after
-wide_upper_half = refl
-
--- mov64 r0, 1; ja +2; imm64 r0, 0; exit: a wide instruction has two slots
-over_a_wide : run 9 (move_to 0 1 ++ (slot 0x05 0 2 0 ++ (wide_move (small 0) (small 0) ++ exit))) (of_value 1 None) ≡ Some (Out (Rejected 1) 3)
-unfolding read_slot read_fields template_of is_left_out first_slots trap_at after
-over_a_wide = refl
-
--- ---- the stack
 
 -- an instruction on the stack: opcode, registers, the offset below its end, an immediate
 abbrev at_end : ℕ → ℕ → ℕ → List ℕ → List ℕ
@@ -481,227 +187,289 @@ at_end opcode registers below imm = (opcode ∷ registers ∷ (256 - below) ∷ 
 abbrev load_64 : List ℕ
 load_64 = at_end 0x79 0xa0 8 (small 0)
 
--- st64 [r10-8], -2; ld64 r0, [r10-8]; exit: the immediate is sign-extended
-stored_sign_extended : run 9 (at_end 0x7a 10 8 minus_two ++ (load_64 ++ exit)) (of_value 1 None) ≡ Some (Out (Rejected (2 ^ 64 - 2)) 3)
-unfolding read_slot read_fields template_of is_left_out first_slots trap_at after
-stored_sign_extended = refl
+-- ---- tables of runs: an image, the value that it is run on, and how the run ends
 
--- st32 [r10-8], -2; st32 [r10-4], 1; ld64 r0, [r10-8]; exit: the low word comes first
-stored_words : run 9 (at_end 0x62 10 8 minus_two ++ (at_end 0x62 10 4 (small 1) ++ (load_64 ++ exit))) (of_value 1 None) ≡ Some (Out (Rejected 0x1_ffff_fffe) 4)
-unfolding read_slot read_fields template_of is_left_out first_slots trap_at after
-stored_words = refl
+abbrev Row : Type 0
+Row = List ℕ × Option (List ℕ) × End
 
--- st64 [r10-8], -2; stx8 [r10-7], r2; ld16 r0, [r10-8]; exit, of a value of three bytes
-stored_low_bytes : run 9 (at_end 0x7a 10 8 minus_two ++ (at_end 0x73 0x2a 7 (small 0) ++ (at_end 0x69 0xa0 8 (small 0) ++ exit))) (of_value 1 (Some (7 ∷ 8 ∷ 9 ∷ []))) ≡ Some (Out (Rejected 0x3fe) 4)
-unfolding read_slot read_fields template_of is_left_out first_slots trap_at after
-stored_low_bytes = refl
+-- each row's run, of at most 40 instructions, ends as the row says
+abbrev EndAsSaid : List Row → Type 0
+EndAsSaid rows = map (λ row. run 40 row.0 (of_value row.1)) rows ≡ map (λ row. Some row.2) rows
 
--- st16 [r10-2], -2; ld8 r0, [r10-1]; exit: the high byte comes last
-stored_half : run 9 (at_end 0x6a 10 2 minus_two ++ (at_end 0x71 0xa0 1 (small 0) ++ exit)) (of_value 1 None) ≡ Some (Out (Rejected 0xff) 3)
-unfolding read_slot read_fields template_of is_left_out first_slots trap_at after
-stored_half = refl
+-- ---- outcomes
 
--- st64 [r10-8], -2; lds8 r0, [r10-8]; exit
-sign_of_a_byte : run 9 (at_end 0x7a 10 8 minus_two ++ (at_end 0x91 0xa0 8 (small 0) ++ exit)) (of_value 1 None) ≡ Some (Out (Rejected (2 ^ 64 - 2)) 3)
-unfolding read_slot read_fields template_of is_left_out first_slots trap_at after
-sign_of_a_byte = refl
+-- mov64 r0, 0; jlt64 r2, 1, +1; ld8 r0, [r1+0]; exit: the value's first byte, if it has one
+abbrev first_byte : List ℕ
+first_byte = move_to 0 0 ++ (slot 0xa5 2 1 1 ++ (slot 0x71 0x10 0 0 ++ exit))
 
--- lds16 r0, [r1+0]; exit, of the bytes 00 80
-sign_of_a_half : run 9 (slot 0x89 0x10 0 0 ++ exit) (of_value 1 (Some (0 ∷ 0x80 ∷ []))) ≡ Some (Out (Rejected 0xffff_ffff_ffff_8000) 2)
-unfolding read_slot read_fields template_of is_left_out first_slots trap_at after
-sign_of_a_half = refl
+abbrev outcomes : List Row
+outcomes =
+    -- mov64 r0, 0; exit
+    (move_to 0 0 ++ exit, None, Out (Kept []) 2)
+    -- mov64 r1, 0; call 3; exit: the record goes to output 0
+    ∷ (move_to 1 0 ++ (call 3 ++ exit), Some (118 ∷ []), Out (Kept (forwarded ∷ [])) 3)
+    -- mov64 r1, 9; call 3; exit: there is no output 9
+    ∷ (move_to 1 9 ++ (call 3 ++ exit), None, Out (Rejected 1) 3)
+    -- the seventeenth emission is not added
+    ∷ (repeated 17 (move_to 1 0 ++ call 3) ++ exit, None, Out (Rejected 3) 35)
+    -- mov64 r0, -1; add64 r0, 6; exit: 64-bit sums wrap
+    ∷ ((0xb7 ∷ 0 ∷ 0 ∷ 0 ∷ 0xff ∷ 0xff ∷ 0xff ∷ 0xff ∷ []) ++ (slot 0x07 0 0 6 ++ exit), None, Out (Rejected 5) 3)
+    -- of the value 07
+    ∷ (first_byte, Some (7 ∷ []), Out (Rejected 7) 4)
+    -- of the empty value
+    ∷ (first_byte, Some [], Out (Kept []) 3)
+    -- of the null value
+    ∷ (first_byte, None, Out (Kept []) 3)
+    -- ld16 r0, [r1+1]; exit: the low byte stands first
+    ∷ (slot 0x69 0x10 1 0 ++ exit, Some (9 ∷ 2 ∷ 1 ∷ []), Out (Rejected 258) 2)
+    -- mov64 r3, r1; add64 r3, 2; sub64 r3, 1; ld8 r0, [r3+0]; exit: the value's second byte
+    ∷ (slot 0xbf 0x13 0 0 ++ (slot 0x07 3 0 2 ++ (slot 0x17 3 0 1 ++ (slot 0x71 0x30 0 0 ++ exit))), Some (7 ∷ 8 ∷ 9 ∷ []), Out (Rejected 8) 5)
+    ∷ []
 
--- lds32 r0, [r1+0]; exit, of the bytes 01 00 00 80
-sign_of_a_word : run 9 (slot 0x81 0x10 0 0 ++ exit) (of_value 1 (Some (1 ∷ 0 ∷ 0 ∷ 0x80 ∷ []))) ≡ Some (Out (Rejected 0xffff_ffff_8000_0001) 2)
+outcomes_hold : EndAsSaid outcomes
 unfolding read_slot read_fields template_of is_left_out first_slots trap_at after
-sign_of_a_word = refl
+outcomes_hold = refl
 
--- lds8 r0, [r1+0]; exit, of the byte 7f
-positive_byte : run 9 (slot 0x91 0x10 0 0 ++ exit) (of_value 1 (Some (0x7f ∷ []))) ≡ Some (Out (Rejected 0x7f) 2)
+-- ---- arithmetic
+
+-- an instruction on r0 that follows on mov64 r0, -2, and what it leaves there
+abbrev changes : List (List ℕ × ℕ)
+changes =
+    -- add32 r0, 6: the sum of the low halves wraps at 32 bits, and the upper half becomes 0
+    (on_r0 0x04 0 (small 6), 4)
+    -- sub64 r0, 1
+    ∷ (on_r0 0x17 0 (small 1), 2 ^ 64 - 3)
+    -- mov32 r0, -2
+    ∷ (on_r0 0xb4 0 minus_two, 2 ^ 32 - 2)
+    -- div64 r0, 3
+    ∷ (on_r0 0x37 0 (small 3), (2 ^ 64 - 2) / 3)
+    -- sdiv64 r0, -2
+    ∷ (on_r0 0x37 1 minus_two, 1)
+    -- mod32 r0, 5
+    ∷ (on_r0 0x94 0 (small 5), (2 ^ 32 - 2) % 5)
+    -- mod32 r0, 0 keeps the low half alone
+    ∷ (on_r0 0x94 0 (small 0), 2 ^ 32 - 2)
+    -- smod64 r0, 5
+    ∷ (on_r0 0x97 1 (small 5), 2 ^ 64 - 2)
+    -- lsh64 r0, 65: the count is taken modulo 64
+    ∷ (on_r0 0x67 0 (small 65), 2 ^ 64 - 4)
+    -- arsh32 r0, 1
+    ∷ (on_r0 0xc4 0 (small 1), 2 ^ 32 - 1)
+    -- neg64 r0
+    ∷ (on_r0 0x87 0 (small 0), 2)
+    -- le16 r0
+    ∷ (on_r0 0xd4 0 (small 16), 0xfffe)
+    -- be16 r0
+    ∷ (on_r0 0xdc 0 (small 16), 0xfeff)
+    -- swap64 r0
+    ∷ (on_r0 0xd7 0 (small 64), 0xfeff_ffff_ffff_ffff)
+    -- movsx32.8 r0, r0
+    ∷ (on_r0 0xbc 8 (small 0), 2 ^ 32 - 2)
+    -- movsx64.32 r0, r0
+    ∷ (on_r0 0xbf 32 (small 0), 2 ^ 64 - 2)
+    ∷ []
+
+changes_hold : map (λ row. run 9 (on_r0 0xb7 0 minus_two ++ (row.0 ++ exit)) (of_value None)) changes ≡ map (λ row. Some (Out (Rejected row.1) 3)) changes
 unfolding read_slot read_fields template_of is_left_out first_slots trap_at after
-positive_byte = refl
+changes_hold = refl
+
+-- ---- conditional jumps
+
+-- mov64 r0, 1; a jump over the next by r2 and a number; mov64 r0, 0; exit: rejected by 1 where the jump is taken
+abbrev jump_over : ℕ → ℕ → List ℕ
+jump_over opcode number = move_to 0 1 ++ (slot opcode 2 1 number ++ (move_to 0 0 ++ exit))
+
+abbrev taken : End
+taken = Out (Rejected 1) 3
+
+abbrev not_taken : End
+not_taken = Out (Kept []) 4
+
+-- the opcode of a jump, and how it ends with the numbers 2, 3 and 4, of a value of three bytes
+abbrev jumps : List (ℕ × List End)
+jumps =
+    -- jeq64
+    (0x15, not_taken ∷ taken ∷ not_taken ∷ [])
+    -- jgt64
+    ∷ (0x25, taken ∷ not_taken ∷ not_taken ∷ [])
+    -- jge64
+    ∷ (0x35, taken ∷ taken ∷ not_taken ∷ [])
+    -- jne64
+    ∷ (0x55, taken ∷ not_taken ∷ taken ∷ [])
+    -- jlt64
+    ∷ (0xa5, not_taken ∷ not_taken ∷ taken ∷ [])
+    -- jle64
+    ∷ (0xb5, not_taken ∷ taken ∷ taken ∷ [])
+    -- jset64
+    ∷ (0x45, taken ∷ taken ∷ not_taken ∷ [])
+    -- jsgt64
+    ∷ (0x65, taken ∷ not_taken ∷ not_taken ∷ [])
+    -- jsge64
+    ∷ (0x75, taken ∷ taken ∷ not_taken ∷ [])
+    -- jslt64
+    ∷ (0xc5, not_taken ∷ not_taken ∷ taken ∷ [])
+    -- jsle64
+    ∷ (0xd5, not_taken ∷ taken ∷ taken ∷ [])
+    -- jeq32
+    ∷ (0x16, not_taken ∷ taken ∷ not_taken ∷ [])
+    -- jslt32
+    ∷ (0xc6, not_taken ∷ not_taken ∷ taken ∷ [])
+    ∷ []
+
+abbrev jumped : ℕ → List (Option End)
+jumped opcode = map (λ number. run 9 (jump_over opcode number) (of_value (Some (7 ∷ 8 ∷ 9 ∷ [])))) (2 ∷ 3 ∷ 4 ∷ [])
+
+jumps_hold : map (λ row. jumped row.0) jumps ≡ map (λ row. map Some row.1) jumps
+unfolding read_slot read_fields template_of is_left_out first_slots trap_at after
+jumps_hold = refl
+
+-- mov32 r2, -2; mov64 r0, 1; a jump over the next by r2 and -2; mov64 r0, 0; exit
+abbrev by_minus_two : ℕ → List ℕ
+by_minus_two opcode = (0xb4 ∷ 2 ∷ 0 ∷ 0 ∷ minus_two) ++ (move_to 0 1 ++ ((opcode ∷ 2 ∷ 1 ∷ 0 ∷ minus_two) ++ (move_to 0 0 ++ exit)))
+
+-- mov64 r0, 1; a jump without a condition over the next; mov64 r0, 0; exit
+abbrev jumped_over : ℕ → ℕ → ℕ → List ℕ
+jumped_over opcode offset imm = move_to 0 1 ++ (slot opcode 0 offset imm ++ (move_to 0 0 ++ exit))
+
+abbrev more_jumps : List Row
+more_jumps =
+    -- jeq32: the low halves are equal
+    (by_minus_two 0x16, None, Out (Rejected 1) 4)
+    -- jeq64: the numbers are not
+    ∷ (by_minus_two 0x15, None, Out (Kept []) 5)
+    -- jsgt64: as a signed number of 64 bits it is greater
+    ∷ (by_minus_two 0x65, None, Out (Rejected 1) 4)
+    -- jgt64: as an unsigned number it is not
+    ∷ (by_minus_two 0x25, None, Out (Kept []) 5)
+    -- mov64 r0, 1; jgt64 r2, r4, +1; mov64 r0, 0; exit: a value of three bytes is longer than a key of one
+    ∷ (move_to 0 1 ++ (slot 0x2d 0x42 1 0 ++ (move_to 0 0 ++ exit)), Some (7 ∷ 8 ∷ 9 ∷ []), Out (Rejected 1) 3)
+    -- mov64 r0, 1; jlt64 r2, -1, +1; mov64 r0, 0; exit: the immediate is sign-extended, and the test unsigned
+    ∷ (move_to 0 1 ++ ((0xa5 ∷ 2 ∷ 1 ∷ 0 ∷ 0xff ∷ 0xff ∷ 0xff ∷ 0xff ∷ []) ++ (move_to 0 0 ++ exit)), None, Out (Rejected 1) 3)
+    -- ja +1: the distance is in the offset
+    ∷ (jumped_over 0x05 1 0, None, Out (Rejected 1) 3)
+    -- jal +1: the distance is in the immediate
+    ∷ (jumped_over 0x06 0 1, None, Out (Rejected 1) 3)
+    -- ja +0 goes on to the next
+    ∷ (jumped_over 0x05 0 0, None, Out (Kept []) 4)
+    -- imm64 r0, 8589934591; exit: both halves are unsigned, and the next slot is the one after the second
+    ∷ (wide_move all_ones (small 1) ++ exit, None, Out (Rejected 8589934591) 2)
+    -- imm64 r0, 18446744069414584320; exit
+    ∷ (wide_move (small 0) all_ones ++ exit, None, Out (Rejected 0xffff_ffff_0000_0000) 2)
+    -- mov64 r0, 1; ja +2; imm64 r0, 0; exit: a wide instruction has two slots
+    ∷ (move_to 0 1 ++ (slot 0x05 0 2 0 ++ (wide_move (small 0) (small 0) ++ exit)), None, Out (Rejected 1) 3)
+    ∷ []
+
+more_jumps_hold : EndAsSaid more_jumps
+unfolding read_slot read_fields template_of is_left_out first_slots trap_at after
+more_jumps_hold = refl
+
+-- ---- the stack
+
+abbrev stack_uses : List Row
+stack_uses =
+    -- st64 [r10-8], -2; ld64 r0, [r10-8]; exit: the immediate is sign-extended
+    (at_end 0x7a 10 8 minus_two ++ (load_64 ++ exit), None, Out (Rejected (2 ^ 64 - 2)) 3)
+    -- st32 [r10-8], -2; st32 [r10-4], 1; ld64 r0, [r10-8]; exit: the low word comes first
+    ∷ (at_end 0x62 10 8 minus_two ++ (at_end 0x62 10 4 (small 1) ++ (load_64 ++ exit)), None, Out (Rejected 0x1_ffff_fffe) 4)
+    -- st64 [r10-8], -2; stx8 [r10-7], r2; ld16 r0, [r10-8]; exit, of a value of three bytes
+    ∷ (at_end 0x7a 10 8 minus_two ++ (at_end 0x73 0x2a 7 (small 0) ++ (at_end 0x69 0xa0 8 (small 0) ++ exit)), Some (7 ∷ 8 ∷ 9 ∷ []), Out (Rejected 0x3fe) 4)
+    -- st16 [r10-2], -2; ld8 r0, [r10-1]; exit: the high byte comes last
+    ∷ (at_end 0x6a 10 2 minus_two ++ (at_end 0x71 0xa0 1 (small 0) ++ exit), None, Out (Rejected 0xff) 3)
+    -- st64 [r10-8], -2; lds8 r0, [r10-8]; exit
+    ∷ (at_end 0x7a 10 8 minus_two ++ (at_end 0x91 0xa0 8 (small 0) ++ exit), None, Out (Rejected (2 ^ 64 - 2)) 3)
+    -- lds16 r0, [r1+0]; exit, of the bytes 00 80
+    ∷ (slot 0x89 0x10 0 0 ++ exit, Some (0 ∷ 0x80 ∷ []), Out (Rejected 0xffff_ffff_ffff_8000) 2)
+    -- lds32 r0, [r1+0]; exit, of the bytes 01 00 00 80
+    ∷ (slot 0x81 0x10 0 0 ++ exit, Some (1 ∷ 0 ∷ 0 ∷ 0x80 ∷ []), Out (Rejected 0xffff_ffff_8000_0001) 2)
+    -- lds8 r0, [r1+0]; exit, of the byte 7f
+    ∷ (slot 0x91 0x10 0 0 ++ exit, Some (0x7f ∷ []), Out (Rejected 0x7f) 2)
+    ∷ []
+
+stack_uses_hold : EndAsSaid stack_uses
+unfolding read_slot read_fields template_of is_left_out first_slots trap_at after
+stack_uses_hold = refl
 
 -- ---- traps
-
--- no bytes at all
-past_the_end : run 9 [] (of_value 1 None) ≡ Some (Stopped trap.RanOff 0)
-unfolding read_slot read_fields template_of is_left_out first_slots trap_at after
-past_the_end = refl
-
--- mov64 r0, 0 alone
-no_exit : run 9 (move_to 0 0) (of_value 1 None) ≡ Some (Stopped trap.RanOff 1)
-unfolding read_slot read_fields template_of is_left_out first_slots trap_at after
-no_exit = refl
-
--- an opcode of no table
-no_instruction : run 9 (slot 0xff 0 0 0) (of_value 1 None) ≡ Some (Stopped trap.Form 0)
-unfolding read_slot read_fields template_of is_left_out first_slots trap_at after
-no_instruction = refl
-
--- exit alone: r0 holds nothing
-exit_alone : run 9 exit (of_value 1 None) ≡ Some (Stopped trap.Unset 0)
-unfolding read_slot read_fields template_of is_left_out first_slots trap_at after
-exit_alone = refl
-
--- add64 r1, r3: two addresses
-sum_of_addresses : run 9 (slot 0x0f 0x31 0 0 ++ exit) (of_value 1 None) ≡ Some (Stopped trap.WrongType 0)
-unfolding read_slot read_fields template_of is_left_out first_slots trap_at after
-sum_of_addresses = refl
-
--- mov32 r0, r1: half of an address
-half_of_an_address : run 9 (slot 0xbc 0x10 0 0 ++ exit) (of_value 1 None) ≡ Some (Stopped trap.WrongType 0)
-unfolding read_slot read_fields template_of is_left_out first_slots trap_at after
-half_of_an_address = refl
-
--- add32 r1, 1
-sum_of_half_an_address : run 9 (slot 0x04 1 0 1 ++ exit) (of_value 1 None) ≡ Some (Stopped trap.WrongType 0)
-unfolding read_slot read_fields template_of is_left_out first_slots trap_at after
-sum_of_half_an_address = refl
-
--- sub64 r2, r1: an address is not taken from a number
-number_less_an_address : run 9 (slot 0x1f 0x12 0 0 ++ exit) (of_value 1 None) ≡ Some (Stopped trap.WrongType 0)
-unfolding read_slot read_fields template_of is_left_out first_slots trap_at after
-number_less_an_address = refl
-
--- mul64 r1, 2
-product_of_an_address : run 9 (slot 0x27 1 0 2 ++ exit) (of_value 1 None) ≡ Some (Stopped trap.WrongType 0)
-unfolding read_slot read_fields template_of is_left_out first_slots trap_at after
-product_of_an_address = refl
-
--- neg64 r1
-negated_address : run 9 (slot 0x87 1 0 0 ++ exit) (of_value 1 None) ≡ Some (Stopped trap.WrongType 0)
-unfolding read_slot read_fields template_of is_left_out first_slots trap_at after
-negated_address = refl
-
--- mov64 r10, 0
-frame_written : run 9 (move_to 10 0 ++ exit) (of_value 1 None) ≡ Some (Stopped trap.Frame 0)
-unfolding read_slot read_fields template_of is_left_out first_slots trap_at after
-frame_written = refl
-
--- ld8 r0, [r1+0] of a null value
-value_too_short : run 9 (slot 0x71 0x10 0 0 ++ exit) (of_value 1 None) ≡ Some (Stopped trap.RecordBounds 0)
-unfolding read_slot read_fields template_of is_left_out first_slots trap_at after
-value_too_short = refl
-
--- ld64 r0, [r10-520]
-below_the_stack : run 9 ((0x79 ∷ 0xa0 ∷ 0xf8 ∷ 0xfd ∷ 0 ∷ 0 ∷ 0 ∷ 0 ∷ []) ++ exit) (of_value 1 None) ≡ Some (Stopped trap.StackBounds 0)
-unfolding read_slot read_fields template_of is_left_out first_slots trap_at after
-below_the_stack = refl
-
--- ld64 r0, [r10-8]
-stack_unset : run 9 ((0x79 ∷ 0xa0 ∷ 0xf8 ∷ 0xff ∷ 0 ∷ 0 ∷ 0 ∷ 0 ∷ []) ++ exit) (of_value 1 None) ≡ Some (Stopped trap.StackUnset 0)
-unfolding read_slot read_fields template_of is_left_out first_slots trap_at after
-stack_unset = refl
-
--- st32 [r10-8], 0; ld64 r0, [r10-8]; exit: four of the eight bytes are not set
-partly_set : run 9 (at_end 0x62 10 8 (small 0) ++ (load_64 ++ exit)) (of_value 1 None) ≡ Some (Stopped trap.StackUnset 1)
-unfolding read_slot read_fields template_of is_left_out first_slots trap_at after
-partly_set = refl
-
--- st8 [r10+0], 0; exit
-above_the_stack : run 9 (slot 0x72 10 0 0 ++ exit) (of_value 1 None) ≡ Some (Stopped trap.StackBounds 0)
-unfolding read_slot read_fields template_of is_left_out first_slots trap_at after
-above_the_stack = refl
-
--- st32 [r1+0], 0; exit: also where there is no such byte
-value_written : run 9 (slot 0x62 1 0 0 ++ exit) (of_value 1 None) ≡ Some (Stopped trap.ReadOnly 0)
-unfolding read_slot read_fields template_of is_left_out first_slots trap_at after
-value_written = refl
-
--- stx8 [r3+0], r2; exit
-key_written : run 9 (slot 0x73 0x23 0 0 ++ exit) (of_value 1 None) ≡ Some (Stopped trap.ReadOnly 0)
-unfolding read_slot read_fields template_of is_left_out first_slots trap_at after
-key_written = refl
-
--- stx64 [r10-8], r1; exit
-address_stored : run 9 (at_end 0x7b 0x1a 8 (small 0) ++ exit) (of_value 1 None) ≡ Some (Stopped trap.WrongType 0)
-unfolding read_slot read_fields template_of is_left_out first_slots trap_at after
-address_stored = refl
-
--- stx64 [r10-8], r6; exit
-unset_stored : run 9 (at_end 0x7b 0x6a 8 (small 0) ++ exit) (of_value 1 None) ≡ Some (Stopped trap.Unset 0)
-unfolding read_slot read_fields template_of is_left_out first_slots trap_at after
-unset_stored = refl
-
--- st8 [r2+0], 0; exit
-stored_at_a_number : run 9 (slot 0x72 2 0 0 ++ exit) (of_value 1 None) ≡ Some (Stopped trap.WrongType 0)
-unfolding read_slot read_fields template_of is_left_out first_slots trap_at after
-stored_at_a_number = refl
-
--- ja -1; exit
-always_back : run 9 ((0x05 ∷ 0 ∷ 0xff ∷ 0xff ∷ 0 ∷ 0 ∷ 0 ∷ 0 ∷ []) ++ exit) (of_value 1 None) ≡ Some (Stopped trap.Jump 0)
-unfolding read_slot read_fields template_of is_left_out first_slots trap_at after
-always_back = refl
-
--- jal -1; exit
-always_back_long : run 9 ((0x06 ∷ 0 ∷ 0 ∷ 0 ∷ all_ones) ++ exit) (of_value 1 None) ≡ Some (Stopped trap.Jump 0)
-unfolding read_slot read_fields template_of is_left_out first_slots trap_at after
-always_back_long = refl
-
--- ja +1; imm64 r0, 0; exit
-always_into_a_wide : run 9 (slot 0x05 0 1 0 ++ (wide_move (small 0) (small 0) ++ exit)) (of_value 1 None) ≡ Some (Stopped trap.Jump 0)
-unfolding read_slot read_fields template_of is_left_out first_slots trap_at after
-always_into_a_wide = refl
-
--- the first slot of a 64-bit immediate alone
-cut_wide : run 9 (slot 0x18 0 0 0) (of_value 1 None) ≡ Some (Stopped trap.Form 0)
-unfolding read_slot read_fields template_of is_left_out first_slots trap_at after
-cut_wide = refl
-
--- imm64 r10, 0; exit
-wide_frame : run 9 (slot 0x18 10 0 0 ++ (slot 0 0 0 0 ++ exit)) (of_value 1 None) ≡ Some (Stopped trap.Frame 0)
-unfolding read_slot read_fields template_of is_left_out first_slots trap_at after
-wide_frame = refl
 
 -- mov64 r0, 0; jeq64 r2, 0, -1; exit: back to itself, if the value is empty
 abbrev jump_back : List ℕ
 jump_back = move_to 0 0 ++ ((0x15 ∷ 2 ∷ 0xff ∷ 0xff ∷ 0 ∷ 0 ∷ 0 ∷ 0 ∷ []) ++ exit)
 
-back : run 9 jump_back (of_value 1 None) ≡ Some (Stopped trap.Jump 1)
-unfolding read_slot read_fields template_of is_left_out first_slots trap_at after
-back = refl
+abbrev trapped_runs : List Row
+trapped_runs =
+    -- no bytes at all
+    ([], None, Stopped trap.RanOff 0)
+    -- mov64 r0, 0 alone
+    ∷ (move_to 0 0, None, Stopped trap.RanOff 1)
+    -- an opcode of no table
+    ∷ (slot 0xff 0 0 0, None, Stopped trap.Form 0)
+    -- exit alone: r0 holds nothing
+    ∷ (exit, None, Stopped trap.Unset 0)
+    -- add64 r1, r3: two addresses
+    ∷ (slot 0x0f 0x31 0 0 ++ exit, None, Stopped trap.WrongType 0)
+    -- mov32 r0, r1: half of an address
+    ∷ (slot 0xbc 0x10 0 0 ++ exit, None, Stopped trap.WrongType 0)
+    -- add32 r1, 1
+    ∷ (slot 0x04 1 0 1 ++ exit, None, Stopped trap.WrongType 0)
+    -- sub64 r2, r1: an address is not taken from a number
+    ∷ (slot 0x1f 0x12 0 0 ++ exit, None, Stopped trap.WrongType 0)
+    -- mul64 r1, 2
+    ∷ (slot 0x27 1 0 2 ++ exit, None, Stopped trap.WrongType 0)
+    -- neg64 r1
+    ∷ (slot 0x87 1 0 0 ++ exit, None, Stopped trap.WrongType 0)
+    -- mov64 r10, 0
+    ∷ (move_to 10 0 ++ exit, None, Stopped trap.Frame 0)
+    -- ld8 r0, [r1+0] of a null value
+    ∷ (slot 0x71 0x10 0 0 ++ exit, None, Stopped trap.RecordBounds 0)
+    -- ld64 r0, [r10-520]
+    ∷ ((0x79 ∷ 0xa0 ∷ 0xf8 ∷ 0xfd ∷ 0 ∷ 0 ∷ 0 ∷ 0 ∷ []) ++ exit, None, Stopped trap.StackBounds 0)
+    -- ld64 r0, [r10-8]
+    ∷ ((0x79 ∷ 0xa0 ∷ 0xf8 ∷ 0xff ∷ 0 ∷ 0 ∷ 0 ∷ 0 ∷ []) ++ exit, None, Stopped trap.StackUnset 0)
+    -- st32 [r10-8], 0; ld64 r0, [r10-8]; exit: four of the eight bytes are not set
+    ∷ (at_end 0x62 10 8 (small 0) ++ (load_64 ++ exit), None, Stopped trap.StackUnset 1)
+    -- st8 [r10+0], 0; exit
+    ∷ (slot 0x72 10 0 0 ++ exit, None, Stopped trap.StackBounds 0)
+    -- st32 [r1+0], 0; exit: also where there is no such byte
+    ∷ (slot 0x62 1 0 0 ++ exit, None, Stopped trap.ReadOnly 0)
+    -- stx8 [r3+0], r2; exit
+    ∷ (slot 0x73 0x23 0 0 ++ exit, None, Stopped trap.ReadOnly 0)
+    -- stx64 [r10-8], r1; exit
+    ∷ (at_end 0x7b 0x1a 8 (small 0) ++ exit, None, Stopped trap.WrongType 0)
+    -- stx64 [r10-8], r6; exit
+    ∷ (at_end 0x7b 0x6a 8 (small 0) ++ exit, None, Stopped trap.Unset 0)
+    -- st8 [r2+0], 0; exit
+    ∷ (slot 0x72 2 0 0 ++ exit, None, Stopped trap.WrongType 0)
+    -- ja -1; exit
+    ∷ ((0x05 ∷ 0 ∷ 0xff ∷ 0xff ∷ 0 ∷ 0 ∷ 0 ∷ 0 ∷ []) ++ exit, None, Stopped trap.Jump 0)
+    -- jal -1; exit
+    ∷ ((0x06 ∷ 0 ∷ 0 ∷ 0 ∷ all_ones) ++ exit, None, Stopped trap.Jump 0)
+    -- ja +1; imm64 r0, 0; exit
+    ∷ (slot 0x05 0 1 0 ++ (wide_move (small 0) (small 0) ++ exit), None, Stopped trap.Jump 0)
+    -- the first slot of a 64-bit immediate alone
+    ∷ (slot 0x18 0 0 0, None, Stopped trap.Form 0)
+    -- imm64 r10, 0; exit
+    ∷ (slot 0x18 10 0 0 ++ (slot 0 0 0 0 ++ exit), None, Stopped trap.Frame 0)
+    ∷ (jump_back, None, Stopped trap.Jump 1)
+    -- a jump that is not taken has no trap
+    ∷ (jump_back, Some (7 ∷ []), Out (Kept []) 3)
+    -- jeq64 r2, 0, +1; exit: to the end of the image
+    ∷ (slot 0x15 2 1 0 ++ exit, None, Stopped trap.Jump 0)
+    -- the same with four bytes behind it: they are no whole slot
+    ∷ (slot 0x15 2 1 0 ++ (exit ++ (0x95 ∷ 0 ∷ 0 ∷ 0 ∷ [])), None, Stopped trap.Jump 0)
+    -- mov64 r0, 0 and four bytes behind it: the run falls off the image
+    ∷ (move_to 0 0 ++ (0x95 ∷ 0 ∷ 0 ∷ 0 ∷ []), None, Stopped trap.RanOff 1)
+    -- jeq64 r2, 0, +1; a 64-bit immediate; exit: into the second slot of the wide instruction
+    ∷ (slot 0x15 2 1 0 ++ (slot 0x18 0 0 0 ++ (slot 0 0 0 0 ++ exit)), None, Stopped trap.Jump 0)
+    -- mov64 r0, r10; jeq64 r0, 0, +0; exit: a jump tests numbers alone
+    ∷ (slot 0xbf 0xa0 0 0 ++ (slot 0x15 0 0 0 ++ exit), None, Stopped trap.WrongType 1)
+    -- call 99
+    ∷ (call 99 ++ exit, None, Stopped trap.Helper 0)
+    -- call 3 where r1 is still the value's address
+    ∷ (call 3 ++ exit, None, Stopped trap.HelperArgument 0)
+    -- mov64 r0, r1; exit
+    ∷ (slot 0xbf 0x10 0 0 ++ exit, None, Stopped trap.Exit 1)
+    ∷ []
 
--- a jump that is not taken has no trap
-back_not_taken : run 9 jump_back (of_value 1 (Some (7 ∷ []))) ≡ Some (Out (Kept []) 3)
+trapped_runs_hold : EndAsSaid trapped_runs
 unfolding read_slot read_fields template_of is_left_out first_slots trap_at after
-back_not_taken = refl
-
--- jeq64 r2, 0, +1; exit: to the end of the image
-to_the_end : run 9 (slot 0x15 2 1 0 ++ exit) (of_value 1 None) ≡ Some (Stopped trap.Jump 0)
-unfolding read_slot read_fields template_of is_left_out first_slots trap_at after
-to_the_end = refl
-
--- the same with four bytes behind it: they are no whole slot
-to_a_cut_slot : run 9 (slot 0x15 2 1 0 ++ (exit ++ (0x95 ∷ 0 ∷ 0 ∷ 0 ∷ []))) (of_value 1 None) ≡ Some (Stopped trap.Jump 0)
-unfolding read_slot read_fields template_of is_left_out first_slots trap_at after
-to_a_cut_slot = refl
-
--- mov64 r0, 0 and four bytes behind it: the run falls off the image
-onto_a_cut_slot : run 9 (move_to 0 0 ++ (0x95 ∷ 0 ∷ 0 ∷ 0 ∷ [])) (of_value 1 None) ≡ Some (Stopped trap.RanOff 1)
-unfolding read_slot read_fields template_of is_left_out first_slots trap_at after
-onto_a_cut_slot = refl
-
--- jeq64 r2, 0, +1; a 64-bit immediate; exit: into the second slot of the wide instruction
-into_a_wide : run 9 (slot 0x15 2 1 0 ++ (slot 0x18 0 0 0 ++ (slot 0 0 0 0 ++ exit))) (of_value 1 None) ≡ Some (Stopped trap.Jump 0)
-unfolding read_slot read_fields template_of is_left_out first_slots trap_at after
-into_a_wide = refl
-
--- mov64 r0, r10; jeq64 r0, 0, +0; exit: a jump tests numbers alone
-address_tested : run 9 (slot 0xbf 0xa0 0 0 ++ (slot 0x15 0 0 0 ++ exit)) (of_value 1 None) ≡ Some (Stopped trap.WrongType 1)
-unfolding read_slot read_fields template_of is_left_out first_slots trap_at after
-address_tested = refl
-
--- call 99
-no_helper : run 9 (call 99 ++ exit) (of_value 1 None) ≡ Some (Stopped trap.Helper 0)
-unfolding read_slot read_fields template_of is_left_out first_slots trap_at after
-no_helper = refl
-
--- call 3 where r1 is still the value's address
-address_as_output : run 9 (call 3 ++ exit) (of_value 1 None) ≡ Some (Stopped trap.HelperArgument 0)
-unfolding read_slot read_fields template_of is_left_out first_slots trap_at after
-address_as_output = refl
-
--- mov64 r0, r1; exit
-address_at_exit : run 9 (slot 0xbf 0x10 0 0 ++ exit) (of_value 1 None) ≡ Some (Stopped trap.Exit 1)
-unfolding read_slot read_fields template_of is_left_out first_slots trap_at after
-address_at_exit = refl
+trapped_runs_hold = refl

@@ -1,3 +1,8 @@
+ghost use Rattle.std.specs.Prelude.{◌≡◌};
+ghost use Rattle.machine_spec.specs.Image.{distance_of};
+ghost use Rattle.machine_spec.specs.Traps.{is_stack};
+ghost use Rattle.machine_spec.specs.Values.{byte_count};
+
 use crate::{Change, Operation, Test, Width};
 use thiserror::Error;
 
@@ -9,6 +14,19 @@ pub enum Region {
     Value,
 }
 
+impl Region {
+    /// Whether it is the stack.
+    pub fn is_stack(self) -> bool
+        ensures { result ≡ is_stack self }
+    {
+        match self {
+            Region::Stack => true,
+            Region::Key => false,
+            Region::Value => false,
+        }
+    }
+}
+
 /// How many bytes a load or a store moves: 1, 2, 4 or 8 (RFC 9669, section 5).
 #[derive(Clone, Copy, Debug, PartialEq, Eq)]
 pub enum Size {
@@ -16,6 +34,20 @@ pub enum Size {
     Half,
     Word,
     Double,
+}
+
+impl Size {
+    /// How many bytes it is.
+    pub fn byte_count(self) -> u8
+        ensures { result ≡ byte_count self }
+    {
+        match self {
+            Size::Byte => 1,
+            Size::Half => 2,
+            Size::Word => 4,
+            Size::Double => 8,
+        }
+    }
 }
 
 /// What a load fills the bits above its bytes with: with 0, or with the top bit of its bytes (RFC
@@ -32,6 +64,18 @@ pub enum Extension {
 pub enum Distance {
     Short(i16),
     Long(i32),
+}
+
+impl Distance {
+    /// The number of slots; below 0 it leads back.
+    pub fn slots(self) -> i32
+        ensures { result ≡ distance_of self }
+    {
+        match self {
+            Distance::Short(slots) => i32::from(slots),
+            Distance::Long(slots) => slots,
+        }
+    }
 }
 
 /// The second operand: a register, or the immediate of the instruction.
@@ -74,13 +118,6 @@ pub enum Instruction {
 pub struct Placed {
     pub slot: usize,
     pub instruction: Instruction,
-}
-
-/// A function of the host that a program may call.
-#[derive(Clone, Copy, Debug, PartialEq, Eq)]
-pub enum Helper {
-    /// Emits the record as it is. r1: the output partition.
-    EmitRecord,
 }
 
 /// Why the plain machine stops without an outcome.

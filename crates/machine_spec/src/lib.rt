@@ -1,10 +1,11 @@
 //! The machine of RFC 9669 as klog profiles it: its instructions, its states and what a program
 //! means on a record.
 //!
-//! This crate has the types and the definitions that a reader must believe. Its one function is
-//! `Summary::of`, which every crate above shares.
+//! This crate has the types and the definitions that a reader must believe. Its few functions read
+//! what the definitions say of an instruction and of a helper, which every crate above shares.
 #![tactic(auto)]
 
+mod helper;
 mod instruction;
 mod limits;
 mod opcode;
@@ -12,8 +13,9 @@ mod operation;
 mod outcome;
 mod summary;
 
+pub use helper::{Argument, HELPERS, Helper, Signature};
 pub use instruction::{
-    Distance, Extension, Helper, Instruction, IsaFault, Placed, Region, Size, Source, Trap,
+    Distance, Extension, Instruction, IsaFault, Placed, Region, Size, Source, Trap,
 };
 pub use limits::{MAX_EMISSIONS, MAX_SLOTS, STACK_SIZE};
 pub use opcode::TEMPLATES;

@@ -1,6 +1,9 @@
 //! Arithmetic operations, changes of one number and the tests of jumps (RFC 9669, sections 4.1 to
 //! 4.3). What they give is defined in `specs/Arithmetic.antt`.
 
+ghost use Rattle.std.specs.Prelude.{◌≡◌};
+ghost use Rattle.machine_spec.specs.Values.{is_subtraction, moves_address};
+
 /// How many low bits of its operands an operation or a test works on: 32 in the classes ALU and
 /// JMP32, 64 in ALU64 and JMP.
 #[derive(Clone, Copy, Debug, PartialEq, Eq)]
@@ -31,6 +34,52 @@ pub enum Operation {
     Xor,
     /// Fills with the sign.
     ArithmeticRightShift,
+}
+
+impl Operation {
+    /// Whether it is a subtraction.
+    pub fn is_subtraction(self) -> bool
+        ensures { result ≡ is_subtraction self }
+    {
+        match self {
+            Operation::Sub => true,
+            Operation::Add
+            | Operation::Mul
+            | Operation::Div
+            | Operation::SignedDiv
+            | Operation::Or
+            | Operation::And
+            | Operation::LeftShift
+            | Operation::RightShift
+            | Operation::Mod
+            | Operation::SignedMod
+            | Operation::Xor
+            | Operation::ArithmeticRightShift => false,
+        }
+    }
+
+    /// Whether it moves an address by a number, at this width.
+    pub fn moves_address(self, width: Width) -> bool
+        ensures { result ≡ moves_address width self }
+    {
+        match width {
+            Width::Bits32 => false,
+            Width::Bits64 => match self {
+                Operation::Add | Operation::Sub => true,
+                Operation::Mul
+                | Operation::Div
+                | Operation::SignedDiv
+                | Operation::Or
+                | Operation::And
+                | Operation::LeftShift
+                | Operation::RightShift
+                | Operation::Mod
+                | Operation::SignedMod
+                | Operation::Xor
+                | Operation::ArithmeticRightShift => false,
+            },
+        }
+    }
 }
 
 /// How many low bits of a number a change of byte order keeps (RFC 9669, section 4.2).

@@ -9,3 +9,5 @@ mod images;
 mod operations;
 #[cfg(test)]
 mod outcomes;
+#[cfg(test)]
+mod parts;

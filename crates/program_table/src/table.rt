@@ -7,13 +7,15 @@ ghost use Rattle.verifier_spec.specs.Loading.{IsAccepted};
 ghost use Rattle.log_spec.specs.Catalogue.{IsImageRefusal, images_of, image_of, has_name, is_name, is_name_byte, with_image};
 ghost use Rattle.program_table.specs.Tables.{entry_view, table_view, LatestIs, LoadsInto, RefusedAs, version_of};
 ghost use Rattle.annotate.specs.Loads.{FaultIs};
+ghost use Rattle.arrayvec.specs.ArrayVec.{array_vec_len};
 
-use crate::name::share_name;
+use arrayvec::{ArrayString, ArrayVec};
 use bytes::Bytes;
 use log_item::Program;
 use log_spec::{Name, Refusal};
 use machine_spec::IsaFault;
 use std::alloc::{AllocError, Global};
+use std::default::MadeWith;
 use std::marker::Model;
 use std::sync::Arc;
 use verifier_spec::{Check, LoadFault};
@@ -30,14 +32,27 @@ const MOST_VERSIONS: usize = 0xffff_ffff;
 /// A name with its programs, oldest first.
 #[derive(Drop)]
 pub struct Entry {
-    pub name: Name,
+    pub name: ArrayString<LONGEST_NAME>,
     pub programs: Vec<Arc<Program>>,
 }
+
+/// What lies in a place of the table that has no name yet.
+impl MadeWith<Global> for Entry {
+    fn made_with(alloc: Global) -> Entry {
+        Entry {
+            name: ArrayString::new(),
+            programs: Vec::new(alloc),
+        }
+    }
+}
+
+/// The names in the order of their first loads.
+type Entries = ArrayVec<Entry, MOST_NAMES, Global>;
 
 /// The programs that were loaded, by name.
 #[derive(Drop)]
 pub struct Table {
-    entries: Vec<Entry>,
+    entries: Entries,
 }
 
 impl Model for Table {
@@ -79,10 +94,10 @@ fn place_of(entries: &[Entry], name: &Name) -> Option<usize>
     ensures absent { IfNone result (has_name (table_view entries.now) name.now ≡ false) }
     ensures found { IfSome result (λ i. i < length entries.now) }
     ensures first { IfSome result (λ i. has_name (table_view (take i entries.now)) name.now ≡ false) }
-    ensures named { IfSome result (λ i. (d : Entry) → bytes_eq (slice_index_or entries.now i d).name name.now ≡ true) }
+    ensures named { IfSome result (λ i. (d : Entry) → bytes_eq (slice_index_or entries.now i d).name.bytes name.now ≡ true) }
 {
     for (i, entry) in entries.iter().enumerate() {
-        if entry.name.text.as_str() == name.text.as_str() {
+        if entry.name.as_str() == name.text.as_str() {
             return Some(i);
         }
     }
@@ -130,16 +145,16 @@ fn add_program(entry: &mut Entry, program: Arc<Program>) -> Result<(), AllocErro
 /// One more program of the name at a place.
 fn add_version(
     alloc: Global,
-    entries: &mut Vec<Entry>,
+    entries: &mut [Entry],
     place: usize,
     name: &Name,
     image: &Bytes,
 ) -> Result<u32, Refusal>
     requires form { is_name name.now ≡ true }
-    requires inside { place < length entries.old.items }
-    requires first { has_name (table_view (take place entries.old.items)) name.now ≡ false }
-    requires named { (d : Entry) → bytes_eq (slice_index_or entries.old.items place d).name name.now ≡ true }
-    ensures { LoadsInto (table_view entries.old.items) name.now image.now result (table_view entries.new.items) }
+    requires inside { place < length entries.old }
+    requires first { has_name (table_view (take place entries.old)) name.now ≡ false }
+    requires named { (d : Entry) → bytes_eq (slice_index_or entries.old place d).name.bytes name.now ≡ true }
+    ensures { LoadsInto (table_view entries.old) name.now image.now result (table_view entries.new) }
 {
     let versions = entries[place].programs.len();
     if versions >= MOST_VERSIONS {
@@ -157,7 +172,7 @@ fn add_version(
 /// The first program of a name that is not loaded.
 fn add_name(
     alloc: Global,
-    entries: &mut Vec<Entry>,
+    entries: &mut Entries,
     name: &Name,
     image: &Bytes,
 ) -> Result<u32, Refusal>
@@ -165,7 +180,7 @@ fn add_name(
     requires new { has_name (table_view entries.old.items) name.now ≡ false }
     ensures { LoadsInto (table_view entries.old.items) name.now image.now result (table_view entries.new.items) }
 {
-    if entries.len() >= MOST_NAMES {
+    if entries.is_full() {
         return Err(Refusal::Full);
     }
     match program_of(alloc, image) {
@@ -177,26 +192,39 @@ fn add_name(
     }
 }
 
+/// The text of a name, in the entry itself.
+fn kept_name(name: &str) -> ArrayString<LONGEST_NAME>
+    requires { length name.now ≤ 32 }
+    ensures { result.bytes ≡ name.now }
+{
+    let mut kept = ArrayString::new();
+    kept.push_str(name);
+    kept
+}
+
 fn entry_of(alloc: Global, name: &Name, program: Arc<Program>) -> Result<Entry, AllocError>
+    requires { is_name name.now ≡ true }
     ensures { IfOk result (λ entry. entry_view entry ≡ record { name = name.now; images = arc_value program ∷ [] }) }
 {
-    let name = share_name(alloc, name)?;
     let mut programs = Vec::new(alloc);
     programs.push(program)?;
+    let name = kept_name(name.text.as_str());
     Ok(Entry { name, programs })
 }
 
 fn add_entry(
     alloc: Global,
-    entries: &mut Vec<Entry>,
+    entries: &mut Entries,
     name: &Name,
     program: Arc<Program>,
 ) -> Result<(), AllocError>
+    requires form { is_name name.now ≡ true }
+    requires room { array_vec_len entries.old < 64 }
     ensures ok { OnOk result (table_view entries.new.items ≡ table_view entries.old.items ++ record { name = name.now; images = arc_value program ∷ [] } ∷ []) }
     ensures err { OnErr result (table_view entries.new.items ≡ table_view entries.old.items) }
 {
     let entry = entry_of(alloc, name, program)?;
-    entries.push(entry)?;
+    entries.push(entry);
     Ok(())
 }
 
@@ -206,7 +234,7 @@ impl Table {
         ensures { result ≡ [] }
     {
         Table {
-            entries: Vec::new(alloc),
+            entries: ArrayVec::new_in(alloc),
         }
     }
 
@@ -228,9 +256,10 @@ impl Table {
     pub fn latest(&self, name: &Name) -> Option<(u32, &Arc<Program>)>
         ensures { LatestIs (images_of self.now name.now) (option_map (λ found. (found.0, arc_value found.1.now)) result) }
     {
-        match place_of(&self.entries, name) {
+        let entries = self.entries.as_slice();
+        match place_of(entries, name) {
             None => None,
-            Some(place) => last_program(&self.entries[place].programs),
+            Some(place) => last_program(&entries[place].programs),
         }
     }
 
@@ -246,9 +275,10 @@ impl Table {
     pub fn version(&self, name: &Name, version: u32) -> Option<&Arc<Program>>
         ensures { option_map (λ program. arc_value program.now) result ≡ image_of self.now name.now version }
     {
-        match place_of(&self.entries, name) {
+        let entries = self.entries.as_slice();
+        match place_of(entries, name) {
             None => None,
-            Some(place) => program_at(&self.entries[place].programs, version),
+            Some(place) => program_at(&entries[place].programs, version),
         }
     }
 }
@@ -294,17 +324,18 @@ fn copies_of_programs(
 fn copy_of_entry(alloc: Global, entry: &Entry) -> Result<Entry, AllocError>
     ensures { IfOk result (λ copy. entry_view copy ≡ entry_view entry.now) }
 {
-    let name = share_name(alloc, &entry.name)?;
     let programs = copies_of_programs(alloc, &entry.programs)?;
+    let name = entry.name;
     Ok(Entry { name, programs })
 }
 
-fn copies_of_entries(alloc: Global, entries: &[Entry]) -> Result<Vec<Entry>, AllocError>
+fn copies_of_entries(alloc: Global, entries: &[Entry]) -> Result<Entries, AllocError>
+    requires { length entries.now ≤ 64 }
     ensures { IfOk result (λ copies. table_view copies.items ≡ table_view entries.now) }
 {
-    let mut copies = Vec::with_capacity(alloc, entries.len())?;
+    let mut copies = ArrayVec::new_in(alloc);
     for entry in entries {
-        copies.push(copy_of_entry(alloc, entry)?)?;
+        copies.push(copy_of_entry(alloc, entry)?);
     }
     Ok(copies)
 }

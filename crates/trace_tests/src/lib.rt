@@ -4,6 +4,8 @@
 #[cfg(test)]
 mod ends;
 #[cfg(test)]
+mod helpers;
+#[cfg(test)]
 mod runs;
 #[cfg(test)]
 mod trap_order;

@@ -36,14 +36,14 @@ fn trap_name(trap: Trap) -> &'static str {
 
 /// What the program of these bytes ends with on a record with this value and the key `key`, and
 /// after how many instructions.
-pub fn end_of_bytes(
+pub(crate) fn end_of_bytes(
     alloc: Global,
     image: &[u8],
     value: Option<&'static [u8]>,
     outputs: usize,
 ) -> Result<String, Fail> {
     let place = Place {
-        partition: 0,
+        partition: 7,
         offset: 5,
         timestamp: 1000,
         outputs,
@@ -59,7 +59,7 @@ pub fn end_of_bytes(
 }
 
 /// The same of the program of these slots, each written as its eight bytes read from left to right.
-pub fn end_of(
+pub(crate) fn end_of(
     alloc: Global,
     slots: &[u64],
     value: Option<&'static [u8]>,

@@ -1,10 +1,9 @@
 -- Checks and transfer keep the order of states: of two states, one within the other, the first passes each check that
 -- the second passes, and what an edge brings from the first is within what it brings from the second.
-use Rattle.std.proofs.Common.{◌≡◌, ℕ, zero, suc, ◌+◌, ◌-◌, ◌<◌, ◌≤◌, ℤ, pos, negsuc, ◌+ℤ◌, neg_ℤ, ◌≤ℤ◌, Bool, true, false, List, [], ◌∷◌, length, get_or, Option, Some, None, unsigned_abs, ◌&&◌, refl, sym, ap, subst, inl, inr, ⊎_elim, arith}
+use Rattle.std.proofs.Common.{◌≡◌, ℕ, zero, suc, ◌+◌, ◌-◌, ◌<◌, ◌≤◌, ℤ, pos, negsuc, ◌+ℤ◌, neg_ℤ, ◌≤ℤ◌, Bool, true, false, List, ◌∷◌, length, get_or, Option, Some, None, unsigned_abs, ◌&&◌, refl, sym, ap, subst, inl, inr, ⊎_elim, arith}
 use Rattle.std.specs.Ordering.{int_eq}
 use Rattle.std.proofs.lemmas.Bool.Decides.{Decides-int_eq}
-use Rattle.std.specs.List.{list_any}
-use Rattle.std.proofs.lemmas.Bool.{and_parts, and_from, or_parts, or_from, not-false, not_from_true, cases_Bool, cond-true, cond-false, le-leb}
+use Rattle.std.proofs.lemmas.Bool.{and_parts, and_from, not-false, not_from_true, cases_Bool, cond-true, cond-false, le-leb}
 use Rattle.std.proofs.lemmas.Int.{ints}
 use Rattle.machine_spec.specs.declared.limits.TheConstants.{STACK_SIZE}
 use Rattle.machine_spec.specs.declared.operation.Width.TheVariants.{Bits32, Bits64}
@@ -14,8 +13,9 @@ use Rattle.machine_spec.specs.declared.instruction.Size.{Size}
 use Rattle.machine_spec.specs.declared.instruction.Size.TheVariants as size
 use Rattle.machine_spec.specs.declared.instruction.Extension.{Extension}
 use Rattle.machine_spec.specs.declared.instruction.Extension.TheVariants.{Zero, Sign}
-use Rattle.machine_spec.specs.declared.instruction.Helper.{Helper}
-use Rattle.machine_spec.specs.declared.instruction.Helper.TheVariants.{EmitRecord}
+use Rattle.machine_spec.specs.declared.helper.Helper.{Helper}
+use Rattle.machine_spec.specs.declared.helper.Argument.{Argument}
+use Rattle.machine_spec.specs.declared.helper.Argument.TheVariants as argument
 use Rattle.machine_spec.specs.declared.instruction.Instruction.{Instruction}
 use Rattle.machine_spec.specs.declared.instruction.Instruction.TheVariants.{Move, Compute, Load, Unary, Store, JumpIf, Jump, Wide, Call, Exit}
 use Rattle.machine_spec.specs.declared.summary.Operands.{Operands}
@@ -27,21 +27,21 @@ use Rattle.machine_spec.specs.declared.summary.Condition.{Condition}
 use Rattle.machine_spec.specs.declared.summary.Summary.{Summary}
 use Rattle.machine_spec.specs.Summaries.{summary_of}
 use Rattle.machine_spec.specs.Values.{byte_count}
-use Rattle.machine_spec.specs.Machine.{helper_of}
-use Rattle.machine_spec.specs.Traps.{read_registers, is_stack}
+use Rattle.machine_spec.specs.Machine.{signature_of, helper_of}
+use Rattle.machine_spec.specs.Traps.{helper_called, arguments_of, read_registers, is_stack}
 use Rattle.verifier_spec.specs.declared.state.Abs.{Abs}
 use Rattle.verifier_spec.specs.declared.state.Abs.TheVariants as abs
 use Rattle.verifier_spec.specs.declared.state.StackSet.{StackSet}
 use Rattle.verifier_spec.specs.declared.state.Abstract.{Abstract}
 use Rattle.verifier_spec.specs.Kinds.{is_set, kind_at, is_unknown, is_address_kind, is_kind_within}
 use Rattle.verifier_spec.specs.States.{is_proper, is_within}
-use Rattle.verifier_spec.specs.Checks.{source_kind, reads_unknown, has_wrong_kinds, has_wrong_base_kind, has_wrong_condition_kind, reach_at, reach_of, is_reach_within, may_write_record, may_leave_record, may_leave_stack, are_set, may_read_unset, has_wrong_argument_kind, may_call_wrongly, may_exit_wrongly, failed_check}
+use Rattle.verifier_spec.specs.Checks.{source_kind, reads_unknown, has_wrong_kinds, has_wrong_base_kind, has_wrong_condition_kind, reach_at, reach_of, is_reach_within, may_write_record, may_leave_record, may_leave_stack, are_set, may_read_unset, is_wrong_argument_kind, may_call_wrongly, may_exit_wrongly, failed_check}
 use Rattle.verifier_spec.specs.Transfer.{with_stored, with_kind, moved_kind, changed_kind, loaded_kind, answer_kind, after_call_kinds, called_kinds, jump_edge, falls_to, jumps_to}
 use Rattle.verifier_spec.specs.Annotation.{is_edge_covered}
 use Rattle.verifier_spec.specs.Soundness.{KeepsOrder}
 use Rattle.verifier_spec.proofs.Order.{IsWithin, within_parts, within_from}
 use Rattle.verifier_spec.proofs.Proper.{proper_parts, proper_kind, source_proper}
-use Rattle.verifier_spec.proofs.Safety.{Passes, passes, failed_from, set_at}
+use Rattle.verifier_spec.proofs.Safety.{Passes, passes, failed_from, set_at, none_kept}
 use Rattle.verifier_spec.proofs.StackSets.{places_kept, places_set, places_only}
 use Rattle.verifier_spec.proofs.Tighter.{tested_within}
 use Rattle.verifier_spec.proofs.Whole.{le_z-true, le-le_z, le_trans_z, negative, gap_is}
@@ -96,8 +96,8 @@ called_pairs P (j0 ∷ j1 ∷ j2 ∷ j3 ∷ j4 ∷ j5 ∷ js) (k0 ∷ k1 ∷ k2 
 called_pairs P (j0 ∷ j1 ∷ j2 ∷ j3 ∷ j4 ∷ j5 ∷ js) ks answer q d e h p n = absurd (omega arith)
 called_pairs P js ks answer q d e h p n = absurd (omega arith)
 
-answer_kept : (c : Abstract) (helper : Helper) → is_kind_within c (answer_kind helper) (answer_kind helper) ≡ true
-answer_kept c EmitRecord = refl
+number_kept : (c : Abstract) (low high : ℕ) → is_kind_within c (abs.Num low high) (abs.Num low high) ≡ true
+number_kept c low high = and_from _ _ (le-leb low low (omega arith)) (le-leb high high (omega arith))
 
 -- bytes that are set stay so in a store
 stored_kept : (set : StackSet) (at : Region) (low high : ℤ) (size q : ℕ) → q < 512 → is_set set q ≡ true
@@ -132,14 +132,8 @@ module _ (a b : Abstract) (w : IsWithin a b) (pa : is_proper a ≡ true) (pb : i
 
   -- ---- the rows of the checks
 
-  known_list : (registers : List ℕ) → list_any (λ r. is_unknown (kind_at b r)) registers ≡ false → list_any (λ r. is_unknown (kind_at a r)) registers ≡ false
-  known_list [] c = refl
-  known_list (r ∷ rest) c =
-      let p = or_parts _ _ c in
-      or_from _ _ (known_within a (kind_at a r) (kind_at b r) (kind_within a b w pb r) p.0) (known_list rest p.1)
-
   unset_kept : (m : Summary) → reads_unknown m b ≡ false → reads_unknown m a ≡ false
-  unset_kept m c = known_list (read_registers m) c
+  unset_kept m c = none_kept (λ r. is_unknown (kind_at b r)) (λ r. is_unknown (kind_at a r)) (λ r. known_within a (kind_at a r) (kind_at b r) (kind_within a b w pb r)) (read_registers m) c
 
   operands_kept : (takes : Operands) → has_wrong_kinds takes b ≡ false → has_wrong_kinds takes a ≡ false
   operands_kept operands.Nothing c = refl
@@ -193,13 +187,12 @@ module _ (a b : Abstract) (w : IsWithin a b) (pa : is_proper a ≡ true) (pb : i
       let u' : may_read_unset b (reach_at m.direction (abs.Addr x.at x.low x.high) m.offset m.size) ≡ false = rw x.outer at u in
       rw x.inner (unset_within m.direction x.at x.lo x.hi x.low x.high m.offset (byte_count m.size) x.from x.order x.to c' u')
 
-  helper_kept : (helper : Option Helper) → has_wrong_argument_kind helper b ≡ false → has_wrong_argument_kind helper a ≡ false
-  helper_kept None c = refl
-  helper_kept (Some EmitRecord) c = not_from_true _ (number_within a (kind_at a 1) (kind_at b 1) (kind_within a b w pb 1) (not-false _ c))
+  argument_kept : (x : Argument) → is_wrong_argument_kind b x ≡ false → is_wrong_argument_kind a x ≡ false
+  argument_kept argument.Nothing c = refl
+  argument_kept (argument.Number r) c = not_from_true _ (number_within a (kind_at a r) (kind_at b r) (kind_within a b w pb r) (not-false _ c))
 
-  argument_kept : (call : Option ℤ) → may_call_wrongly call b ≡ false → may_call_wrongly call a ≡ false
-  argument_kept None c = refl
-  argument_kept (Some number) c = helper_kept (helper_of number) c
+  call_kept : (call : Option ℤ) → may_call_wrongly call b ≡ false → may_call_wrongly call a ≡ false
+  call_kept call c = none_kept (is_wrong_argument_kind b) (is_wrong_argument_kind a) argument_kept (arguments_of (helper_called call)) c
 
   exit_kept : (exits : Bool) → may_exit_wrongly exits b ≡ false → may_exit_wrongly exits a ≡ false
   exit_kept false c = refl
@@ -217,7 +210,7 @@ module _ (a b : Abstract) (w : IsWithin a b) (pa : is_proper a ≡ true) (pb : i
     record_bounds = record_bounds_kept m.memory p.base p.record_bounds;
     stack_bounds = stack_bounds_kept m.memory p.base p.stack_bounds;
     stack_unset = stack_unset_kept m.memory p.base p.stack_bounds p.stack_unset;
-    argument = argument_kept m.call p.argument;
+    argument = call_kept m.call p.argument;
     exit = exit_kept m.exits p.exit;
   }
 
@@ -272,9 +265,6 @@ module _ (a b : Abstract) (w : IsWithin a b) (pa : is_proper a ≡ true) (pb : i
       rw (x.inner, x.outer) (λ q. stored_set x.at x.lo x.hi x.low x.high offset (byte_count size) q x.from x.order x.to) in
       set_kept _ _ kept
 
-  same_number : (n : ℕ) → is_kind_within a (abs.Num n n) (abs.Num n n) ≡ true
-  same_number n = and_from _ _ (le-leb n n (omega arith)) (le-leb n n (omega arith))
-
   call_edge : (helper : Option Helper) → is_edge_covered (called_kinds helper a) (called_kinds helper b) ≡ true
   call_edge None = refl
   call_edge (Some helper) =
@@ -282,7 +272,7 @@ module _ (a b : Abstract) (w : IsWithin a b) (pa : is_proper a ≡ true) (pb : i
       let n = other_kinds a (after_call_kinds a.registers (answer_kind helper)) in
       within_from _ _ (record {
         kinds = λ q low. called_pairs (λ j k. is_kind_within c j k ≡ true) a.registers b.registers (answer_kind helper) q (proper_parts a pa).eleven (proper_parts b pb).eleven
-            (kind_within_narrower a c (kind_at a q) (kind_at b q) n (w.kinds q low)) (answer_kept c helper) refl;
+            (kind_within_narrower a c (kind_at a q) (kind_at b q) n (w.kinds q low)) (number_kept c 0 (signature_of helper).greatest) refl;
         key_min = w.key_min;
         key_max = w.key_max;
         value_min = w.value_min;
@@ -309,7 +299,7 @@ module _ (a b : Abstract) (w : IsWithin a b) (pa : is_proper a ≡ true) (pb : i
   falls_kept (Store size base offset source) h p = store_edge size base offset (not-false _ p.base)
   falls_kept (JumpIf width test dst source offset) h p = tested_within a b w pa pb width test false dst source h (and_parts _ _ (not-false _ p.condition)).0
   falls_kept (Jump distance) h p = refl
-  falls_kept (Wide dst number) h p = set_edge dst (abs.Num number number) (abs.Num number number) (same_number number)
+  falls_kept (Wide dst number) h p = set_edge dst (abs.Num number number) (abs.Num number number) (number_kept a number number)
   falls_kept (Call number) h p = call_edge (helper_of number)
   falls_kept Exit h p = refl
 

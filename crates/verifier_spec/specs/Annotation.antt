@@ -5,9 +5,7 @@ use Rattle.machine_spec.specs.Summaries.{summary_of}
 use Rattle.machine_spec.specs.Image.{target_of}
 use Rattle.machine_spec.specs.Traps.{first_of}
 use Rattle.verifier_spec.specs.declared.state.Abstract.{Abstract}
-use Rattle.verifier_spec.specs.declared.fault.Check.{Check}
-use Rattle.verifier_spec.specs.declared.fault.Check.TheVariants as check
-use Rattle.verifier_spec.specs.declared.fault.VerifyFault.{VerifyFault}
+use Rattle.verifier_spec.specs.declared.fault.{Check.Check, VerifyFault.VerifyFault}
 use Rattle.verifier_spec.specs.States.{is_within, is_proper, entry_state}
 use Rattle.verifier_spec.specs.Checks.{checks, failed_check, shape_checks, jump_of}
 use Rattle.verifier_spec.specs.Transfer.{falls_to, jumps_to}
@@ -63,7 +61,7 @@ pub record IsAnnotation (code : List Placed) (notes : Notes) : Type 0 where
 -- of a reached instruction, after the checks of its shape: its checks, then its edges
 abbrev pub reached_checks : List Placed → Notes → ℕ → Placed → Option Abstract → List (Bool × Check)
 reached_checks code notes k placed None = []
-reached_checks code notes k placed (Some s) = checks (summary_of placed.instruction) s ++ (not (are_edges_covered code notes k placed s), check.Notes) ∷ []
+reached_checks code notes k placed (Some s) = checks (summary_of placed.instruction) s ++ (not (are_edges_covered code notes k placed s), Check.Notes) ∷ []
 
 -- the first check that instruction number k fails
 unfoldable pub failed_at : List Placed → Notes → ℕ → Placed → Option Check
@@ -84,4 +82,4 @@ unfoldable pub fault_of : List Placed → Notes → Option VerifyFault
 fault_of code notes =
     if (length notes == length code) && is_covered entry_state (note_at notes 0)
     then fault_from code notes 0 code
-    else Some (record { pc = 0; kind = check.Notes })
+    else Some (record { pc = 0; kind = Check.Notes })

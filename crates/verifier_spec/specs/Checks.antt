@@ -2,42 +2,24 @@
 use Rattle.std.specs.Prelude.{ℕ, zero, suc, ◌+◌, ◌^◌, ℤ, pos, ◌+ℤ◌, neg_ℤ, Bool, true, false, ◌==◌, ◌&&◌, ◌||◌, not, nat_lt, nat_le, int_lt, int_le, if◌then◌else◌, List, [], ◌∷◌, length, Option, Some, None, is_some, is_none, unsigned_abs}
 use Rattle.std.specs.List.{list_any}
 use Rattle.machine_spec.specs.declared.limits.TheConstants.{STACK_SIZE}
-use Rattle.machine_spec.specs.declared.instruction.Region.{Region}
-use Rattle.machine_spec.specs.declared.instruction.Size.{Size}
-use Rattle.machine_spec.specs.declared.operation.Width.{Width}
-use Rattle.machine_spec.specs.declared.operation.Width.TheVariants.{Bits64}
-use Rattle.machine_spec.specs.declared.operation.Operation.{Operation}
-use Rattle.machine_spec.specs.declared.instruction.Source.{Source}
-use Rattle.machine_spec.specs.declared.instruction.Source.TheVariants.{Register, Immediate}
-use Rattle.machine_spec.specs.declared.instruction.Instruction.{Instruction}
-use Rattle.machine_spec.specs.declared.instruction.Helper.{Helper}
-use Rattle.machine_spec.specs.declared.instruction.Helper.TheVariants.{EmitRecord}
-use Rattle.machine_spec.specs.declared.instruction.Placed.{Placed}
-use Rattle.machine_spec.specs.declared.summary.Operands.{Operands}
-use Rattle.machine_spec.specs.declared.summary.Operands.TheVariants as operands
-use Rattle.machine_spec.specs.declared.summary.Direction.{Direction}
-use Rattle.machine_spec.specs.declared.summary.MemoryOperand.{MemoryOperand}
-use Rattle.machine_spec.specs.declared.summary.Condition.{Condition}
-use Rattle.machine_spec.specs.declared.summary.Summary.{Summary}
+use Rattle.machine_spec.specs.declared.instruction.{Region.Region, Size.Size, Source.Source, Source.TheVariants.Register, Source.TheVariants.Immediate, Instruction.Instruction, Placed.Placed}
+use Rattle.machine_spec.specs.declared.operation.{Width.Width, Width.TheVariants.Bits64, Operation.Operation}
+use Rattle.machine_spec.specs.declared.helper.Argument.{Argument}
+use Rattle.machine_spec.specs.declared.summary.{Operands.Operands, Direction.Direction, MemoryOperand.MemoryOperand, Condition.Condition, Summary.Summary}
 use Rattle.machine_spec.specs.Summaries.{summary_of}
 use Rattle.machine_spec.specs.Image.{target_of}
 use Rattle.machine_spec.specs.Arithmetic.{signed}
 use Rattle.machine_spec.specs.Values.{immediate, moves_address, is_subtraction, byte_count}
-use Rattle.machine_spec.specs.Machine.{helper_of}
-use Rattle.machine_spec.specs.Traps.{writes_frame, calls_no_helper, read_registers, is_read, is_stack, first_of}
+use Rattle.machine_spec.specs.Traps.{writes_frame, calls_no_helper, helper_called, arguments_of, read_registers, is_read, is_stack, first_of}
 use Rattle.verifier_spec.specs.declared.interval.Interval.{Interval}
-use Rattle.verifier_spec.specs.declared.state.Abs.{Abs}
-use Rattle.verifier_spec.specs.declared.state.Abs.TheVariants as abs
-use Rattle.verifier_spec.specs.declared.state.StackSet.{StackSet}
-use Rattle.verifier_spec.specs.declared.state.Abstract.{Abstract}
+use Rattle.verifier_spec.specs.declared.state.{Abs.Abs, StackSet.StackSet, Abstract.Abstract}
 use Rattle.verifier_spec.specs.declared.fault.Check.{Check}
-use Rattle.verifier_spec.specs.declared.fault.Check.TheVariants as check
 use Rattle.verifier_spec.specs.Kinds.{is_set, kind_at, least, range_of, is_unknown, is_number_kind, is_address_kind, furthest}
 
 -- an immediate is the one number that it is
 abbrev pub source_kind : Abstract → Width → Source → Abs
 source_kind s width (Register r) = kind_at s r
-source_kind s width (Immediate imm) = abs.Num (immediate width imm) (immediate width imm)
+source_kind s width (Immediate imm) = Abs.Num (immediate width imm) (immediate width imm)
 
 abbrev pub reads_unknown : Summary → Abstract → Bool
 reads_unknown m s = list_any (λ r. is_unknown (kind_at s r)) (read_registers m)
@@ -64,14 +46,14 @@ can_move operation low high None = false
 
 -- what an operation takes: numbers, or an address and a number that moves it and can't take it out of its range
 abbrev pub can_compute_kinds : Abstract → Width → Operation → Abs → Abs → Bool
-can_compute_kinds s width operation abs.None b = false
-can_compute_kinds s width operation (abs.Num _ _) b = is_number_kind b
-can_compute_kinds s width operation (abs.Len _) b = is_number_kind b
-can_compute_kinds s width operation (abs.Addr _ low high) b = moves_address width operation && can_move operation low high (range_of s b)
+can_compute_kinds s width operation Abs.None b = false
+can_compute_kinds s width operation (Abs.Num _ _) b = is_number_kind b
+can_compute_kinds s width operation (Abs.Len _) b = is_number_kind b
+can_compute_kinds s width operation (Abs.Addr _ low high) b = moves_address width operation && can_move operation low high (range_of s b)
 
 abbrev pub has_wrong_kinds : Operands → Abstract → Bool
-has_wrong_kinds (operands.Number width source) s = not (is_number_kind (source_kind s width source))
-has_wrong_kinds (operands.Computed width operation dst source) s = not (can_compute_kinds s width operation (kind_at s dst) (source_kind s width source))
+has_wrong_kinds (Operands.Number width source) s = not (is_number_kind (source_kind s width source))
+has_wrong_kinds (Operands.Computed width operation dst source) s = not (can_compute_kinds s width operation (kind_at s dst) (source_kind s width source))
 has_wrong_kinds _ s = false
 
 abbrev pub has_wrong_base_kind : Option MemoryOperand → Abstract → Bool
@@ -93,7 +75,7 @@ pub record Reach : Type 0 where
   pub size : ℕ
 
 abbrev pub reach_at : Direction → Abs → ℤ → Size → Option Reach
-reach_at direction (abs.Addr region lo hi) offset size = Some (record { direction = direction; region = region; low = lo +ℤ offset; high = hi +ℤ offset; size = byte_count size })
+reach_at direction (Abs.Addr region lo hi) offset size = Some (record { direction = direction; region = region; low = lo +ℤ offset; high = hi +ℤ offset; size = byte_count size })
 reach_at direction _ offset size = None
 
 abbrev pub reach_of : Option MemoryOperand → Abstract → Option Reach
@@ -132,13 +114,13 @@ may_read_unset s None = false
 
 -- ---- calls and the exit
 
-abbrev pub has_wrong_argument_kind : Option Helper → Abstract → Bool
-has_wrong_argument_kind (Some EmitRecord) s = not (is_number_kind (kind_at s 1))
-has_wrong_argument_kind None s = false
+-- an argument may not be what it must be
+abbrev pub is_wrong_argument_kind : Abstract → Argument → Bool
+is_wrong_argument_kind s Argument.Nothing = false
+is_wrong_argument_kind s (Argument.Number r) = not (is_number_kind (kind_at s r))
 
 abbrev pub may_call_wrongly : Option ℤ → Abstract → Bool
-may_call_wrongly (Some number) s = has_wrong_argument_kind (helper_of number) s
-may_call_wrongly None s = false
+may_call_wrongly call s = list_any (is_wrong_argument_kind s) (arguments_of (helper_called call))
 
 -- r0 is a number at the exit
 abbrev pub may_exit_wrongly : Bool → Abstract → Bool
@@ -149,18 +131,18 @@ may_exit_wrongly false s = false
 
 abbrev pub checks : Summary → Abstract → List (Bool × Check)
 checks m s =
-    (writes_frame m.writes, check.Frame)
-    ∷ (calls_no_helper m.call, check.Helper)
-    ∷ (reads_unknown m s, check.Unset)
-    ∷ (has_wrong_kinds m.takes s, check.WrongType)
-    ∷ (has_wrong_base_kind m.memory s, check.WrongType)
-    ∷ (has_wrong_condition_kind m.condition s, check.WrongType)
-    ∷ (may_write_record (reach_of m.memory s), check.ReadOnly)
-    ∷ (may_leave_record s (reach_of m.memory s), check.RecordBounds)
-    ∷ (may_leave_stack (reach_of m.memory s), check.StackBounds)
-    ∷ (may_read_unset s (reach_of m.memory s), check.StackUnset)
-    ∷ (may_call_wrongly m.call s, check.HelperArg)
-    ∷ (may_exit_wrongly m.exits s, check.Exit)
+    (writes_frame m.writes, Check.Frame)
+    ∷ (calls_no_helper m.call, Check.Helper)
+    ∷ (reads_unknown m s, Check.Unset)
+    ∷ (has_wrong_kinds m.takes s, Check.WrongType)
+    ∷ (has_wrong_base_kind m.memory s, Check.WrongType)
+    ∷ (has_wrong_condition_kind m.condition s, Check.WrongType)
+    ∷ (may_write_record (reach_of m.memory s), Check.ReadOnly)
+    ∷ (may_leave_record s (reach_of m.memory s), Check.RecordBounds)
+    ∷ (may_leave_stack (reach_of m.memory s), Check.StackBounds)
+    ∷ (may_read_unset s (reach_of m.memory s), Check.StackUnset)
+    ∷ (may_call_wrongly m.call s, Check.HelperArg)
+    ∷ (may_exit_wrongly m.exits s, Check.Exit)
     ∷ []
 
 -- the first check that fails, if one does
@@ -192,7 +174,7 @@ runs_off code k m = (k + 1 == length code) && not (never_falls m)
 -- of instruction number k
 abbrev pub shape_checks : List Placed → ℕ → Placed → List (Bool × Check)
 shape_checks code k placed =
-    (leads_nowhere code placed.slot (jump_of placed.instruction), check.JumpTarget)
-    ∷ (leads_back (jump_of placed.instruction), check.BackJump)
-    ∷ (runs_off code k (summary_of placed.instruction), check.RunsOff)
+    (leads_nowhere code placed.slot (jump_of placed.instruction), Check.JumpTarget)
+    ∷ (leads_back (jump_of placed.instruction), Check.BackJump)
+    ∷ (runs_off code k (summary_of placed.instruction), Check.RunsOff)
     ∷ []

@@ -2,13 +2,9 @@
 -- them along its edges.
 use Rattle.std.specs.Prelude.{ℕ, zero, suc, ◌+◌, ◌-◌, ◌*◌, ◌/◌, ◌%◌, ◌^◌, ◌<◌, ◌≤◌, Bool, true, false, ◌==◌, ◌&&◌, nat_lt, nat_le, min, max, if◌then◌else◌, Option, Some, None}
 use Rattle.std.specs.Int.{w64, leading_zeros}
-use Rattle.machine_spec.specs.declared.operation.Width.{Width}
-use Rattle.machine_spec.specs.declared.operation.Width.TheVariants.{Bits32, Bits64}
-use Rattle.machine_spec.specs.declared.operation.Operation.{Operation}
+use Rattle.machine_spec.specs.declared.operation.{Width.Width, Width.TheVariants.Bits32, Width.TheVariants.Bits64, Operation.Operation, Change.Change, Test.Test}
 use Rattle.machine_spec.specs.declared.operation.Operation.TheVariants.{Add, Sub, Mul, Div, SignedDiv, Or, And, LeftShift, RightShift, Mod, SignedMod, Xor, ArithmeticRightShift}
-use Rattle.machine_spec.specs.declared.operation.Change.{Change}
 use Rattle.machine_spec.specs.declared.operation.Change.TheVariants.{Negate, Order, SignExtend}
-use Rattle.machine_spec.specs.declared.operation.Test.{Test}
 use Rattle.machine_spec.specs.declared.operation.Test.TheVariants.{Equal, NotEqual, Greater, GreaterOrEqual, Less, LessOrEqual}
 use Rattle.machine_spec.specs.Arithmetic.{bit_count, limit, swapped_bits, extended_bits}
 use Rattle.verifier_spec.specs.declared.interval.Interval.{Interval}

@@ -2,23 +2,21 @@
 use Rattle.std.specs.Prelude.{min, max, bit_and, if◌then◌else◌, List, [], ◌∷◌, Option, Some}
 use Rattle.std.specs.Int.{int_min, int_max}
 use Rattle.verifier_spec.specs.declared.interval.Interval.{Interval}
-use Rattle.verifier_spec.specs.declared.state.Abs.{Abs}
-use Rattle.verifier_spec.specs.declared.state.Abs.TheVariants as abs
-use Rattle.verifier_spec.specs.declared.state.Abstract.{Abstract}
+use Rattle.verifier_spec.specs.declared.state.{Abs.Abs, Abstract.Abstract}
 use Rattle.verifier_spec.specs.Kinds.{range_of, same_region}
 
 -- the least interval that contains two; nothing is known where one of them is no number
 abbrev pub joined_ranges : Option Interval → Option Interval → Abs
-joined_ranges (Some a) (Some b) = abs.Num (min a.low b.low) (max a.high b.high)
-joined_ranges _ _ = abs.None
+joined_ranges (Some a) (Some b) = Abs.Num (min a.low b.low) (max a.high b.high)
+joined_ranges _ _ = Abs.None
 
 -- The join of a kind in one state and a kind in another. A length joined with the same length stays a length; two other
 -- numbers give an interval, a length by the view of its own state.
 abbrev pub joined_kind : Abstract → Abstract → Abs → Abs → Abs
-joined_kind a b (abs.Len at) (abs.Len other) =
-    if same_region at other then abs.Len at else joined_ranges (range_of a (abs.Len at)) (range_of b (abs.Len other))
-joined_kind a b (abs.Addr at lo hi) (abs.Addr other low high) =
-    if same_region at other then abs.Addr at (int_min lo low) (int_max hi high) else abs.None
+joined_kind a b (Abs.Len at) (Abs.Len other) =
+    if same_region at other then Abs.Len at else joined_ranges (range_of a (Abs.Len at)) (range_of b (Abs.Len other))
+joined_kind a b (Abs.Addr at lo hi) (Abs.Addr other low high) =
+    if same_region at other then Abs.Addr at (int_min lo low) (int_max hi high) else Abs.None
 joined_kind a b j k = joined_ranges (range_of a j) (range_of b k)
 
 -- element by element, as far as both lists go

@@ -1,10 +1,8 @@
 -- Which images are accepted, and the fault that names why another one is not.
 use Rattle.std.specs.Prelude.{◌≡◌, ℕ, List, Option, Some, option_map, Result, Ok, Err}
-use Rattle.machine_spec.specs.declared.instruction.IsaFault.{IsaFault}
-use Rattle.machine_spec.specs.declared.instruction.Placed.{Placed}
+use Rattle.machine_spec.specs.declared.instruction.{IsaFault.IsaFault, Placed.Placed}
 use Rattle.machine_spec.specs.Image.{read_image}
-use Rattle.verifier_spec.specs.declared.fault.LoadFault.{LoadFault}
-use Rattle.verifier_spec.specs.declared.fault.LoadFault.TheVariants.{Isa, Verify}
+use Rattle.verifier_spec.specs.declared.fault.LoadFault.{LoadFault, TheVariants.Isa, TheVariants.Verify}
 use Rattle.verifier_spec.specs.Annotation.{Notes, IsAnnotation, fault_of}
 use Rattle.verifier_spec.specs.JoinedStates.{joined_states}
 

@@ -12,7 +12,7 @@ use Rattle.verifier_spec.specs.States.{is_proper}
 use Rattle.verifier_spec.specs.Checks.{failed_check}
 use Rattle.verifier_spec.specs.Transfer.{falls_to, jumps_to}
 use Rattle.verifier_spec.specs.Annotation.{is_edge_covered}
-use Rattle.verifier_spec.specs.StandsFor.{StandsFor, HasBytes}
+use Rattle.verifier_spec.specs.StandsFor.{StandsFor, IsInput}
 
 -- the stack's bytes are bytes
 pub record AreBytes (s : State) : Type 0 where
@@ -30,7 +30,7 @@ edge_of false i a = falls_to i a
 -- Transfer is sound at an instruction: where an abstract state holds of the machine's before a step, the edge of that
 -- step brings an abstract state, which is in its ranges and holds of the machine's after the step.
 pub record IsSoundAt (i : Instruction) (a : Abstract) : Type 0 where
-  pub edge : (program : Program) (input : Input) (before next : State) → HasBytes input → AreBytes before → StandsFor input a before → form_at program.image before.slot ≡ Some i → Step program input before next
+  pub edge : (program : Program) (input : Input) (before next : State) → IsInput input → AreBytes before → StandsFor input a before → form_at program.image before.slot ≡ Some i → Step program input before next
       → (b : Abstract) × (edge_of (takes_jump i before) i a ≡ Some b) × StandsFor input b next × (is_proper b ≡ true)
 
 -- The order of two abstract states is kept at an instruction: the inner one passes the checks, and each edge brings from

@@ -3,10 +3,8 @@ use Rattle.std.specs.Prelude.{ℕ, zero, suc, pos, Bool, true, ◌==◌, ◌&&�
 use Rattle.std.specs.List.{list_all}
 use Rattle.wire_spec.specs.declared.limits.TheConstants.{MAX_KEY, MAX_VALUE}
 use Rattle.machine_spec.specs.declared.limits.TheConstants.{STACK_SIZE}
-use Rattle.machine_spec.specs.declared.instruction.Region.TheVariants as region
-use Rattle.verifier_spec.specs.declared.state.Abs.TheVariants as abs
-use Rattle.verifier_spec.specs.declared.state.StackSet.{StackSet}
-use Rattle.verifier_spec.specs.declared.state.Abstract.{Abstract}
+use Rattle.machine_spec.specs.declared.instruction.Region.{Region}
+use Rattle.verifier_spec.specs.declared.state.{Abs.Abs, StackSet.StackSet, Abstract.Abstract}
 use Rattle.verifier_spec.specs.Kinds.{is_set, kind_at, is_proper_kind, is_kind_within}
 
 -- a test holds of every number below one
@@ -37,8 +35,8 @@ no_places = record { words = 0 ∷ 0 ∷ 0 ∷ 0 ∷ 0 ∷ 0 ∷ 0 ∷ 0 ∷ [] 
 abbrev pub entry_state : Abstract
 entry_state = record {
   registers =
-      abs.None ∷ abs.Addr region.Value (pos 0) (pos 0) ∷ abs.Len region.Value ∷ abs.Addr region.Key (pos 0) (pos 0) ∷ abs.Len region.Key
-      ∷ abs.Num 0 3 ∷ abs.None ∷ abs.None ∷ abs.None ∷ abs.None ∷ abs.Addr region.Stack (pos STACK_SIZE) (pos STACK_SIZE) ∷ [];
+      Abs.None ∷ Abs.Addr Region.Value (pos 0) (pos 0) ∷ Abs.Len Region.Value ∷ Abs.Addr Region.Key (pos 0) (pos 0) ∷ Abs.Len Region.Key
+      ∷ Abs.Num 0 3 ∷ Abs.None ∷ Abs.None ∷ Abs.None ∷ Abs.None ∷ Abs.Addr Region.Stack (pos STACK_SIZE) (pos STACK_SIZE) ∷ [];
   key_min = 0;
   key_max = MAX_KEY;
   value_min = 0;

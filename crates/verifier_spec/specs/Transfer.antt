@@ -1,33 +1,17 @@
 -- What an instruction makes of an abstract state, along each of its edges.
 use Rattle.std.specs.Prelude.{ℕ, zero, suc, ◌+◌, ◌-◌, ◌*◌, ◌/◌, ◌%◌, ◌^◌, ℤ, ◌+ℤ◌, Bool, true, false, ◌==◌, ◌&&◌, if◌then◌else◌, bit_or, List, [], ◌∷◌, map, slice_index, slice_set, Option, Some, None, unsigned_abs}
 use Rattle.std.specs.Ordering.{int_eq}
-use Rattle.machine_spec.specs.declared.operation.Width.{Width}
-use Rattle.machine_spec.specs.declared.operation.Width.TheVariants.{Bits32, Bits64}
-use Rattle.machine_spec.specs.declared.operation.Operation.{Operation}
-use Rattle.machine_spec.specs.declared.operation.Change.{Change}
-use Rattle.machine_spec.specs.declared.operation.Test.{Test}
-use Rattle.machine_spec.specs.declared.instruction.Region.{Region}
-use Rattle.machine_spec.specs.declared.instruction.Region.TheVariants as region
-use Rattle.machine_spec.specs.declared.instruction.Size.{Size}
-use Rattle.machine_spec.specs.declared.instruction.Extension.{Extension}
-use Rattle.machine_spec.specs.declared.instruction.Extension.TheVariants.{Zero, Sign}
-use Rattle.machine_spec.specs.declared.instruction.Source.{Source}
-use Rattle.machine_spec.specs.declared.instruction.Source.TheVariants.{Register, Immediate}
-use Rattle.machine_spec.specs.declared.instruction.Instruction.{Instruction}
+use Rattle.machine_spec.specs.declared.operation.{Width.Width, Width.TheVariants.Bits32, Width.TheVariants.Bits64, Operation.Operation, Change.Change, Test.Test}
+use Rattle.machine_spec.specs.declared.instruction.{Region.Region, Size.Size, Extension.Extension, Extension.TheVariants.Zero, Extension.TheVariants.Sign, Source.Source, Source.TheVariants.Register, Source.TheVariants.Immediate, Instruction.Instruction}
 use Rattle.machine_spec.specs.declared.instruction.Instruction.TheVariants.{Move, Compute, Load, Unary, Store, JumpIf, Jump, Wide, Call, Exit}
-use Rattle.machine_spec.specs.declared.instruction.Helper.{Helper}
-use Rattle.machine_spec.specs.declared.instruction.Helper.TheVariants.{EmitRecord}
-use Rattle.machine_spec.specs.declared.summary.Direction.TheVariants.{Write}
-use Rattle.machine_spec.specs.declared.summary.Condition.{Condition}
+use Rattle.machine_spec.specs.declared.helper.Helper.{Helper}
+use Rattle.machine_spec.specs.declared.summary.{Direction.TheVariants.Write, Condition.Condition}
 use Rattle.machine_spec.specs.Summaries.{summary_of}
 use Rattle.machine_spec.specs.Values.{immediate, byte_count}
-use Rattle.machine_spec.specs.Machine.{helper_of}
+use Rattle.machine_spec.specs.Machine.{signature_of, helper_of}
 use Rattle.machine_spec.specs.Traps.{is_stack}
 use Rattle.verifier_spec.specs.declared.interval.Interval.{Interval}
-use Rattle.verifier_spec.specs.declared.state.Abs.{Abs}
-use Rattle.verifier_spec.specs.declared.state.Abs.TheVariants as abs
-use Rattle.verifier_spec.specs.declared.state.StackSet.{StackSet}
-use Rattle.verifier_spec.specs.declared.state.Abstract.{Abstract}
+use Rattle.verifier_spec.specs.declared.state.{Abs.Abs, StackSet.StackSet, Abstract.Abstract}
 use Rattle.verifier_spec.specs.Intervals.{from_to, cut, result_range, changed_range, narrowed}
 use Rattle.verifier_spec.specs.Kinds.{kind_at, range_of}
 use Rattle.verifier_spec.specs.Checks.{source_kind, least_displacement, greatest_displacement, Reach, reach_at}
@@ -40,21 +24,21 @@ with_kind s r kind = record s { registers = slice_set s.registers r kind }
 
 -- the numbers of an interval
 abbrev pub numbers : Interval → Abs
-numbers range = abs.Num range.low range.high
+numbers range = Abs.Num range.low range.high
 
 -- what a function of intervals makes of a kind's numbers
 abbrev pub on_range : (Interval → Interval) → Option Interval → Abs
 on_range f (Some range) = numbers (f range)
-on_range f None = abs.None
+on_range f None = Abs.None
 
 abbrev pub on_ranges : Width → Operation → Option Interval → Option Interval → Abs
 on_ranges width operation (Some a) (Some b) = numbers (result_range width operation a b)
-on_ranges width operation _ _ = abs.None
+on_ranges width operation _ _ = Abs.None
 
 -- an address moved by a number that is read as signed
 abbrev pub moved_address : Operation → Region → ℤ → ℤ → Option Interval → Abs
-moved_address operation region low high (Some range) = abs.Addr region (low +ℤ least_displacement operation range) (high +ℤ greatest_displacement operation range)
-moved_address operation region low high None = abs.None
+moved_address operation region low high (Some range) = Abs.Addr region (low +ℤ least_displacement operation range) (high +ℤ greatest_displacement operation range)
+moved_address operation region low high None = Abs.None
 
 -- a move of 64 bits moves any value, and one of 32 bits the low half of a number
 abbrev pub moved_kind : Abstract → Width → Abs → Abs
@@ -63,10 +47,10 @@ moved_kind s Bits32 kind = on_range (cut Bits32) (range_of s kind)
 
 -- an operation on two kinds that it takes; what it makes of lengths or numbers is a number
 abbrev pub computed_kind : Abstract → Width → Operation → Abs → Abs → Abs
-computed_kind s width operation abs.None b = abs.None
-computed_kind s width operation (abs.Num lo hi) b = on_ranges width operation (range_of s (abs.Num lo hi)) (range_of s b)
-computed_kind s width operation (abs.Len region) b = on_ranges width operation (range_of s (abs.Len region)) (range_of s b)
-computed_kind s width operation (abs.Addr region low high) b = moved_address operation region low high (range_of s b)
+computed_kind s width operation Abs.None b = Abs.None
+computed_kind s width operation (Abs.Num lo hi) b = on_ranges width operation (range_of s (Abs.Num lo hi)) (range_of s b)
+computed_kind s width operation (Abs.Len region) b = on_ranges width operation (range_of s (Abs.Len region)) (range_of s b)
+computed_kind s width operation (Abs.Addr region low high) b = moved_address operation region low high (range_of s b)
 
 -- a change of a number or a length is a number
 abbrev pub changed_kind : Abstract → Change → Abs → Abs
@@ -76,8 +60,8 @@ changed_kind s change kind = on_range (changed_range change) (range_of s kind)
 
 -- a number of so many bytes; one that is sign-extended may be any
 abbrev pub loaded_kind : Size → Extension → Abs
-loaded_kind size Zero = abs.Num 0 (2 ^ (8 * byte_count size) - 1)
-loaded_kind size Sign = abs.Num 0 (2 ^ 64 - 1)
+loaded_kind size Zero = Abs.Num 0 (2 ^ (8 * byte_count size) - 1)
+loaded_kind size Sign = Abs.Num 0 (2 ^ 64 - 1)
 
 -- a place of the stack, or so many from one on, added to a set of them, which has eight words
 abbrev pub with_place : StackSet → ℕ → StackSet
@@ -98,15 +82,15 @@ with_stored set None = set
 
 -- what is then known of the region's length
 abbrev pub with_length : Abstract → Region → Interval → Abstract
-with_length s region.Stack range = s
-with_length s region.Key range = record s { key_min = range.low; key_max = range.high }
-with_length s region.Value range = record s { value_min = range.low; value_max = range.high }
+with_length s Region.Stack range = s
+with_length s Region.Key range = record s { key_min = range.low; key_max = range.high }
+with_length s Region.Value range = record s { value_min = range.low; value_max = range.high }
 
 -- a number takes the new interval; a length stays one, and its region's least and greatest lengths are the new ends
 abbrev pub with_range : Abstract → ℕ → Abs → Option Interval → Option Abstract
 with_range s r kind None = None
-with_range s r (abs.Num _ _) (Some range) = Some (with_kind s r (numbers range))
-with_range s r (abs.Len region) (Some range) = Some (with_length s region range)
+with_range s r (Abs.Num _ _) (Some range) = Some (with_kind s r (numbers range))
+with_range s r (Abs.Len region) (Some range) = Some (with_length s region range)
 with_range s r _ (Some range) = Some s
 
 abbrev pub narrowed_range : Width → Test → Bool → Option Interval → ℕ → Option Interval
@@ -127,10 +111,10 @@ met_edge None s = Some s
 -- ---- calls
 
 abbrev pub answer_kind : Helper → Abs
-answer_kind EmitRecord = abs.Num 0 3
+answer_kind helper = Abs.Num 0 (signature_of helper).greatest
 
 abbrev pub after_call_kinds : List Abs → Abs → List Abs
-after_call_kinds (_ ∷ _ ∷ _ ∷ _ ∷ _ ∷ _ ∷ kinds) answer = answer ∷ abs.None ∷ abs.None ∷ abs.None ∷ abs.None ∷ abs.None ∷ kinds
+after_call_kinds (_ ∷ _ ∷ _ ∷ _ ∷ _ ∷ _ ∷ kinds) answer = answer ∷ Abs.None ∷ Abs.None ∷ Abs.None ∷ Abs.None ∷ Abs.None ∷ kinds
 after_call_kinds kinds answer = kinds
 
 abbrev pub called_kinds : Option Helper → Abstract → Option Abstract
@@ -148,7 +132,7 @@ falls_to (Load size extension dst base offset) s = Some (with_kind s dst (loaded
 falls_to (Store size base offset source) s = Some (record s { set = with_stored s.set (reach_at Write (kind_at s base) offset size) })
 falls_to (JumpIf width test dst source offset) s = tested s width test false dst source
 falls_to (Jump distance) s = None
-falls_to (Wide dst number) s = Some (with_kind s dst (abs.Num number number))
+falls_to (Wide dst number) s = Some (with_kind s dst (Abs.Num number number))
 falls_to (Call number) s = called_kinds (helper_of number) s
 falls_to Exit s = None
 

@@ -1,6 +1,7 @@
 use annotate::load;
 use std::alloc::{AllocError, Global};
 use std::test::Fail;
+use verifier_spec::Abs;
 
 const ZERO: u64 = 0xb700_0000_0000_0000; // mov64 r0, 0
 
@@ -370,6 +371,51 @@ fn jumps_and_wide_numbers(rt: HostRuntime) -> Result<(), Fail> {
         let image = image_of(alloc, slots)?;
         let got = answer(alloc, &image)?;
         assert_eq!(rt; got.as_str(), want);
+    }
+    Ok(())
+}
+
+/// Calls: what they answer, and that they leave r1 to r5 unknown.
+#[test]
+fn calls(rt: HostRuntime) -> Result<(), Fail> {
+    let alloc = rt.alloc();
+    let cases: [(&[u64], &str); 5] = [
+        // call 7; mov64 r0, r1
+        (
+            &[0x8500_0000_0700_0000, 0xbf10_0000_0000_0000, EXIT],
+            "V4 Unset at 1",
+        ),
+        (&[0x8500_0000_0600_0000, EXIT], "V12 HelperArg at 0"), // call 6
+        // mov64 r1, 0; call 6
+        (
+            &[0xb701_0000_0000_0000, 0x8500_0000_0600_0000, EXIT],
+            "accepted 3",
+        ),
+        (&[0x8500_0000_0900_0000, EXIT], "accepted 2"), // call 9
+        (&[0x8500_0000_6300_0000, EXIT], "V11 Helper at 0"), // call 99
+    ];
+    for (slots, want) in cases {
+        let image = image_of(alloc, slots)?;
+        let got = answer(alloc, &image)?;
+        assert_eq!(rt; got.as_str(), want);
+    }
+    Ok(())
+}
+
+#[test]
+fn answers(rt: HostRuntime) -> Result<(), Fail> {
+    let alloc = rt.alloc();
+    // call 7, call 8 and call 9
+    let cases = [
+        (0x8500_0000_0700_0000, 0x3fff_ffff_ffff_ffff),
+        (0x8500_0000_0800_0000, 0x3fff_ffff_ffff_ffff),
+        (0x8500_0000_0900_0000, 63),
+    ];
+    for (call, greatest) in cases {
+        let image = image_of(alloc, &[call, EXIT])?;
+        let verified = load(alloc, &image)?;
+        let kind = verified.state(1).map(|s| s.kind(0));
+        assert_eq!(rt; kind, Some(Abs::Num(0, greatest)));
     }
     Ok(())
 }

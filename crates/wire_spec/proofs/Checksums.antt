@@ -12,7 +12,7 @@ without_highest-lt k p wide h =
     let room : p % 2 * generator < 2 ^ k = omega arith in
     xor_lt k (p / 2) (p % 2 * generator) (shr_below p k 1 h) room
 
-remainder-lt : (n p : ℕ) → p < 2 ^ (n + 32) → remainder n p < 2 ^ 32
+pub remainder-lt : (n p : ℕ) → p < 2 ^ (n + 32) → remainder n p < 2 ^ 32
 unfolding remainder
 remainder-lt zero p h = h
 remainder-lt (suc n) p h =

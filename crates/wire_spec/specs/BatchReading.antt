@@ -1,14 +1,10 @@
 -- Reading a record batch (Apache Kafka documentation, "Message Format": "Record Batch"): the batch at the
 -- front of the bytes, and how many of them it takes, or the first refusal. A number is big-endian.
 use Rattle.std.specs.Prelude.{ℕ, zero, suc, ◌+◌, ◌^◌, ℤ, pos, negsuc, int_lt, int_le, List, [], ◌∷◌, length, take, drop, slice_index, Option, Some, None, Result, Ok, Err, Bool, nat_lt, ◌==◌, ◌&&◌, ◌||◌, not, if◌then◌else◌}
-use Rattle.std.specs.List.{list_all}
-use Rattle.std.specs.Int.{Width, w16, w32, w64, from_be_bytes, cast_signed}
-use Rattle.std.specs.Ordering.{int_eq}
+use Rattle.std.specs.{List.list_all, Int.Width, Int.w16, Int.w32, Int.w64, Int.from_be_bytes, Int.cast_signed, Ordering.int_eq}
 use Rattle.wire_spec.specs.declared.limits.TheConstants.{TIMESTAMP_END}
 use Rattle.wire_spec.specs.declared.fault.BatchFault.{BatchFault}
-use Rattle.wire_spec.specs.declared.fault.BatchFault.TheVariants as faults
-use Rattle.wire_spec.specs.declared.record.Record.{Record}
-use Rattle.wire_spec.specs.declared.record.Batch.{Batch}
+use Rattle.wire_spec.specs.declared.record.{Record.Record, Batch.Batch}
 use Rattle.wire_spec.specs.Checksum.{checksum}
 use Rattle.wire_spec.specs.RecordReading.{record_at}
 use Rattle.wire_spec.specs.BatchSpelling.{max_batch, max_records, timestamps, greatest}
@@ -97,13 +93,13 @@ abbrev pub ◌>>=◌ : {A B : Type 0} → Result A BatchFault → (A → Result 
 
 -- a record, or the refusal that names its place
 abbrev pub record_or : ℕ → Option (Record × List ℕ) → Result (Record × List ℕ) BatchFault
-record_or place None = Err (faults.Record place)
+record_or place None = Err (BatchFault.Record place)
 record_or place (Some x) = Ok x
 
 -- that many records, the first of which has this place and offset delta, and which fill the bytes
 unfoldable pub records_at : ℕ → ℕ → List ℕ → Result (List Record) BatchFault
 records_at zero place [] = Ok []
-records_at zero place (b ∷ bytes) = Err (faults.Record place)
+records_at zero place (b ∷ bytes) = Err (BatchFault.Record place)
 records_at (suc n) place bytes = do
   first ← record_or place (record_at (pos place) bytes)
   others ← records_at n (suc place) first.1
@@ -112,16 +108,16 @@ records_at (suc n) place bytes = do
 -- how many records a batch of these bytes has, as its header says, or the refusal of the header
 unfoldable pub count_at : List ℕ → Result ℕ BatchFault
 count_at bytes =
-    if not (magic bytes == 2) then Err faults.Magic
-    else if not (crc bytes == checksum (drop 21 bytes)) then Err faults.Crc
-    else if not (attributes bytes == 0) then Err faults.Attributes
-    else if is_miscounted bytes then Err faults.Count
+    if not (magic bytes == 2) then Err BatchFault.Magic
+    else if not (crc bytes == checksum (drop 21 bytes)) then Err BatchFault.Crc
+    else if not (attributes bytes == 0) then Err BatchFault.Attributes
+    else if is_miscounted bytes then Err BatchFault.Count
     else Ok (record_count bytes)
 
 -- the batch of this header and these records, or the refusal of its timestamps
 unfoldable pub timed_at : List ℕ → List Record → Result Batch BatchFault
 timed_at bytes rs =
-    if is_mistimed bytes rs then Err faults.Timestamp
+    if is_mistimed bytes rs then Err BatchFault.Timestamp
     else Ok (record {
       base_offset = base_offset bytes;
       leader_epoch = leader_epoch bytes;
@@ -143,10 +139,10 @@ whole_at bytes = do
 -- how many bytes the batch at the front takes, or the refusal of its length
 unfoldable pub size_at : List ℕ → Result ℕ BatchFault
 size_at bytes =
-    if nat_lt (length bytes) 12 then Err faults.Short
-    else if int_lt (batch_length bytes) (pos 49) then Err faults.Length
-    else if nat_lt max_batch (batch_size bytes) then Err faults.TooLarge
-    else if nat_lt (length bytes) (batch_size bytes) then Err faults.Short
+    if nat_lt (length bytes) 12 then Err BatchFault.Short
+    else if int_lt (batch_length bytes) (pos 49) then Err BatchFault.Length
+    else if nat_lt max_batch (batch_size bytes) then Err BatchFault.TooLarge
+    else if nat_lt (length bytes) (batch_size bytes) then Err BatchFault.Short
     else Ok (batch_size bytes)
 
 -- the batch at the front of the bytes, and how many of them it takes

@@ -1,11 +1,9 @@
 -- The one spelling of a record batch (Apache Kafka documentation, "Message Format": "Record Batch",
 -- magic 2, without compression, transactions or control records).
 use Rattle.std.specs.Prelude.{ℕ, suc, ◌+◌, ◌-◌, ◌^◌, ◌<◌, ◌≤◌, ℤ, pos, ◌+ℤ◌, ◌≤ℤ◌, ◌<ℤ◌, List, [], ◌∷◌, ◌++◌, length, map, fold, FitsSigned}
-use Rattle.std.specs.List.{AllByRecursion}
-use Rattle.std.specs.Int.{Width, w16, w32, w64, to_be_bytes, cast_unsigned, int_max}
+use Rattle.std.specs.{List.AllByRecursion, Int.Width, Int.w16, Int.w32, Int.w64, Int.to_be_bytes, Int.cast_unsigned, Int.int_max}
 use Rattle.wire_spec.specs.declared.limits.TheConstants.{TIMESTAMP_END}
-use Rattle.wire_spec.specs.declared.record.Record.{Record}
-use Rattle.wire_spec.specs.declared.record.Batch.{Batch}
+use Rattle.wire_spec.specs.declared.record.{Record.Record, Batch.Batch}
 use Rattle.wire_spec.specs.Checksum.{checksum}
 use Rattle.wire_spec.specs.RecordSpelling.{RecordFits, record_spelling}
 

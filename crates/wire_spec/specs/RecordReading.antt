@@ -1,11 +1,9 @@
 -- Reading a record from left to right (Apache Kafka documentation, "Message Format"). What is no record
 -- gives `None`; else a value comes with the bytes after it.
 use Rattle.std.specs.Prelude.{ℕ, zero, suc, ◌-◌, ℤ, pos, negsuc, List, [], ◌∷◌, length, take, drop, Option, Some, None, Result, Ok, Err, nat_lt, ◌||◌, if◌then◌else◌}
-use Rattle.std.specs.Ordering.{int_eq}
-use Rattle.std.specs.Str.{is_utf8}
+use Rattle.std.specs.{Ordering.int_eq, Str.is_utf8}
 use Rattle.wire_spec.specs.declared.fault.VarintFault.{VarintFault}
-use Rattle.wire_spec.specs.declared.record.Header.{Header}
-use Rattle.wire_spec.specs.declared.record.Record.{Record}
+use Rattle.wire_spec.specs.declared.record.{Header.Header, Record.Record}
 use Rattle.wire_spec.specs.Varint.{read_varint, read_varlong}
 use Rattle.wire_spec.specs.declared.limits.TheConstants.{MAX_KEY, MAX_VALUE, MAX_HEADERS, MAX_HEADER_KEY, MAX_HEADER_VALUE}
 

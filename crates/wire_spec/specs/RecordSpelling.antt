@@ -1,10 +1,8 @@
 -- The one spelling of a record (Apache Kafka documentation, "Message Format": "Record" and "Record Header").
 use Rattle.std.specs.Prelude.{ℕ, ◌≤◌, ℤ, pos, negsuc, List, ◌∷◌, ◌++◌, length, Option, Some, None, IfSome, FitsSigned, IsUtf8}
-use Rattle.std.specs.List.{flat_map, AllByRecursion}
-use Rattle.std.specs.Int.{w64}
+use Rattle.std.specs.{List.flat_map, List.AllByRecursion, Int.w64}
 use Rattle.wire_spec.specs.declared.limits.TheConstants.{MAX_KEY, MAX_VALUE, MAX_HEADERS, MAX_HEADER_KEY, MAX_HEADER_VALUE}
-use Rattle.wire_spec.specs.declared.record.Header.{Header}
-use Rattle.wire_spec.specs.declared.record.Record.{Record}
+use Rattle.wire_spec.specs.declared.record.{Header.Header, Record.Record}
 use Rattle.wire_spec.specs.Varint.{varint, varlong}
 
 -- a header that has a spelling

@@ -1,14 +1,9 @@
-use Rattle.std.proofs.Common.{◌≡◌, ◌≢◌, ◌-◌, ◌+◌, ◌≤◌, ◌∙◌, ap, length, drop, take, Err, arith, rules}
-use Rattle.std.specs.Prelude.{IfErr}
-use Rattle.std.specs.List.{slice_split, position_or_len}
+use Rattle.std.proofs.Common.{◌≡◌, ◌-◌, ◌≤◌, ◌∙◌, ap, length, drop, take, arith}
+use Rattle.std.specs.List.{position_or_len}
 use Rattle.std.proofs.lemmas.List.{take_rest, length-drop}
 use Rattle.std.proofs.lemmas.Result.{err_from_is_err_and}
-use Rattle.bpf_asm.specs.declared.fault.AsmFault.{AsmFault}
-use Rattle.bpf_asm.specs.declared.fault.AsmFault.TheVariants as faults
-use Rattle.bpf_asm.specs.Reading.{is_line_feed, read_line}
-use Rattle.bpf_asm.specs.Images.{lines_image}
-use Rattle.bpf_asm.specs.Steps.{IsAdded, IsRefused}
-use Rattle.bpf_asm.proofs.Lines.{IsRead, read_none, read_more, read_refused, read_all}
+use Rattle.bpf_asm.specs.Reading.{is_line_feed}
+use Rattle.bpf_asm.proofs.Lines.{read_more, read_refused}
 use Rattle.bpf_asm.proofs.assembling.add_lines.Goals as goal
 
 pub loop-start-preserved : goal.loop-start-preserved

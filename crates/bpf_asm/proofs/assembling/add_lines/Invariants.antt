@@ -1,4 +1,4 @@
-use Rattle.std.proofs.Common.{◌≡◌, ◌+◌, ◌-◌, ◌≤◌, length}
+use Rattle.std.proofs.Common.{◌+◌, ◌-◌, ◌≤◌, length}
 use Rattle.bpf_asm.proofs.Lines.{IsRead}
 use Rattle.bpf_asm.proofs.assembling.add_lines.Given as goal
 

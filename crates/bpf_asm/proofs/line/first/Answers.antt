@@ -1,4 +1,4 @@
-use Rattle.std.proofs.Common.{◌≡◌, ◌+◌, ◌∙◌, ap, sym, List, [], ◌∷◌, ℕ, arith}
+use Rattle.std.proofs.Common.{◌+◌, ◌∙◌, ap, sym, List, [], ◌∷◌, ℕ, arith}
 use Rattle.std.proofs.lemmas.List.{take_rest}
 use Rattle.bpf_asm.proofs.Scanning.{first_operand, last_operand}
 use Rattle.bpf_asm.proofs.line.first.Goals as goal

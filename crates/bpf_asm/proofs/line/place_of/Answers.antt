@@ -1,4 +1,4 @@
-use Rattle.std.proofs.Common.{◌≡◌, ◌==◌, ◌<◌, ℕ, length, get_or, arith}
+use Rattle.std.proofs.Common.{◌==◌, ◌<◌, ℕ, length, get_or, arith}
 use Rattle.std.proofs.lemmas.Bool.{eq-eqb, ne_eqb}
 use Rattle.bpf_asm.proofs.Scanning.{passed_none, passed_more, passed_here, passed_all}
 use Rattle.bpf_asm.proofs.line.place_of.Goals as goal

@@ -1,4 +1,4 @@
-use Rattle.std.proofs.Common.{◌≡◌, ◌<◌, ◌≤◌, ◌^◌, length, arith}
+use Rattle.std.proofs.Common.{arith}
 use Rattle.bpf_asm.proofs.Scanning.{value_more}
 use Rattle.bpf_asm.proofs.number.value.Goals as goal
 

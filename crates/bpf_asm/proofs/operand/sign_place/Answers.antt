@@ -1,4 +1,4 @@
-use Rattle.std.proofs.Common.{◌≡◌, ◌<◌, ◌∙◌, ap, sym, true, false, length, get_or, arith, rules}
+use Rattle.std.proofs.Common.{◌≡◌, ◌<◌, ◌∙◌, sym, true, false, length, get_or, arith}
 use Rattle.bpf_asm.specs.Operands.{is_sign}
 use Rattle.bpf_asm.proofs.Scanning.{passed_none, passed_more, passed_here, passed_all}
 use Rattle.bpf_asm.proofs.operand.sign_place.Goals as goal

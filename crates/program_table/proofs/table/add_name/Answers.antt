@@ -1,27 +1,19 @@
-use Rattle.std.proofs.Common.{◌<◌, ◌≤◌, ◌+◌, ◌++◌, ◌∷◌, [], List, ℕ, length, ap, sym, ◌∙◌, refl, arith}
-use Rattle.std.proofs.lemmas.List.{length-map}
+use Rattle.std.proofs.Common.{◌+◌, ◌++◌, ◌∷◌, [], List, ℕ, length, ap, sym, ◌∙◌, refl}
 use Rattle.std.specs.Prelude.{Some, None}
-use Rattle.log_spec.specs.declared.event.Refusal.TheVariants as refusal
-use Rattle.program_table.specs.Tables.{table_view, entry_view}
-use Rattle.program_table.proofs.TableLaws.{images_of-absent, with_image-absent, refusal_new, refusal_full, refused_early, refused_image}
+use Rattle.program_table.specs.Tables.{table_view}
+use Rattle.program_table.proofs.TableLaws.{images_of-absent, with_image-absent, refusal_new, refused_image, has_room}
 use Rattle.program_table.proofs.table.add_name.Goals as goal
-
-pub returns-then-len-ge-MOST_NAMES : goal.returns-then-len-ge-MOST_NAMES
-returns-then-len-ge-MOST_NAMES c =
-    let items = c.args.entries.now.items in
-    let le : 64 ≤ length (table_view items) = omega (arith, length-map items entry_view, c.args.entries.now.ok.0) in
-    (λ _. refused_early (table_view items) c.args.name.now c.args.image.now refusal.Full (refusal_full (table_view items) c.args.name.now c.requires.form c.requires.new le), refl)
 
 pub returns-in-Err : goal.returns-in-Err
 returns-in-Err c =
     let items = c.args.entries.now.items in
-    let lt : length (table_view items) < 64 = omega (arith, length-map items entry_view, c.args.entries.now.ok.0) in
+    let lt = has_room items c.if-is_full.ensures.value c.is_full.ensures.fits in
     (λ ne. refused_image (table_view items) c.args.name.now c.args.image.now (Some c.in-Err.refusal) (refusal_new (table_view items) c.args.name.now c.requires.form c.requires.new lt) (c.in-Err.ensures.refused ne), refl)
 
 pub returns-in-Ok-add_entry : goal.returns-in-Ok-add_entry
 returns-in-Ok-add_entry c =
     let items = c.args.entries.now.items in
-    let lt : length (table_view items) < 64 = omega (arith, length-map items entry_view, c.args.entries.now.ok.0) in
+    let lt = has_room items c.if-is_full.ensures.value c.is_full.ensures.fits in
     let none = images_of-absent (table_view items) c.args.name.now c.requires.new in (
       refused_image (table_view items) c.args.name.now c.args.image.now None (refusal_new (table_view items) c.args.name.now c.requires.form c.requires.new lt) c.in-Ok.ensures.accepted,
       ap (λ (images : List (List ℕ)). length images + 1) (sym none),

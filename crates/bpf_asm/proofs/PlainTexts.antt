@@ -1,0 +1,99 @@
+-- Texts in which no byte parts a line: no space, no comma and no line feed.
+use Rattle.std.proofs.Common.{◌≡◌, ℕ, suc, ◌+◌, ◌^◌, ◌<◌, ◌≤◌, ℤ, pos, negsuc, Bool, true, false, ◌&&◌, ◌==◌, not, cond, List, [], ◌∷◌, ◌++◌, length, refl, ap, ◌∙◌, arith, leb}
+use Rattle.std.specs.Prelude.{decimal}
+use Rattle.std.specs.Char.{is_ascii_digit}
+use Rattle.std.specs.Fmt.{signed_decimal}
+use Rattle.std.specs.List.{list_all, position_or_len}
+use Rattle.std.proofs.lemmas.Bool.{and_from, and_parts, ne_eqb, leb-true}
+use Rattle.std.proofs.lemmas.List.Folds.{list_all-append}
+use Rattle.std.proofs.lemmas.Fmt.{decimal_nonempty}
+use Rattle.bpf_asm.specs.Numbers.{distance_text}
+use Rattle.bpf_asm.specs.Operands.{register_text, place_text, is_sign}
+use Rattle.bpf_asm.proofs.NumberTexts.{Fits, decimal_digits}
+
+-- ---- bytes that fail a test
+
+abbrev pub fails : (ℕ → Bool) → List ℕ → Bool
+fails p text = list_all (λ b. not (p b)) text
+
+pub first_at : (p : ℕ → Bool) (xs : List ℕ) (y : ℕ) (ys : List ℕ) → fails p xs ≡ true → p y ≡ true → position_or_len p (xs ++ y ∷ ys) ≡ length xs
+first_at p [] y ys e is = ap (λ (b : Bool). cond (not b) (1 + position_or_len p ys) 0) is
+first_at p (x ∷ xs) y ys e is =
+    let parts = and_parts (not (p x)) (fails p xs) e in
+    let rest = first_at p xs y ys parts.1 is in
+    ap (λ (b : Bool). cond b (1 + position_or_len p (xs ++ y ∷ ys)) 0) parts.0 ∙ omega (arith, rest)
+
+pub first_none : (p : ℕ → Bool) (xs : List ℕ) → fails p xs ≡ true → position_or_len p xs ≡ length xs
+first_none p [] e = refl
+first_none p (x ∷ xs) e =
+    let parts = and_parts (not (p x)) (fails p xs) e in
+    let rest = first_none p xs parts.1 in
+    ap (λ (b : Bool). cond b (1 + position_or_len p xs) 0) parts.0 ∙ omega (arith, rest)
+
+-- a test that holds of each byte of which another one does
+pub implied : (p q : ℕ → Bool) → ((b : ℕ) → p b ≡ true → q b ≡ true) → (xs : List ℕ) → list_all p xs ≡ true → list_all q xs ≡ true
+implied p q h [] e = refl
+implied p q h (x ∷ xs) e = let parts = and_parts (p x) (list_all p xs) e in and_from (q x) (list_all q xs) (h x parts.0) (implied p q h xs parts.1)
+
+-- a byte at most 47 is no digit
+digit_other : (c b : ℕ) → c ≤ 47 → is_ascii_digit b ≡ true → (b == c) ≡ false
+digit_other c b low digit =
+    let parts = and_parts (leb 48 b) (leb b 57) digit in
+    ne_eqb b c (λ e. omega (arith, e, leb-true 48 b parts.0))
+
+digit_unsigned : (b : ℕ) → is_ascii_digit b ≡ true → not (is_sign b) ≡ true
+digit_unsigned b digit = rw (digit_other 43 b (omega arith) digit, digit_other 45 b (omega arith) digit) refl
+
+digits_of : (n : ℕ) → n < 2 ^ 64 → list_all is_ascii_digit (decimal n) ≡ true
+digits_of n small = (and_parts _ (list_all is_ascii_digit (decimal n)) (decimal_digits n small)).1
+
+pub register_unsigned : (r : ℕ) → r < 2 ^ 64 → fails is_sign (register_text r) ≡ true
+register_unsigned r small = implied is_ascii_digit (λ b. not (is_sign b)) digit_unsigned (decimal r) (digits_of r small)
+
+-- ---- plain texts
+
+abbrev pub is_plain : ℕ → Bool
+is_plain b = (not (b == 32) && not (b == 44)) && not (b == 10)
+
+abbrev pub are_plain : List ℕ → Bool
+are_plain text = list_all is_plain text
+
+-- a text of an operand has a byte, and no space, comma or line feed
+pub record IsOperand (text : List ℕ) : Type 0 where
+  pub plain : are_plain text ≡ true
+  pub some : 0 < length text
+
+digit_plain : (b : ℕ) → is_ascii_digit b ≡ true → is_plain b ≡ true
+digit_plain b digit = rw (digit_other 32 b (omega arith) digit, digit_other 44 b (omega arith) digit, digit_other 10 b (omega arith) digit) refl
+
+plain_digits : (n : ℕ) → n < 2 ^ 64 → are_plain (decimal n) ≡ true
+plain_digits n small = implied is_ascii_digit is_plain digit_plain (decimal n) (digits_of n small)
+
+pub natural_operand : (n : ℕ) → n < 2 ^ 64 → IsOperand (decimal n)
+natural_operand n small = record { plain = plain_digits n small; some = decimal_nonempty n small }
+
+pub register_operand : (r : ℕ) → r ≤ 10 → IsOperand (register_text r)
+register_operand r small = record { plain = plain_digits r (omega arith); some = omega arith }
+
+pub number_operand : (z : ℤ) → Fits (2 ^ 31) z → IsOperand (signed_decimal z)
+number_operand (pos n) fits = natural_operand n (omega arith)
+number_operand (negsuc n) fits = record { plain = plain_digits (suc n) (omega arith); some = omega arith }
+
+plain_distance : (m : ℕ) (z : ℤ) → m < 2 ^ 64 → Fits m z → are_plain (distance_text z) ≡ true
+plain_distance m (pos n) below fits = plain_digits n (omega arith)
+plain_distance m (negsuc n) below fits = plain_digits (suc n) (omega arith)
+
+some_distance : (z : ℤ) → 0 < length (distance_text z)
+some_distance (pos n) = omega arith
+some_distance (negsuc n) = omega arith
+
+pub distance_operand : (m : ℕ) (z : ℤ) → m < 2 ^ 64 → Fits m z → IsOperand (distance_text z)
+distance_operand m z below fits = record { plain = plain_distance m z below fits; some = some_distance z }
+
+pub both_plain : (xs ys : List ℕ) → are_plain xs ≡ true → are_plain ys ≡ true → are_plain (xs ++ ys) ≡ true
+both_plain xs ys one other = list_all-append is_plain xs ys ∙ and_from (are_plain xs) (are_plain ys) one other
+
+pub place_operand : (base : ℕ) (offset : ℤ) → base ≤ 10 → Fits (2 ^ 15) offset → IsOperand (place_text base offset)
+place_operand base offset small fits =
+    let distance = both_plain (distance_text offset) (93 ∷ []) (plain_distance (2 ^ 15) offset (omega arith) fits) refl in
+    record { plain = both_plain (register_text base) (distance_text offset ++ 93 ∷ []) (plain_digits base (omega arith)) distance; some = omega arith }

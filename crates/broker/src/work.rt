@@ -1,0 +1,190 @@
+//! What the worker of an input partition does.
+
+ghost use Rattle.std.specs.Prelude.{◌≡◌, ◌<◌, ◌+◌, length, IfOk};
+
+use crate::broker::Broker;
+use crate::ended::{Ended, Until};
+use crate::fault::BrokerFault;
+use out_book::BookFault;
+use part_log::{Names, PartLog, Trail};
+use std::alloc::Global;
+use std::sync::Wait;
+use std::thread;
+use worker::{Gate, Results, Walk, process};
+
+/// The worker of an input partition, and what it works with.
+#[derive(Drop)]
+pub(crate) struct Worker<'a, Id: Names, C, R, G> {
+    broker: &'a Broker<Id, C>,
+    rt: &'a R,
+    alloc: Global,
+    input: usize,
+    gate: &'a G,
+}
+
+impl<'a, Id: Names, C, R: Wait, G: Gate> Worker<'a, Id, C, R, G> {
+    pub(crate) fn of(
+        broker: &'a Broker<Id, C>,
+        rt: &'a R,
+        alloc: Global,
+        input: usize,
+        gate: &'a G,
+    ) -> Worker<'a, Id, C, R, G> {
+        Worker {
+            broker,
+            rt,
+            alloc,
+            input,
+            gate,
+        }
+    }
+
+    /// Takes items until the worker is to end.
+    pub(crate) fn run(&self, until: Until) -> Ended {
+        match self.take_all(until) {
+            Ok(items) => Ended::Done(items),
+            Err(ended) => ended,
+        }
+    }
+
+    /// Takes items until the worker is to end, or ends early. Returns how many are done then.
+    fn take_all(&self, until: Until) -> Result<usize, Ended> {
+        let log = self.broker.log(self.input).map_err(Ended::Fault)?;
+        let _few = self.broker.inputs();
+        let mut walk = self.done_everywhere().map_err(Ended::Fault)?;
+        let trail = self
+            .broker
+            .trail(self.rt, self.input)
+            .map_err(Ended::Fault)?;
+        self.drain(log, &trail, &mut walk)?;
+        match until {
+            Until::Drained => {}
+            Until::Closed => self.follow(log, &mut walk)?,
+        }
+        Ok(walk.len())
+    }
+
+    /// Takes the items of a trail.
+    fn drain(&self, log: &PartLog<Id>, trail: &Trail<Id>, walk: &mut Walk<Id>) -> Result<(), Ended>
+        requires trail { trail.now.partition ≡ log.now }
+        requires walk { walk.old.partition ≡ log.now }
+        requires few { log.now < 64 }
+        ensures { walk.new.partition ≡ walk.old.partition }
+    {
+        for index in walk.len()..trail.len() {
+            let mut note = trail.note(index);
+            if !walk.next(log, &mut note) {
+                unreachable!();
+            }
+            self.offer(log, walk)?;
+        }
+        Ok(())
+    }
+
+    /// Takes the items of a log as they come, up to its end or its last cell.
+    fn follow(&self, log: &PartLog<Id>, walk: &mut Walk<Id>) -> Result<(), Ended>
+        requires walk { walk.old.partition ≡ log.now }
+        requires few { log.now < 64 }
+    {
+        for _ in walk.len()..log.cells() {
+            if has_end(log, walk) {
+                break;
+            }
+            self.wait_for_next(log, walk);
+            self.offer(log, walk)?;
+        }
+        Ok(())
+    }
+
+    /// Waits for the item after the walk's last one, and makes it the last one.
+    fn wait_for_next(&self, log: &PartLog<Id>, walk: &mut Walk<Id>)
+        requires walk { walk.old.partition ≡ log.now }
+        requires within { length walk.old.items < length (Id.cells log.now) }
+        ensures partition { walk.new.partition ≡ walk.old.partition }
+        ensures next { length walk.new.items ≡ length walk.old.items + 1 }
+    {
+        for _ in self.rt.forever() {
+            let mut note = log.note(walk.len());
+            if walk.next(log, &mut note) {
+                return;
+            }
+            thread::yield_now();
+        }
+        unreachable!()
+    }
+
+    /// Processes the walk's last item, and offers its rows to every output partition.
+    fn offer(&self, log: &PartLog<Id>, walk: &Walk<Id>) -> Result<(), Ended>
+        requires walk { walk.now.partition ≡ log.now }
+        requires few { log.now < 64 }
+        requires item { 0 < length walk.now.items }
+    {
+        let Ok(results) = process(self.alloc, walk, log, self.broker.outputs()) else {
+            return Err(Ended::Fault(BrokerFault::Memory));
+        };
+        let index = walk.len() - 1;
+        for output in 0..self.broker.outputs() {
+            if !self.gate.pass(walk.partition(), index, output) {
+                return Err(Ended::Stopped(index, output));
+            }
+            self.deliver(output, walk, &results).map_err(Ended::Fault)?;
+        }
+        Ok(())
+    }
+
+    /// Offers an item's rows to an output partition.
+    fn deliver(
+        &self,
+        output: usize,
+        walk: &Walk<Id>,
+        results: &Results<Id>,
+    ) -> Result<(), BrokerFault>
+        requires { output < Id.outputs }
+    {
+        let mut book = self.broker.book(output).lock(self.rt);
+        if book.output() != output {
+            return Err(BrokerFault::Book(BookFault::Partition));
+        }
+        match book.deliver(walk, results) {
+            Ok(_) => Ok(()),
+            Err(fault) => Err(BrokerFault::Book(fault)),
+        }
+    }
+
+    /// A walk over the items that are done in every output partition.
+    fn done_everywhere(&self) -> Result<Walk<Id>, BrokerFault>
+        ensures { IfOk result (λ walk. walk.partition ≡ self.now.input) }
+    {
+        let outputs = self.broker.outputs();
+        let mut least = self.done_in(0)?;
+        for output in 1..outputs {
+            let walk = self.done_in(output)?;
+            if walk.len() < least.len() {
+                least = walk;
+            }
+        }
+        Ok(least)
+    }
+
+    /// A walk over the items that are done in an output partition.
+    fn done_in(&self, output: usize) -> Result<Walk<Id>, BrokerFault>
+        requires { output < Id.outputs }
+        ensures { IfOk result (λ walk. walk.partition ≡ self.now.input) }
+    {
+        let book = self.broker.book(output).lock(self.rt);
+        if book.output() != output || self.input >= book.inputs() {
+            return Err(BrokerFault::Book(BookFault::Partition));
+        }
+        Ok(book.walk(self.input).again())
+    }
+}
+
+/// Whether a walk's last item is the end of its log.
+fn has_end<Id: Names>(log: &PartLog<Id>, walk: &Walk<Id>) -> bool
+    requires { walk.now.partition ≡ log.now }
+{
+    if walk.is_empty() {
+        return false;
+    }
+    log.item(walk.trail(), walk.len() - 1).is_end()
+}

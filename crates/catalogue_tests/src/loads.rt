@@ -1,0 +1,128 @@
+ghost use Rattle.std.specs.Prelude.{◌≡◌};
+ghost use Rattle.broker.specs.Layouts.{IsNamed};
+
+use broker::{Broker, Parts};
+use bytes::Bytes;
+use catalogue::{Catalogue, Finder, Known};
+use fixtures::{FORWARD, name_of};
+use log_spec::Name;
+use part_log::Names;
+use std::alloc::Global;
+use std::marker::Brand;
+use std::process::Abort;
+use std::sync::{Mutex, Wait};
+use std::test::Fail;
+use std::thread::Threads;
+use std::{mem, thread};
+
+const LOADS: usize = 1_000;
+
+const TURNS: usize = 100_000_000;
+
+/// What the loading thread handed over and the deploying one did not take yet.
+type Told = Mutex<Vec<Known>>;
+
+#[test]
+fn deployments_are_never_older_than_known(rt: HostRuntime) -> Result<(), Fail> {
+    let alloc = rt.alloc();
+    chase::<Brand, _>(&rt, alloc, Parts::new(&rt, alloc, 1, 1, LOADS)?)
+}
+
+fn chase<Id: Names + Send + Sync, R: Threads + Wait + Abort + Sync>(
+    rt: &R,
+    alloc: Global,
+    parts: Parts<Catalogue<&R>>,
+) -> Result<(), Fail>
+    requires cells { IsNamed Id.cells parts.cells }
+    requires outputs { parts.outputs ≡ Id.outputs }
+{
+    let made: Broker<Id, Catalogue<&R>> = Broker::new(alloc, parts)?;
+    let (broker, told) = (&made, &Mutex::new(Vec::new(alloc)));
+    let name = &name_of(alloc, "fwd")?;
+    let one = move |number: usize| -> usize {
+        if number == 0 {
+            load_all(rt, alloc, broker, name, told)
+        } else {
+            deploy_all(rt, alloc, broker, name, told)
+        }
+    };
+    for count in &thread::map_indices(rt, alloc, 2, &one)? {
+        assert_eq!(rt; *count, LOADS);
+    }
+    Ok(())
+}
+
+/// Loads and hands over what is known then; how many loads had the version after the one before.
+fn load_all<Id: Names, H: Wait + Drop, R: Wait>(
+    rt: &R,
+    alloc: Global,
+    broker: &Broker<Id, Catalogue<H>>,
+    name: &Name,
+    told: &Told,
+) -> usize {
+    let Ok(image) = Bytes::copy_from_slice(alloc, &FORWARD) else {
+        return 0;
+    };
+    let mut count = 0usize;
+    for _ in 0..LOADS {
+        let Ok((version, known)) = broker.load(rt, alloc, name, &image) else {
+            return count;
+        };
+        count = count.wrapping_add(1);
+        if version as usize != count || told.lock(rt).push(known).is_err() {
+            return 0;
+        }
+    }
+    count
+}
+
+/// Deploys with all that is handed over; how many deployments were right.
+fn deploy_all<Id: Names, H: Wait + Drop, R: Wait>(
+    rt: &R,
+    alloc: Global,
+    broker: &Broker<Id, Catalogue<H>>,
+    name: &Name,
+    told: &Told,
+) -> usize {
+    let Ok(mut finder) = broker.finder(rt, alloc) else {
+        return 0;
+    };
+    let mut count = 0usize;
+    let mut last = 0;
+    for _ in 0..TURNS {
+        let taken = mem::replace(&mut *told.lock(rt), Vec::new(alloc));
+        if taken.is_empty() {
+            thread::yield_now();
+        }
+        let Some(version) = deploy_each(rt, alloc, broker, name, &mut finder, &taken, last) else {
+            return 0;
+        };
+        last = version;
+        count = count.wrapping_add(taken.len());
+        if count >= LOADS {
+            return count;
+        }
+    }
+    count
+}
+
+/// The last version of these deployments; none where one was older than known or than the one before.
+fn deploy_each<Id: Names, C, R: Wait>(
+    rt: &R,
+    alloc: Global,
+    broker: &Broker<Id, C>,
+    name: &Name,
+    finder: &mut Finder,
+    taken: &[Known],
+    first: u32,
+) -> Option<u32> {
+    let mut last = first;
+    for known in taken {
+        let (_receipt, version) = broker.deploy(rt, alloc, 0, name, finder, known).ok()?;
+        if version < known.version() || version < last {
+            return None;
+        }
+        last = version;
+    }
+    Some(last)
+}

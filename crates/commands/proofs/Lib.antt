@@ -1,0 +1,5 @@
+pub mod Appended
+pub mod BatchLaws
+pub mod Marks
+pub mod Said
+pub mod Written

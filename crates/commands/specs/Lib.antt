@@ -1,0 +1,5 @@
+pub mod Images
+pub mod Puts
+pub mod Sessions
+pub mod Stops
+pub mod Texts

@@ -1,0 +1,77 @@
+-- What the lines of a script do to its broker.
+use Rattle.std.specs.Prelude.{◌≡◌, ℕ, List, [], ◌∷◌, length, drop, All, Option, Some, None, Ok}
+use Rattle.std.specs.Io.KnownBytes.{Appends}
+use Rattle.wire_spec.specs.declared.record.Batch.{Batch}
+use Rattle.wire_spec.specs.BatchReading.{batch_at}
+use Rattle.log_spec.specs.Logs.{Item as Kept, Records, Marked, Closed, records_among}
+use Rattle.part_log.specs.Parts.{Received}
+use Rattle.broker.specs.Layouts.{Layout}
+use Rattle.script.specs.declared.command.Command.{Command}
+use Rattle.script.specs.declared.command.Command.TheVariants.{Partitions, Load, Deploy, Put, Append, Close, Go}
+use Rattle.script.specs.Texts.{deploy_line, append_line, close_line}
+use Rattle.commands.specs.Puts.{put_batch}
+
+-- so many input partitions, with so many cells each, and so many output partitions
+pub record IsMade (inputs outputs cells : ℕ) (parts : Layout) : Type 0 where
+  pub inputs_are : length parts.cells ≡ inputs
+  pub outputs_are : parts.outputs ≡ outputs
+  pub cells_are : All (λ names. length names ≡ cells) parts.cells
+
+-- The first command of a script makes the partitions that it names.
+abbrev pub Begins : Option Command → Layout → Type 0
+Begins (Some (Partitions inputs outputs cells)) parts = IsMade inputs outputs cells parts
+Begins (Some (Load name source)) parts = ⊥
+Begins (Some (Deploy input name)) parts = ⊥
+Begins (Some (Put input timestamp key value)) parts = ⊥
+Begins (Some (Append input source)) parts = ⊥
+Begins (Some (Close input)) parts = ⊥
+Begins (Some Go) parts = ⊥
+Begins None parts = ⊥
+
+-- a receipt of this item in the log of this input partition
+abbrev pub IsReceiptOf : ℕ → Kept → Received → Type 0
+IsReceiptOf input item receipt = (receipt.before.partition ≡ input) × (receipt.item ≡ item)
+
+-- a receipt of a mark of this version of the name
+abbrev pub IsMark : ℕ → List ℕ → ℕ → Received → Type 0
+IsMark input name version receipt = (image : List ℕ) × IsReceiptOf input (Marked name version image) receipt
+
+-- These are receipts of the batches that the bytes begin with, one after the other, in the log of this input partition. What
+-- is left of the bytes is the rest.
+abbrev pub AreAppended : ℕ → List ℕ → List Received → List ℕ → Type 0
+AreAppended input bytes [] rest = rest ≡ bytes
+AreAppended input bytes (receipt ∷ receipts) rest =
+    (batch : Batch) × (used : ℕ) × (batch_at bytes ≡ Ok (batch, used)) × IsReceiptOf input (Records batch) receipt × AreAppended input (drop used bytes) receipts rest
+
+-- A mark of the name was appended to the log of the input partition, and its line was printed between these contents of
+-- standard output.
+abbrev pub Deploys : ℕ → List ℕ → Received → Option (List ℕ) → Option (List ℕ) → Type 0
+Deploys input name receipt before after =
+    (version : ℕ) × IsMark input name version receipt × Appends before after (deploy_line input (length receipt.before.items) name version)
+
+-- the same of a batch
+abbrev pub Puts : ℕ → Batch → Received → Option (List ℕ) → Option (List ℕ) → Type 0
+Puts input batch receipt before after =
+    IsReceiptOf input (Records batch) receipt × Appends before after (append_line input (length receipt.before.items) (records_among receipt.before.items))
+
+-- the same of the end of a log
+abbrev pub Closes : ℕ → Received → Option (List ℕ) → Option (List ℕ) → Type 0
+Closes input receipt before after = IsReceiptOf input Closed receipt × Appends before after (close_line input (length receipt.before.items))
+
+-- What a command appends, if it is one item, and prints.
+abbrev pub Does : Command → Option Received → Option (List ℕ) → Option (List ℕ) → Type 0
+Does (Deploy input name) (Some receipt) before after = Deploys input name receipt before after
+Does (Deploy input name) None before after = ⊥
+Does (Put input timestamp key value) (Some receipt) before after = Puts input (put_batch timestamp key value) receipt before after
+Does (Put input timestamp key value) None before after = ⊥
+Does (Close input) (Some receipt) before after = Closes input receipt before after
+Does (Close input) None before after = ⊥
+Does (Partitions inputs outputs cells) receipt before after = ⊥
+Does (Load name source) receipt before after = receipt ≡ None
+Does (Append input source) receipt before after = receipt ≡ None
+Does Go receipt before after = receipt ≡ None
+
+-- the same of a line, which is this command
+abbrev pub LineDoes : Option Command → Option Received → Option (List ℕ) → Option (List ℕ) → Type 0
+LineDoes (Some command) receipt before after = Does command receipt before after
+LineDoes None receipt before after = ⊥

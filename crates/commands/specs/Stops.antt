@@ -1,0 +1,79 @@
+-- Why a script ends early, by what refuses its line, and the status that the program then ends with.
+use Rattle.std.specs.Prelude.{ℕ, List, [], ◌∷◌, Result, Ok, Err}
+use Rattle.wire_spec.specs.declared.fault.BatchFault.{BatchFault}
+use Rattle.wire_spec.specs.declared.fault.BatchFault.TheVariants as fault
+use Rattle.part_log.specs.declared.fault.LogFault.TheVariants as log
+use Rattle.catalogue.specs.declared.fault.CatFault.TheVariants as catalogue
+use Rattle.out_book.specs.declared.fault.BookFault.TheVariants as book
+use Rattle.broker.specs.declared.fault.BrokerFault.{BrokerFault}
+use Rattle.broker.specs.declared.fault.BrokerFault.TheVariants as broker
+use Rattle.broker.specs.declared.ended.Ended.{Ended}
+use Rattle.broker.specs.declared.ended.Ended.TheVariants as ended
+use Rattle.commands.specs.declared.stop.Stop.{Stop}
+use Rattle.commands.specs.declared.stop.Stop.TheVariants as stop
+use Rattle.commands.specs.declared.image.Refused.{Refused}
+use Rattle.commands.specs.declared.image.Refused.TheVariants as refused
+
+-- a call that the broker refuses; want of memory is told as such
+abbrev pub stop_of_broker : BrokerFault → Stop
+stop_of_broker broker.Partition = stop.Broker broker.Partition
+stop_of_broker broker.NoProgram = stop.Broker broker.NoProgram
+stop_of_broker broker.Memory = stop.Memory
+stop_of_broker (broker.Catalogue catalogue.Name) = stop.Broker (broker.Catalogue catalogue.Name)
+stop_of_broker (broker.Catalogue catalogue.Full) = stop.Broker (broker.Catalogue catalogue.Full)
+stop_of_broker (broker.Catalogue (catalogue.Load load)) = stop.Broker (broker.Catalogue (catalogue.Load load))
+stop_of_broker (broker.Catalogue catalogue.NoReader) = stop.Broker (broker.Catalogue catalogue.NoReader)
+stop_of_broker (broker.Catalogue catalogue.Versions) = stop.Broker (broker.Catalogue catalogue.Versions)
+stop_of_broker (broker.Catalogue catalogue.Memory) = stop.Memory
+stop_of_broker (broker.Log log.Full) = stop.Broker (broker.Log log.Full)
+stop_of_broker (broker.Log log.Closed) = stop.Broker (broker.Log log.Closed)
+stop_of_broker (broker.Log log.Clash) = stop.Broker (broker.Log log.Clash)
+stop_of_broker (broker.Log log.Memory) = stop.Memory
+stop_of_broker (broker.Book (book.Gap expected)) = stop.Broker (broker.Book (book.Gap expected))
+stop_of_broker (broker.Book book.Partition) = stop.Broker (broker.Book book.Partition)
+stop_of_broker (broker.Book book.Memory) = stop.Memory
+
+-- how a worker ended; the gate of a script's workers stops none
+abbrev pub end_of : Ended → Result (Unit {0}) Stop
+end_of (ended.Done items) = Ok tt
+end_of (ended.Stopped index output) = Ok tt
+end_of (ended.Fault fault) = Err (stop_of_broker fault)
+end_of ended.NoThread = Err stop.Thread
+
+-- the first end or the others'
+abbrev pub or_else_ends : Result (Unit {0}) Stop → Result (Unit {0}) Stop → Result (Unit {0}) Stop
+or_else_ends (Ok done) others = others
+or_else_ends (Err told) others = Err told
+
+-- why a script ends whose workers ended so: what the first of them met that did not end its work
+abbrev pub end_of_all : List Ended → Result (Unit {0}) Stop
+end_of_all [] = Ok tt
+end_of_all (first ∷ others) = or_else_ends (end_of first) (end_of_all others)
+
+-- bytes that begin with no batch
+abbrev pub stop_of_fault : BatchFault → Stop
+stop_of_fault fault.Short = stop.Batch fault.Short
+stop_of_fault fault.Length = stop.Batch fault.Length
+stop_of_fault fault.TooLarge = stop.Batch fault.TooLarge
+stop_of_fault fault.Magic = stop.Batch fault.Magic
+stop_of_fault fault.Crc = stop.Batch fault.Crc
+stop_of_fault fault.Attributes = stop.Batch fault.Attributes
+stop_of_fault fault.Count = stop.Batch fault.Count
+stop_of_fault (fault.Record place) = stop.Batch (fault.Record place)
+stop_of_fault fault.Timestamp = stop.Batch fault.Timestamp
+stop_of_fault fault.Memory = stop.Memory
+
+-- 1 where the line is refused, 3 where a file, standard output, a thread or memory fails
+abbrev pub status_of : Stop → ℕ
+status_of (stop.Line _) = 1
+status_of (stop.Broker _) = 1
+status_of (stop.Batch _) = 1
+status_of (stop.File _) = 3
+status_of stop.Output = 3
+status_of stop.Thread = 3
+status_of stop.Memory = 3
+
+-- the same of a call on an image
+abbrev pub status_of_refused : Refused → ℕ
+status_of_refused (refused.Image _) = 1
+status_of_refused refused.Memory = 3

@@ -1,0 +1,53 @@
+-- What `asm` and `dis` do with an image's text.
+use Rattle.std.specs.Prelude.{◌≡◌, ◌⊎◌, ℕ, List, Option, Result, Ok, Err, IfSome}
+use Rattle.std.specs.Io.KnownBytes.{Appends}
+use Rattle.machine_spec.specs.declared.instruction.IsaFault.{IsaFault}
+use Rattle.machine_spec.specs.declared.instruction.IsaFault.TheVariants as fault
+use Rattle.machine_spec.specs.declared.instruction.Placed.{Placed}
+use Rattle.machine_spec.specs.Image.{read_image}
+use Rattle.verifier_spec.specs.declared.fault.LoadFault.TheVariants.{Isa}
+use Rattle.bpf_asm.specs.Writing.{text_of}
+use Rattle.bpf_asm.specs.declared.fault.AsmFault.{AsmFault}
+use Rattle.bpf_asm.specs.declared.fault.AsmFault.TheVariants as asm
+use Rattle.commands.specs.declared.image.Refused.{Refused}
+use Rattle.commands.specs.declared.image.Refused.TheVariants as refused
+use Rattle.commands.specs.Stops.{status_of_refused}
+
+-- the refusal of an image that has no code; want of memory is told as such
+abbrev pub refusal_of : IsaFault → Refused
+refusal_of fault.Size = refused.Image (Isa fault.Size)
+refusal_of (fault.Opcode slot) = refused.Image (Isa (fault.Opcode slot))
+refusal_of (fault.Register slot) = refused.Image (Isa (fault.Register slot))
+refusal_of (fault.Unused slot) = refused.Image (Isa (fault.Unused slot))
+refusal_of (fault.Wide slot) = refused.Image (Isa (fault.Wide slot))
+refusal_of (fault.NotInProfile slot) = refused.Image (Isa (fault.NotInProfile slot))
+refusal_of fault.Memory = refused.Memory
+
+abbrev pub disassembly_of : Result (List Placed) IsaFault → Result (List ℕ) Refused
+disassembly_of (Ok code) = Ok (text_of code)
+disassembly_of (Err told) = Err (refusal_of told)
+
+-- what `dis` prints of an image: the text of its code, or its refusal
+abbrev pub disassembly : List ℕ → Result (List ℕ) Refused
+disassembly image = disassembly_of (read_image image)
+
+-- A call that prints an answer, seen by view, ends with this status: standard output got all of the text, or the refusal was
+-- told, unless a file, standard output or memory failed.
+abbrev pub PrintsAs : {X : Type 0} → (X → List ℕ) → Result X Refused → ℕ → Option (List ℕ) → Option (List ℕ) → Type 0
+PrintsAs view (Ok text) status before after = (status ≡ 3) ⊎ ((status ≡ 0) × Appends before after (view text))
+PrintsAs view (Err told) status before after = (status ≡ 3) ⊎ (status ≡ status_of_refused told)
+
+-- 1 where a line is refused, 3 where memory ran out
+abbrev pub status_of_fault : AsmFault → ℕ
+status_of_fault (asm.Word _) = 1
+status_of_fault (asm.Operand _) = 1
+status_of_fault (asm.Number _) = 1
+status_of_fault (asm.Register _) = 1
+status_of_fault (asm.Size _) = 1
+status_of_fault asm.Memory = 3
+
+-- A call that writes the image of a text ends with this status: the file has the image, or the text's fault was told, unless
+-- a file or memory failed.
+abbrev pub WritesAs : Result (List ℕ) AsmFault → ℕ → Option (List ℕ) → Type 0
+WritesAs (Ok image) status file = (status ≡ 3) ⊎ ((status ≡ 0) × IfSome file (λ bytes. bytes ≡ image))
+WritesAs (Err told) status file = (status ≡ 3) ⊎ (status ≡ status_of_fault told)

@@ -1,0 +1,37 @@
+//! The files of `asm`: the text that it reads and the image that it writes.
+
+ghost use Rattle.std.specs.Prelude.{◌≡◌, ℕ, List, Some, IfOk, OnOk, IfSome, string_bytes};
+
+use crate::files::Files;
+use crate::reading::{Unread, cause_of, read_file};
+use std::alloc::Global;
+
+/// The bytes of a text, which are UTF-8.
+pub fn utf8(bytes: Vec<u8>) -> Result<String, Unread>
+    ensures { IfOk result (λ text. string_bytes text ≡ bytes.items) }
+{
+    match String::from_utf8(bytes) {
+        Ok(text) => Ok(text),
+        Err(_) => Err(Unread::File),
+    }
+}
+
+/// The whole text of a named file.
+pub fn read_text<F: Files>(alloc: Global, files: &mut F, name: &str) -> Result<String, Unread>
+    ensures { (bytes : List ℕ) → F.bytes files.old name.now ≡ Some bytes → IfOk result (λ text. string_bytes text ≡ bytes) }
+{
+    match read_file(alloc, files, name) {
+        Ok(bytes) => utf8(bytes),
+        Err(unread) => Err(unread),
+    }
+}
+
+/// Makes a named file hold an image.
+pub fn write_image<F: Files>(files: &mut F, name: &str, image: &[u8]) -> Result<(), Unread>
+    ensures { OnOk result (IfSome (F.bytes files.new name.now) (λ bytes. bytes ≡ image.now)) }
+{
+    match files.write(name, image) {
+        Ok(()) => Ok(()),
+        Err(error) => Err(cause_of(&error)),
+    }
+}

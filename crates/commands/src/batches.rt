@@ -1,0 +1,57 @@
+//! The batches that a script appends.
+
+ghost use Rattle.std.specs.Prelude.{◌≡◌, ◌<◌, ◌≤◌, length, IfOk};
+ghost use Rattle.script.specs.Faults.{text_size};
+ghost use Rattle.log_spec.specs.Logs.{FitsLog};
+ghost use Rattle.wire_spec.specs.BatchReading.{batch_at};
+ghost use Rattle.wire_spec.specs.Memory.{AnswersAs};
+ghost use Rattle.wire_spec.specs.declared.fault.BatchFault.TheVariants.{Memory};
+ghost use Rattle.commands.specs.Puts.{put_batch};
+
+use batch::{BatchFault, decode};
+use bytes::Bytes;
+use std::alloc::{AllocError, Global};
+use wire_spec::{Batch, Headers, MAX_KEY, MAX_VALUE, Record, Records, TIMESTAMP_END};
+
+/// The batch at the front of the bytes, and how many of them it takes, or why there is none.
+pub fn next_batch(alloc: Global, bytes: &Bytes) -> Result<(Batch, usize), BatchFault>
+    ensures fits { IfOk result (λ x. FitsLog x.0) }
+    ensures used { IfOk result (λ x. (0 < x.1) × (x.1 ≤ length bytes.now)) }
+    ensures gives { AnswersAs Memory (λ x. x) result (batch_at bytes.now) }
+{
+    decode(alloc, bytes.clone()?)
+}
+
+/// A batch of one record.
+pub fn batch_of(
+    alloc: Global,
+    timestamp: u64,
+    key: Option<Bytes>,
+    value: Option<Bytes>,
+) -> Result<Batch, AllocError>
+    requires timestamp { timestamp < TIMESTAMP_END }
+    requires key { text_size key ≤ MAX_KEY }
+    requires value { text_size value ≤ MAX_VALUE }
+    ensures batch { IfOk result (λ batch. batch ≡ put_batch timestamp key value) }
+    ensures fits { IfOk result FitsLog }
+{
+    let headers = Headers {
+        list: Vec::new(alloc),
+    };
+    let mut list = Vec::new(alloc);
+    list.push(Record {
+        timestamp_delta: 0,
+        key,
+        value,
+        headers,
+    })?;
+    Ok(Batch {
+        base_offset: 0,
+        leader_epoch: 0,
+        base_timestamp: timestamp as i64,
+        producer_id: -1,
+        producer_epoch: -1,
+        base_sequence: -1,
+        records: Records { list },
+    })
+}

@@ -1,0 +1,321 @@
+//! Calls of the program, and what each tells on standard error.
+
+ghost use Rattle.std.specs.Prelude.{◌≡◌, ◌≢◌, ◌≤◌, ◌⊎◌, ℕ, List, Some, Ok, OnOk, IfErr, string_bytes};
+ghost use Rattle.std.specs.IoError.{error_kind};
+ghost use Rattle.std.specs.Io.KnownBytes.{Appends};
+ghost use Rattle.std.specs.declared.io.ErrorKind.TheVariants.{OutOfMemory};
+ghost use Rattle.bpf_asm.specs.Images.{image_of};
+ghost use Rattle.commands.specs.Images.{first_bytes};
+ghost use Rattle.commands.specs.Stops.{status_of, status_of_refused};
+ghost use Rattle.commands.specs.Texts as texts;
+
+use crate::asm::{read_text, utf8, write_image};
+use crate::dis::disassembly;
+use crate::files::Files;
+use crate::image::{Refused, check, read_image};
+use crate::reading::{Unread, read_file, read_whole};
+use crate::run::{Ended, run_script};
+use crate::stop::{Stop, status_of, unwritten};
+use crate::words::{Call, Misuse, call_of};
+use bpf_asm::{AsmFault, assemble};
+use std::alloc::{AllocError, Global};
+use std::io;
+use std::io::{Read, Write};
+use std::sync::Wait;
+use std::thread::Threads;
+
+/// Everything was done.
+const DONE: u8 = 0;
+
+/// What the call names is refused.
+const REFUSED: u8 = 1;
+
+/// The words are no call of the program.
+const USAGE: u8 = 2;
+
+/// A file can't be read or written, there is no thread for a worker, or memory ran out.
+const FAILED: u8 = 3;
+
+/// What is told where memory ran out.
+const MEMORY: &str = "memory\n";
+
+/// What is told where there is no thread for a worker.
+const THREAD: &str = "thread\n";
+
+/// A text on standard error, as far as it can be written.
+fn say<E: Write>(stderr: &mut E, text: &str) {
+    let _ = stderr.write_all(text.as_bytes());
+}
+
+/// Says how the program is called, and answers the status.
+fn tell_usage<E: Write>(stderr: &mut E) -> u8
+    ensures { result ≡ 2 }
+{
+    say(stderr, "usage: klog COMMAND FILE ...\n");
+    USAGE
+}
+
+/// Says that memory ran out, and answers the status.
+fn tell_memory<E: Write>(stderr: &mut E) -> u8
+    ensures { result ≡ 3 }
+{
+    say(stderr, MEMORY);
+    FAILED
+}
+
+/// Tells why the words of a call could not be had, and answers the status: memory ran out, or a word
+/// is not UTF-8, which no call has.
+pub fn tell_no_words<E: Write>(stderr: &mut E, error: &io::Error) -> u8
+    ensures memory { error_kind error.now ≡ OutOfMemory → result ≡ 3 }
+    ensures no_text { error_kind error.now ≢ OutOfMemory → result ≡ 2 }
+{
+    match error.kind() {
+        io::ErrorKind::OutOfMemory => tell_memory(stderr),
+        _ => tell_usage(stderr),
+    }
+}
+
+/// Says a text and answers the status. Where there is no memory for the text, it says that.
+fn tell_text<E: Write>(stderr: &mut E, text: Result<String, AllocError>, status: u8) -> u8
+    ensures { (result ≡ status) ⊎ (result ≡ 3) }
+{
+    match text {
+        Ok(text) => {
+            say(stderr, text.as_str());
+            status
+        }
+        Err(_) => tell_memory(stderr),
+    }
+}
+
+/// The whole text of a script; `stdin` is standard input.
+fn script_text<F: Files, I: Read>(
+    alloc: Global,
+    files: &mut F,
+    stdin: &mut I,
+    name: &str,
+) -> Result<String, Unread> {
+    let bytes = if name == "stdin" {
+        read_whole(alloc, stdin)?
+    } else {
+        read_file(alloc, files, name)?
+    };
+    utf8(bytes)
+}
+
+/// What the end of a script says on standard error.
+fn end_text(alloc: Global, ended: &Ended) -> Result<String, AllocError> {
+    let line = ended.line;
+    match &ended.stop {
+        Stop::Line(fault) => format!(in alloc; "line {line}: {fault}\n"),
+        Stop::Broker(fault) => format!(in alloc; "line {line}: {fault}\n"),
+        Stop::Batch(fault) => format!(in alloc; "line {line}: {fault}\n"),
+        Stop::File(file) => file_text(alloc, file.text.as_str()),
+        Stop::Output => file_text(alloc, "stdout"),
+        Stop::Thread => String::from_str(alloc, THREAD),
+        Stop::Memory => String::from_str(alloc, MEMORY),
+    }
+}
+
+fn file_text(alloc: Global, name: &str) -> Result<String, AllocError> {
+    format!(in alloc; "file {name}\n")
+}
+
+/// Tells why a script ended early, and answers the status. Where there is no memory for the text,
+/// that is told.
+fn tell<E: Write>(alloc: Global, stderr: &mut E, ended: &Ended) -> u8
+    ensures { (result ≡ status_of ended.now.stop) ⊎ (result ≡ 3) }
+{
+    tell_text(stderr, end_text(alloc, ended), status_of(&ended.stop))
+}
+
+/// Tells that a file can't be read or written, and answers the status.
+fn tell_unread<E: Write>(alloc: Global, stderr: &mut E, name: &str, unread: Unread) -> u8
+    ensures { result ≡ 3 }
+{
+    match unread {
+        Unread::File => tell_text(stderr, file_text(alloc, name), FAILED),
+        Unread::Memory => tell_memory(stderr),
+    }
+}
+
+/// Does the commands of a script, and answers the status.
+fn run<R: Threads + Wait + Sync, F: Files, I: Read, O: Write, E: Write>(
+    rt: &R,
+    alloc: Global,
+    files: &mut F,
+    stdin: &mut I,
+    stdout: &mut O,
+    stderr: &mut E,
+    name: &str,
+) -> u8
+    ensures { result ≤ 3 }
+{
+    let script = match script_text(alloc, files, stdin, name) {
+        Ok(script) => script,
+        Err(unread) => return tell_unread(alloc, stderr, name, unread),
+    };
+    match run_script(rt, alloc, files, stdout, script.as_str()) {
+        Ok(()) => DONE,
+        Err(ended) => tell(alloc, stderr, &ended),
+    }
+}
+
+/// Writes all of a text to standard output.
+#[tactic(auto, using(crate::proofs::Written::appended_and_kept))]
+fn write_out<O: Write>(stdout: &mut O, text: &str) -> Result<(), Stop>
+    ensures written { OnOk result (Appends (O.contents stdout.old) (O.contents stdout.new) text.now) }
+    ensures failed { IfErr result (λ stop. status_of stop ≡ 3) }
+{
+    match stdout.write_all(text.as_bytes()) {
+        Err(error) => Err(unwritten(&error)),
+        Ok(()) => match stdout.flush() {
+            Err(error) => Err(unwritten(&error)),
+            Ok(()) => Ok(()),
+        },
+    }
+}
+
+/// Prints a text, and answers the status: 0 where all of it was written, and else 3.
+fn print_text<O: Write, E: Write>(alloc: Global, stdout: &mut O, stderr: &mut E, text: &str) -> u8
+    ensures status { (result ≡ 0) ⊎ (result ≡ 3) }
+    ensures printed { result ≡ 0 → Appends (O.contents stdout.old) (O.contents stdout.new) text.now }
+{
+    match write_out(stdout, text) {
+        Ok(()) => DONE,
+        Err(stop) => tell(alloc, stderr, &Ended { line: 0, stop }),
+    }
+}
+
+/// Says why a call on an image prints nothing, and answers the status. Where there is no memory for
+/// the text, it says that.
+fn tell_refused<E: Write>(alloc: Global, stderr: &mut E, refused: Refused) -> u8
+    ensures { (result ≡ status_of_refused refused) ⊎ (result ≡ 3) }
+{
+    match refused {
+        Refused::Image(fault) => tell_text(stderr, format!(in alloc; "{fault}\n"), REFUSED),
+        Refused::Memory => tell_memory(stderr),
+    }
+}
+
+/// Prints the answer of a call on an image, or says why it has none; answers the status.
+fn print_answer<O: Write, E: Write>(
+    alloc: Global,
+    stdout: &mut O,
+    stderr: &mut E,
+    answer: Result<String, Refused>,
+) -> u8
+    ensures { texts.PrintsAs string_bytes answer result (O.contents stdout.old) (O.contents stdout.new) }
+{
+    match answer {
+        Ok(text) => print_text(alloc, stdout, stderr, text.as_str()),
+        Err(refused) => tell_refused(alloc, stderr, refused),
+    }
+}
+
+/// Verifies the image in a file and prints how many instructions it has, or says why it is refused;
+/// answers the status.
+fn check_file<F: Files, O: Write, E: Write>(
+    alloc: Global,
+    files: &mut F,
+    stdout: &mut O,
+    stderr: &mut E,
+    name: &str,
+) -> u8
+    ensures { result ≤ 3 }
+{
+    match read_image(alloc, files, name) {
+        Ok(image) => print_answer(alloc, stdout, stderr, check(alloc, image.as_slice())),
+        Err(unread) => tell_unread(alloc, stderr, name, unread),
+    }
+}
+
+/// Prints the text of the image in a file, or says why it is refused; answers the status.
+fn disassemble_file<F: Files, O: Write, E: Write>(
+    alloc: Global,
+    files: &mut F,
+    stdout: &mut O,
+    stderr: &mut E,
+    name: &str,
+) -> u8
+    ensures small { result ≤ 3 }
+    ensures printed { (bytes : List ℕ) → F.bytes files.old name.now ≡ Some bytes → texts.PrintsAs (λ text. text) (texts.disassembly (first_bytes bytes)) result (O.contents stdout.old) (O.contents stdout.new) }
+{
+    match read_image(alloc, files, name) {
+        Ok(image) => print_answer(alloc, stdout, stderr, disassembly(alloc, image.as_slice())),
+        Err(unread) => tell_unread(alloc, stderr, name, unread),
+    }
+}
+
+/// Says at which line a text is refused and why, and answers the status.
+fn tell_fault<E: Write>(alloc: Global, stderr: &mut E, fault: AsmFault) -> u8
+    ensures { (result ≡ texts.status_of_fault fault) ⊎ (result ≡ 3) }
+{
+    match fault.line() {
+        Some(line) => tell_text(stderr, format!(in alloc; "line {line}: {fault}\n"), REFUSED),
+        None => tell_memory(stderr),
+    }
+}
+
+/// Writes an image to a file, and answers the status.
+fn put_image<F: Files, E: Write>(
+    alloc: Global,
+    files: &mut F,
+    stderr: &mut E,
+    name: &str,
+    image: &[u8],
+) -> u8
+    ensures { texts.WritesAs (Ok image.now) result (F.bytes files.new name.now) }
+{
+    match write_image(files, name, image) {
+        Ok(()) => DONE,
+        Err(unread) => tell_unread(alloc, stderr, name, unread),
+    }
+}
+
+/// Writes the image of the text in a file to another file, or says why the text is refused, and writes
+/// no file; answers the status.
+fn assemble_file<F: Files, E: Write>(
+    alloc: Global,
+    files: &mut F,
+    stderr: &mut E,
+    text: &str,
+    image: &str,
+) -> u8
+    ensures small { result ≤ 3 }
+    ensures written { (bytes : List ℕ) → F.bytes files.old text.now ≡ Some bytes → texts.WritesAs (image_of bytes) result (F.bytes files.new image.now) }
+{
+    let source = match read_text(alloc, files, text) {
+        Ok(source) => source,
+        Err(unread) => return tell_unread(alloc, stderr, text, unread),
+    };
+    match assemble(alloc, source.as_str()) {
+        Ok(bytes) => put_image(alloc, files, stderr, image, &bytes),
+        Err(fault) => tell_fault(alloc, stderr, fault),
+    }
+}
+
+/// Does what the words after the program's name ask for, and answers the status: 0 it is done, 1 an
+/// image, a text or a line of the script is refused, 2 the words are no call, 3 a file can't be read or
+/// written, a worker has no thread or memory ran out. All but what was asked for goes to standard
+/// error. Only the call that runs a script starts threads and may wait.
+pub fn command<R: Threads + Wait + Sync, F: Files, I: Read, O: Write, E: Write>(
+    rt: &R,
+    alloc: Global,
+    words: &[String],
+    files: &mut F,
+    stdin: &mut I,
+    stdout: &mut O,
+    stderr: &mut E,
+) -> u8
+    ensures { result ≤ 3 }
+{
+    match call_of(alloc, words) {
+        Ok(Call::Assemble(text, image)) => assemble_file(alloc, files, stderr, text, image),
+        Ok(Call::Check(image)) => check_file(alloc, files, stdout, stderr, image),
+        Ok(Call::Disassemble(image)) => disassemble_file(alloc, files, stdout, stderr, image),
+        Ok(Call::Run(script)) => run(rt, alloc, files, stdin, stdout, stderr, script),
+        Err(Misuse::Usage) => tell_usage(stderr),
+        Err(Misuse::Memory) => tell_memory(stderr),
+    }
+}

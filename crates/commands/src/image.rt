@@ -1,0 +1,79 @@
+//! Images of programs: how much of a file is read as one, and what `check` prints.
+
+ghost use Rattle.std.specs.Prelude.{◌≡◌, List, ℕ, Some, IfOk, string_bytes};
+ghost use Rattle.annotate.specs.Loads.{FaultIs};
+ghost use Rattle.commands.specs.Images.{first_bytes, accepted_line, IsRefusal, ChecksAs};
+
+use crate::files::Files;
+use crate::reading::{Unread, cause_of, read_whole};
+use machine_spec::{IsaFault, MAX_SLOTS};
+use std::alloc::{AllocError, Global};
+use std::io::Read;
+use verifier_spec::{Check, LoadFault};
+
+/// How much of a file is read as an image: one byte more than the greatest has, of slots of 8 bytes.
+const MOST_READ: u64 = MAX_SLOTS as u64 * 8 + 1;
+
+/// Why a call on an image prints nothing.
+#[derive(Clone, Copy, Drop)]
+pub enum Refused {
+    /// The image is no program, or the verifier refuses it.
+    Image(LoadFault),
+    /// Memory ran out.
+    Memory,
+}
+
+/// The first bytes of a reader, one more than the greatest image has. Whatever follows them, an
+/// image of so many is refused by its size; so a file without end is refused too.
+fn read_first<R: Read + Drop>(alloc: Global, reader: R) -> Result<Vec<u8>, Unread>
+    ensures { (bytes : List ℕ) → R.remaining reader ≡ Some bytes → IfOk result (λ first. first.items ≡ first_bytes bytes) }
+{
+    let mut first = reader.take(MOST_READ);
+    read_whole(alloc, &mut first)
+}
+
+/// The image in a named file: its first bytes, as many as tell whether it is too large.
+pub fn read_image<F: Files>(alloc: Global, files: &mut F, name: &str) -> Result<Vec<u8>, Unread>
+    ensures { (bytes : List ℕ) → F.bytes files.old name.now ≡ Some bytes → IfOk result (λ image. image.items ≡ first_bytes bytes) }
+{
+    match files.open(name) {
+        Ok(reader) => read_first(alloc, reader),
+        Err(error) => Err(cause_of(&error)),
+    }
+}
+
+/// The refusal of an image that is not loaded.
+fn refusal_of(fault: LoadFault) -> Refused
+    ensures { (image : List ℕ) → FaultIs image fault → IsRefusal image result }
+{
+    match fault {
+        LoadFault::Isa(IsaFault::Memory) => Refused::Memory,
+        LoadFault::Isa(_) => Refused::Image(fault),
+        LoadFault::Verify(refused) => match refused.kind {
+            Check::Memory => Refused::Memory,
+            _ => Refused::Image(fault),
+        },
+    }
+}
+
+/// The line that says how many instructions an accepted program has.
+fn accepted(alloc: Global, count: usize) -> Result<String, AllocError>
+    ensures { IfOk result (λ text. string_bytes text ≡ accepted_line count) }
+{
+    Ok(format!(in alloc; "accepted {count} instructions\n")?)
+}
+
+/// What `check` prints of an image: how many instructions the program has that the verifier
+/// accepts, or why it is refused.
+pub fn check(alloc: Global, image: &[u8]) -> Result<String, Refused>
+    ensures { ChecksAs image.now string_bytes result }
+{
+    let verified = match annotate::load(alloc, image) {
+        Err(fault) => return Err(refusal_of(fault)),
+        Ok(verified) => verified,
+    };
+    match accepted(alloc, verified.code().len()) {
+        Ok(text) => Ok(text),
+        Err(_) => Err(Refused::Memory),
+    }
+}

@@ -1,0 +1,20 @@
+//! What a call of the program does: `command` does what its words ask for, with the files, standard
+//! input, output and error that it is given. `run` does the commands of a script, `check` verifies
+//! a program, `asm` makes the image of a program's text, and `dis` prints that text.
+#![tactic(auto)]
+
+mod asm;
+mod batches;
+mod call;
+mod dis;
+mod files;
+mod image;
+mod reading;
+mod rows;
+mod run;
+mod session;
+mod stop;
+mod words;
+
+pub use crate::call::{command, tell_no_words};
+pub use crate::files::Files;

@@ -1,0 +1,112 @@
+//! What the words after the program's name ask for.
+
+ghost use Rattle.std.specs.Prelude.{◌≡◌, ◌==◌, ◌&&◌, nat_lt, length, slice_index};
+ghost use Rattle.commands.specs.declared.words.Misuse.TheVariants.{Memory};
+
+use clap::error::ErrorKind;
+use clap::{Arg, ArgAction, ArgMatches};
+use std::alloc::{AllocError, Global};
+
+/// A call of the program, with the names of its files.
+#[derive(Clone, Copy)]
+pub enum Call<'a> {
+    /// Writes the image of a text. Fields: the text, the image.
+    Assemble(&'a str, &'a str),
+    /// Verifies an image.
+    Check(&'a str),
+    /// Prints the text of an image.
+    Disassemble(&'a str),
+    /// Does the commands of a script.
+    Run(&'a str),
+}
+
+/// Why words are no call.
+#[derive(Drop)]
+pub enum Misuse {
+    /// They are no call of the program.
+    Usage,
+    /// Memory ran out.
+    Memory,
+}
+
+impl From<AllocError> for Misuse {
+    ghost from_gives = { λ _ e. e ≡ Memory };
+
+    fn from(_e: AllocError) -> Misuse {
+        Misuse::Memory
+    }
+}
+
+/// Whether a word begins with `-` and is longer. No file has such a name, and a file may be named `-`.
+fn is_option(word: &str) -> bool
+    ensures { result ≡ (nat_lt 1 (length word.now) && (slice_index word.now 0 == 45)) }
+{
+    word.len() > 1 && word.as_bytes()[0] == b'-'
+}
+
+/// A file that a command needs.
+fn file<'a>(alloc: Global, name: &'a str) -> Arg<'a> {
+    Arg::new(alloc, name).required(true).action(ArgAction::Set)
+}
+
+/// A command with one file.
+fn of_file<'a>(
+    alloc: Global,
+    name: &'a str,
+    only: &'a str,
+) -> Result<clap::Command<'a>, AllocError> {
+    clap::Command::new(alloc, name).arg(file(alloc, only))
+}
+
+/// A command with two files.
+fn of_files<'a>(
+    alloc: Global,
+    name: &'a str,
+    first: &'a str,
+    second: &'a str,
+) -> Result<clap::Command<'a>, AllocError> {
+    of_file(alloc, name, first)?.arg(file(alloc, second))
+}
+
+/// All commands of the program.
+fn commands<'a>(alloc: Global) -> Result<clap::Command<'a>, AllocError> {
+    clap::Command::new(alloc, "klog")
+        .no_binary_name(true)
+        .subcommand(of_files(alloc, "asm", "TEXT", "IMAGE")?)?
+        .subcommand(of_file(alloc, "check", "IMAGE")?)?
+        .subcommand(of_file(alloc, "dis", "IMAGE")?)?
+        .subcommand(of_file(alloc, "run", "SCRIPT")?)
+}
+
+/// The call that the words ask for.
+pub fn call_of(alloc: Global, words: &[String]) -> Result<Call<'_>, Misuse> {
+    if words.iter().any(|word| is_option(word.as_str())) {
+        return Err(Misuse::Usage);
+    }
+    let klog = commands(alloc)?;
+    match klog.try_get_matches_from(words) {
+        Ok(matches) => asked(&matches).ok_or(Misuse::Usage),
+        Err(error) => Err(misuse_of(&error)),
+    }
+}
+
+fn asked<'a>(matches: &ArgMatches<'a>) -> Option<Call<'a>> {
+    if let Some(asm) = matches.subcommand_matches("asm") {
+        return Some(Call::Assemble(asm.get_str("TEXT")?, asm.get_str("IMAGE")?));
+    }
+    if let Some(check) = matches.subcommand_matches("check") {
+        return Some(Call::Check(check.get_str("IMAGE")?));
+    }
+    if let Some(dis) = matches.subcommand_matches("dis") {
+        return Some(Call::Disassemble(dis.get_str("IMAGE")?));
+    }
+    let run = matches.subcommand_matches("run")?;
+    Some(Call::Run(run.get_str("SCRIPT")?))
+}
+
+fn misuse_of(error: &clap::Error) -> Misuse {
+    match error.kind() {
+        ErrorKind::OutOfMemory => Misuse::Memory,
+        _ => Misuse::Usage,
+    }
+}

@@ -1,0 +1,17 @@
+//! Tests of the calls of the program, with files in memory.
+#![tactic(auto)]
+
+#[cfg(test)]
+mod batches;
+#[cfg(test)]
+mod images;
+#[cfg(test)]
+mod scripts;
+#[cfg(test)]
+mod sessions;
+#[cfg(test)]
+mod shelf;
+#[cfg(test)]
+mod texts;
+#[cfg(test)]
+mod words;

@@ -1,0 +1,200 @@
+use crate::shelf::called;
+use std::alloc::Global;
+use std::test::Fail;
+
+pub(crate) const BEGIN: &str =
+    "partitions 1 1 8\nload fwd hex:b70100000000000085000000030000009500000000000000\n";
+
+#[test]
+fn forwards_a_record(rt: HostRuntime) -> Result<(), Fail> {
+    let alloc = rt.alloc();
+    let printed =
+        "load fwd version 1\ndeploy 0 index 0 fwd version 1\nappend 0 index 1 base 0\nrow 0 0 0 0 1000 6b 76 0\n";
+    let script = format!(in alloc; "{BEGIN}deploy 0 fwd\nput 0 1000 6b 76\ngo\n")?;
+    for words in [["run", "stdin"], ["run", "script"]] {
+        let (status, out, err) = called(&rt, alloc, &words, script.as_str())?;
+        assert!(rt; status == 0);
+        assert!(rt; out.as_str() == printed, "{out}");
+        assert!(rt; err.as_str() == "", "{err}");
+    }
+    Ok(())
+}
+
+/// Two inputs and two outputs. `both` emits to output 0 and then to output 1, `turned` to 1 and then
+/// to 0.
+const FOUR: &str = "partitions 2 2 8\n\
+    load both hex:b7010000000000008500000003000000b70100000100000085000000030000009500000000000000\n\
+    load turned hex:b7010000010000008500000003000000b70100000000000085000000030000009500000000000000\n\
+    deploy 1 both\nput 1 1000 6b 41\ndeploy 1 turned\nput 1 1001 - 42\nput 0 5 . .\nclose 1\ngo\n";
+
+#[test]
+fn prints_rows_by_output_and_input(rt: HostRuntime) -> Result<(), Fail> {
+    let alloc = rt.alloc();
+    let printed = "load both version 1\nload turned version 1\n\
+        deploy 1 index 0 both version 1\nappend 1 index 1 base 0\n\
+        deploy 1 index 2 turned version 1\nappend 1 index 3 base 1\n\
+        append 0 index 0 base 0\nclose 1 index 4\n\
+        row 0 1 0 0 1000 6b 41 0\nrow 0 1 1 1 1001 - 42 0\n\
+        row 1 1 0 1 1000 6b 41 0\nrow 1 1 1 0 1001 - 42 0\n";
+    let (status, out, err) = called(&rt, alloc, &["run", "stdin"], FOUR)?;
+    assert!(rt; err.as_str() == "", "{err}");
+    assert!(rt; out.as_str() == printed, "{out}");
+    assert!(rt; status == 0);
+    Ok(())
+}
+
+#[test]
+fn tells_where_a_script_ends(rt: HostRuntime) -> Result<(), Fail> {
+    let alloc = rt.alloc();
+    for (rest, out, err, status) in [
+        ("", "load fwd version 1\n", "", 0),
+        ("\n# nothing\n\n", "load fwd version 1\n", "", 0),
+        ("frob\n", "load fwd version 1\n", "line 3: S1 Syntax\n", 1),
+        ("\ngo \n", "load fwd version 1\n", "line 4: S1 Syntax\n", 1),
+        (
+            "partitions 1 1 8",
+            "load fwd version 1\n",
+            "line 3: S2 Order\n",
+            1,
+        ),
+        (
+            "deploy 0 other",
+            "load fwd version 1\n",
+            "line 3: S2 Order\n",
+            1,
+        ),
+        (
+            "deploy 1 other",
+            "load fwd version 1\n",
+            "line 3: S2 Order\n",
+            1,
+        ),
+        (
+            "deploy 1 fwd",
+            "load fwd version 1\n",
+            "line 3: P1 Partition\n",
+            1,
+        ),
+        (
+            "deploy 1180591620717411303424 fwd",
+            "load fwd version 1\n",
+            "line 3: P1 Partition\n",
+            1,
+        ),
+        (
+            "put 1 4611686018427387904 - -",
+            "load fwd version 1\n",
+            "line 3: S3 Range\n",
+            1,
+        ),
+        (
+            "put 1 4611686018427387903 - -",
+            "load fwd version 1\n",
+            "line 3: P1 Partition\n",
+            1,
+        ),
+        (
+            "load f.d forward.bin",
+            "load fwd version 1\n",
+            "line 3: C1 Name\n",
+            1,
+        ),
+        (
+            "load f.d nothing.bin",
+            "load fwd version 1\n",
+            "file nothing.bin\n",
+            3,
+        ),
+        ("load a hex:0", "load fwd version 1\n", "file hex:0\n", 3),
+        (
+            "load a hex:",
+            "load fwd version 1\n",
+            "line 3: I1 Size\n",
+            1,
+        ),
+        (
+            "load a hex:71100000000000009500000000000000",
+            "load fwd version 1\n",
+            "line 3: V7 RecordBounds at 0\n",
+            1,
+        ),
+        (
+            "load a hex:b70b000000000000",
+            "load fwd version 1\n",
+            "line 3: I3 Register slot 0\n",
+            1,
+        ),
+        (
+            "load fwd forward.bin",
+            "load fwd version 1\nload fwd version 2\n",
+            "",
+            0,
+        ),
+    ] {
+        let script = format!(in alloc; "{BEGIN}{rest}")?;
+        let (told, printed, fault) = called(&rt, alloc, &["run", "stdin"], script.as_str())?;
+        assert!(rt; fault.as_str() == err, "{rest}: {fault}");
+        assert!(rt; printed.as_str() == out, "{rest}: {printed}");
+        assert!(rt; told == status, "{rest}: {told}");
+    }
+    Ok(())
+}
+
+#[test]
+fn needs_partitions_first(rt: HostRuntime) -> Result<(), Fail> {
+    let alloc = rt.alloc();
+    for (script, err, status) in [
+        ("", "", 0),
+        ("go", "line 1: S2 Order\n", 1),
+        ("append 0 nothing", "line 1: S2 Order\n", 1),
+        ("#\ngo", "line 2: S2 Order\n", 1),
+        ("load x nothing", "line 1: S2 Order\n", 1),
+        ("frob", "line 1: S1 Syntax\n", 1),
+        ("partitions 1 65 8", "line 1: S3 Range\n", 1),
+        ("partitions 0 1 8", "line 1: S3 Range\n", 1),
+        ("partitions 1 1 0", "line 1: S3 Range\n", 1),
+        (
+            "partitions 1 1 1\nput 0 0 - -\nput 0 0 - -",
+            "line 3: L1 Full\n",
+            1,
+        ),
+        (
+            "partitions 2 1 1\nclose 1\nclose 1",
+            "line 3: L2 Closed\n",
+            1,
+        ),
+        ("partitions 2 1 1\nclose 2", "line 2: P1 Partition\n", 1),
+        ("close 0", "line 1: S2 Order\n", 1),
+    ] {
+        let (told, _out, fault) = called(&rt, alloc, &["run", "script"], script)?;
+        assert!(rt; fault.as_str() == err, "{script}: {fault}");
+        assert!(rt; told == status, "{script}: {told}");
+    }
+    Ok(())
+}
+
+/// A word of so many bytes.
+fn bytes_word(alloc: Global, count: usize) -> Result<String, Fail> {
+    if count == 0 {
+        return Ok(String::from_str(alloc, ".")?);
+    }
+    Ok("61".repeat(alloc, count)?)
+}
+
+#[test]
+fn limits_keys_and_values(rt: HostRuntime) -> Result<(), Fail> {
+    let alloc = rt.alloc();
+    for (key, value, err) in [
+        (4096, 0, ""),
+        (4097, 0, "line 2: S3 Range\n"),
+        (0, 65_536, ""),
+        (0, 65_537, "line 2: S3 Range\n"),
+    ] {
+        let key = bytes_word(alloc, key)?;
+        let value = bytes_word(alloc, value)?;
+        let script = format!(in alloc; "partitions 1 1 8\nput 0 0 {key} {value}\n")?;
+        let (_told, _out, fault) = called(&rt, alloc, &["run", "script"], script.as_str())?;
+        assert!(rt; fault.as_str() == err, "{fault}");
+    }
+    Ok(())
+}

@@ -1,2 +1,0 @@
-pub mod BatchLaws
-pub mod Written

@@ -1,5 +1,0 @@
-use Rattle.klog.proofs.BatchLaws.{decoded_fits}
-use Rattle.klog.proofs.core_world.next_batch.Goals as goal
-
-pub returns-clause-fits : goal.returns-clause-fits
-returns-clause-fits c = decoded_fits c.in_ok-clone.field-0 c.decode.result c.decode.ensures.found

@@ -1,0 +1,110 @@
+//! The helpers that a program may call, each in one row (RFC 9669, section 4.3.1). What they do is
+//! defined in `specs/Machine.antt`.
+ghost use Rattle.std.specs.Prelude.{◌≡◌, find};
+ghost use Rattle.std.specs.Ordering.{int_eq};
+ghost use Rattle.machine_spec.specs.Machine.{signature_of, helper_of};
+
+use wire_spec::TIMESTAMP_END;
+
+/// A function of the host that a program may call.
+#[derive(Clone, Copy, Debug, PartialEq, Eq)]
+pub enum Helper {
+    /// Emits the record as it is. r1: the output partition.
+    EmitRecord,
+    /// Emits the record's key with a null value and no headers. r1: the output partition.
+    EmitNull,
+    /// The record's offset.
+    Offset,
+    /// The record's timestamp.
+    Timestamp,
+    /// The record's input partition.
+    Partition,
+}
+
+/// What an argument of a helper must be.
+#[derive(Clone, Copy, Debug, PartialEq, Eq)]
+pub enum Argument {
+    /// There is no argument.
+    Nothing,
+    /// A number. Field: its register.
+    Number(u8),
+}
+
+/// What a helper takes and what it answers.
+#[derive(Clone, Copy, Debug, PartialEq, Eq)]
+pub struct Signature {
+    /// The number that a call names it by.
+    pub number: i32,
+    /// Its arguments, which stand in r1 to r5.
+    pub arguments: [Argument; 3],
+    /// The greatest number that it answers.
+    pub greatest: u64,
+}
+
+/// Every helper.
+pub const HELPERS: [Helper; 5] = [
+    Helper::EmitRecord,
+    Helper::EmitNull,
+    Helper::Offset,
+    Helper::Timestamp,
+    Helper::Partition,
+];
+
+/// A helper's only argument is the output partition that it emits to.
+const TO_OUTPUT: [Argument; 3] = [Argument::Number(1), Argument::Nothing, Argument::Nothing];
+
+const NO_ARGUMENTS: [Argument; 3] = [Argument::Nothing, Argument::Nothing, Argument::Nothing];
+
+/// The first of these helpers that has a number.
+fn find_helper(helpers: &[Helper], number: i32) -> Option<Helper>
+    ensures { result ≡ find (λ helper. int_eq (signature_of helper).number number) helpers.now }
+{
+    for helper in helpers {
+        if helper.signature().number == number {
+            return Some(*helper);
+        }
+    }
+    None
+}
+
+impl Helper {
+    /// The helper that a call names by this number, if there is one.
+    pub fn with_number(number: i32) -> Option<Helper>
+        ensures { result ≡ helper_of number }
+    {
+        find_helper(&HELPERS, number)
+    }
+
+    /// What the helper takes and what it answers.
+    pub fn signature(self) -> Signature
+        ensures { result ≡ signature_of self }
+    {
+        match self {
+            Helper::EmitRecord => Signature {
+                number: 3,
+                arguments: TO_OUTPUT,
+                greatest: 3,
+            },
+            Helper::EmitNull => Signature {
+                number: 6,
+                arguments: TO_OUTPUT,
+                greatest: 3,
+            },
+            Helper::Offset => Signature {
+                number: 7,
+                arguments: NO_ARGUMENTS,
+                greatest: TIMESTAMP_END - 1,
+            },
+            Helper::Timestamp => Signature {
+                number: 8,
+                arguments: NO_ARGUMENTS,
+                greatest: TIMESTAMP_END - 1,
+            },
+            Helper::Partition => Signature {
+                number: 9,
+                arguments: NO_ARGUMENTS,
+                greatest: 63,
+            },
+        }
+    }
+}

@@ -1,0 +1,192 @@
+//! A log, a walk and a book by hand: what a step is made of.
+
+ghost use Rattle.std.specs.Prelude.{◌≡◌};
+
+use crate::calls::place_of;
+use crate::making::{Ending, batch, image, name, say};
+use crate::rows::done_in;
+use broker::BrokerFault;
+use out_book::{Book, BookFault, Delivered};
+use part_log::{Cells, LogFault, Names, PartLog, Program};
+use std::alloc::Global;
+use std::marker::Brand;
+use std::process::Abort;
+use std::sync::{Arc, Wait};
+use std::test::Fail;
+use worker::{Results, Walk, process};
+
+const OUTPUTS: usize = 2;
+
+#[test]
+fn a_refused_delivery_can_be_made_again(rt: HostRuntime) -> Result<(), Fail> {
+    let alloc = rt.alloc();
+    let mut ending = make_and_deliver(&rt, alloc);
+    if ending == Err(Ending::NotMade) {
+        ending = make_and_deliver(&rt, alloc);
+    }
+    assert_eq!(rt; ending, Ok(()));
+    Ok(())
+}
+
+fn make_and_deliver<R: Wait + Print>(rt: &R, alloc: Global) -> Result<(), Ending> {
+    match Cells::new(alloc, 3) {
+        Ok(cells) => deliver_all::<Brand, R>(rt, alloc, cells),
+        Err(_) => Err(Ending::NotMade),
+    }
+}
+
+/// A log of a mark and two batches, whose items are processed and delivered to a book one by one.
+fn deliver_all<Id: Names, R: Wait + Print>(
+    rt: &R,
+    alloc: Global,
+    cells: Cells,
+) -> Result<(), Ending>
+    requires cells { cells ≡ Id.cells 0 }
+    requires outputs { Id.outputs ≡ 2 }
+{
+    let log: PartLog<Id> = PartLog::new(0, cells);
+    let Ok(mut book) = Book::new(alloc, 1, 0) else {
+        return Err(Ending::NotMade);
+    };
+    fill_log(rt, alloc, &log).ok_or(Ending::Wrong("log"))?;
+    let mut walk = Walk::new(0);
+    for want in [0, 2, 2] {
+        if !advance(&log, &mut walk) {
+            return Err(Ending::Wrong("next"));
+        }
+        let results = processed(rt, alloc, &log, &walk).ok_or(Ending::Wrong("process"))?;
+        if deliver(rt, &mut book, &walk, &results) != Some(Delivered::Added(want)) {
+            return Err(Ending::Wrong("deliver"));
+        }
+    }
+    if done_in(&book) == Some(3) {
+        Ok(())
+    } else {
+        Err(Ending::Wrong("rows"))
+    }
+}
+
+/// A mark and the batches `A` and `B`, each in its place.
+fn fill_log<Id: Names, R: Wait + Print>(rt: &R, alloc: Global, log: &PartLog<Id>) -> Option<()> {
+    let mark = mark(rt, alloc, log);
+    let first = append(rt, alloc, log, b'A');
+    let second = append(rt, alloc, log, b'B');
+    if mark == Some((0, 0)) && first == Some((1, 0)) && second == Some((2, 2)) {
+        Some(())
+    } else {
+        None
+    }
+}
+
+fn program_once(alloc: Global) -> Option<Arc<Program>> {
+    let image = image(alloc)?;
+    let program = Program::new(alloc, &image).ok()?;
+    Arc::new(alloc, program).ok()
+}
+
+fn program(alloc: Global) -> Option<Arc<Program>> {
+    match program_once(alloc) {
+        Some(program) => Some(program),
+        None => program_once(alloc),
+    }
+}
+
+/// Whether the log has this many items, after a fault for want of memory.
+fn is_refused<Id: Names, R: Wait + Print>(
+    rt: &R,
+    log: &PartLog<Id>,
+    call: &str,
+    fault: LogFault,
+    items: usize,
+) -> bool {
+    say(rt, call, BrokerFault::Log(fault));
+    match log.trail(rt) {
+        Ok(trail) => fault == LogFault::Memory && trail.len() == items,
+        Err(_) => false,
+    }
+}
+
+fn mark<Id: Names, R: Wait + Print>(
+    rt: &R,
+    alloc: Global,
+    log: &PartLog<Id>,
+) -> Option<(usize, u64)> {
+    let receipt = match log.mark(rt, alloc, name(alloc)?, 1, program(alloc)?) {
+        Ok(receipt) => receipt,
+        Err(fault) => {
+            if !is_refused(rt, log, "mark", fault, 0) {
+                return None;
+            }
+            log.mark(rt, alloc, name(alloc)?, 1, program(alloc)?).ok()?
+        }
+    };
+    Some(place_of(&receipt))
+}
+
+fn append<Id: Names, R: Wait + Print>(
+    rt: &R,
+    alloc: Global,
+    log: &PartLog<Id>,
+    value: u8,
+) -> Option<(usize, u64)> {
+    let items = log.trail(rt).ok()?.len();
+    let receipt = match log.append(rt, alloc, batch(alloc, value)?) {
+        Ok(receipt) => receipt,
+        Err(fault) => {
+            if !is_refused(rt, log, "append", fault, items) {
+                return None;
+            }
+            log.append(rt, alloc, batch(alloc, value)?).ok()?
+        }
+    };
+    Some(place_of(&receipt))
+}
+
+/// Makes the next item the walk's last one, if it is there.
+fn advance<Id: Names>(log: &PartLog<Id>, walk: &mut Walk<Id>) -> bool {
+    if walk.partition() != log.partition() || walk.len() >= log.cells() {
+        return false;
+    }
+    let mut note = log.note(walk.len());
+    walk.next(log, &mut note)
+}
+
+/// The rows of the item where a walk stands.
+fn processed<Id: Names, R: Print>(
+    rt: &R,
+    alloc: Global,
+    log: &PartLog<Id>,
+    walk: &Walk<Id>,
+) -> Option<Results<Id>>
+    requires { Id.outputs ≡ 2 }
+{
+    if walk.partition() != log.partition() || walk.partition() >= 64 || walk.len() == 0 {
+        return None;
+    }
+    match process(alloc, walk, log, OUTPUTS) {
+        Ok(results) => Some(results),
+        Err(_) => {
+            let _ = println!(rt; "refused process: no memory");
+            process(alloc, walk, log, OUTPUTS).ok()
+        }
+    }
+}
+
+fn deliver<Id: Names, R: Print>(
+    rt: &R,
+    book: &mut Book<Id>,
+    walk: &Walk<Id>,
+    results: &Results<Id>,
+) -> Option<Delivered> {
+    let before = done_in(book)?;
+    match book.deliver(walk, results) {
+        Ok(delivered) => Some(delivered),
+        Err(fault) => {
+            say(rt, "deliver", BrokerFault::Book(fault));
+            if fault != BookFault::Memory || done_in(book) != Some(before) {
+                return None;
+            }
+            book.deliver(walk, results).ok()
+        }
+    }
+}

@@ -1,0 +1,65 @@
+//! Whether a book has the rows that it must have. The log of input partition 0 has a mark of `BOTH`
+//! and then two batches, of the values `A` and `B`.
+
+use broker::Broker;
+use log_spec::Row;
+use out_book::Book;
+use part_log::Names;
+use std::sync::Wait;
+
+/// How many rows the first items of the log have in each output partition.
+fn rows_of_first(items: usize) -> u64 {
+    match items {
+        0 | 1 => 0,
+        2 => 2,
+        _ => 4,
+    }
+}
+
+/// Whether this is the row of the record at an offset, in an output partition.
+fn is_row(row: &Row, offset: u64, output: usize) -> bool {
+    let value = if offset < 2 { b'A' } else { b'B' };
+    row.offset == offset && row.number == output && row.timestamp == 1000 && holds(row, value)
+}
+
+/// Whether the row's key is `k` and its value this byte.
+fn holds(row: &Row, value: u8) -> bool {
+    match (&row.key, &row.value) {
+        (Some(key), Some(bytes)) => key.as_slice() == b"k".as_slice()
+            && bytes.as_slice() == [value].as_slice(),
+        _ => false,
+    }
+}
+
+/// How many items of input partition 0 are done in a book; none where its rows are not theirs.
+pub(crate) fn done_in<Id: Names>(book: &Book<Id>) -> Option<usize> {
+    if book.inputs() == 0 {
+        return None;
+    }
+    let mut offset = 0u64;
+    for row in book.rows_from(0) {
+        if !is_row(row, offset, book.output()) {
+            return None;
+        }
+        offset = offset.wrapping_add(1);
+    }
+    let done = book.done(0);
+    if offset == rows_of_first(done) && offset == book.len() as u64 {
+        Some(done)
+    } else {
+        None
+    }
+}
+
+/// The same of the book of an output partition.
+pub(crate) fn done_of<Id: Names, C, R: Wait>(
+    rt: &R,
+    broker: &Broker<Id, C>,
+    output: usize,
+) -> Option<usize> {
+    if output >= broker.outputs() {
+        return None;
+    }
+    let book = broker.book(output).lock(rt);
+    done_in(&book)
+}

@@ -1,0 +1,5 @@
+//! Tests of script lines by the public calls of `script`.
+#![tactic(auto)]
+
+#[cfg(test)]
+mod lines;

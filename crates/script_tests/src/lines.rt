@@ -1,0 +1,187 @@
+use bytes::Bytes;
+use log_spec::Row;
+use script::{
+    Command, ScriptFault, Source, append_text, close_text, deploy_text, first_fault, load_text,
+    parse, push_row,
+};
+use std::alloc::{AllocError, Global};
+use std::test::Fail;
+use wire_spec::Headers;
+
+/// A `load` as one text.
+fn load_shown(alloc: Global, name: &str, source: &Source) -> Result<String, AllocError> {
+    match source {
+        Source::Line(image) => format!(in alloc; "image {name} {:?}", image.as_slice()),
+        Source::File(file) => format!(in alloc; "file {name} {}", file.text.as_str()),
+    }
+}
+
+/// An `append` as one text.
+fn append_shown(alloc: Global, input: u64, source: &Source) -> Result<String, AllocError> {
+    match source {
+        Source::Line(batches) => format!(in alloc; "batches {input} {:?}", batches.as_slice()),
+        Source::File(file) => format!(in alloc; "append {input} {}", file.text.as_str()),
+    }
+}
+
+/// A `put` as one text: whether it has a key, and how many bytes its value has.
+fn put_shown(
+    alloc: Global,
+    input: u64,
+    timestamp: u64,
+    key: &Option<Bytes>,
+    value: &Option<Bytes>,
+) -> Result<String, AllocError> {
+    let key = key.is_some();
+    let value = value.as_ref().map_or(0, |bytes| bytes.len());
+    format!(in alloc; "put {input} {timestamp} {key} {value}")
+}
+
+/// A command as one text.
+fn command_shown(alloc: Global, command: &Command) -> Result<String, AllocError> {
+    match command {
+        Command::Partitions(inputs, outputs, cells) => {
+            format!(in alloc; "partitions {inputs} {outputs} {cells}")
+        }
+        Command::Load(name, source) => load_shown(alloc, name.text.as_str(), source),
+        Command::Deploy(input, name) => format!(in alloc; "deploy {input} {}", name.text.as_str()),
+        Command::Put(input, timestamp, key, value) => {
+            put_shown(alloc, *input, *timestamp, key, value)
+        }
+        Command::Append(input, source) => append_shown(alloc, *input, source),
+        Command::Close(input) => format!(in alloc; "close {input}"),
+        Command::Go => String::from_str(alloc, "go"),
+    }
+}
+
+/// The command of a line as one text, or `none`.
+fn shown(alloc: Global, line: &str) -> Result<String, AllocError> {
+    match parse(alloc, line)? {
+        Some(command) => command_shown(alloc, &command),
+        None => String::from_str(alloc, "none"),
+    }
+}
+
+const LINES: [(&str, &str); 36] = [
+    ("partitions 1 1 8", "partitions 1 1 8"),
+    ("partitions 1 1 08", "none"),
+    ("partitions 1 1 +8", "none"),
+    ("partitions 1 1 0", "partitions 1 1 0"),
+    ("partitions 1 1", "none"),
+    ("load fwd f.bin", "file fwd f.bin"),
+    ("load fwd hex:", "image fwd []"),
+    ("load fwd hex:00ff", "image fwd [0, 255]"),
+    ("load fwd hex:00f", "file fwd hex:00f"),
+    ("load fwd hex:00FF", "file fwd hex:00FF"),
+    ("load fwd f 1", "none"),
+    ("load  f", "none"),
+    ("load fwd ", "none"),
+    (" go", "none"),
+    ("go", "go"),
+    ("go\r", "none"),
+    ("go now", "none"),
+    ("deploy 0 fwd", "deploy 0 fwd"),
+    (
+        "deploy 1180591620717411303424 fwd",
+        "deploy 18446744073709551615 fwd",
+    ),
+    ("put 0 1000 6b 76", "put 0 1000 true 1"),
+    ("put 0 1000 - .", "put 0 1000 false 0"),
+    ("put 0 1000 6b 7", "none"),
+    ("put 0 1000 6b 7G", "none"),
+    ("put 0 1000 6b .76", "none"),
+    ("append 0 batches.bin", "append 0 batches.bin"),
+    ("append 3 hex:00ff", "batches 3 [0, 255]"),
+    ("append 0 hex:", "batches 0 []"),
+    ("append 0 hex:FF", "append 0 hex:FF"),
+    ("append 00 batches.bin", "none"),
+    ("append batches.bin", "none"),
+    ("append 0 batches.bin 2", "none"),
+    ("close 3", "close 3"),
+    ("close", "none"),
+    ("close 0 0", "none"),
+    ("Go", "none"),
+    (" ", "none"),
+];
+
+#[test]
+fn reads_lines(rt: HostRuntime) -> Result<(), Fail> {
+    for (line, said) in &LINES {
+        let text = shown(rt.alloc(), line)?;
+        assert_eq!(rt; text.as_str(), *said, "{line}");
+    }
+    Ok(())
+}
+
+const FAULTS: [(&str, bool, bool, Option<ScriptFault>); 18] = [
+    ("go", false, true, Some(ScriptFault::Order)),
+    ("go", true, true, None),
+    ("append 0 f", false, true, Some(ScriptFault::Order)),
+    ("append 9 f", true, true, None),
+    ("partitions 1 1 8", true, true, Some(ScriptFault::Order)),
+    ("partitions 1 1 65536", false, true, None),
+    (
+        "partitions 1 1 65537",
+        false,
+        true,
+        Some(ScriptFault::Range),
+    ),
+    ("partitions 1 1 0", false, true, Some(ScriptFault::Range)),
+    ("partitions 64 64 8", false, true, None),
+    ("partitions 65 1 8", false, true, Some(ScriptFault::Range)),
+    ("partitions 1 65 8", false, true, Some(ScriptFault::Range)),
+    ("partitions 0 1 8", false, true, Some(ScriptFault::Range)),
+    ("partitions 1 0 8", true, true, Some(ScriptFault::Order)),
+    ("close 9", true, true, None),
+    ("close 0", false, true, Some(ScriptFault::Order)),
+    ("deploy 0 fwd", true, false, Some(ScriptFault::Order)),
+    ("put 9 4611686018427387903 - -", true, true, None),
+    (
+        "put 0 4611686018427387904 - -",
+        true,
+        true,
+        Some(ScriptFault::Range),
+    ),
+];
+
+#[test]
+fn tells_faults(rt: HostRuntime) -> Result<(), Fail> {
+    for (line, has_begun, is_loaded, fault) in &FAULTS {
+        let command = parse(rt.alloc(), line)?.ok_or("a command")?;
+        assert!(rt;
+            first_fault(&command, *has_begun, *is_loaded) == *fault,
+            "{line}"
+        );
+    }
+    Ok(())
+}
+
+#[test]
+fn writes_lines(rt: HostRuntime) -> Result<(), Fail> {
+    let alloc = rt.alloc();
+    assert!(rt; load_text(alloc, "fwd", 1)?.as_str() == "load fwd version 1\n");
+    assert!(rt; deploy_text(alloc, 0, 3, "fwd", 2)?.as_str() == "deploy 0 index 3 fwd version 2\n");
+    assert!(rt; append_text(alloc, 0, 1, 10)?.as_str() == "append 0 index 1 base 10\n");
+    assert!(rt; close_text(alloc, 63, 65_535)?.as_str() == "close 63 index 65535\n");
+    Ok(())
+}
+
+#[test]
+fn writes_rows(rt: HostRuntime) -> Result<(), Fail> {
+    let alloc = rt.alloc();
+    let mut text = String::from_str(alloc, "x")?;
+    let row = Row {
+        input: 0,
+        offset: 7,
+        number: 1,
+        timestamp: 1000,
+        key: Some(Bytes::from_static(b"k\xff")),
+        value: None,
+        headers: Headers {
+            list: Vec::new(alloc),
+        },
+    };
+    push_row(&mut text, 3, &row)?;
+    assert!(rt; text.as_str() == "xrow 3 0 7 1 1000 6bff - 0\n");
+    Ok(())
+}

@@ -1,0 +1,87 @@
+//! Auditors, which append records and wait until every book has processed them.
+
+use crate::making::batch_of;
+use crate::threads::INPUTS;
+use broker::{Audit, Broker};
+use part_log::{Names, Receipt};
+use std::alloc::Global;
+use std::sync::Wait;
+use std::thread;
+
+const TURNS: usize = 10_000_000;
+
+/// How many records an auditor appends, each as a batch of its own.
+pub const AUDITED: usize = 20;
+
+/// The most rows that a record gives in all outputs.
+const MOST_ROWS: usize = 2;
+
+/// Appends records and audits each in every book. None where one is not processed in time, or has
+/// more rows than a program emits.
+pub(crate) fn audit_all<Id: Names, C, R: Wait>(
+    rt: &R,
+    alloc: Global,
+    broker: &Broker<Id, C>,
+    first: usize,
+) -> Option<()> {
+    for turn in 0..AUDITED {
+        let batch = batch_of(alloc, first.wrapping_add(turn), 1)?;
+        let receipt = broker.append(rt, alloc, turn % INPUTS, batch).ok()?;
+        if rows_of(rt, broker, &receipt)? > MOST_ROWS {
+            return None;
+        }
+    }
+    Some(())
+}
+
+/// How many rows all output partitions have of a receipt's item, once each has processed it.
+fn rows_of<Id: Names, C, R: Wait>(
+    rt: &R,
+    broker: &Broker<Id, C>,
+    receipt: &Receipt<Id>,
+) -> Option<usize> {
+    let mut rows = 0usize;
+    for output in 0..broker.outputs() {
+        rows = rows.wrapping_add(wait_for(rt, broker, output, receipt)?);
+    }
+    Some(rows)
+}
+
+/// How many rows an output partition has of a receipt's item, once it has processed it.
+fn wait_for<Id: Names, C, R: Wait>(
+    rt: &R,
+    broker: &Broker<Id, C>,
+    output: usize,
+    receipt: &Receipt<Id>,
+) -> Option<usize> {
+    for _ in 0..TURNS {
+        if let Some(rows) = audited(rt, broker, output, receipt) {
+            return Some(rows);
+        }
+        thread::yield_now();
+    }
+    None
+}
+
+/// How many rows an output partition has of a receipt's item, if it has processed it.
+fn audited<Id: Names, C, R: Wait>(
+    rt: &R,
+    broker: &Broker<Id, C>,
+    output: usize,
+    receipt: &Receipt<Id>,
+) -> Option<usize> {
+    if output >= broker.outputs() {
+        return None;
+    }
+    let book = broker.book(output).lock(rt);
+    match broker.audit(receipt, &book) {
+        Audit::Pending => None,
+        Audit::Processed(rows) => {
+            let mut count = 0usize;
+            for _ in rows {
+                count = count.wrapping_add(1);
+            }
+            Some(count)
+        }
+    }
+}

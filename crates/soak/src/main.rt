@@ -1,0 +1,57 @@
+//! Runs a broker by many threads at once: producers append, deployers load programs and mark them in
+//! the logs, workers are started and stopped, auditors wait for what they appended. In the end every
+//! book is compared with the plain core's over the same logs, and every record is looked for in them.
+//! The arguments are how many records the producers append, and a seed; with none the program does
+//! nothing.
+#![tactic(auto)]
+
+mod auditing;
+mod comparing;
+mod deploying;
+mod gates;
+mod making;
+mod numbers;
+mod producing;
+mod threads;
+
+use crate::threads::{CELLS, INPUTS, OUTPUTS, Soaked, soak};
+use broker::Parts;
+use part_log::Names;
+use std::alloc::Global;
+use std::marker::Brand;
+use std::sync::Wait;
+use std::thread::Threads;
+use std::{env, io};
+
+/// A soak of a new broker. None where a thread ended badly or memory ran out.
+fn soaked<R: Threads + Wait + Sync>(
+    rt: &R,
+    alloc: Global,
+    records: usize,
+    seed: u64,
+) -> Option<Soaked> {
+    let parts = Parts::new(rt, alloc, INPUTS, OUTPUTS, CELLS).ok()?;
+    soak::<Brand, R>(rt, alloc, parts, records, seed)
+}
+
+fn main(rt: HostRuntime) -> io::Result<()> {
+    let mut arguments = env::args(&rt)?.skip(1);
+    let Some(records) = arguments.next() else {
+        return Ok(());
+    };
+    let records: usize = records.as_str().parse().unwrap_or(0);
+    let seed: u64 = match arguments.next() {
+        Some(seed) => seed.as_str().parse().unwrap_or(0),
+        None => 0,
+    };
+    match soaked(&rt, rt.alloc(), records, seed) {
+        Some(sums) => println!(rt;
+            "seed {seed}: {} starts, {} stops, {} records once, {} again, {} rows, {} lists differ",
+            sums.starts, sums.stops, sums.once, sums.again, sums.rows, sums.different
+        ),
+        None => println!(rt; "seed {seed}: a thread ended badly"),
+    }
+}
+
+#[cfg(test)]
+mod tests;

@@ -1,0 +1,227 @@
+//! The threads of a soak, and what it comes to.
+
+ghost use Rattle.std.specs.Prelude.{◌≡◌};
+ghost use Rattle.broker.specs.Layouts.{IsNamed};
+
+use crate::auditing::{AUDITED, audit_all};
+use crate::comparing::{Compared, compare};
+use crate::deploying::{deploy_all, versions};
+use crate::gates::{Chance, Open};
+use crate::making::mixed;
+use crate::producing::Share;
+use broker::{Broker, Ended, Parts, Until};
+use catalogue::Catalogue;
+use part_log::{Names, Receipt};
+use std::alloc::Global;
+use std::sync::Wait;
+use std::sync::atomic::{AtomicU64, Ordering};
+use std::thread;
+use std::thread::Threads;
+
+pub const INPUTS: usize = 4;
+
+pub const OUTPUTS: usize = 64;
+
+pub const CELLS: usize = 65_536;
+
+pub const PRODUCERS: usize = 8;
+
+pub const DEPLOYERS: usize = 2;
+
+pub const AUDITORS: usize = 2;
+
+/// All threads but those of workers and the one that starts them.
+const PLAYERS: usize = PRODUCERS + DEPLOYERS + AUDITORS;
+
+/// What a soak comes to.
+#[derive(Clone, Copy, Drop)]
+pub struct Soaked {
+    /// How often workers were started, and how many of them a gate stopped.
+    pub starts: u64,
+    pub stops: u64,
+    /// How many records are in the logs once, and how many more there are.
+    pub once: u64,
+    pub again: u64,
+    /// How many rows the books have, and how many lists of rows are others than the core's.
+    pub rows: u64,
+    pub different: u64,
+}
+
+/// How often workers were started, and how many of them a gate stopped.
+#[derive(Clone, Copy, Drop)]
+struct Runs {
+    starts: u64,
+    stops: u64,
+}
+
+const NO_RUNS: Runs = Runs {
+    starts: 0,
+    stops: 0,
+};
+
+impl Runs {
+    fn and(self, other: Runs) -> Runs {
+        Runs {
+            starts: self.starts.wrapping_add(other.starts),
+            stops: self.stops.wrapping_add(other.stops),
+        }
+    }
+}
+
+/// What threads share.
+#[derive(Drop)]
+struct Players<'a, 'r, Id: Names, R: Wait> {
+    rt: &'r R,
+    alloc: Global,
+    broker: &'a Broker<Id, Catalogue<&'r R>>,
+    records: usize,
+    seed: u64,
+    /// How many players have ended.
+    ended: AtomicU64,
+}
+
+/// A soak of a broker that is made of these parts. None where a thread ends badly or memory runs out.
+pub(crate) fn soak<Id: Names + Send + Sync, R: Threads + Wait + Sync>(
+    rt: &R,
+    alloc: Global,
+    parts: Parts<Catalogue<&R>>,
+    records: usize,
+    seed: u64,
+) -> Option<Soaked>
+    requires cells { IsNamed Id.cells parts.cells }
+    requires outputs { parts.outputs ≡ Id.outputs }
+{
+    let broker: Broker<Id, Catalogue<&R>> = Broker::new(alloc, parts).ok()?;
+    let players = Players {
+        rt,
+        alloc,
+        broker: &broker,
+        records,
+        seed,
+        ended: AtomicU64::new(0),
+    };
+    let runs = players.run_all()?;
+    let found = players.compare_all()?;
+    Some(Soaked {
+        starts: runs.starts,
+        stops: runs.stops,
+        once: found.once,
+        again: found.again,
+        rows: found.rows,
+        different: found.different,
+    })
+}
+
+impl<'a, 'r, Id: Names + Send + Sync, R: Threads + Wait + Sync> Players<'a, 'r, Id, R> {
+    /// Deploys a program to each log, and then runs all threads side by side.
+    fn run_all(&self) -> Option<Runs> {
+        self.deploy(0, 0, INPUTS)?;
+        let one = move |number: usize| -> Option<Runs> {
+            if number < PLAYERS {
+                self.play(number)
+            } else {
+                self.run_workers()
+            }
+        };
+        let all = thread::map_indices(self.rt, self.alloc, PLAYERS + 1, &one).ok()?;
+        sum(&all)
+    }
+
+    /// What a player does; that it has ended is counted in any case.
+    fn play(&self, number: usize) -> Option<Runs> {
+        let played = self.act(number);
+        self.ended.fetch_add(1, Ordering::SeqCst);
+        played?;
+        Some(NO_RUNS)
+    }
+
+    fn deploy(&self, deployer: usize, first: usize, end: usize) -> Option<()> {
+        deploy_all(self.rt, self.alloc, self.broker, deployer, first, end)
+    }
+
+    fn act(&self, number: usize) -> Option<()> {
+        if number < PRODUCERS {
+            let share = Share::of(number, self.records, self.seed);
+            return share.append_all(self.rt, self.alloc, self.broker);
+        }
+        let number = number.wrapping_sub(PRODUCERS);
+        if number < DEPLOYERS {
+            let first = if number == 0 { INPUTS } else { 0 };
+            return self.deploy(number, first, versions(self.records));
+        }
+        let number = number.wrapping_sub(DEPLOYERS);
+        let first = self.records.wrapping_add(number.wrapping_mul(AUDITED));
+        audit_all(self.rt, self.alloc, self.broker, first)
+    }
+
+    /// Starts workers again and again until all players have ended.
+    fn run_workers(&self) -> Option<Runs> {
+        let mut runs = NO_RUNS;
+        for turn in 0..u64::MAX {
+            if self.ended.load(Ordering::SeqCst) >= PLAYERS as u64 {
+                break;
+            }
+            runs = runs.and(self.start(turn)?);
+        }
+        Some(runs)
+    }
+
+    /// Starts workers that a gate stops at random offers.
+    fn start(&self, turn: u64) -> Option<Runs> {
+        let gate = Chance::new(mixed(self.seed ^ turn));
+        let ended = self
+            .broker
+            .start(self.rt, self.alloc, Until::Drained, &gate)
+            .ok()?;
+        let stops = stops(&ended)?;
+        Some(Runs { starts: 1, stops })
+    }
+
+    /// Closes the logs, lets workers take the rest, and compares the books.
+    fn compare_all(&self) -> Option<Compared> {
+        let receipts = self.close_all()?;
+        let last = self
+            .broker
+            .start(self.rt, self.alloc, Until::Closed, &Open)
+            .ok()?;
+        if stops(&last)? > 0 {
+            return None;
+        }
+        let count = self.records.wrapping_add(AUDITORS * AUDITED);
+        let versions = versions(self.records);
+        compare(self.rt, self.alloc, self.broker, &receipts, count, versions)
+    }
+
+    /// Closes the logs. The receipts know all items.
+    fn close_all(&self) -> Option<Vec<Receipt<Id>>> {
+        let mut receipts = Vec::with_capacity(self.alloc, INPUTS).ok()?;
+        for input in 0..INPUTS {
+            let receipt = self.broker.close(self.rt, self.alloc, input).ok()?;
+            receipts.push(receipt).ok()?;
+        }
+        Some(receipts)
+    }
+}
+
+/// What all threads did; none where one ended badly.
+fn sum(all: &[Option<Runs>]) -> Option<Runs> {
+    let mut sum = NO_RUNS;
+    for runs in all {
+        sum = sum.and((*runs)?);
+    }
+    Some(sum)
+}
+
+/// How many workers were stopped; none where one ended badly.
+fn stops(ended: &[Ended]) -> Option<u64> {
+    let mut stops = 0u64;
+    for end in ended {
+        match end {
+            Ended::Done(_) => {}
+            Ended::Stopped(_, _) => stops = stops.wrapping_add(1),
+            Ended::Fault(_) => return None,
+            Ended::NoThread => return None,
+        }
+    }
+    Some(stops)
+}

@@ -1,0 +1,13 @@
+//! Tests of workers, books and the calls of `broker` that move them.
+#![tactic(auto)]
+
+#[cfg(test)]
+mod calls;
+#[cfg(test)]
+mod gates;
+#[cfg(test)]
+mod offers;
+#[cfg(test)]
+mod steps;
+#[cfg(test)]
+mod workers;

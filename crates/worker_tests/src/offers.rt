@@ -1,0 +1,66 @@
+ghost use Rattle.std.specs.Prelude.{◌≡◌};
+
+use crate::calls::batch_of;
+use out_book::{Book, BookFault, Delivered};
+use part_log::{Cells, Names, PartLog};
+use std::alloc::Global;
+use std::marker::Brand;
+use std::process::Abort;
+use std::sync::Wait;
+use std::test::Fail;
+use worker::{Walk, process};
+
+#[test]
+fn a_book_takes_items_in_order(rt: HostRuntime) -> Result<(), Fail> {
+    let alloc = rt.alloc();
+    offer_three::<Brand, _>(&rt, alloc, Cells::new(alloc, 3)?)
+}
+
+/// Of three items the first is offered, then the third, and the first again.
+fn offer_three<Id: Names, R: Wait + Abort>(rt: &R, alloc: Global, cells: Cells) -> Result<(), Fail>
+    requires cells { cells ≡ Id.cells 0 }
+    requires outputs { Id.outputs ≡ 1 }
+{
+    let log: PartLog<Id> = PartLog::new(0, cells);
+    for value in 0..3 {
+        let batch = batch_of(alloc, value).ok_or("a batch")?;
+        log.append(rt, alloc, batch)?;
+    }
+    let mut book = Book::new(alloc, 1, 0)?;
+    let mut walk = Walk::new(0);
+    assert!(rt; advance(&log, &mut walk));
+    let first = walk.again();
+    let added = Some(Ok(Delivered::Added(0)));
+    assert_eq!(rt; offer(alloc, &log, &walk, &mut book), added);
+    assert!(rt; advance(&log, &mut walk) && advance(&log, &mut walk));
+    let gap = Some(Err(BookFault::Gap(1)));
+    assert_eq!(rt; offer(alloc, &log, &walk, &mut book), gap);
+    let already = Some(Ok(Delivered::Already));
+    assert_eq!(rt; offer(alloc, &log, &first, &mut book), already);
+    Ok(())
+}
+
+/// Makes the next item the walk's last one, if it is there.
+fn advance<Id: Names>(log: &PartLog<Id>, walk: &mut Walk<Id>) -> bool {
+    if walk.partition() != log.partition() || walk.len() >= log.cells() {
+        return false;
+    }
+    let mut note = log.note(walk.len());
+    walk.next(log, &mut note)
+}
+
+/// Offers the item where a walk stands to a book.
+fn offer<Id: Names>(
+    alloc: Global,
+    log: &PartLog<Id>,
+    walk: &Walk<Id>,
+    book: &mut Book<Id>,
+) -> Option<Result<Delivered, BookFault>>
+    requires { Id.outputs ≡ 1 }
+{
+    if walk.partition() != log.partition() || walk.partition() >= 64 || walk.len() == 0 {
+        return None;
+    }
+    let results = process(alloc, walk, log, 1).ok()?;
+    Some(book.deliver(walk, &results))
+}
