@@ -2,9 +2,9 @@
 #![tactic(auto)]
 
 #[cfg(test)]
-mod ends;
+mod calls;
 #[cfg(test)]
-mod helpers;
+mod ends;
 #[cfg(test)]
 mod runs;
 #[cfg(test)]
