@@ -2,10 +2,14 @@
 """Prints the table of docs/PROVING.md: for each crate its lines, its tests, its must-fail edits and, where asked for, the
 processor seconds of its proof from nothing.
 
-    tools/crate_table.py            lines, tests and edits alone, in a second
-    tools/crate_table.py --prove    also proves each crate in a fresh clone of what is committed, by one job, lowest first
+    tools/crate_table.py                lines, tests and edits alone, in a second
+    tools/crate_table.py --prove        also proves each crate in a fresh clone of what is committed, by one job, lowest first
+    tools/crate_table.py --times FILE   also the processor seconds of proofs, tests and edits in a whole run of the gate
+
+FILE has a line for each call of `rattle`: its folder, its words, and then user, system and elapsed seconds and kilobytes, as
+GNU time writes them with -f "$PWD $* %U %S %e %M". A copy of the kit whose bin/rattle is a script of such a call makes it.
 """
-import glob, os, re, resource, subprocess, sys, tempfile
+import collections, glob, os, re, resource, subprocess, sys, tempfile
 
 TOP = subprocess.run(["git", "rev-parse", "--show-toplevel"], capture_output=True, text=True, check=True).stdout.strip()
 
@@ -47,7 +51,35 @@ def seconds(clone, crate):
     return f"{took:.0f}" if ran.returncode == 0 else "not proved"
 
 
+def times(path):
+    """The processor seconds by crate of proofs, of tests and of edits."""
+    proofs, tests, edits = (collections.Counter() for _ in range(3))
+    for line in open(path, encoding="utf-8"):
+        name, ends = re.search(r"--crate-name (\S+)", line), re.search(r" ([0-9.]+) ([0-9.]+) [0-9.]+ [0-9]+$", line)
+        if name and ends:
+            part = edits if "/rt-edit-" in line.split()[0] else tests if " --test" in line else proofs
+            part[name[1]] += float(ends[1]) + float(ends[2])
+    return proofs, tests, edits
+
+
+def print_times(path):
+    """The table with what a gate took."""
+    proofs, tried, edited = times(path)
+    shown = lambda seconds, number: f"{seconds:.0f}" * (seconds >= 1) + f" ({number})" * (number > 0)
+    print("| crate | lines of code / specs / proofs | proof, s | tests, s (number) | edits, s (number) |\n|---|---|---|---|---|")
+    sums = collections.Counter()
+    for crate in crates():
+        code = lines(crate, "src", ".rt"), lines(crate, "specs", ".antt"), lines(crate, "proofs", ".antt")
+        number, edits = tests(crate), len(glob.glob(f"{TOP}/crates/{crate}/must-fail/*.edit"))
+        row = *code, proofs[crate], tried[crate], number, edited[crate], edits
+        sums.update(dict(enumerate(row)))
+        print(f"| `{crate}` | {code[0]} / {code[1]} / {code[2]} | {shown(proofs[crate], 0)} | {shown(tried[crate], number)} | {shown(edited[crate], edits)} |")
+    print(f"| all | {sums[0]} / {sums[1]} / {sums[2]} | {shown(sums[3], 0)} | {shown(sums[4], sums[5])} | {shown(sums[6], sums[7])} |")
+
+
 def main():
+    if sys.argv[1:2] == ["--times"]:
+        return print_times(sys.argv[2])
     prove = sys.argv[1:] == ["--prove"]
     print("| crate | code | specs | proofs | seconds | tests | edits |\n|---|---|---|---|---|---|---|")
     with tempfile.TemporaryDirectory() as room:
