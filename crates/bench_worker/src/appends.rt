@@ -21,8 +21,8 @@ pub const RECORDS: usize = 100;
 
 /// call 9; mov64 r1, r0; call 3; exit: each record goes to the output of its input's number as it is.
 const TO_OWN: [u8; 32] = [
-    0x85, 0, 0, 0, 9, 0, 0, 0, 0xbf, 1, 0, 0, 0, 0, 0, 0, 0x85, 0, 0, 0, 3, 0, 0, 0, 0x95, 0, 0, 0, 0,
-    0, 0, 0,
+    0x85, 0, 0, 0, 9, 0, 0, 0, 0xbf, 1, 0, 0, 0, 0, 0, 0, 0x85, 0, 0, 0, 3, 0, 0, 0, 0x95, 0, 0, 0,
+    0, 0, 0, 0,
 ];
 
 /// Where the program passes each record on.
