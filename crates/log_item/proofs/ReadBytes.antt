@@ -12,7 +12,7 @@ use Rattle.machine_spec.specs.Image.{Program, slot_count, form_at}
 use Rattle.machine_spec.specs.Machine.{Input, State, Access, access_of, byte_in, bytes_of, length_of}
 use Rattle.machine_spec.specs.declared.limits.TheConstants.{STACK_SIZE}
 use Rattle.machine_spec.specs.Traps.{is_within, is_stack, is_read, has_unset, leaves_record, leaves_stack, reads_unset, first_of, traps, trap_of, trap_at}
-use Rattle.verifier_spec.proofs.Safety.{none_hold}
+use Rattle.machine_spec.proofs.FirstOf.{none_hold}
 use Rattle.log_item.specs.Programs.{ReadsWithin}
 
 -- a byte of a list that is long enough
