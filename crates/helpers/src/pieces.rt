@@ -34,7 +34,7 @@ impl<'a> Piece<'a> {
     /// How many bytes there are.
     pub fn length(self, given: &Record) -> usize
         requires { IsPiece given.now self }
-        ensures { result ≡ length (piece_bytes given.now self) }
+        ensures { result ≡ length (piece_bytes given.now self.entry) }
     {
         match self {
             Piece::Key(start, end) => end - start,
@@ -47,7 +47,7 @@ impl<'a> Piece<'a> {
     /// where memory runs out.
     pub fn bytes(self, alloc: Global, given: &Record) -> Result<Bytes, AllocError>
         requires { IsPiece given.now self }
-        ensures { IfOk result (λ bytes. bytes ≡ piece_bytes given.now self) }
+        ensures { IfOk result (λ bytes. bytes ≡ piece_bytes given.now self.entry) }
     {
         match self {
             Piece::Key(start, end) => cut(&given.key, start, end),
