@@ -6,11 +6,11 @@ ghost use Rattle.verifier_spec.specs.Kinds.{kind_at, is_unknown, furthest};
 ghost use Rattle.verifier_spec.specs.Checks.{reads_unknown, is_one_sign, least_displacement, greatest_displacement, can_move, can_compute_kinds, has_wrong_kinds, has_wrong_base_kind, has_wrong_condition_kind, reach_at, reach_of, may_write_record, may_leave_record, may_leave_stack, may_read_unset, named_reach, may_name_wrongly, is_whole, is_wrong_argument_kind, may_exit_wrongly, failed_check};
 
 use machine_spec::{
-    Argument, Condition, Direction, Helper, Instruction, MemoryOperand, Operands, Operation, Region,
-    STACK_SIZE, Source, Summary, Width,
+    Argument, Condition, Direction, Helper, Instruction, MemoryOperand, Operands, Operation,
+    Region, STACK_SIZE, Source, Summary, Width,
 };
 use stack_bytes::contains_all;
-use state_order::kinds;
+use state_order::{kinds, same_region};
 use verifier_spec::{Abs, Abstract, Check, Interval};
 
 /// The first number that is negative where it is read as signed: 2^63.
@@ -379,17 +379,18 @@ fn count_from(low: i64, high: i64, count: u64) -> u128
 
 /// Whether so many bytes from a place from low to high may lie outside their region or not be set.
 fn may_be_missing(state: &Abstract, region: Region, low: i64, high: i64, count: u64) -> bool
-    ensures { result ≡ may_name_wrongly state.now (Some (record { direction = Direction.Read; region = region; low = low;
-        high = high; size = count })) }
+    ensures { result ≡ may_name_wrongly state.now (Some (record {
+      direction = Direction.Read;
+      region = region;
+      low = low;
+      high = high;
+      size = count;
+    })) }
 {
     match region {
         Region::Stack => {
             !are_within(low, high, count, STACK_SIZE as u32)
-                || !contains_all(
-                    &state.set,
-                    low.unsigned_abs(),
-                    count_from(low, high, count),
-                )
+                || !contains_all(&state.set, low.unsigned_abs(), count_from(low, high, count))
         }
         Region::Key => !are_within(low, high, count, state.key_min),
         Region::Value => !are_within(low, high, count, state.value_min),
@@ -416,7 +417,7 @@ fn is_whole(address: Abs, count: Abs) -> bool
 {
     match address {
         Abs::Addr(region, low, high) => match count {
-            Abs::Len(other) => kinds::same_region(region, other) && (low == 0 && high == 0),
+            Abs::Len(other) => same_region(region, other) && (low == 0 && high == 0),
             Abs::None => false,
             Abs::Num(_, _) => false,
             Abs::Addr(_, _, _) => false,
