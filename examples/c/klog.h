@@ -21,6 +21,13 @@ typedef unsigned long long u64;
  * output; 2, the key is too long; 3, sixteen emissions were made before. */
 static u64 (*const emit_record)(u64 output) = (void *)3;
 
+/* Emits the record's key with other bytes as its value and no headers. The bytes lie in the value, in the key, or in
+ * variables that were set; with a length of 0 the value is empty, not null. The result is that of emit_record. */
+static u64 (*const emit_value)(u64 output, const void *value, u64 value_length) = (void *)4;
+
+/* Emits bytes as a key and bytes as a value, with no headers. */
+static u64 (*const emit)(u64 output, const void *key, u64 key_length, const void *value, u64 value_length) = (void *)5;
+
 /* Emits the record's key with a null value and no headers, as a deletion. The result is that of emit_record. */
 static u64 (*const emit_null)(u64 output) = (void *)6;
 

@@ -3,14 +3,14 @@ ghost use Rattle.std.specs.List.{list_any, flat_map};
 ghost use Rattle.machine_spec.specs.Arithmetic.{signed};
 ghost use Rattle.machine_spec.specs.Traps.{source_registers, operand_registers, base_registers, condition_registers, argument_registers, arguments_of};
 ghost use Rattle.verifier_spec.specs.Kinds.{kind_at, is_unknown, furthest};
-ghost use Rattle.verifier_spec.specs.Checks.{reads_unknown, is_one_sign, least_displacement, greatest_displacement, can_move, can_compute_kinds, has_wrong_kinds, has_wrong_base_kind, has_wrong_condition_kind, reach_at, reach_of, may_write_record, may_leave_record, may_leave_stack, may_read_unset, is_wrong_argument_kind, may_exit_wrongly, failed_check};
+ghost use Rattle.verifier_spec.specs.Checks.{reads_unknown, is_one_sign, least_displacement, greatest_displacement, can_move, can_compute_kinds, has_wrong_kinds, has_wrong_base_kind, has_wrong_condition_kind, reach_at, reach_of, may_write_record, may_leave_record, may_leave_stack, may_read_unset, named_reach, may_name_wrongly, is_whole, is_wrong_argument_kind, may_exit_wrongly, failed_check};
 
 use machine_spec::{
-    Argument, Condition, Helper, Instruction, MemoryOperand, Operands, Operation, STACK_SIZE,
-    Source, Summary, Width,
+    Argument, Condition, Direction, Helper, Instruction, MemoryOperand, Operands, Operation,
+    Region, STACK_SIZE, Source, Summary, Width,
 };
 use stack_bytes::contains_all;
-use state_order::kinds;
+use state_order::{kinds, same_region};
 use verifier_spec::{Abs, Abstract, Check, Interval};
 
 /// The first number that is negative where it is read as signed: 2^63.
@@ -70,6 +70,9 @@ fn is_unknown_argument(state: &Abstract, argument: Argument) -> bool
     match argument {
         Argument::Nothing => false,
         Argument::Number(register) => is_unknown_at(state, register),
+        Argument::Bytes(address, count) => {
+            is_unknown_at(state, address) || is_unknown_at(state, count)
+        }
     }
 }
 
@@ -357,6 +360,74 @@ fn may_read_unset(memory: Option<MemoryOperand>, state: &Abstract) -> bool
     }
 }
 
+// ---- bytes that a helper reads
+
+/// Whether so many bytes from any place from low to high lie in the first ones of a region.
+fn are_within(low: i64, high: i64, count: u64, length: u32) -> bool
+    ensures { result ≡ (int_le (pos 0) low && int_le (high +ℤ pos count) (pos length)) }
+{
+    0 <= low && high as i128 + count as i128 <= length as i128
+}
+
+/// How many places there are from low up to high and so many more.
+fn count_from(low: i64, high: i64, count: u64) -> u128
+    ensures { result ≡ unsigned_abs (high +ℤ neg_ℤ low) + count }
+{
+    let apart = high as i128 - low as i128;
+    apart.unsigned_abs() + count as u128
+}
+
+/// Whether so many bytes from a place from low to high may lie outside their region or not be set.
+fn may_be_missing(state: &Abstract, region: Region, low: i64, high: i64, count: u64) -> bool
+    ensures { result ≡ may_name_wrongly state.now (Some (record {
+      direction = Direction.Read;
+      region = region;
+      low = low;
+      high = high;
+      size = count;
+    })) }
+{
+    match region {
+        Region::Stack => {
+            !are_within(low, high, count, STACK_SIZE as u32)
+                || !contains_all(&state.set, low.unsigned_abs(), count_from(low, high, count))
+        }
+        Region::Key => !are_within(low, high, count, state.key_min),
+        Region::Value => !are_within(low, high, count, state.value_min),
+    }
+}
+
+fn may_name_wrongly(state: &Abstract, address: Abs, count: Option<Interval>) -> bool
+    ensures { result ≡ may_name_wrongly state.now (named_reach address count) }
+{
+    match address {
+        Abs::Addr(region, low, high) => match count {
+            Some(count) => may_be_missing(state, region, low, high, count.high),
+            None => true,
+        },
+        Abs::None => true,
+        Abs::Num(_, _) => true,
+        Abs::Len(_) => true,
+    }
+}
+
+/// Whether an address and a number name exactly the key or the value.
+fn is_whole(address: Abs, count: Abs) -> bool
+    ensures { result ≡ is_whole address count }
+{
+    match address {
+        Abs::Addr(region, low, high) => match count {
+            Abs::Len(other) => same_region(region, other) && (low == 0 && high == 0),
+            Abs::None => false,
+            Abs::Num(_, _) => false,
+            Abs::Addr(_, _, _) => false,
+        },
+        Abs::None => false,
+        Abs::Num(_, _) => false,
+        Abs::Len(_) => false,
+    }
+}
+
 // ---- calls and the exit
 
 fn is_wrong_argument(state: &Abstract, argument: Argument) -> bool
@@ -365,6 +436,12 @@ fn is_wrong_argument(state: &Abstract, argument: Argument) -> bool
     match argument {
         Argument::Nothing => false,
         Argument::Number(register) => !kinds::is_number(kinds::kind_at(state, register)),
+        Argument::Bytes(address, count) => {
+            let address = kinds::kind_at(state, address);
+            let count = kinds::kind_at(state, count);
+            !is_whole(address, count)
+                && may_name_wrongly(state, address, kinds::range_of(state, count))
+        }
     }
 }
 

@@ -1,5 +1,5 @@
 -- Numbers in bytes, half by half, and bytes that are not set, one by one.
-use Rattle.std.proofs.Common.{◌≡◌, ℕ, suc, ◌+◌, ◌-◌, ◌*◌, ◌<◌, ◌||◌, Option, unwrap_or, ap, ◌∙◌, arith}
+use Rattle.std.proofs.Common.{◌≡◌, ℕ, zero, suc, ◌+◌, ◌-◌, ◌*◌, ◌<◌, ◌||◌, List, [], ◌∷◌, ◌++◌, Option, unwrap_or, ap, ◌∙◌, arith}
 use Rattle.std.specs.Prelude.{is_none}
 use Rattle.machine_spec.specs.Values.{little_endian}
 use Rattle.machine_spec.specs.Machine.{bytes_from}
@@ -32,3 +32,13 @@ module _ (f : ℕ → Option ℕ) (place : ℕ) where
       let one_more : count - k ≡ suc (count - (k + 1)) = omega arith in
       let next : place + k + 1 ≡ place + (k + 1) = omega arith in
       ap (λ n. has_unset f (place + k) n) one_more ∙ ap (λ p. is_none (f (place + k)) || has_unset f p (count - (k + 1))) next
+
+-- one byte more behind others
+pub one_more : (f : ℕ → Option ℕ) (place count : ℕ) → bytes_from f place (suc count) ≡ bytes_from f place count ++ unwrap_or (f (place + count)) 0 ∷ []
+one_more f place zero = let same : place ≡ place + 0 = omega arith in ap (λ p. unwrap_or (f p) 0 ∷ []) same
+one_more f place (suc count) =
+    let next : (place + 1) + count ≡ place + suc count = omega arith in
+    ap (λ (bytes : List ℕ). unwrap_or (f place) 0 ∷ bytes) (one_more f (place + 1) count ∙ ap (λ p. bytes_from f (place + 1) count ++ unwrap_or (f p) 0 ∷ []) next)
+
+pub next_byte : (f : ℕ → Option ℕ) (place count : ℕ) → bytes_from f place (count + 1) ≡ bytes_from f place count ++ unwrap_or (f (place + count)) 0 ∷ []
+next_byte f place count = let next : count + 1 ≡ suc count = omega arith in ap (bytes_from f place) next ∙ one_more f place count

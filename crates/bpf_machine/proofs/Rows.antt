@@ -9,19 +9,8 @@ use Rattle.machine_spec.specs.Image.{Program, slot_count, form_at}
 use Rattle.machine_spec.specs.declared.summary.Summary.{Summary}
 use Rattle.machine_spec.specs.Summaries.{summary_of}
 use Rattle.machine_spec.specs.Machine.{Input, State, access_of}
+use Rattle.machine_spec.proofs.FirstOf.{none_hold}
 use Rattle.machine_spec.specs.Traps.{calls_no_helper, writes_record, leaves_stack, jumps_wrongly, first_of, traps, trap_of, trap_at}
-
-abbrev NoneHolds : List (Bool × Trap) → Type 0
-NoneHolds [] = Unit {0}
-NoneHolds (row ∷ rows) = (row.0 ≡ false) × NoneHolds rows
-
-first_fails : (b : Bool) (x : Trap) (rest : Option Trap) → (if b then Some x else rest) ≡ None → (b ≡ false) × (rest ≡ None)
-first_fails true x rest e = absurd (cc e)
-first_fails false x rest e = (refl, e)
-
-none_hold : (rows : List (Bool × Trap)) → first_of rows ≡ None → NoneHolds rows
-none_hold [] e = tt
-none_hold (row ∷ rows) e = let p = first_fails row.0 row.1 (first_of rows) e in (p.0, none_hold rows p.1)
 
 traps_none : (program : Program) (input : Input) (s : State) (i : Instruction) → trap_at program input s ≡ None → form_at program.image s.slot ≡ Some i → first_of (traps program input (summary_of i) s) ≡ None
 unfolding trap_at

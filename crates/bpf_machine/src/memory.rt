@@ -1,8 +1,8 @@
 //! The bytes that an instruction reads or writes.
-ghost use Rattle.std.specs.Prelude.{◌≡◌, ℕ, ◌+◌, ◌<◌, ◌^◌, length, slice_get, unwrap_or, unsigned_abs, ◌+ℤ◌, Some};
+ghost use Rattle.std.specs.Prelude.{◌≡◌, ℕ, ◌+◌, ◌<◌, ◌^◌, length, slice_get, unwrap_or, unsigned_abs, ◌+ℤ◌, Some, IfOk};
 ghost use Rattle.machine_spec.specs.Values as values;
 ghost use Rattle.machine_spec.specs.Values.{little_endian, byte_count};
-ghost use Rattle.machine_spec.specs.Machine.{access_at, access_of, byte_in, bytes_from, length_of, loaded};
+ghost use Rattle.machine_spec.specs.Machine.{access_at, access_of, named, byte_in, bytes_from, bytes_read, length_of, loaded};
 ghost use Rattle.bpf_machine.specs.Views.{value_of, registers_of, stack_of, access_in, IsNear};
 ghost use Rattle.bpf_machine.specs.States.{input_of};
 
@@ -11,7 +11,7 @@ use crate::stack::Stack;
 use crate::tagged::Tagged;
 use helpers::text;
 use machine_spec::{Direction, Extension, MemoryOperand, Place, Region, STACK_SIZE, Size};
-use std::alloc::Global;
+use std::alloc::{AllocError, Global};
 use wire_spec::Record;
 
 /// What a run has at hand: the program's image, the record and where it stands.
@@ -29,7 +29,7 @@ pub struct Span {
     pub direction: Direction,
     pub region: Region,
     pub start: i128,
-    pub size: u8,
+    pub size: u64,
 }
 
 pub fn start_of(at: i128, offset: i16) -> i128
@@ -49,7 +49,7 @@ pub fn span_at(direction: Direction, base: Tagged, offset: i16, size: Size) -> O
             direction,
             region,
             start: start_of(at, offset),
-            size: size.byte_count(),
+            size: u64::from(size.byte_count()),
         }),
         Tagged::Nothing => None,
         Tagged::Number(_) => None,
@@ -64,6 +64,26 @@ pub fn span_of(memory: Option<MemoryOperand>, registers: &[Tagged; REGISTERS]) -
     match memory {
         Some(m) => span_at(m.direction, get(registers, m.base), m.offset, m.size),
         None => None,
+    }
+}
+
+/// The bytes that an address and a length name, if they are one.
+pub fn named(address: Tagged, count: Tagged) -> Option<Span>
+    ensures { access_in result ≡ named (value_of address) (value_of count) }
+{
+    match address {
+        Tagged::Address(region, start) => match count {
+            Tagged::Number(size) => Some(Span {
+                direction: Direction::Read,
+                region,
+                start,
+                size,
+            }),
+            Tagged::Nothing => None,
+            Tagged::Address(_, _) => None,
+        },
+        Tagged::Nothing => None,
+        Tagged::Number(_) => None,
     }
 }
 
@@ -106,6 +126,44 @@ impl<'a> Run<'a> {
             Region::Stack => stack.get(place),
             Region::Key => byte_of(text(&self.given.key), place),
             Region::Value => byte_of(text(&self.given.value), place),
+        }
+    }
+
+    /// So many bytes from a place on; one that is not there counts as 0.
+    #[tactic(auto, using(crate::proofs::Loads::next_byte))]
+    fn bytes_from(
+        &self,
+        stack: &Stack,
+        region: Region,
+        place: u128,
+        count: u64,
+    ) -> Result<Vec<u8>, AllocError>
+        requires { place < 2 ^ 127 + 2 }
+        ensures { IfOk result (λ bytes. bytes.items
+            ≡ bytes_from (byte_in (input_of self.now) (stack_of stack.now) region) place count) }
+    {
+        let mut bytes = Vec::new(self.alloc);
+        for k in 0..count {
+            bytes.push(or_zero(self.byte_in(stack, region, place + k as u128)))?;
+        }
+        Ok(bytes)
+    }
+
+    /// The bytes that an address and a length name.
+    pub fn bytes_named(
+        &self,
+        stack: &Stack,
+        address: Tagged,
+        count: Tagged,
+    ) -> Result<Vec<u8>, AllocError>
+        ensures { IfOk result (λ bytes. bytes.items
+            ≡ bytes_read (input_of self.now) (stack_of stack.now) (named (value_of address) (value_of count))) }
+    {
+        match named(address, count) {
+            Some(span) => {
+                self.bytes_from(stack, span.region, span.start.unsigned_abs(), span.size)
+            }
+            None => Ok(Vec::new(self.alloc)),
         }
     }
 

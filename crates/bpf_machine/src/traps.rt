@@ -9,7 +9,7 @@ ghost use Rattle.bpf_machine.specs.Views.{registers_of, stack_of, access_in, IsN
 ghost use Rattle.bpf_machine.specs.States.{program_of, input_of, state_of};
 
 use crate::machine::Machine;
-use crate::memory::{Run, Span, span_of};
+use crate::memory::{Run, Span, named, span_of};
 use crate::registers::{REGISTERS, get, operand};
 use crate::slots::is_first_slot;
 use crate::stack::Stack;
@@ -72,6 +72,9 @@ fn is_argument_nothing(registers: &[Tagged; REGISTERS], argument: Argument) -> b
     match argument {
         Argument::Nothing => false,
         Argument::Number(register) => has_nothing(registers, register),
+        Argument::Bytes(address, count) => {
+            has_nothing(registers, address) || has_nothing(registers, count)
+        }
     }
 }
 
@@ -149,7 +152,7 @@ fn has_wrong_condition(condition: Option<Condition>, registers: &[Tagged; REGIST
 // ---- memory
 
 /// Whether so many bytes from a place on lie in a region of this length.
-fn is_within(start: i128, size: u8, length: usize) -> bool
+fn is_within(start: i128, size: u64, length: usize) -> bool
     ensures { result ≡ definitions.is_within start size length }
 {
     0 <= start && start.unsigned_abs() + size as u128 <= length as u128
@@ -204,7 +207,7 @@ fn is_unset(byte: Option<u8>) -> bool
 }
 
 /// Whether one of so many bytes from a place on is not set.
-fn has_unset(stack: &Stack, place: u128, count: u8) -> bool
+fn has_unset(stack: &Stack, place: u128, count: u64) -> bool
     requires { place + count < 2 ^ 128 }
     ensures { result ≡ definitions.has_unset (stack_of stack.now) place count }
 {
@@ -233,31 +236,47 @@ fn reads_unset(stack: &Stack, span: Option<Span>) -> bool
 
 // ---- calls, jumps and the exit
 
-fn is_wrong_argument(registers: &[Tagged; REGISTERS], argument: Argument) -> bool
-    ensures { result ≡ definitions.is_wrong_argument (registers_of registers.now) argument }
+/// Whether bytes that an argument names lie outside their region or are not set, or it names none.
+fn names_wrongly(run: &Run, stack: &Stack, span: Option<Span>) -> bool
+    ensures { result ≡ definitions.names_wrongly (input_of run.now) (stack_of stack.now) (access_in span) }
 {
-    match argument {
-        Argument::Nothing => false,
-        Argument::Number(register) => !is_number(get(registers, register)),
+    match span {
+        Some(_) => leaves_record(run, span) || leaves_stack(span) || reads_unset(stack, span),
+        None => true,
     }
 }
 
-fn has_wrong_argument(registers: &[Tagged; REGISTERS], arguments: &[Argument]) -> bool
-    ensures { result ≡ list_any (definitions.is_wrong_argument (registers_of registers.now)) arguments.now }
+fn is_wrong_argument(run: &Run, machine: &Machine, argument: Argument) -> bool
+    ensures { result ≡ definitions.is_wrong_argument (input_of run.now) (state_of machine.now) argument }
+{
+    let registers = &machine.registers;
+    match argument {
+        Argument::Nothing => false,
+        Argument::Number(register) => !is_number(get(registers, register)),
+        Argument::Bytes(address, count) => {
+            let span = named(get(registers, address), get(registers, count));
+            names_wrongly(run, &machine.stack, span)
+        }
+    }
+}
+
+fn has_wrong_argument(run: &Run, machine: &Machine, arguments: &[Argument]) -> bool
+    ensures { result ≡ list_any (definitions.is_wrong_argument (input_of run.now) (state_of machine.now)) arguments.now }
 {
     for argument in arguments {
-        if is_wrong_argument(registers, *argument) {
+        if is_wrong_argument(run, machine, *argument) {
             return true;
         }
     }
     false
 }
 
-fn calls_wrongly(registers: &[Tagged; REGISTERS], helper: Option<Helper>) -> bool
-    ensures { result ≡ list_any (definitions.is_wrong_argument (registers_of registers.now)) (arguments_of helper) }
+fn calls_wrongly(run: &Run, machine: &Machine, helper: Option<Helper>) -> bool
+    ensures { result ≡ list_any (definitions.is_wrong_argument (input_of run.now) (state_of machine.now))
+        (arguments_of helper) }
 {
     match helper {
-        Some(helper) => has_wrong_argument(registers, &helper.signature().arguments),
+        Some(helper) => has_wrong_argument(run, machine, &helper.signature().arguments),
         None => false,
     }
 }
@@ -350,7 +369,7 @@ pub fn trap_of(run: &Run, summary: Summary, machine: &Machine) -> Option<Trap>
         Some(Trap::StackBounds)
     } else if reads_unset(&machine.stack, span) {
         Some(Trap::StackUnset)
-    } else if calls_wrongly(registers, summary.helper()) {
+    } else if calls_wrongly(run, machine, summary.helper()) {
         Some(Trap::HelperArgument)
     } else if exits_wrongly(summary.exits, registers) {
         Some(Trap::Exit)

@@ -1,7 +1,8 @@
 //! Random numbers, programs and records.
 //!
 //! A program is made of pieces that mostly load: arithmetic, loads behind a test of the length,
-//! stores with loads of what they wrote, jumps over a piece, 64-bit immediates and calls.
+//! stores with loads of what they wrote, jumps over a piece, 64-bit immediates and calls, some of
+//! which emit bytes of the record or the stack by address.
 
 ghost use Rattle.std.specs.Prelude.{◌<◌};
 
@@ -242,13 +243,85 @@ impl Random {
         Ok(())
     }
 
+    /// A call with an output in r1.
+    fn push_call(&mut self, image: &mut Vec<u8>, number: i32) -> Result<(), AllocError> {
+        let out = self.below(3) as i32;
+        image.extend_from_slice(&slot(0xb7, 1, 0, 0, out))?;
+        image.extend_from_slice(&slot(0x85, 0, 0, 0, number))?;
+        Ok(())
+    }
+
+    /// The address in r2 of eight bytes of the stack, of which half or all are stored here, and a
+    /// length in r3.
+    fn push_stack(&mut self, image: &mut Vec<u8>) -> Result<(), AllocError> {
+        let imm = self.immediate();
+        let (store, _, _) = STORES
+            .get(2 + self.below(2) as usize)
+            .copied()
+            .unwrap_or((0x7a, 0x7b, 0x79));
+        image.extend_from_slice(&slot(store, 10, 0, -8, imm))?;
+        image.extend_from_slice(&slot(0xbf, 2, 10, 0, 0))?;
+        image.extend_from_slice(&slot(0x07, 2, 0, 0, -8))?;
+        let length = self.below(9) as i32;
+        image.extend_from_slice(&slot(0xb7, 3, 0, 0, length))?;
+        Ok(())
+    }
+
+    /// The key by its address in r4 and its length in r5, or a part of it, or more than there is.
+    fn push_key(&mut self, image: &mut Vec<u8>) -> Result<(), AllocError> {
+        image.extend_from_slice(&slot(0xbf, 5, 4, 0, 0))?;
+        image.extend_from_slice(&slot(0xbf, 4, 3, 0, 0))?;
+        self.push_part(image, 4, 5)
+    }
+
+    /// The value by its address in r2 and its length in r3, or a part of it, or more than there is.
+    fn push_value(&mut self, image: &mut Vec<u8>) -> Result<(), AllocError> {
+        image.extend_from_slice(&slot(0xbf, 3, 2, 0, 0))?;
+        image.extend_from_slice(&slot(0xbf, 2, 1, 0, 0))?;
+        self.push_part(image, 2, 3)
+    }
+
+    /// Perhaps another length or a later place, which need not be there.
+    fn push_part(&mut self, image: &mut Vec<u8>, address: u8, count: u8) -> Result<(), AllocError> {
+        match self.below(6) {
+            0 => {
+                let length = self.below(4) as i32;
+                image.extend_from_slice(&slot(0xb7, count, 0, 0, length))?;
+            }
+            1 => image.extend_from_slice(&slot(0x07, address, 0, 0, 1))?,
+            _ => {}
+        }
+        Ok(())
+    }
+
+    /// An emission of the key or the value, of both, or of bytes of the stack, by address.
+    fn push_emission(&mut self, image: &mut Vec<u8>) -> Result<(), AllocError> {
+        match self.below(3) {
+            0 => {
+                self.push_value(image)?;
+                self.push_call(image, 4)
+            }
+            1 => {
+                self.push_stack(image)?;
+                self.push_call(image, 4)
+            }
+            _ => {
+                self.push_key(image)?;
+                self.push_value(image)?;
+                self.push_call(image, 5)
+            }
+        }
+    }
+
     /// Perhaps a call, then r0 and the exit.
     fn push_end(&mut self, image: &mut Vec<u8>) -> Result<(), AllocError> {
-        if self.below(2) == 0 {
-            let out = self.below(3) as i32;
-            image.extend_from_slice(&slot(0xb7, 1, 0, 0, out))?;
-            let number = i32::from(self.byte_of(&HELPERS));
-            image.extend_from_slice(&slot(0x85, 0, 0, 0, number))?;
+        match self.below(4) {
+            0 => {
+                let number = i32::from(self.byte_of(&HELPERS));
+                self.push_call(image, number)?;
+            }
+            1 => self.push_emission(image)?,
+            _ => {}
         }
         match self.below(4) {
             0 => image.extend_from_slice(&slot(0xb7, 0, 0, 0, 0))?,

@@ -4,7 +4,9 @@
 
 mod emitter;
 mod parts;
+mod pieces;
 
 pub use emitter::Emitter;
 pub use machine_spec::{Emission, Emissions, Helper, Outcome, Place};
 pub use parts::{null_flags, text, text_length};
+pub use pieces::Piece;

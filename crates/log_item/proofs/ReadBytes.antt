@@ -1,5 +1,6 @@
 -- A state without a trap reads no byte that is not there.
-use Rattle.std.proofs.Common.{◌≡◌, ℕ, zero, suc, ◌+◌, ◌<◌, ◌≤◌, ℤ, pos, ◌≤ℤ◌, Bool, true, false, not, ◌&&◌, if◌then◌else◌, nat_lt, nat_le, int_lt, List, [], ◌∷◌, length, get_or, slice_get, Option, Some, None, is_none, is_some, IsSome, unsigned_abs, unwrap_or, refl, sym, ap, subst, ◌∙◌, arith}
+use Rattle.std.proofs.Common.{◌≡◌, ℕ, zero, suc, ◌+◌, ◌<◌, ◌≤◌, ℤ, pos, ◌≤ℤ◌, Bool, true, false, not, ◌&&◌, if◌then◌else◌, nat_lt, nat_le, int_lt, List, [], ◌∷◌, length, get_or, slice_get, Option, Some, None, is_none, is_some, IsSome, unsigned_abs, unwrap_or, refl, sym, ap, subst, ◌∙◌, ⊎_elim, arith}
+use Rattle.std.specs.List.{list_any}
 use Rattle.std.proofs.lemmas.Bool.{and_parts, or_parts, leb-true, not-false, not-true, false≢true}
 use Rattle.std.proofs.lemmas.Option.{same_Some, none-some, slice_get-get_or}
 use Rattle.std.proofs.lemmas.Int.{ints}
@@ -11,8 +12,11 @@ use Rattle.machine_spec.specs.Summaries.{summary_of}
 use Rattle.machine_spec.specs.Image.{Program, slot_count, form_at}
 use Rattle.machine_spec.specs.Machine.{Input, State, Access, access_of, byte_in, bytes_of, length_of}
 use Rattle.machine_spec.specs.declared.limits.TheConstants.{STACK_SIZE}
-use Rattle.machine_spec.specs.Traps.{is_within, is_stack, is_read, has_unset, leaves_record, leaves_stack, reads_unset, first_of, traps, trap_of, trap_at}
-use Rattle.verifier_spec.proofs.Safety.{none_hold}
+use Rattle.machine_spec.specs.Traps.{is_within, is_stack, is_read, has_unset, leaves_record, leaves_stack, reads_unset, helper_called, arguments_of, argument_access, names_wrongly, is_wrong_argument, calls_wrongly, first_of, traps, trap_of, trap_at}
+use Rattle.machine_spec.specs.declared.helper.Argument.{Argument}
+use Rattle.machine_spec.specs.declared.helper.Argument.TheVariants as argument
+use Rattle.machine_spec.proofs.FirstOf.{none_hold}
+use Rattle.machine_spec.proofs.Helpers.{names_parts}
 use Rattle.log_item.specs.Programs.{ReadsWithin}
 
 -- a byte of a list that is long enough
@@ -76,6 +80,20 @@ access_inside input s o a place h e reads below =
     let is = subst (λ (access : Option Access). IsInside input s access) e h in
     in_region input s.stack a.start a.size place below a.region (is_read a.direction) reads is.inside is.on_stack is.set
 
+-- a test that fails of each element fails of one
+element_fails : (p : Argument → Bool) (xs : List Argument) (k : ℕ) (x : Argument) → list_any p xs ≡ false → slice_get xs k ≡ Some x → p x ≡ false
+element_fails p [] k x h e = absurd (none-some x e)
+element_fails p (y ∷ ys) zero x h e = subst (λ z. p z ≡ false) (same_Some y x e) (or_parts (p y) (list_any p ys) h).0
+element_fails p (y ∷ ys) (suc k) x h e = element_fails p ys k x (or_parts (p y) (list_any p ys) h).1 e
+
+-- bytes that an argument names rightly
+argument_inside : (input : Input) (s : State) (x : Argument) (a : Access) → is_wrong_argument input s x ≡ false → argument_access s.registers x ≡ Some a → IsInside input s (Some a)
+argument_inside input s argument.Nothing a h e = absurd (none-some a e)
+argument_inside input s (argument.Number r) a h e = absurd (none-some a e)
+argument_inside input s (argument.Bytes address count) a h e =
+    let parts = names_parts input s.stack a (subst (λ (o : Option Access). names_wrongly input s.stack o ≡ false) e h) in
+    record { inside = parts.0; on_stack = parts.1; set = parts.2 }
+
 module _ (program : Program) (input : Input) (s : State) (free : trap_at program input s ≡ None) where
   no_traps : (i : Instruction) → form_at program.image s.slot ≡ Some i → first_of (traps program input (summary_of i) s) ≡ None
   unfolding trap_at
@@ -94,4 +112,10 @@ module _ (program : Program) (input : Input) (s : State) (free : trap_at program
         on_stack = none.1.1.1.1.1.1.1.1.0;
         set = none.1.1.1.1.1.1.1.1.1.0;
       } in
-      access_inside input s (access_of (summary_of i).memory s.registers) a place inside access reads below
+      let named : calls_wrongly input (summary_of i).call s ≡ false = none.1.1.1.1.1.1.1.1.1.1.0 in
+      ⊎_elim
+      (λ memory. access_inside input s (access_of (summary_of i).memory s.registers) a place inside memory reads below)
+      (λ argument.
+      let right = element_fails (is_wrong_argument input s) (arguments_of (helper_called (summary_of i).call)) argument.0 argument.1 named argument.2 in
+      access_inside input s (Some a) a place (argument_inside input s argument.1 a right argument.3) refl reads below)
+      access

@@ -1,12 +1,15 @@
 -- What loading an image returns, and what holds of every run of a program.
-use Rattle.std.specs.Prelude.{◌≡◌, ℕ, ◌+◌, ◌<◌, ◌≤◌, pos, ◌≤ℤ◌, true, List, length, Some, None, Result, Ok, Err, IsSome, unsigned_abs}
+use Rattle.std.specs.Prelude.{◌≡◌, ℕ, ◌+◌, ◌<◌, ◌≤◌, pos, ◌≤ℤ◌, ◌⊎◌, true, List, length, slice_get, Some, None, Result, Ok, Err, IsSome, unsigned_abs}
 use Rattle.machine_spec.specs.declared.instruction.Instruction.{Instruction}
 use Rattle.machine_spec.specs.declared.instruction.Placed.{Placed}
 use Rattle.machine_spec.specs.declared.outcome.Outcome.{Outcome}
+use Rattle.machine_spec.specs.declared.helper.Argument.{Argument}
+use Rattle.machine_spec.specs.declared.summary.Summary.{Summary}
+use Rattle.machine_spec.specs.Values.{Registers}
 use Rattle.machine_spec.specs.Summaries.{summary_of}
 use Rattle.machine_spec.specs.Image.{Program, form_at, IsCodeOf}
 use Rattle.machine_spec.specs.Machine.{Input, State, Access, access_of, byte_in}
-use Rattle.machine_spec.specs.Traps.{is_read, trap_at}
+use Rattle.machine_spec.specs.Traps.{helper_called, arguments_of, argument_access, is_read, trap_at}
 use Rattle.machine_spec.specs.Meaning.{Reaches, Means}
 use Rattle.verifier_spec.specs.declared.fault.LoadFault.{LoadFault}
 use Rattle.verifier_spec.specs.Loading.{IsAccepted}
@@ -17,11 +20,18 @@ abbrev pub ProgramIs : List ℕ → Result (List ℕ) LoadFault → Type 0
 ProgramIs image (Ok program) = (program ≡ image) × IsAccepted image
 ProgramIs image (Err fault) = FaultIs image fault
 
+-- bytes that an instruction reads or writes by address: those of a load or a store, or those that an argument of the
+-- helper that it calls names
+abbrev pub IsAccess : Summary → Registers → Access → Type 0
+IsAccess m registers a =
+    (access_of m.memory registers ≡ Some a)
+    ⊎ ((k : ℕ) × (argument : Argument) × (slice_get (arguments_of (helper_called m.call)) k ≡ Some argument) × (argument_access registers argument ≡ Some a))
+
 -- Each byte that the instruction at a state reads by address is there: it lies in this record's key or value, or is set
 -- in the stack.
 abbrev pub ReadsWithin : Program → Input → State → Type 0
 ReadsWithin program input s =
-    (i : Instruction) (a : Access) (place : ℕ) → form_at program.image s.slot ≡ Some i → access_of (summary_of i).memory s.registers ≡ Some a → is_read a.direction ≡ true
+    (i : Instruction) (a : Access) (place : ℕ) → form_at program.image s.slot ≡ Some i → IsAccess (summary_of i) s.registers a → is_read a.direction ≡ true
     → place < a.size → (pos 0 ≤ℤ a.start) × IsSome (byte_in input s.stack a.region (unsigned_abs a.start + place))
 
 -- The program of an image runs to one outcome on an input: it means that and nothing else, after at most as many

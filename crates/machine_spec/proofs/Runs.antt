@@ -202,6 +202,21 @@ EndAsSaid rows = map (λ row. run 40 row.0 (of_value row.1)) rows ≡ map (λ ro
 abbrev first_byte : List ℕ
 first_byte = move_to 0 0 ++ (slot 0xa5 2 1 1 ++ (slot 0x71 0x10 0 0 ++ exit))
 
+-- the value as the value of an emission to output 0
+abbrev value_by_address : List ℕ
+value_by_address = slot 0xbf 0x23 0 0 ++ (slot 0xbf 0x12 0 0 ++ (move_to 1 0 ++ (call 4 ++ exit)))
+
+-- mov64 r6, r3; mov64 r5, r4; mov64 r4, r6; mov64 r3, r2; mov64 r2, r1; mov64 r1, 0; call 5; exit
+abbrev exchanged : List ℕ
+exchanged =
+    slot 0xbf 0x36 0 0 ++ (slot 0xbf 0x45 0 0 ++ (slot 0xbf 0x64 0 0 ++ (slot 0xbf 0x23 0 0 ++ (slot 0xbf 0x12 0 0 ++ (move_to 1 0 ++ (call 5 ++ exit))))))
+
+-- st32 [r10-8], 7; mov64 r2, r10; add64 r2, -8; mov64 r3, COUNT; mov64 r1, 0; call 4; exit
+abbrev from_stack : ℕ → List ℕ
+from_stack count =
+    at_end 0x62 10 8 (small 7)
+    ++ (slot 0xbf 0xa2 0 0 ++ ((0x07 ∷ 2 ∷ 0 ∷ 0 ∷ 0xf8 ∷ 0xff ∷ 0xff ∷ 0xff ∷ []) ++ (move_to 3 count ++ (move_to 1 0 ++ (call 4 ++ exit)))))
+
 abbrev outcomes : List Row
 outcomes =
     -- mov64 r0, 0; exit
@@ -220,6 +235,14 @@ outcomes =
     ∷ (first_byte, Some [], Out (Kept []) 3)
     -- of the null value
     ∷ (first_byte, None, Out (Kept []) 3)
+    -- mov64 r3, r2; mov64 r2, r1; mov64 r1, 0; call 4; exit: the value is emitted by its address
+    ∷ (value_by_address, Some (118 ∷ []), Out (Kept (forwarded ∷ [])) 5)
+    -- a null value is emitted as an empty one
+    ∷ (value_by_address, None, Out (Kept (record { out = 0; key = Some (107 ∷ []); value = Some []; headers = [] } ∷ [])) 5)
+    -- key and value change places
+    ∷ (exchanged, Some (118 ∷ 119 ∷ []), Out (Kept (record { out = 0; key = Some (118 ∷ 119 ∷ []); value = Some (107 ∷ []); headers = [] } ∷ [])) 8)
+    -- st32 [r10-8], 7 and four bytes from there
+    ∷ (from_stack 4, None, Out (Kept (record { out = 0; key = Some (107 ∷ []); value = Some (7 ∷ 0 ∷ 0 ∷ 0 ∷ []); headers = [] } ∷ [])) 7)
     -- ld16 r0, [r1+1]; exit: the low byte stands first
     ∷ (slot 0x69 0x10 1 0 ++ exit, Some (9 ∷ 2 ∷ 1 ∷ []), Out (Rejected 258) 2)
     -- mov64 r3, r1; add64 r3, 2; sub64 r3, 1; ld8 r0, [r3+0]; exit: the value's second byte
@@ -466,6 +489,18 @@ trapped_runs =
     ∷ (call 99 ++ exit, None, Stopped trap.Helper 0)
     -- call 3 where r1 is still the value's address
     ∷ (call 3 ++ exit, None, Stopped trap.HelperArgument 0)
+    -- call 4 where r1 is still the value's address
+    ∷ (call 4 ++ exit, None, Stopped trap.HelperArgument 0)
+    -- mov64 r1, 0; call 4: r2 is a number
+    ∷ (move_to 1 0 ++ (call 4 ++ exit), None, Stopped trap.HelperArgument 1)
+    -- mov64 r3, r2; add64 r3, 1; mov64 r2, r1; mov64 r1, 0; call 4: a byte more than the value has
+    ∷ (slot 0xbf 0x23 0 0 ++ (slot 0x07 3 0 1 ++ (slot 0xbf 0x12 0 0 ++ (move_to 1 0 ++ (call 4 ++ exit)))), Some (118 ∷ []), Stopped trap.HelperArgument 4)
+    -- mov64 r3, 0; mov64 r2, r1; add64 r2, 1; mov64 r1, 0; call 4: no bytes, past the end of no bytes
+    ∷ (move_to 3 0 ++ (slot 0xbf 0x12 0 0 ++ (slot 0x07 2 0 1 ++ (move_to 1 0 ++ (call 4 ++ exit)))), None, Stopped trap.HelperArgument 4)
+    -- four of the eight bytes are not set
+    ∷ (from_stack 8, None, Stopped trap.HelperArgument 5)
+    -- call 9; call 4: the first call has spent r1
+    ∷ (call 9 ++ (call 4 ++ exit), None, Stopped trap.Unset 1)
     -- mov64 r0, r1; exit
     ∷ (slot 0xbf 0x10 0 0 ++ exit, None, Stopped trap.Exit 1)
     ∷ []

@@ -11,6 +11,12 @@ use wire_spec::TIMESTAMP_END;
 pub enum Helper {
     /// Emits the record as it is. r1: the output partition.
     EmitRecord,
+    /// Emits the record's key with other bytes as its value and no headers. r1: the output
+    /// partition, r2 and r3: the address and the length of the value.
+    EmitValue,
+    /// Emits bytes as a key and bytes as a value, with no headers. r1: the output partition, r2 and
+    /// r3: the address and the length of the key, r4 and r5: those of the value.
+    Emit,
     /// Emits the record's key with a null value and no headers. r1: the output partition.
     EmitNull,
     /// The record's offset.
@@ -28,6 +34,8 @@ pub enum Argument {
     Nothing,
     /// A number. Field: its register.
     Number(u8),
+    /// Bytes that the helper reads. Fields: the registers of their address and of their length.
+    Bytes(u8, u8),
 }
 
 /// What a helper takes and what it answers.
@@ -42,8 +50,10 @@ pub struct Signature {
 }
 
 /// Every helper.
-pub const HELPERS: [Helper; 5] = [
+pub const HELPERS: [Helper; 7] = [
     Helper::EmitRecord,
+    Helper::EmitValue,
+    Helper::Emit,
     Helper::EmitNull,
     Helper::Offset,
     Helper::Timestamp,
@@ -52,6 +62,20 @@ pub const HELPERS: [Helper; 5] = [
 
 /// A helper's only argument is the output partition that it emits to.
 const TO_OUTPUT: [Argument; 3] = [Argument::Number(1), Argument::Nothing, Argument::Nothing];
+
+/// It also takes the bytes of a value.
+const WITH_VALUE: [Argument; 3] = [
+    Argument::Number(1),
+    Argument::Bytes(2, 3),
+    Argument::Nothing,
+];
+
+/// It also takes the bytes of a key and of a value.
+const WITH_KEY_AND_VALUE: [Argument; 3] = [
+    Argument::Number(1),
+    Argument::Bytes(2, 3),
+    Argument::Bytes(4, 5),
+];
 
 const NO_ARGUMENTS: [Argument; 3] = [Argument::Nothing, Argument::Nothing, Argument::Nothing];
 
@@ -83,6 +107,16 @@ impl Helper {
             Helper::EmitRecord => Signature {
                 number: 3,
                 arguments: TO_OUTPUT,
+                greatest: 3,
+            },
+            Helper::EmitValue => Signature {
+                number: 4,
+                arguments: WITH_VALUE,
+                greatest: 3,
+            },
+            Helper::Emit => Signature {
+                number: 5,
+                arguments: WITH_KEY_AND_VALUE,
                 greatest: 3,
             },
             Helper::EmitNull => Signature {

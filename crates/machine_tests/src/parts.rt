@@ -18,6 +18,15 @@ fn helpers_by_number(rt: HostRuntime) {
     assert_eq!(rt; partition.number, 9);
     assert_eq!(rt; partition.arguments[0], Argument::Nothing);
     assert_eq!(rt; partition.greatest, 63);
+    assert_eq!(rt; Helper::with_number(4), Some(Helper::EmitValue));
+    let value = Helper::EmitValue.signature();
+    assert_eq!(rt; value.arguments[1], Argument::Bytes(2, 3));
+    assert_eq!(rt; value.arguments[2], Argument::Nothing);
+    assert_eq!(rt; Helper::with_number(5), Some(Helper::Emit));
+    assert_eq!(rt;
+        Helper::Emit.signature().arguments[2],
+        Argument::Bytes(4, 5)
+    );
 }
 
 #[test]

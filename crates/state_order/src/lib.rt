@@ -7,5 +7,5 @@ mod order;
 mod ranges;
 
 pub use join::joined;
-pub use order::is_within;
+pub use order::{is_within, same_region};
 pub use ranges::is_proper;

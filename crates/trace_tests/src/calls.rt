@@ -57,3 +57,146 @@ fn null_values(rt: HostRuntime) -> Result<(), Fail> {
     }
     Ok(())
 }
+
+const EMIT_VALUE: u64 = 0x8500_0000_0400_0000; // call 4
+
+const VALUE: u64 = 0xbf12_0000_0000_0000; // mov64 r2, r1
+
+const LENGTH: u64 = 0xbf23_0000_0000_0000; // mov64 r3, r2
+
+const NEXT: u64 = 0x0702_0000_0100_0000; // add64 r2, 1
+
+/// Bytes by address: they lie in their region, which is this record's value, or are set in the stack.
+#[test]
+fn bytes_by_address(rt: HostRuntime) -> Result<(), Fail> {
+    let alloc = rt.alloc();
+    let cases: [(&[u64], &str); 10] = [
+        (
+            &[LENGTH, VALUE, TO_FIRST, EMIT_VALUE, EXIT],
+            "kept 1 after 5",
+        ),
+        (
+            &[LENGTH, VALUE, TO_TENTH, EMIT_VALUE, EXIT],
+            "rejected 1 after 5",
+        ),
+        // from the second byte on
+        (
+            &[LENGTH, VALUE, NEXT, TO_FIRST, EMIT_VALUE, EXIT],
+            "K12 after 4",
+        ),
+        // no bytes at the value's end, and behind it: mov64 r3, 0
+        (
+            &[
+                0xb703_0000_0000_0000,
+                VALUE,
+                NEXT,
+                TO_FIRST,
+                EMIT_VALUE,
+                EXIT,
+            ],
+            "kept 1 after 6",
+        ),
+        (
+            &[
+                0xb703_0000_0000_0000,
+                VALUE,
+                NEXT,
+                NEXT,
+                TO_FIRST,
+                EMIT_VALUE,
+                EXIT,
+            ],
+            "K12 after 5",
+        ),
+        // the length is not wrapped: mov64 r3, -1
+        (
+            &[
+                0xb703_0000_ffff_ffff,
+                VALUE,
+                NEXT,
+                TO_FIRST,
+                EMIT_VALUE,
+                EXIT,
+            ],
+            "K12 after 4",
+        ),
+        // nor is the address: add64 r2, -1; mov64 r3, 1
+        (
+            &[
+                0xb703_0000_0100_0000,
+                VALUE,
+                0x0702_0000_ffff_ffff,
+                TO_FIRST,
+                EMIT_VALUE,
+                EXIT,
+            ],
+            "K12 after 4",
+        ),
+        // an address where the length is: mov64 r3, r1
+        (
+            &[0xbf13_0000_0000_0000, VALUE, TO_FIRST, EMIT_VALUE, EXIT],
+            "K12 after 3",
+        ),
+        (&[TO_FIRST, EMIT_VALUE, EXIT], "K12 after 1"),
+        // the first call has spent r2
+        (&[OFFSET, TO_FIRST, EMIT_VALUE, EXIT], "K4 after 2"),
+    ];
+    for (slots, want) in cases {
+        let end = end_of(alloc, slots, Some(b"v"), 1)?;
+        assert_eq!(rt; end.as_str(), want);
+    }
+    Ok(())
+}
+
+/// Four of the eight bytes are set.
+#[test]
+fn bytes_of_the_stack(rt: HostRuntime) -> Result<(), Fail> {
+    let alloc = rt.alloc();
+    // mov64 r3, 4 and mov64 r3, 8
+    let cases = [
+        (0xb703_0000_0400_0000, "kept 1 after 7"),
+        (0xb703_0000_0800_0000, "K12 after 5"),
+    ];
+    for (length, want) in cases {
+        // st32 [r10-8], 0; mov64 r2, r10; add64 r2, -8
+        let slots = [
+            0x620a_f8ff_0000_0000,
+            0xbfa2_0000_0000_0000,
+            0x0702_0000_f8ff_ffff,
+            length,
+            TO_FIRST,
+            EMIT_VALUE,
+            EXIT,
+        ];
+        let end = end_of(alloc, &slots, None, 1)?;
+        assert_eq!(rt; end.as_str(), want);
+    }
+    Ok(())
+}
+
+/// Key and value change places; each of the two is tried.
+#[test]
+fn two_pieces_by_address(rt: HostRuntime) -> Result<(), Fail> {
+    let alloc = rt.alloc();
+    // mov64 r6, r3; mov64 r5, r4; mov64 r4, r6; mov64 r3, r2; mov64 r2, r1; mov64 r1, 0; call 5; exit
+    let exchange: [u64; 8] = [
+        0xbf36_0000_0000_0000,
+        0xbf45_0000_0000_0000,
+        0xbf64_0000_0000_0000,
+        0xbf23_0000_0000_0000,
+        0xbf12_0000_0000_0000,
+        TO_FIRST,
+        0x8500_0000_0500_0000,
+        EXIT,
+    ];
+    let end = end_of(alloc, &exchange, Some(b"value"), 1)?;
+    assert_eq!(rt; end.as_str(), "kept 1 after 8");
+    // mov64 r5, 4 and mov64 r3, 6: a byte more than the key has, and than the value has
+    for (place, slot) in [(1, 0xb705_0000_0400_0000), (3, 0xb703_0000_0600_0000)] {
+        let mut slots = exchange;
+        slots[place] = slot;
+        let end = end_of(alloc, &slots, Some(b"value"), 1)?;
+        assert_eq!(rt; end.as_str(), "K12 after 6");
+    }
+    Ok(())
+}

@@ -1,9 +1,9 @@
 -- Checks and transfer keep the order of states: of two states, one within the other, the first passes each check that
 -- the second passes, and what an edge brings from the first is within what it brings from the second.
-use Rattle.std.proofs.Common.{◌≡◌, ℕ, zero, suc, ◌+◌, ◌-◌, ◌<◌, ◌≤◌, ℤ, pos, negsuc, ◌+ℤ◌, neg_ℤ, ◌≤ℤ◌, Bool, true, false, List, ◌∷◌, length, get_or, Option, Some, None, unsigned_abs, ◌&&◌, refl, sym, ap, subst, inl, inr, ⊎_elim, arith}
+use Rattle.std.proofs.Common.{◌≡◌, ℕ, zero, suc, ◌+◌, ◌-◌, ◌<◌, ◌≤◌, ℤ, pos, negsuc, ◌+ℤ◌, neg_ℤ, ◌≤ℤ◌, Bool, true, false, not, List, ◌∷◌, length, get_or, Option, Some, None, int_le, unsigned_abs, ◌&&◌, ◌||◌, refl, sym, ap, subst, inl, inr, ⊎_elim, arith}
 use Rattle.std.specs.Ordering.{int_eq}
 use Rattle.std.proofs.lemmas.Bool.Decides.{Decides-int_eq}
-use Rattle.std.proofs.lemmas.Bool.{and_parts, and_from, not-false, not_from_true, cases_Bool, cond-true, cond-false, le-leb}
+use Rattle.std.proofs.lemmas.Bool.{and_parts, and_from, or_from, not-false, not_from_true, cases_Bool, cond-true, cond-false, le-leb, false≢true}
 use Rattle.std.proofs.lemmas.Int.{ints}
 use Rattle.machine_spec.specs.declared.limits.TheConstants.{STACK_SIZE}
 use Rattle.machine_spec.specs.declared.operation.Width.TheVariants.{Bits32, Bits64}
@@ -33,15 +33,15 @@ use Rattle.verifier_spec.specs.declared.state.Abs.{Abs}
 use Rattle.verifier_spec.specs.declared.state.Abs.TheVariants as abs
 use Rattle.verifier_spec.specs.declared.state.StackSet.{StackSet}
 use Rattle.verifier_spec.specs.declared.state.Abstract.{Abstract}
-use Rattle.verifier_spec.specs.Kinds.{is_set, kind_at, is_unknown, is_address_kind, is_kind_within}
+use Rattle.verifier_spec.specs.Kinds.{is_set, kind_at, range_of, is_unknown, is_address_kind, is_proper_kind, is_kind_within, same_region}
 use Rattle.verifier_spec.specs.States.{is_proper, is_within}
-use Rattle.verifier_spec.specs.Checks.{source_kind, reads_unknown, has_wrong_kinds, has_wrong_base_kind, has_wrong_condition_kind, reach_at, reach_of, is_reach_within, may_write_record, may_leave_record, may_leave_stack, are_set, may_read_unset, is_wrong_argument_kind, may_call_wrongly, may_exit_wrongly, failed_check}
+use Rattle.verifier_spec.specs.Checks.{source_kind, reads_unknown, has_wrong_kinds, has_wrong_base_kind, has_wrong_condition_kind, reach_at, reach_of, is_reach_within, may_write_record, may_leave_record, may_leave_stack, are_set, may_read_unset, Reach, named_reach, may_name_wrongly, is_whole, is_wrong_argument_kind, may_call_wrongly, may_exit_wrongly, failed_check}
 use Rattle.verifier_spec.specs.Transfer.{with_stored, with_kind, moved_kind, changed_kind, loaded_kind, answer_kind, after_call_kinds, called_kinds, jump_edge, falls_to, jumps_to}
 use Rattle.verifier_spec.specs.Annotation.{is_edge_covered}
 use Rattle.verifier_spec.specs.Soundness.{KeepsOrder}
-use Rattle.verifier_spec.proofs.Order.{IsWithin, within_parts, within_from}
-use Rattle.verifier_spec.proofs.Proper.{proper_parts, proper_kind, source_proper}
-use Rattle.verifier_spec.proofs.Safety.{Passes, passes, failed_from, set_at, none_kept}
+use Rattle.verifier_spec.proofs.Order.{IsWithin, within_parts, within_from, region_is}
+use Rattle.verifier_spec.proofs.Proper.{proper_parts, proper_kind, addr_order, source_proper}
+use Rattle.verifier_spec.proofs.Safety.{Passes, passes, failed_from, set_at, none_kept, may_name_parts, named_kinds, whole_parts}
 use Rattle.verifier_spec.proofs.StackSets.{places_kept, places_set, places_only}
 use Rattle.verifier_spec.proofs.Tighter.{tested_within}
 use Rattle.verifier_spec.proofs.Whole.{le_z-true, le-le_z, le_trans_z, negative, gap_is}
@@ -50,13 +50,13 @@ use Rattle.verifier_spec.proofs.Wider.{narrower, other_kinds, other_set, kind_wi
 -- ---- bytes of a region
 
 -- a part of what stays within a region does, and also within a longer one
-reach_within : (d : Direction) (at : Region) (lo hi low high offset : ℤ) (size len longer : ℕ) → low ≤ℤ lo → hi ≤ℤ high → len ≤ longer
-    → is_reach_within (record { direction = d; region = at; low = low +ℤ offset; high = high +ℤ offset; size = size }) len ≡ true → is_reach_within (record { direction = d; region = at; low = lo +ℤ offset; high = hi +ℤ offset; size = size }) longer ≡ true
-reach_within d at lo hi low high offset size len longer p q le h =
+reach_within : (d : Direction) (at : Region) (lo hi low high : ℤ) (size most len longer : ℕ) → low ≤ℤ lo → hi ≤ℤ high → size ≤ most → len ≤ longer
+    → is_reach_within (record { direction = d; region = at; low = low; high = high; size = most }) len ≡ true → is_reach_within (record { direction = d; region = at; low = lo; high = hi; size = size }) longer ≡ true
+reach_within d at lo hi low high size most len longer p q few le h =
     let t = and_parts _ _ h in
-    let from = le_z-true (pos 0) (low +ℤ offset) t.0 in
-    let to = le_z-true ((high +ℤ offset) +ℤ pos size) (pos len) t.1 in
-    and_from _ _ (le-le_z (pos 0) (lo +ℤ offset) (omega (arith, ints))) (le-le_z ((hi +ℤ offset) +ℤ pos size) (pos longer) (omega (arith, ints)))
+    let from = le_z-true (pos 0) low t.0 in
+    let to = le_z-true (high +ℤ pos most) (pos len) t.1 in
+    and_from _ _ (le-le_z (pos 0) lo (omega (arith, ints))) (le-le_z (hi +ℤ pos size) (pos longer) (omega (arith, ints)))
 
 set_from : (set : StackSet) (place count : ℕ) → ((q : ℕ) → place ≤ q → q < place + count → is_set set q ≡ true) → are_set set place count ≡ true
 set_from set place zero h = refl
@@ -68,20 +68,20 @@ natural_is (pos n) h = (n, refl)
 natural_is (negsuc n) h = absurd (negative n h)
 
 -- the places that a narrower reach may read are among those of a wider one
-set_within : (inner outer : StackSet) (lo hi low high : ℤ) (size : ℕ) → ((q : ℕ) → q < 512 → is_set outer q ≡ true → is_set inner q ≡ true) → low ≤ℤ lo → lo ≤ℤ hi → hi ≤ℤ high → pos 0 ≤ℤ low
-    → (high +ℤ pos size) ≤ℤ pos STACK_SIZE
-    → are_set outer (unsigned_abs low) (unsigned_abs (high +ℤ neg_ℤ low) + size) ≡ true → are_set inner (unsigned_abs lo) (unsigned_abs (hi +ℤ neg_ℤ lo) + size) ≡ true
-set_within inner outer (negsuc m) hi low high size s p order q from to h = absurd (negative m (le_trans_z (pos 0) low (negsuc m) from p))
-set_within inner outer (pos m) (negsuc n) low high size s p order q from to h = absurd (negative n (le_trans_z (pos 0) (pos m) (negsuc n) (le_trans_z (pos 0) low (pos m) from p) order))
-set_within inner outer (pos m) (pos n) (negsuc k) high size s p order q from to h = absurd (negative k from)
-set_within inner outer (pos m) (pos n) (pos k) (negsuc l) size s p order q from to h = absurd (negative l (le_trans_z (pos 0) (pos n) (negsuc l) (omega (arith, ints)) q))
-set_within inner outer (pos m) (pos n) (pos k) (pos l) size s p order q from to h =
+set_within : (inner outer : StackSet) (lo hi low high : ℤ) (size most : ℕ) → ((q : ℕ) → q < 512 → is_set outer q ≡ true → is_set inner q ≡ true) → low ≤ℤ lo → lo ≤ℤ hi → hi ≤ℤ high → size ≤ most
+    → pos 0 ≤ℤ low → (high +ℤ pos most) ≤ℤ pos STACK_SIZE
+    → are_set outer (unsigned_abs low) (unsigned_abs (high +ℤ neg_ℤ low) + most) ≡ true → are_set inner (unsigned_abs lo) (unsigned_abs (hi +ℤ neg_ℤ lo) + size) ≡ true
+set_within inner outer (negsuc m) hi low high size most s p order q few from to h = absurd (negative m (le_trans_z (pos 0) low (negsuc m) from p))
+set_within inner outer (pos m) (negsuc n) low high size most s p order q few from to h = absurd (negative n (le_trans_z (pos 0) (pos m) (negsuc n) (le_trans_z (pos 0) low (pos m) from p) order))
+set_within inner outer (pos m) (pos n) (negsuc k) high size most s p order q few from to h = absurd (negative k from)
+set_within inner outer (pos m) (pos n) (pos k) (negsuc l) size most s p order q few from to h = absurd (negative l (le_trans_z (pos 0) (pos n) (negsuc l) (omega (arith, ints)) q))
+set_within inner outer (pos m) (pos n) (pos k) (pos l) size most s p order q few from to h =
     let k_m : k ≤ m = omega (arith, ints) in
     let m_n : m ≤ n = omega (arith, ints) in
     let n_l : n ≤ l = omega (arith, ints) in
-    let l_s : l + size ≤ 512 = omega (arith, ints) in
-    let all : are_set outer k ((l - k) + size) ≡ true = rw (gap_is k l (omega arith)) at h in
-    rw (gap_is m n m_n) (set_from inner m ((n - m) + size) (λ i low high. s i (omega arith) (set_at outer k ((l - k) + size) i all (omega arith) (omega arith))))
+    let l_s : l + most ≤ 512 = omega (arith, ints) in
+    let all : are_set outer k ((l - k) + most) ≡ true = rw (gap_is k l (omega arith)) at h in
+    rw (gap_is m n m_n) (set_from inner m ((n - m) + size) (λ i low high. s i (omega arith) (set_at outer k ((l - k) + most) i all (omega arith) (omega arith))))
 
 -- a call changes both sides alike
 called_pairs : (P : Abs → Abs → Type 0) (js ks : List Abs) (answer : Abs) (q : ℕ) → length js ≡ 11 → length ks ≡ 11 → P (get_or js q abs.None) (get_or ks q abs.None) → P answer answer
@@ -107,16 +107,46 @@ stored_kept set at low high size q inside h = elim (cases_Bool (is_stack at && i
   | inr many ↦ subst (λ s. is_set s q ≡ true) (sym (cond-false _ _ _ many)) h
 ]
 
+and_false : (x y : Bool) → y ≡ false → (x && y) ≡ false
+and_false true y h = h
+and_false false y h = refl
+
+may_name_from : (a : Abstract) (reach : Reach) → may_leave_record a (Some reach) ≡ false → may_leave_stack (Some reach) ≡ false → may_read_unset a (Some reach) ≡ false
+    → may_name_wrongly a (Some reach) ≡ false
+may_name_from a reach h k u =
+    or_from (may_leave_record a (Some reach) || may_leave_stack (Some reach)) (may_read_unset a (Some reach)) (or_from (may_leave_record a (Some reach)) (may_leave_stack (Some reach)) h k) u
+
+whole_within : (a : Abstract) (j k : Abs) (at : Region) → is_proper_kind j ≡ true → is_kind_within a j (abs.Addr at (pos 0) (pos 0)) ≡ true → is_kind_within a k (abs.Len at) ≡ true → is_whole j k ≡ true
+whole_within a (abs.Addr r lo hi) (abs.Len q) at p h k =
+    let s = and_parts (same_region r at) (int_le (pos 0) lo && int_le hi (pos 0)) h in
+    let t = and_parts (int_le (pos 0) lo) (int_le hi (pos 0)) s.1 in
+    let order = addr_order r lo hi p in
+    let low = le_z-true (pos 0) lo t.0 in
+    let high = le_z-true hi (pos 0) t.1 in
+    let first : lo ≡ pos 0 = omega (arith, ints) in
+    let last : hi ≡ pos 0 = omega (arith, ints) in
+    let same : same_region r q ≡ true = subst (λ x. same_region r x ≡ true) (sym (region_is q at k)) s.0 in
+    and_from (same_region r q) (int_eq lo (pos 0) && int_eq hi (pos 0)) same (and_from _ _ ((Decides-int_eq lo (pos 0)).1 first) ((Decides-int_eq hi (pos 0)).1 last))
+whole_within a abs.None k at p h l = absurd (false≢true h)
+whole_within a (abs.Num m n) k at p h l = absurd (false≢true h)
+whole_within a (abs.Len q) k at p h l = absurd (false≢true h)
+whole_within a (abs.Addr r lo hi) abs.None at p h l = absurd (false≢true l)
+whole_within a (abs.Addr r lo hi) (abs.Num m n) at p h l = absurd (false≢true l)
+whole_within a (abs.Addr r lo hi) (abs.Addr q low high) at p h l = absurd (false≢true l)
+
 module _ (a b : Abstract) (w : IsWithin a b) (pa : is_proper a ≡ true) (pb : is_proper b ≡ true) where
   record_within : (d : Direction) (at : Region) (lo hi low high offset : ℤ) (size : ℕ) → low ≤ℤ lo → hi ≤ℤ high
       → may_leave_record b (Some (record { direction = d; region = at; low = low +ℤ offset; high = high +ℤ offset; size = size })) ≡ false → may_leave_record a (Some (record { direction = d; region = at; low = lo +ℤ offset; high = hi +ℤ offset; size = size })) ≡ false
   record_within d region.Stack lo hi low high offset size p q c = refl
-  record_within d region.Key lo hi low high offset size p q c = not_from_true _ (reach_within d region.Key lo hi low high offset size b.key_min a.key_min p q w.key_min (not-false _ c))
-  record_within d region.Value lo hi low high offset size p q c = not_from_true _ (reach_within d region.Value lo hi low high offset size b.value_min a.value_min p q w.value_min (not-false _ c))
+  record_within d region.Key lo hi low high offset size p q c =
+      not_from_true _ (reach_within d region.Key (lo +ℤ offset) (hi +ℤ offset) (low +ℤ offset) (high +ℤ offset) size size b.key_min a.key_min (omega (arith, ints)) (omega (arith, ints)) (omega arith) w.key_min (not-false _ c))
+  record_within d region.Value lo hi low high offset size p q c =
+      not_from_true _ (reach_within d region.Value (lo +ℤ offset) (hi +ℤ offset) (low +ℤ offset) (high +ℤ offset) size size b.value_min a.value_min (omega (arith, ints)) (omega (arith, ints)) (omega arith) w.value_min (not-false _ c))
 
   stack_within : (d : Direction) (at : Region) (lo hi low high offset : ℤ) (size : ℕ) → low ≤ℤ lo → hi ≤ℤ high
       → may_leave_stack (Some (record { direction = d; region = at; low = low +ℤ offset; high = high +ℤ offset; size = size })) ≡ false → may_leave_stack (Some (record { direction = d; region = at; low = lo +ℤ offset; high = hi +ℤ offset; size = size })) ≡ false
-  stack_within d region.Stack lo hi low high offset size p q c = not_from_true _ (reach_within d region.Stack lo hi low high offset size STACK_SIZE STACK_SIZE p q (omega arith) (not-false _ c))
+  stack_within d region.Stack lo hi low high offset size p q c =
+      not_from_true _ (reach_within d region.Stack (lo +ℤ offset) (hi +ℤ offset) (low +ℤ offset) (high +ℤ offset) size size STACK_SIZE STACK_SIZE (omega (arith, ints)) (omega (arith, ints)) (omega arith) (omega arith) (not-false _ c))
   stack_within d region.Key lo hi low high offset size p q c = refl
   stack_within d region.Value lo hi low high offset size p q c = refl
 
@@ -126,7 +156,7 @@ module _ (a b : Abstract) (w : IsWithin a b) (pa : is_proper a ≡ true) (pb : i
   unset_within direction.Write at lo hi low high offset size p order q c u = refl
   unset_within direction.Read region.Stack lo hi low high offset size p order q c u =
       let t = and_parts _ _ (not-false _ c) in
-      not_from_true _ (set_within a.set b.set (lo +ℤ offset) (hi +ℤ offset) (low +ℤ offset) (high +ℤ offset) size w.set (omega (arith, ints)) (omega (arith, ints)) (omega (arith, ints)) (le_z-true (pos 0) (low +ℤ offset) t.0) (le_z-true ((high +ℤ offset) +ℤ pos size) (pos STACK_SIZE) t.1) (not-false _ u))
+      not_from_true _ (set_within a.set b.set (lo +ℤ offset) (hi +ℤ offset) (low +ℤ offset) (high +ℤ offset) size size w.set (omega (arith, ints)) (omega (arith, ints)) (omega (arith, ints)) (omega arith) (le_z-true (pos 0) (low +ℤ offset) t.0) (le_z-true ((high +ℤ offset) +ℤ pos size) (pos STACK_SIZE) t.1) (not-false _ u))
   unset_within direction.Read region.Key lo hi low high offset size p order q c u = refl
   unset_within direction.Read region.Value lo hi low high offset size p order q c u = refl
 
@@ -187,9 +217,52 @@ module _ (a b : Abstract) (w : IsWithin a b) (pa : is_proper a ≡ true) (pb : i
       let u' : may_read_unset b (reach_at m.direction (abs.Addr x.at x.low x.high) m.offset m.size) ≡ false = rw x.outer at u in
       rw x.inner (unset_within m.direction x.at x.lo x.hi x.low x.high m.offset (byte_count m.size) x.from x.order x.to c' u')
 
+  -- fewer bytes from between the same places
+  reach_kept : (at : Region) (lo hi low high : ℤ) (size most : ℕ) → low ≤ℤ lo → lo ≤ℤ hi → hi ≤ℤ high → size ≤ most
+      → may_name_wrongly b (Some (record { direction = direction.Read; region = at; low = low; high = high; size = most })) ≡ false
+      → may_name_wrongly a (Some (record { direction = direction.Read; region = at; low = lo; high = hi; size = size })) ≡ false
+  reach_kept region.Stack lo hi low high size most p order q few c =
+      let parts = may_name_parts b (record { direction = direction.Read; region = region.Stack; low = low; high = high; size = most }) c in
+      let t = and_parts _ _ (not-false _ parts.1) in
+      may_name_from a (record { direction = direction.Read; region = region.Stack; low = lo; high = hi; size = size }) refl
+      (not_from_true _ (reach_within direction.Read region.Stack lo hi low high size most STACK_SIZE STACK_SIZE p q few (omega arith) (not-false _ parts.1)))
+      (not_from_true _ (set_within a.set b.set lo hi low high size most w.set p order q few (le_z-true (pos 0) low t.0) (le_z-true (high +ℤ pos most) (pos STACK_SIZE) t.1) (not-false _ parts.2)))
+  reach_kept region.Key lo hi low high size most p order q few c =
+      let parts = may_name_parts b (record { direction = direction.Read; region = region.Key; low = low; high = high; size = most }) c in
+      may_name_from a (record { direction = direction.Read; region = region.Key; low = lo; high = hi; size = size })
+      (not_from_true _ (reach_within direction.Read region.Key lo hi low high size most b.key_min a.key_min p q few w.key_min (not-false _ parts.0))) refl refl
+  reach_kept region.Value lo hi low high size most p order q few c =
+      let parts = may_name_parts b (record { direction = direction.Read; region = region.Value; low = low; high = high; size = most }) c in
+      may_name_from a (record { direction = direction.Read; region = region.Value; low = lo; high = hi; size = size })
+      (not_from_true _ (reach_within direction.Read region.Value lo hi low high size most b.value_min a.value_min p q few w.value_min (not-false _ parts.0))) refl refl
+
+  named_kept : (address count : ℕ) → may_name_wrongly b (named_reach (kind_at b address) (range_of b (kind_at b count))) ≡ false
+      → may_name_wrongly a (named_reach (kind_at a address) (range_of a (kind_at a count))) ≡ false
+  named_kept address count c =
+      let kinds = named_kinds b (kind_at b address) (kind_at b count) c in
+      let x = bases address kinds.0 in
+      let y = ranges_within a b (narrower a b w) pa pb (kind_at a count) (kind_at b count) (proper_kind a count pa) (proper_kind b count pb) (kind_within a b w pb count) kinds.1 in
+      let c' : may_name_wrongly b (named_reach (abs.Addr x.at x.low x.high) (Some y.outer)) ≡ false = rw (x.outer, y.outer_is) at c in
+      rw (x.inner, y.inner_is) (reach_kept x.at x.lo x.hi x.low x.high y.inner.high y.outer.high x.from x.order x.to y.part.high c')
+
+  -- what names a whole key or value does so in a narrower state
+  whole_kept : (address count : ℕ) → is_whole (kind_at b address) (kind_at b count) ≡ true → is_whole (kind_at a address) (kind_at a count) ≡ true
+  whole_kept address count h =
+      let whole = whole_parts (kind_at b address) (kind_at b count) h in
+      let first : is_kind_within a (kind_at a address) (abs.Addr whole.at (pos 0) (pos 0)) ≡ true = subst (λ k. is_kind_within a (kind_at a address) k ≡ true) whole.address (kind_within a b w pb address) in
+      let long : is_kind_within a (kind_at a count) (abs.Len whole.at) ≡ true = subst (λ k. is_kind_within a (kind_at a count) k ≡ true) whole.count (kind_within a b w pb count) in
+      whole_within a (kind_at a address) (kind_at a count) whole.at (proper_kind a address pa) first long
+
+  bytes_kept : (address count : ℕ) (whole : Bool) → is_whole (kind_at b address) (kind_at b count) ≡ whole
+      → (not whole && may_name_wrongly b (named_reach (kind_at b address) (range_of b (kind_at b count)))) ≡ false
+      → (not (is_whole (kind_at a address) (kind_at a count)) && may_name_wrongly a (named_reach (kind_at a address) (range_of a (kind_at a count)))) ≡ false
+  bytes_kept address count true is c = rw (whole_kept address count is) refl
+  bytes_kept address count false is c = and_false _ _ (named_kept address count c)
+
   argument_kept : (x : Argument) → is_wrong_argument_kind b x ≡ false → is_wrong_argument_kind a x ≡ false
   argument_kept argument.Nothing c = refl
   argument_kept (argument.Number r) c = not_from_true _ (number_within a (kind_at a r) (kind_at b r) (kind_within a b w pb r) (not-false _ c))
+  argument_kept (argument.Bytes address count) c = bytes_kept address count (is_whole (kind_at b address) (kind_at b count)) refl c
 
   call_kept : (call : Option ℤ) → may_call_wrongly call b ≡ false → may_call_wrongly call a ≡ false
   call_kept call c = none_kept (is_wrong_argument_kind b) (is_wrong_argument_kind a) argument_kept (arguments_of (helper_called call)) c

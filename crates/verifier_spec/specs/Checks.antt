@@ -1,6 +1,6 @@
 -- The checks of an instruction, in the order in which they are told.
 use Rattle.std.specs.Prelude.{ℕ, zero, suc, ◌+◌, ◌^◌, ℤ, pos, ◌+ℤ◌, neg_ℤ, Bool, true, false, ◌==◌, ◌&&◌, ◌||◌, not, nat_lt, nat_le, int_lt, int_le, if◌then◌else◌, List, [], ◌∷◌, length, Option, Some, None, is_some, is_none, unsigned_abs}
-use Rattle.std.specs.List.{list_any}
+use Rattle.std.specs.{List.list_any, Ordering.int_eq}
 use Rattle.machine_spec.specs.declared.limits.TheConstants.{STACK_SIZE}
 use Rattle.machine_spec.specs.declared.instruction.{Region.Region, Size.Size, Source.Source, Source.TheVariants.Register, Source.TheVariants.Immediate, Instruction.Instruction, Placed.Placed}
 use Rattle.machine_spec.specs.declared.operation.{Width.Width, Width.TheVariants.Bits64, Operation.Operation}
@@ -14,7 +14,7 @@ use Rattle.machine_spec.specs.Traps.{writes_frame, calls_no_helper, helper_calle
 use Rattle.verifier_spec.specs.declared.interval.Interval.{Interval}
 use Rattle.verifier_spec.specs.declared.state.{Abs.Abs, StackSet.StackSet, Abstract.Abstract}
 use Rattle.verifier_spec.specs.declared.fault.Check.{Check}
-use Rattle.verifier_spec.specs.Kinds.{is_set, kind_at, least, range_of, is_unknown, is_number_kind, is_address_kind, furthest}
+use Rattle.verifier_spec.specs.Kinds.{is_set, kind_at, least, range_of, is_unknown, is_number_kind, is_address_kind, furthest, same_region}
 
 -- an immediate is the one number that it is
 abbrev pub source_kind : Abstract → Width → Source → Abs
@@ -114,10 +114,27 @@ may_read_unset s None = false
 
 -- ---- calls and the exit
 
+-- the bytes that an address and a number may name
+abbrev pub named_reach : Abs → Option Interval → Option Reach
+named_reach (Abs.Addr region lo hi) (Some range) = Some (record { direction = Direction.Read; region = region; low = lo; high = hi; size = range.high })
+named_reach _ _ = None
+
+-- they may lie outside what is known of their region or not be set
+abbrev pub may_name_wrongly : Abstract → Option Reach → Bool
+may_name_wrongly s (Some reach) = (may_leave_record s (Some reach) || may_leave_stack (Some reach)) || may_read_unset s (Some reach)
+may_name_wrongly s None = true
+
+-- an address and a number name exactly the key or the value
+abbrev pub is_whole : Abs → Abs → Bool
+is_whole (Abs.Addr region lo hi) (Abs.Len other) = same_region region other && (int_eq lo (pos 0) && int_eq hi (pos 0))
+is_whole _ _ = false
+
 -- an argument may not be what it must be
 abbrev pub is_wrong_argument_kind : Abstract → Argument → Bool
 is_wrong_argument_kind s Argument.Nothing = false
 is_wrong_argument_kind s (Argument.Number r) = not (is_number_kind (kind_at s r))
+is_wrong_argument_kind s (Argument.Bytes address count) =
+    not (is_whole (kind_at s address) (kind_at s count)) && may_name_wrongly s (named_reach (kind_at s address) (range_of s (kind_at s count)))
 
 abbrev pub may_call_wrongly : Option ℤ → Abstract → Bool
 may_call_wrongly call s = list_any (is_wrong_argument_kind s) (arguments_of (helper_called call))

@@ -419,3 +419,196 @@ fn answers(rt: HostRuntime) -> Result<(), Fail> {
     }
     Ok(())
 }
+
+const TO_FIRST: u64 = 0xb701_0000_0000_0000; // mov64 r1, 0
+
+const EMIT_VALUE: u64 = 0x8500_0000_0400_0000; // call 4
+
+const VALUE: u64 = 0xbf12_0000_0000_0000; // mov64 r2, r1
+
+const LENGTH: u64 = 0xbf23_0000_0000_0000; // mov64 r3, r2
+
+const STACK_END: u64 = 0xbfa2_0000_0000_0000; // mov64 r2, r10
+
+const LAST_EIGHT: u64 = 0x0702_0000_f8ff_ffff; // add64 r2, -8
+
+const FOUR: u64 = 0xb703_0000_0400_0000; // mov64 r3, 4
+
+const EIGHT: u64 = 0xb703_0000_0800_0000; // mov64 r3, 8
+
+const SET_FOUR: u64 = 0x620a_f8ff_0000_0000; // st32 [r10-8], 0
+
+/// Bytes that a helper reads by address lie in the key or the value, or are set in the stack.
+#[test]
+fn bytes_by_address(rt: HostRuntime) -> Result<(), Fail> {
+    let alloc = rt.alloc();
+    let cases: [(&[u64], &str); 16] = [
+        // the whole value
+        (&[LENGTH, VALUE, TO_FIRST, EMIT_VALUE, EXIT], "accepted 5"),
+        // as long as the key: mov64 r3, r4
+        (
+            &[0xbf43_0000_0000_0000, VALUE, TO_FIRST, EMIT_VALUE, EXIT],
+            "V12 HelperArg at 3",
+        ),
+        // from its second byte on: add64 r2, 1
+        (
+            &[
+                LENGTH,
+                VALUE,
+                0x0702_0000_0100_0000,
+                TO_FIRST,
+                EMIT_VALUE,
+                EXIT,
+            ],
+            "V12 HelperArg at 4",
+        ),
+        // a byte more: add64 r3, 1
+        (
+            &[
+                LENGTH,
+                0x0703_0000_0100_0000,
+                VALUE,
+                TO_FIRST,
+                EMIT_VALUE,
+                EXIT,
+            ],
+            "V12 HelperArg at 4",
+        ),
+        // four bytes of any value
+        (
+            &[VALUE, FOUR, TO_FIRST, EMIT_VALUE, EXIT],
+            "V12 HelperArg at 3",
+        ),
+        // behind a test of its length: mov64 r0, 0; jlt64 r2, 4, +4
+        (
+            &[
+                ZERO,
+                0xa502_0400_0400_0000,
+                VALUE,
+                FOUR,
+                TO_FIRST,
+                EMIT_VALUE,
+                EXIT,
+            ],
+            "accepted 7",
+        ),
+        // jlt64 r2, 3, +4
+        (
+            &[
+                ZERO,
+                0xa502_0400_0300_0000,
+                VALUE,
+                FOUR,
+                TO_FIRST,
+                EMIT_VALUE,
+                EXIT,
+            ],
+            "V12 HelperArg at 5",
+        ),
+        // no bytes: mov64 r3, 0
+        (
+            &[VALUE, 0xb703_0000_0000_0000, TO_FIRST, EMIT_VALUE, EXIT],
+            "accepted 5",
+        ),
+        // no bytes behind the first: add64 r2, 1
+        (
+            &[
+                VALUE,
+                0x0702_0000_0100_0000,
+                0xb703_0000_0000_0000,
+                TO_FIRST,
+                EMIT_VALUE,
+                EXIT,
+            ],
+            "V12 HelperArg at 4",
+        ),
+        // four bytes of the stack are set, and eight are read
+        (
+            &[
+                SET_FOUR, STACK_END, LAST_EIGHT, EIGHT, TO_FIRST, EMIT_VALUE, EXIT,
+            ],
+            "V12 HelperArg at 5",
+        ),
+        // and four
+        (
+            &[
+                SET_FOUR, STACK_END, LAST_EIGHT, FOUR, TO_FIRST, EMIT_VALUE, EXIT,
+            ],
+            "accepted 7",
+        ),
+        // and up to four: jgt64 r2, 4, +4 over mov64 r3, r2
+        (
+            &[
+                SET_FOUR,
+                ZERO,
+                0x2502_0500_0400_0000,
+                LENGTH,
+                STACK_END,
+                LAST_EIGHT,
+                TO_FIRST,
+                EMIT_VALUE,
+                EXIT,
+            ],
+            "accepted 9",
+        ),
+        // at the stack's end
+        (
+            &[STACK_END, FOUR, TO_FIRST, EMIT_VALUE, EXIT],
+            "V12 HelperArg at 3",
+        ),
+        // an address for the output, a number for the address, no length
+        (&[EMIT_VALUE, EXIT], "V12 HelperArg at 0"),
+        (&[TO_FIRST, EMIT_VALUE, EXIT], "V12 HelperArg at 1"),
+        (
+            &[0x8500_0000_0700_0000, TO_FIRST, EMIT_VALUE, EXIT],
+            "V4 Unset at 2",
+        ),
+    ];
+    for (slots, want) in cases {
+        let image = image_of(alloc, slots)?;
+        let got = answer(alloc, &image)?;
+        assert_eq!(rt; got.as_str(), want);
+    }
+    Ok(())
+}
+
+const EXCHANGED: [u64; 8] = [
+    0xbf36_0000_0000_0000, // mov64 r6, r3
+    0xbf45_0000_0000_0000, // mov64 r5, r4
+    0xbf64_0000_0000_0000, // mov64 r4, r6
+    0xbf23_0000_0000_0000, // mov64 r3, r2
+    0xbf12_0000_0000_0000, // mov64 r2, r1
+    0xb701_0000_0000_0000, // mov64 r1, 0
+    0x8500_0000_0500_0000, // call 5
+    EXIT,
+];
+
+/// Key and value by address: each of the two is checked.
+#[test]
+fn two_pieces_by_address(rt: HostRuntime) -> Result<(), Fail> {
+    let alloc = rt.alloc();
+    let image = image_of(alloc, &EXCHANGED)?;
+    let got = answer(alloc, &image)?;
+    assert_eq!(rt; got.as_str(), "accepted 8");
+    let cases: [(usize, u64, &str); 3] = [
+        // the key of the length of the value: mov64 r5, r2
+        (1, 0xbf25_0000_0000_0000, "V12 HelperArg at 6"),
+        // the value of the length of the key: mov64 r3, r5
+        (3, 0xbf53_0000_0000_0000, "V12 HelperArg at 6"),
+        // call 3 takes the output alone
+        (6, 0x8500_0000_0300_0000, "accepted 8"),
+    ];
+    for (place, slot, want) in cases {
+        let mut slots = EXCHANGED;
+        slots[place] = slot;
+        let image = image_of(alloc, &slots)?;
+        let got = answer(alloc, &image)?;
+        assert_eq!(rt; got.as_str(), want);
+    }
+    let verified = load(alloc, &image)?;
+    let kind = verified.state(7).map(|s| s.kind(0));
+    assert_eq!(rt; kind, Some(Abs::Num(0, 3)));
+    let spent = verified.state(7).map(|s| s.kind(5));
+    assert_eq!(rt; spent, Some(Abs::None));
+    Ok(())
+}
