@@ -1,0 +1,4 @@
+pub mod Growing
+pub mod Unknown
+pub mod Places
+pub mod Verdicts
