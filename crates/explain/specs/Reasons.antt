@@ -60,7 +60,7 @@ wrong_move s operation dst source None = no_number_source s source
 abbrev pub wrong_operand : Abstract → Width → Operation → ℕ → Source → Abs → Option Reason
 wrong_operand s width operation dst source (Abs.Addr region low high) =
     if moves_address width operation then wrong_move s operation dst source (range_of s (source_kind s width source)) else no_number s dst
-wrong_operand s width operation dst source Abs.None = None
+wrong_operand s width operation dst source Abs.None = no_number s dst
 wrong_operand s width operation dst source (Abs.Num low high) = no_number_source s source
 wrong_operand s width operation dst source (Abs.Len region) = no_number_source s source
 
@@ -153,8 +153,8 @@ reason_of placed (Some s) check = state_reason placed (summary_of placed.instruc
 reason_of placed None check = shape_reason placed check
 
 abbrev pub placed_reason : Option Placed → Option Abstract → Check → Option Reason
-placed_reason (Some placed) note check = reason_of placed note check
-placed_reason None note check = None
+placed_reason (Some placed) known check = reason_of placed known check
+placed_reason None known check = None
 
 -- what a fault of code with these states is about
 abbrev pub reason_at : List Placed → Notes → VerifyFault → Option Reason

@@ -92,8 +92,8 @@ abbrev pub instruction_text : ℕ → Placed → List ℕ
 instruction_text k placed = decimal k ++ (codes " slot " ++ (decimal placed.slot ++ (codes ": " ++ line_text placed.instruction)))
 
 abbrev pub lines_of : ℕ → Option Placed → Option Abstract → List ℕ
-lines_of k (Some placed) note = instruction_text k placed ++ note_text note
-lines_of k None note = []
+lines_of k (Some placed) known = instruction_text k placed ++ note_text known
+lines_of k None known = []
 
 -- the lines of instruction number k
 abbrev pub lines_at : List Placed → Notes → ℕ → List ℕ

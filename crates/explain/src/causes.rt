@@ -139,11 +139,7 @@ fn unknown_in_call(state: &Abstract, helper: Option<Helper>) -> Option<u8>
 fn unknown_at_exit(state: &Abstract, exits: bool) -> Option<u8>
     ensures { result ≡ find (λ r. is_unknown (kind_at state.now r)) (if exits then 0 ∷ [] else []) }
 {
-    if exits {
-        unknown_at(state, 0)
-    } else {
-        None
-    }
+    if exits { unknown_at(state, 0) } else { None }
 }
 
 /// The first register that an instruction reads and of which nothing is known.
@@ -241,7 +237,7 @@ fn wrong_operand(
     ensures { result ≡ definitions.wrong_operand state.now width operation dst source (kind_at state.now dst) }
 {
     match kinds::kind_at(state, dst) {
-        Abs::None => None,
+        Abs::None => no_number(state, dst),
         Abs::Num(_, _) => no_number_source(state, source),
         Abs::Len(_) => no_number_source(state, source),
         Abs::Addr(_, _, _) => {
@@ -300,12 +296,19 @@ fn wrong_condition(condition: Option<Condition>, state: &Abstract) -> Option<Rea
 fn wrong_type(summary: Summary, state: &Abstract) -> Option<Reason>
     ensures { result ≡ definitions.wrong_type summary state.now }
 {
-    wrong_operands(summary.takes, state).or(
-        wrong_base(summary.memory, state).or(wrong_condition(summary.condition, state)),
-    )
+    wrong_operands(summary.takes, state).or(wrong_base(summary.memory, state).or(wrong_condition(
+        summary.condition,
+        state,
+    )))
 }
 
 // ---- memory
+
+fn first_byte(low: i64, offset: i16) -> i128
+    ensures { result ≡ low +ℤ offset }
+{
+    low as i128 + offset as i128
+}
 
 fn last_byte(high: i64, offset: i16, size: u8) -> i128
     ensures { result ≡ ((high +ℤ offset) +ℤ pos size) +ℤ neg_ℤ (pos 1) }
@@ -324,7 +327,7 @@ fn reached_by(m: MemoryOperand, kind: Abs) -> Option<Reached>
             base: m.base,
             kind,
             region,
-            first: low as i128 + m.offset as i128,
+            first: first_byte(low, m.offset),
             last: last_byte(high, m.offset, m.size.byte_count()),
         }),
     }

@@ -1,6 +1,7 @@
 //! What is explained of an image.
 
-ghost use Rattle.std.specs.Prelude.{◌≡◌, ◌≤◌, ◌++◌, length, option_map, IfOk, OnOk, string_bytes};
+ghost use Rattle.std.specs.Prelude.{◌≡◌, ℕ, List, ◌≤◌, ◌++◌, length, option_map, IfOk, OnOk, string_bytes};
+ghost use Rattle.annotate.specs.Loads.{FaultIs};
 ghost use Rattle.explain.specs.Explanations as definitions;
 ghost use Rattle.explain.specs.Explanations.{ExplainsAs, HasVerdict};
 
@@ -33,18 +34,28 @@ pub struct Explanation {
     pub refusal: Option<Refusal>,
 }
 
-/// Whether an image that has code is refused, and with which fault.
-fn verdict(alloc: Global, image: &[u8]) -> Result<Option<VerifyFault>, IsaFault>
-    ensures { HasVerdict image.now result }
+/// What a refusal of a load says of an image: it has no code, or is refused with a fault.
+fn verdict_of(fault: LoadFault) -> Result<Option<VerifyFault>, IsaFault>
+    ensures { (image : List ℕ) → FaultIs image fault → HasVerdict image result }
 {
-    match load(alloc, image) {
-        Ok(_) => Ok(None),
-        Err(LoadFault::Isa(fault)) => Err(fault),
-        Err(LoadFault::Verify(fault)) => match fault.kind {
+    match fault {
+        LoadFault::Isa(fault) => Err(fault),
+        LoadFault::Verify(fault) => match fault.kind {
             Check::Memory => Err(IsaFault::Memory),
             _ => Ok(Some(fault)),
         },
     }
+}
+
+/// Whether an image that has code is refused, and with which fault.
+fn verdict(alloc: Global, image: &[u8]) -> Result<Option<VerifyFault>, IsaFault>
+    ensures { HasVerdict image.now result }
+{
+    let _verified = match load(alloc, image) {
+        Err(fault) => return verdict_of(fault),
+        Ok(verified) => verified,
+    };
+    Ok(None)
 }
 
 /// How many instructions are printed.
@@ -84,7 +95,11 @@ fn listing(
     Ok(text)
 }
 
-fn refusal_with(code: &Code, states: &[Option<State>], fault: Option<VerifyFault>) -> Option<Refusal>
+fn refusal_with(
+    code: &Code,
+    states: &[Option<State>],
+    fault: Option<VerifyFault>,
+) -> Option<Refusal>
     ensures { result ≡ option_map (definitions.refusal_at code.now states.now) fault }
 {
     match fault {

@@ -131,7 +131,13 @@ fn push_state(text: &mut String, state: &State) -> Result<(), AllocError>
     push_registers(text, state)?;
     let (key, value) = (Region::Key, Region::Value);
     push_length(text, key, known.key_min, known.key_max, MAX_KEY as u32)?;
-    push_length(text, value, known.value_min, known.value_max, MAX_VALUE as u32)?;
+    push_length(
+        text,
+        value,
+        known.value_min,
+        known.value_max,
+        MAX_VALUE as u32,
+    )?;
     push_stack(text, &known.set)
 }
 

@@ -106,11 +106,17 @@ impl fmt::Display for Reason {
     fn fmt<W: fmt::Write>(&self, f: &mut fmt::Formatter<W>) -> fmt::Result {
         match *self {
             Reason::NoTarget(slot) => {
-                write!(f, "the jump leads to slot {slot}, where no instruction begins")
+                write!(
+                    f,
+                    "the jump leads to slot {slot}, where no instruction begins"
+                )
             }
             Reason::Back(slot) => write!(f, "the jump leads back to slot {slot}"),
             Reason::Last => {
-                write!(f, "no instruction follows, and this is neither exit nor a jump without a condition")
+                write!(
+                    f,
+                    "no instruction follows, and this is neither exit nor a jump without a condition"
+                )
             }
             Reason::Frame => write!(f, "r10 is the end of the stack and is never written"),
             Reason::NoHelper(number) => write!(f, "no helper has the number {number}"),
@@ -122,7 +128,12 @@ impl fmt::Display for Reason {
                 write_kind(f, register, kind, "is no address, and an address is needed")
             }
             Reason::NoSign(address, number, kind) => {
-                write_kind(f, number, kind, "may be negative or not, read as signed, and moves the address in ")?;
+                write_kind(
+                    f,
+                    number,
+                    kind,
+                    "may be negative or not, read as signed, and moves the address in ",
+                )?;
                 write!(f, "r{address}")
             }
             Reason::TooFar(register, kind, low, high) => {

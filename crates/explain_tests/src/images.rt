@@ -13,10 +13,7 @@ pub(crate) fn explained(alloc: Global, program: &str) -> Result<Explanation, Fai
 }
 
 /// The fault of a program and what it is about, each in a line.
-pub(crate) fn refusal_text(
-    alloc: Global,
-    explanation: &Explanation,
-) -> Result<String, AllocError> {
+pub(crate) fn refusal_text(alloc: Global, explanation: &Explanation) -> Result<String, AllocError> {
     let Some(refusal) = explanation.refusal else {
         return Ok(String::new(alloc));
     };
