@@ -1,5 +1,5 @@
 -- What is explained of an image.
-use Rattle.std.specs.Prelude.{◌≡◌, ◌≢◌, ℕ, ◌+◌, min, List, [], ◌∷◌, ◌++◌, length, Option, Some, None, option_map, Result, Ok, Err, IfSome, codes, string_bytes}
+use Rattle.std.specs.Prelude.{◌≡◌, ◌≢◌, ℕ, ◌+◌, min, List, [], ◌∷◌, ◌++◌, length, Option, Some, None, option_map, is_some, true, Result, Ok, Err, IfSome, codes, string_bytes}
 use Rattle.machine_spec.specs.declared.instruction.{IsaFault.IsaFault, Placed.Placed}
 use Rattle.machine_spec.specs.declared.instruction.IsaFault.TheVariants as isa
 use Rattle.machine_spec.specs.Image.{read_image}
@@ -32,6 +32,10 @@ listing code notes fault = texts_below (printed_count code fault) (lines_at code
 abbrev pub refusal_at : List Placed → Notes → VerifyFault → Refusal
 refusal_at code notes fault = record { fault = fault; reason = reason_at code notes fault }
 
+-- what a refusal is about is there
+abbrev pub HasReason : Refusal → Type 0
+HasReason refusal = is_some refusal.reason ≡ true
+
 -- An image with code is explained: by its verdict, the joined states of its instructions, and what its fault is about.
 pub record Explains (image : List ℕ) (explanation : Explanation) : Type 0 where
   pub code : List Placed
@@ -40,6 +44,7 @@ pub record Explains (image : List ℕ) (explanation : Explanation) : Type 0 wher
   pub verdict : IsVerdict image fault
   pub lines : string_bytes explanation.lines ≡ listing code (joined_states code) fault
   pub refusal : explanation.refusal ≡ option_map (refusal_at code (joined_states code)) fault
+  pub reasoned : IfSome explanation.refusal HasReason
 
 -- One with none has its refusal; nothing is said where memory ran out.
 abbrev pub ExplainsAs : List ℕ → Result Explanation IsaFault → Type 0
