@@ -277,9 +277,11 @@ fn print_explanation<O: Write, E: Write>(
     ensures status { (result ≡ explanations.status_of_explained explanation.now) ⊎ (result ≡ 3) }
     ensures printed { result ≢ 3 → Appends (O.contents stdout.old) (O.contents stdout.new) (string_bytes explanation.now.lines) }
 {
-    match write_out(stdout, explanation.lines.as_str()) {
-        Ok(()) => tell_refusal(alloc, stderr, explanation),
-        Err(stop) => tell(alloc, stderr, &Ended { line: 0, stop }),
+    let status = print_text(alloc, stdout, stderr, explanation.lines.as_str());
+    if status == DONE {
+        tell_refusal(alloc, stderr, explanation)
+    } else {
+        status
     }
 }
 

@@ -46,9 +46,9 @@ either [] ys kind e = inr e
 either (row ∷ xs) ys kind e = elim (cases_Bool row.0) [
   | inl holds ↦ inl (cond-true row.0 (Some row.1) (first_of xs) holds ∙ (sym (cond-true row.0 (Some row.1) (first_of (xs ++ ys)) holds) ∙ e))
   | inr fails ↦ elim (either xs ys kind (sym (cond-false row.0 (Some row.1) (first_of (xs ++ ys)) fails) ∙ e)) [
-      | inl left ↦ inl (cond-false row.0 (Some row.1) (first_of xs) fails ∙ left)
-      | inr right ↦ inr right
-    ]
+    | inl left ↦ inl (cond-false row.0 (Some row.1) (first_of xs) fails ∙ left)
+    | inr right ↦ inr right
+  ]
 ]
 
 -- ---- the rows of an instruction
@@ -63,28 +63,50 @@ back_some (Some offset) e = refl
 
 shape_reasoned : (code : List Placed) (k : ℕ) (placed : Placed) → AreReasoned (shape_reason placed) (shape_checks code k placed)
 shape_reasoned code k placed =
-    let jump = jump_of placed.instruction in
-    (λ e. some_map Reason.NoTarget _ (some_map (landing placed.slot) jump (nowhere_some code placed.slot jump e)),
-    λ _. (λ e. some_map Reason.Back _ (some_map (landing placed.slot) jump (back_some jump e)), λ _. (λ e. refl, λ _. tt)))
+    let jump = jump_of placed.instruction in (
+      λ e. some_map Reason.NoTarget _ (some_map (landing placed.slot) jump (nowhere_some code placed.slot jump e)),
+      λ _. (λ e. some_map Reason.Back _ (some_map (landing placed.slot) jump (back_some jump e)), λ _. (λ e. refl, λ _. tt)),
+    )
 
 called_some : (call : Option ℤ) → calls_no_helper call ≡ true → is_some call ≡ true
 called_some None e = cc
 called_some (Some number) e = refl
 
 state_reasoned : (placed : Placed) (m : Summary) (s : Abstract) → is_proper s ≡ true → AreReasoned (state_reason placed m s) (checks m s)
-state_reasoned placed m s proper =
-    (λ e. refl,
-    λ _. (λ e. some_map Reason.NoHelper m.call (called_some m.call e),
-    λ _. (λ e. some_map Reason.Unknown _ (found (λ r. is_unknown (kind_at s r)) (read_registers m) e),
-    λ _. (takes_wrong m s,
-    λ _. (is_based_wrong m s,
-    λ _. (tests_wrong m s,
-    λ _. (λ e. some_map Reason.ReadOnly _ (writes_record m.memory s e),
-    λ _. (λ e. some_map (outside_record s) _ (leaves_record m.memory s e),
-    λ _. (λ e. some_map Reason.OutsideStack _ (leaves_stack m.memory s e),
-    λ inside. (λ e. byte_unset m.memory s proper inside e,
-    λ _. (λ e. argument_found s (arguments_of (helper_called m.call)) e,
-    λ _. (λ e. refl, λ _. tt))))))))))))
+state_reasoned placed m s proper = (
+  λ e. refl,
+  λ _. (
+    λ e. some_map Reason.NoHelper m.call (called_some m.call e),
+    λ _. (
+      λ e. some_map Reason.Unknown _ (found (λ r. is_unknown (kind_at s r)) (read_registers m) e),
+      λ _. (
+        takes_wrong m s,
+        λ _. (
+          is_based_wrong m s,
+          λ _. (
+            tests_wrong m s,
+            λ _. (
+              λ e. some_map Reason.ReadOnly _ (writes_record m.memory s e),
+              λ _. (
+                λ e. some_map (outside_record s) _ (leaves_record m.memory s e),
+                λ _. (
+                  λ e. some_map Reason.OutsideStack _ (leaves_stack m.memory s e),
+                  λ inside. (
+                    λ e. byte_unset m.memory s proper inside e,
+                    λ _. (
+                      λ e. argument_found s (arguments_of (helper_called m.call)) e,
+                      λ _. (λ e. refl, λ _. tt),
+                    ),
+                  ),
+                ),
+              ),
+            ),
+          ),
+        ),
+      ),
+    ),
+  ),
+)
 
 only_notes : (b : Bool) (kind : Check) → first_of ((b, Check.Notes) ∷ []) ≡ Some kind → kind ≡ Check.Notes
 only_notes true kind e = cc
@@ -102,9 +124,9 @@ rows_reasoned code notes k placed (Some s) kind proper e other =
     elim (either (shape_checks code k placed) (reached_checks code notes k placed (Some s)) kind e) [
       | inl shape ↦ first_reasoned (state_reason placed m s) (shape_checks code k placed) kind (shape_reasoned code k placed) shape
       | inr reached ↦ elim (either (checks m s) ((not covered, Check.Notes) ∷ []) kind reached) [
-          | inl own ↦ first_reasoned (state_reason placed m s) (checks m s) kind (state_reasoned placed m s (proper s refl)) own
-          | inr last ↦ absurd (other (only_notes (not covered) kind last))
-        ]
+        | inl own ↦ first_reasoned (state_reason placed m s) (checks m s) kind (state_reasoned placed m s (proper s refl)) own
+        | inr last ↦ absurd (other (only_notes (not covered) kind last))
+      ]
     ]
 
 -- ---- the fault of a code
@@ -147,9 +169,9 @@ module _ (code : List Placed) (notes : Notes) (proper : (k : ℕ) (s : Abstract)
       let notes_fault : VerifyFault = record { pc = 0; kind = Check.Notes } in
       elim (cases_Bool start) [
         | inl passes ↦ from_reasoned 0 code f (λ i placed at.
-              let same : i ≡ 0 + i = omega arith in
-              subst (λ (n : ℕ). slice_get code n ≡ Some placed) same at)
-          (sym (cond-true start (fault_from code notes 0 code) (Some notes_fault) passes) ∙ e) other
+            let same : i ≡ 0 + i = omega arith in
+            subst (λ (n : ℕ). slice_get code n ≡ Some placed) same at)
+            (sym (cond-true start (fault_from code notes 0 code) (Some notes_fault) passes) ∙ e) other
         | inr fails ↦
             let same : notes_fault ≡ f = same_Some notes_fault f (sym (cond-false start (fault_from code notes 0 code) (Some notes_fault) fails) ∙ e) in
             absurd (other (sym (ap (λ (x : VerifyFault). x.kind) same)))

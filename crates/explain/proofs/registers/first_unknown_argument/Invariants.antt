@@ -3,7 +3,7 @@ use Rattle.std.specs.Prelude.{find}
 use Rattle.std.specs.List.{flat_map}
 use Rattle.machine_spec.specs.Traps.{argument_registers}
 use Rattle.verifier_spec.specs.Kinds.{kind_at, is_unknown}
-use Rattle.explain.proofs.causes.first_unknown_argument.Given as goal
+use Rattle.explain.proofs.registers.first_unknown_argument.Given as goal
 
 abbrev pub invariant-loop-argument : goal.invariant-loop-argument
 invariant-loop-argument l =
