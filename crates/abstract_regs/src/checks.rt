@@ -110,7 +110,8 @@ fn reads_unknown(summary: Summary, state: &Abstract) -> bool
 
 // ---- kinds that an instruction takes
 
-fn is_one_sign(range: Interval) -> bool
+/// Whether the numbers of an interval, read as signed, are all negative or none of them is.
+pub fn is_one_sign(range: Interval) -> bool
     ensures { result ≡ is_one_sign range }
 {
     range.high < FIRST_NEGATIVE || FIRST_NEGATIVE <= range.low

@@ -109,6 +109,14 @@ impl State {
         kinds::kind_of(&self.inner.registers, register)
     }
 
+    /// All that is known: each register's kind, the least and greatest lengths, and the set stack
+    /// bytes.
+    pub fn as_abstract(&self) -> &Abstract
+        ensures { result.now ≡ self.now }
+    {
+        &self.inner
+    }
+
     /// Whether all that another state knows is known here too: each register's kind is within the
     /// other's, the least lengths are not smaller, the greatest not greater, and no fewer stack bytes
     /// are set.

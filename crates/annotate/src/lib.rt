@@ -2,8 +2,9 @@
 //! annotations then decides on.
 #![tactic(auto)]
 
-mod joined_states;
+mod joining;
 mod loader;
 
+pub use joining::joined_states;
 pub use loader::load;
 pub use verifier_spec::LoadFault;

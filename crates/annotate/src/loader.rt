@@ -1,7 +1,7 @@
 ghost use Rattle.std.specs.Prelude.{IfErr};
 ghost use Rattle.annotate.specs.Loads.{Loads, IsOfImage, IsAtStart};
 
-use crate::joined_states::joined_states;
+use crate::joining::joined_states;
 use bpf_isa::decode;
 use notes::{Check, Verified, VerifyFault};
 use std::alloc::Global;

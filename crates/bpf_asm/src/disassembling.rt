@@ -122,9 +122,10 @@ fn push_operands(text: &mut String, instruction: Instruction) -> Result<(), Allo
     }
 }
 
-/// Appends the line of an instruction.
+/// Appends the line of an instruction. It fails only where memory runs out; the text may then end
+/// within the line.
 #[tactic(auto, unfolding(crate::specs::Writing::line_text))]
-fn push_line(text: &mut String, instruction: Instruction) -> Result<(), AllocError>
+pub fn push_line(text: &mut String, instruction: Instruction) -> Result<(), AllocError>
     ensures { OnOk result (string_bytes text.new ≡ string_bytes text.old ++ line_text instruction) }
 {
     text.push_str(word_of(instruction))?;

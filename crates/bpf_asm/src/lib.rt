@@ -1,5 +1,5 @@
 //! The text of programs: `assemble` gives the image that a text says, or the first line that it
-//! refuses, and `disassemble` the text of code.
+//! refuses, `disassemble` the text of code, and `push_line` the line of one instruction.
 //!
 //! A line says one instruction: a word, and after spaces its operands between commas.
 #![tactic(auto)]
@@ -15,6 +15,6 @@ mod reading;
 mod word;
 
 pub use assembling::assemble;
-pub use disassembling::disassemble;
+pub use disassembling::{disassemble, push_line};
 pub use fault::AsmFault;
 pub use laws::text_and_image;

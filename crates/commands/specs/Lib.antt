@@ -1,3 +1,4 @@
+pub mod Explanations
 pub mod Images
 pub mod Puts
 pub mod Sessions

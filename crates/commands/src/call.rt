@@ -5,12 +5,16 @@ ghost use Rattle.std.specs.IoError.{error_kind};
 ghost use Rattle.std.specs.Io.KnownBytes.{Appends};
 ghost use Rattle.std.specs.declared.io.ErrorKind.TheVariants.{OutOfMemory};
 ghost use Rattle.bpf_asm.specs.Images.{image_of};
+ghost use Rattle.commands.specs.Explanations as explanations;
+ghost use Rattle.commands.specs.Explanations.{PrintsExplanation};
+ghost use Rattle.machine_spec.specs.declared.instruction.IsaFault.TheVariants as isa;
 ghost use Rattle.commands.specs.Images.{first_bytes};
 ghost use Rattle.commands.specs.Stops.{status_of, status_of_refused};
 ghost use Rattle.commands.specs.Texts as texts;
 
 use crate::asm::{read_text, utf8, write_image};
-use crate::dis::disassembly;
+use crate::dis::{disassembly, refusal_of};
+use crate::explaining::{refusal_text, status_of_explained};
 use crate::files::Files;
 use crate::image::{Refused, check, read_image};
 use crate::reading::{Unread, read_file, read_whole};
@@ -18,6 +22,8 @@ use crate::run::{Ended, run_script};
 use crate::stop::{Stop, status_of, unwritten};
 use crate::words::{Call, Misuse, call_of};
 use bpf_asm::{AsmFault, assemble};
+use explain::{Explanation, explain_image};
+use machine_spec::IsaFault;
 use std::alloc::{AllocError, Global};
 use std::io;
 use std::io::{Read, Write};
@@ -247,6 +253,78 @@ fn disassemble_file<F: Files, O: Write, E: Write>(
     }
 }
 
+/// Says why a program is refused, if it is, and answers the status.
+fn tell_refusal<E: Write>(alloc: Global, stderr: &mut E, explanation: &Explanation) -> u8
+    ensures { (result ≡ explanations.status_of_explained explanation.now) ⊎ (result ≡ 3) }
+{
+    match &explanation.refusal {
+        Some(refusal) => {
+            let status = status_of_explained(explanation);
+            tell_text(stderr, refusal_text(alloc, refusal), status)
+        }
+        None => status_of_explained(explanation),
+    }
+}
+
+/// Prints what the verifier knows of a program, says why it is refused, if it is, and answers the
+/// status.
+fn print_explanation<O: Write, E: Write>(
+    alloc: Global,
+    stdout: &mut O,
+    stderr: &mut E,
+    explanation: &Explanation,
+) -> u8
+    ensures status { (result ≡ explanations.status_of_explained explanation.now) ⊎ (result ≡ 3) }
+    ensures printed { result ≢ 3 → Appends (O.contents stdout.old) (O.contents stdout.new) (string_bytes explanation.now.lines) }
+{
+    let status = print_text(alloc, stdout, stderr, explanation.lines.as_str());
+    if status == DONE {
+        tell_refusal(alloc, stderr, explanation)
+    } else {
+        status
+    }
+}
+
+/// Says why an image has no code, and answers the status.
+fn tell_no_code<E: Write>(alloc: Global, stderr: &mut E, fault: IsaFault) -> u8
+    ensures refused { fault ≢ isa.Memory → (result ≡ 1) ⊎ (result ≡ 3) }
+    ensures memory { fault ≡ isa.Memory → result ≡ 3 }
+{
+    tell_refused(alloc, stderr, refusal_of(fault))
+}
+
+/// Prints what the verifier knows of an image's program, or says why it has none; answers the status.
+fn explain_bytes<O: Write, E: Write>(
+    alloc: Global,
+    stdout: &mut O,
+    stderr: &mut E,
+    image: &[u8],
+) -> u8
+    ensures { PrintsExplanation image.now result (O.contents stdout.old) (O.contents stdout.new) }
+{
+    match explain_image(alloc, image) {
+        Ok(explanation) => print_explanation(alloc, stdout, stderr, &explanation),
+        Err(fault) => tell_no_code(alloc, stderr, fault),
+    }
+}
+
+/// Explains the image in a file; answers the status.
+fn explain_file<F: Files, O: Write, E: Write>(
+    alloc: Global,
+    files: &mut F,
+    stdout: &mut O,
+    stderr: &mut E,
+    name: &str,
+) -> u8
+    ensures small { result ≤ 3 }
+    ensures printed { (bytes : List ℕ) → F.bytes files.old name.now ≡ Some bytes → PrintsExplanation (first_bytes bytes) result (O.contents stdout.old) (O.contents stdout.new) }
+{
+    match read_image(alloc, files, name) {
+        Ok(image) => explain_bytes(alloc, stdout, stderr, image.as_slice()),
+        Err(unread) => tell_unread(alloc, stderr, name, unread),
+    }
+}
+
 /// Says at which line a text is refused and why, and answers the status.
 fn tell_fault<E: Write>(alloc: Global, stderr: &mut E, fault: AsmFault) -> u8
     ensures { (result ≡ texts.status_of_fault fault) ⊎ (result ≡ 3) }
@@ -314,6 +392,7 @@ pub fn command<R: Threads + Wait + Sync, F: Files, I: Read, O: Write, E: Write>(
         Ok(Call::Assemble(text, image)) => assemble_file(alloc, files, stderr, text, image),
         Ok(Call::Check(image)) => check_file(alloc, files, stdout, stderr, image),
         Ok(Call::Disassemble(image)) => disassemble_file(alloc, files, stdout, stderr, image),
+        Ok(Call::Explain(image)) => explain_file(alloc, files, stdout, stderr, image),
         Ok(Call::Run(script)) => run(rt, alloc, files, stdin, stdout, stderr, script),
         Err(Misuse::Usage) => tell_usage(stderr),
         Err(Misuse::Memory) => tell_memory(stderr),

@@ -12,7 +12,7 @@ use std::alloc::Global;
 use verifier_spec::LoadFault;
 
 /// The refusal of an image that has no code.
-fn refusal_of(fault: IsaFault) -> Refused
+pub fn refusal_of(fault: IsaFault) -> Refused
     ensures { result ≡ definitions.refusal_of fault }
 {
     match fault {

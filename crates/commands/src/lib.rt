@@ -1,12 +1,14 @@
 //! What a call of the program does: `command` does what its words ask for, with the files, standard
 //! input, output and error that it is given. `run` does the commands of a script, `check` verifies
-//! a program, `asm` makes the image of a program's text, and `dis` prints that text.
+//! a program, `explain` prints what the verifier knows of one, `asm` makes the image of a program's
+//! text, and `dis` prints that text.
 #![tactic(auto)]
 
 mod asm;
 mod batches;
 mod call;
 mod dis;
+mod explaining;
 mod files;
 mod image;
 mod reading;

@@ -16,6 +16,8 @@ pub enum Call<'a> {
     Check(&'a str),
     /// Prints the text of an image.
     Disassemble(&'a str),
+    /// Prints what the verifier knows of an image's program.
+    Explain(&'a str),
     /// Does the commands of a script.
     Run(&'a str),
 }
@@ -75,6 +77,7 @@ fn commands<'a>(alloc: Global) -> Result<clap::Command<'a>, AllocError> {
         .subcommand(of_files(alloc, "asm", "TEXT", "IMAGE")?)?
         .subcommand(of_file(alloc, "check", "IMAGE")?)?
         .subcommand(of_file(alloc, "dis", "IMAGE")?)?
+        .subcommand(of_file(alloc, "explain", "IMAGE")?)?
         .subcommand(of_file(alloc, "run", "SCRIPT")?)
 }
 
@@ -99,6 +102,9 @@ fn asked<'a>(matches: &ArgMatches<'a>) -> Option<Call<'a>> {
     }
     if let Some(dis) = matches.subcommand_matches("dis") {
         return Some(Call::Disassemble(dis.get_str("IMAGE")?));
+    }
+    if let Some(explain) = matches.subcommand_matches("explain") {
+        return Some(Call::Explain(explain.get_str("IMAGE")?));
     }
     let run = matches.subcommand_matches("run")?;
     Some(Call::Run(run.get_str("SCRIPT")?))

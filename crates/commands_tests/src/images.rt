@@ -38,6 +38,46 @@ fn checks_images(rt: HostRuntime) -> Result<(), Fail> {
     Ok(())
 }
 
+/// Images, with what `explain` prints of them, what it says on standard error and its status.
+const EXPLAINED: [(&[u8], &str, &str, u8); 3] = [
+    (
+        b"\xb7\0\0\0\0\0\0\0\x95\0\0\0\0\0\0\0",
+        "0 slot 0: mov64 r0, 0
+  r1: value+0  r2: length of value  r3: key+0  r4: length of key  r5: 0 to 3  r10: stack+512
+1 slot 1: exit
+  r0: 0  r1: value+0  r2: length of value  r3: key+0  r4: length of key  r5: 0 to 3  r10: stack+512
+ok
+",
+        "",
+        0,
+    ),
+    (
+        b"\x71\x10\0\0\0\0\0\0\x95\0\0\0\0\0\0\0",
+        "0 slot 0: ld8 r0, [r1+0]
+  r1: value+0  r2: length of value  r3: key+0  r4: length of key  r5: 0 to 3  r10: stack+512
+",
+        "V7 RecordBounds at 0
+r1 (value+0) reaches byte 0 of the value, whose length may be as low as 0
+",
+        1,
+    ),
+    (b"\xb7\x0b\0\0\0\0\0\0", "", "I3 Register slot 0\n", 1),
+];
+
+#[test]
+fn explains_images(rt: HostRuntime) -> Result<(), Fail> {
+    let alloc = rt.alloc();
+    for (image, want_out, want_err, want) in EXPLAINED {
+        let mut files = empty_shelf(alloc);
+        files.write("image", image)?;
+        let (status, out, err) = called_with(&rt, alloc, &mut files, &["explain", "image"], b"")?;
+        assert!(rt; out.as_str() == want_out, "{out}{err}");
+        assert!(rt; err.as_str() == want_err, "{err}");
+        assert!(rt; status == want, "{status}");
+    }
+    Ok(())
+}
+
 /// An image of 4,097 slots is not told from one of which no end is read, and one of 4,096 is.
 #[test]
 fn reads_one_byte_past_the_greatest_image(rt: HostRuntime) -> Result<(), Fail> {

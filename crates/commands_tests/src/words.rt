@@ -41,11 +41,13 @@ fn words_that_can_not_be_had(rt: HostRuntime) -> Result<(), Fail> {
 fn refuses_words(rt: HostRuntime) -> Result<(), Fail> {
     let alloc = rt.alloc();
     let usage = "usage: klog COMMAND FILE ...\n";
-    let calls: [&[&str]; 9] = [
+    let calls: [&[&str]; 11] = [
         &[],
         &["run"],
         &["run", "a", "b"],
         &["frob", "script"],
+        &["explain"],
+        &["explain", "a", "b"],
         &["help"],
         &["help", "run"],
         &["run", "--help"],

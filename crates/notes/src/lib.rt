@@ -9,5 +9,6 @@ mod regions;
 mod shape;
 mod verified;
 
+pub use lookup::note_at;
 pub use verified::{Verified, check};
 pub use verifier_spec::{Check, VerifyFault};

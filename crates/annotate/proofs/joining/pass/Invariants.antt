@@ -1,5 +1,5 @@
 use Rattle.annotate.specs.Passing.{IsPassed}
-use Rattle.annotate.proofs.joined_states.pass.Given as goal
+use Rattle.annotate.proofs.joining.pass.Given as goal
 
 abbrev pub invariant-loop-k : goal.invariant-loop-k
 invariant-loop-k l = IsPassed l.code l.states l.k

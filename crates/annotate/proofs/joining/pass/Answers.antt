@@ -4,7 +4,7 @@ use Rattle.verifier_spec.specs.Checks.{jump_of}
 use Rattle.verifier_spec.proofs.BestAnnotation.{target_later}
 use Rattle.annotate.specs.Passing.{IsPassed}
 use Rattle.annotate.proofs.Passing.{first_passed, passed_next, passed_all}
-use Rattle.annotate.proofs.joined_states.pass.Goals as goal
+use Rattle.annotate.proofs.joining.pass.Goals as goal
 
 pub loop-k-init : goal.loop-k-init
 loop-k-init c =

@@ -1,0 +1,195 @@
+-- The fault that a load refuses an image with is about something.
+use Rattle.std.proofs.Common.{◌≡◌, ◌≢◌, ℕ, suc, ◌+◌, ◌<◌, ℤ, Bool, not, true, false, ◌==◌, ◌&&◌, List, [], ◌∷◌, ◌++◌, length, Option, Some, None, Ok, ◌⊎◌, refl, sym, ap, ◌∙◌, subst, arith, inl, inr}
+use Rattle.std.specs.Prelude.{is_some, is_none, option_map, slice_get}
+use Rattle.std.proofs.lemmas.Bool.{cases_Bool, cond-true, cond-false}
+use Rattle.std.proofs.lemmas.Option.{none-some, same_Some, slice_get_within}
+use Rattle.machine_spec.specs.declared.instruction.Placed.{Placed}
+use Rattle.machine_spec.specs.declared.summary.Summary.{Summary}
+use Rattle.machine_spec.specs.Summaries.{summary_of}
+use Rattle.machine_spec.specs.Image.{read_image, IsCodeOf}
+use Rattle.machine_spec.specs.Machine.{helper_of}
+use Rattle.machine_spec.specs.Traps.{calls_no_helper, helper_called, arguments_of, read_registers, first_of}
+use Rattle.machine_spec.proofs.Slots.{number_of_zero, number_below}
+use Rattle.verifier_spec.specs.declared.state.Abstract.{Abstract}
+use Rattle.verifier_spec.specs.declared.fault.{Check.Check, VerifyFault.VerifyFault, LoadFault.TheVariants.Verify}
+use Rattle.verifier_spec.specs.Kinds.{kind_at, is_unknown}
+use Rattle.verifier_spec.specs.States.{is_proper, entry_state}
+use Rattle.verifier_spec.specs.Checks.{checks, shape_checks, leads_nowhere, leads_back, jump_of}
+use Rattle.verifier_spec.specs.Annotation.{Notes, note_at, is_covered, are_edges_covered, reached_checks, failed_at, fault_or, fault_from, fault_of}
+use Rattle.verifier_spec.specs.JoinedStates.{known_after, joined_states}
+use Rattle.verifier_spec.specs.Loading.{load_fault, code_fault, IsRefusedWith}
+use Rattle.verifier_spec.proofs.JoinedStates.{note_joined}
+use Rattle.verifier_spec.proofs.BestAnnotation.{AreJoinedProper, fault_is_other}
+use Rattle.explain.specs.declared.reason.Reason.{Reason}
+use Rattle.explain.specs.Reasons.{landing, outside_record, shape_reason, state_reason, reason_of, placed_reason, reason_at}
+use Rattle.explain.proofs.Reasoned.{some_map, found, takes_wrong, is_based_wrong, tests_wrong, writes_record, leaves_record, leaves_stack, argument_found}
+use Rattle.explain.proofs.UnsetBytes.{byte_unset}
+
+-- ---- rows of checks
+
+-- a row that holds has a reason, where those before it don't hold
+abbrev AreReasoned : (Check → Option Reason) → List (Bool × Check) → Type 0
+AreReasoned reason [] = Unit {0}
+AreReasoned reason (row ∷ rows) = (row.0 ≡ true → is_some (reason row.1) ≡ true) × (row.0 ≡ false → AreReasoned reason rows)
+
+first_reasoned : (reason : Check → Option Reason) (rows : List (Bool × Check)) (kind : Check) → AreReasoned reason rows → first_of rows ≡ Some kind → is_some (reason kind) ≡ true
+first_reasoned reason [] kind all e = absurd (none-some kind e)
+first_reasoned reason (row ∷ rows) kind all e = elim (cases_Bool row.0) [
+  | inl holds ↦
+      let same : row.1 ≡ kind = same_Some row.1 kind (sym (cond-true row.0 (Some row.1) (first_of rows) holds) ∙ e) in
+      subst (λ (c : Check). is_some (reason c) ≡ true) same (all.0 holds)
+  | inr fails ↦ first_reasoned reason rows kind (all.1 fails) (sym (cond-false row.0 (Some row.1) (first_of rows) fails) ∙ e)
+]
+
+either : (xs ys : List (Bool × Check)) (kind : Check) → first_of (xs ++ ys) ≡ Some kind → (first_of xs ≡ Some kind) ⊎ (first_of ys ≡ Some kind)
+either [] ys kind e = inr e
+either (row ∷ xs) ys kind e = elim (cases_Bool row.0) [
+  | inl holds ↦ inl (cond-true row.0 (Some row.1) (first_of xs) holds ∙ (sym (cond-true row.0 (Some row.1) (first_of (xs ++ ys)) holds) ∙ e))
+  | inr fails ↦ elim (either xs ys kind (sym (cond-false row.0 (Some row.1) (first_of (xs ++ ys)) fails) ∙ e)) [
+    | inl left ↦ inl (cond-false row.0 (Some row.1) (first_of xs) fails ∙ left)
+    | inr right ↦ inr right
+  ]
+]
+
+-- ---- the rows of an instruction
+
+nowhere_some : (code : List Placed) (slot : ℕ) (jump : Option ℤ) → leads_nowhere code slot jump ≡ true → is_some jump ≡ true
+nowhere_some code slot None e = cc
+nowhere_some code slot (Some offset) e = refl
+
+back_some : (jump : Option ℤ) → leads_back jump ≡ true → is_some jump ≡ true
+back_some None e = cc
+back_some (Some offset) e = refl
+
+shape_reasoned : (code : List Placed) (k : ℕ) (placed : Placed) → AreReasoned (shape_reason placed) (shape_checks code k placed)
+shape_reasoned code k placed =
+    let jump = jump_of placed.instruction in (
+      λ e. some_map Reason.NoTarget _ (some_map (landing placed.slot) jump (nowhere_some code placed.slot jump e)),
+      λ _. (λ e. some_map Reason.Back _ (some_map (landing placed.slot) jump (back_some jump e)), λ _. (λ e. refl, λ _. tt)),
+    )
+
+called_some : (call : Option ℤ) → calls_no_helper call ≡ true → is_some call ≡ true
+called_some None e = cc
+called_some (Some number) e = refl
+
+state_reasoned : (placed : Placed) (m : Summary) (s : Abstract) → is_proper s ≡ true → AreReasoned (state_reason placed m s) (checks m s)
+state_reasoned placed m s proper = (
+  λ e. refl,
+  λ _. (
+    λ e. some_map Reason.NoHelper m.call (called_some m.call e),
+    λ _. (
+      λ e. some_map Reason.Unknown _ (found (λ r. is_unknown (kind_at s r)) (read_registers m) e),
+      λ _. (
+        takes_wrong m s,
+        λ _. (
+          is_based_wrong m s,
+          λ _. (
+            tests_wrong m s,
+            λ _. (
+              λ e. some_map Reason.ReadOnly _ (writes_record m.memory s e),
+              λ _. (
+                λ e. some_map (outside_record s) _ (leaves_record m.memory s e),
+                λ _. (
+                  λ e. some_map Reason.OutsideStack _ (leaves_stack m.memory s e),
+                  λ inside. (
+                    λ e. byte_unset m.memory s proper inside e,
+                    λ _. (
+                      λ e. argument_found s (arguments_of (helper_called m.call)) e,
+                      λ _. (λ e. refl, λ _. tt),
+                    ),
+                  ),
+                ),
+              ),
+            ),
+          ),
+        ),
+      ),
+    ),
+  ),
+)
+
+only_notes : (b : Bool) (kind : Check) → first_of ((b, Check.Notes) ∷ []) ≡ Some kind → kind ≡ Check.Notes
+only_notes true kind e = cc
+only_notes false kind e = cc
+
+rows_reasoned : (code : List Placed) (notes : Notes) (k : ℕ) (placed : Placed) (known : Option Abstract) (kind : Check) → ((s : Abstract) → known ≡ Some s → is_proper s ≡ true)
+    → first_of (shape_checks code k placed ++ reached_checks code notes k placed known) ≡ Some kind → kind ≢ Check.Notes → is_some (reason_of placed known kind) ≡ true
+rows_reasoned code notes k placed None kind proper e other = elim (either (shape_checks code k placed) [] kind e) [
+  | inl shape ↦ first_reasoned (shape_reason placed) (shape_checks code k placed) kind (shape_reasoned code k placed) shape
+  | inr none ↦ absurd (none-some kind none)
+]
+rows_reasoned code notes k placed (Some s) kind proper e other =
+    let m = summary_of placed.instruction in
+    let covered = are_edges_covered code notes k placed s in
+    elim (either (shape_checks code k placed) (reached_checks code notes k placed (Some s)) kind e) [
+      | inl shape ↦ first_reasoned (state_reason placed m s) (shape_checks code k placed) kind (shape_reasoned code k placed) shape
+      | inr reached ↦ elim (either (checks m s) ((not covered, Check.Notes) ∷ []) kind reached) [
+        | inl own ↦ first_reasoned (state_reason placed m s) (checks m s) kind (state_reasoned placed m s (proper s refl)) own
+        | inr last ↦ absurd (other (only_notes (not covered) kind last))
+      ]
+    ]
+
+-- ---- the fault of a code
+
+module _ (code : List Placed) (notes : Notes) (proper : (k : ℕ) (s : Abstract) → k < length code → note_at notes k ≡ Some s → is_proper s ≡ true) where
+  at_reasoned : (k : ℕ) (placed : Placed) (kind : Check) → slice_get code k ≡ Some placed → failed_at code notes k placed ≡ Some kind → kind ≢ Check.Notes
+      → is_some (placed_reason (slice_get code k) (note_at notes k) kind) ≡ true
+  unfolding failed_at
+  at_reasoned k placed kind at e other =
+      ap (λ (p : Option Placed). is_some (placed_reason p (note_at notes k) kind)) at
+      ∙ rows_reasoned code notes k placed (note_at notes k) kind (λ s is. proper k s (slice_get_within code k placed at) is) e other
+
+  or_reasoned : (k : ℕ) (failed : Option Check) (later : Option VerifyFault) (f : VerifyFault)
+      → ((kind : Check) → failed ≡ Some kind → kind ≢ Check.Notes → is_some (placed_reason (slice_get code k) (note_at notes k) kind) ≡ true)
+      → (later ≡ Some f → is_some (reason_at code notes f) ≡ true) → fault_or k failed later ≡ Some f → f.kind ≢ Check.Notes → is_some (reason_at code notes f) ≡ true
+  or_reasoned k (Some kind) later f here there e other =
+      let mine : VerifyFault = record { pc = k; kind = kind } in
+      let same : mine ≡ f = same_Some mine f e in
+      let mine_other : kind ≢ Check.Notes = subst (λ (x : VerifyFault). x.kind ≢ Check.Notes) (sym same) other in
+      subst (λ (x : VerifyFault). is_some (reason_at code notes x) ≡ true) same (here kind refl mine_other)
+  or_reasoned k None later f here there e other = there e
+
+  from_reasoned : (k : ℕ) (rest : List Placed) (f : VerifyFault) → ((i : ℕ) (placed : Placed) → slice_get rest i ≡ Some placed → slice_get code (k + i) ≡ Some placed)
+      → fault_from code notes k rest ≡ Some f → f.kind ≢ Check.Notes → is_some (reason_at code notes f) ≡ true
+  from_reasoned k [] f all e other = absurd (none-some f e)
+  from_reasoned k (placed ∷ rest) f all e other =
+      let here : k + 0 ≡ k = omega arith in
+      let at : slice_get code k ≡ Some placed = subst (λ (n : ℕ). slice_get code n ≡ Some placed) here (all 0 placed refl) in
+      or_reasoned k (failed_at code notes k placed) (fault_from code notes (k + 1) rest) f (λ kind failed named. at_reasoned k placed kind at failed named)
+      (λ later. from_reasoned (k + 1) rest f (λ i p q.
+      let next : k + suc i ≡ (k + 1) + i = omega arith in
+      subst (λ (n : ℕ). slice_get code n ≡ Some p) next (all (suc i) p q))
+      later other)
+      e other
+
+  code_reasoned : (f : VerifyFault) → fault_of code notes ≡ Some f → f.kind ≢ Check.Notes → is_some (reason_at code notes f) ≡ true
+  unfolding fault_of
+  code_reasoned f e other =
+      let start : Bool = (length notes == length code) && is_covered entry_state (note_at notes 0) in
+      let notes_fault : VerifyFault = record { pc = 0; kind = Check.Notes } in
+      elim (cases_Bool start) [
+        | inl passes ↦ from_reasoned 0 code f (λ i placed at.
+            let same : i ≡ 0 + i = omega arith in
+            subst (λ (n : ℕ). slice_get code n ≡ Some placed) same at)
+            (sym (cond-true start (fault_from code notes 0 code) (Some notes_fault) passes) ∙ e) other
+        | inr fails ↦
+            let same : notes_fault ≡ f = same_Some notes_fault f (sym (cond-false start (fault_from code notes 0 code) (Some notes_fault) fails) ∙ e) in
+            absurd (other (sym (ap (λ (x : VerifyFault). x.kind) same)))
+      ]
+
+-- ---- the fault of an image
+
+verified : (o : Option VerifyFault) (f : VerifyFault) → option_map Verify o ≡ Some (Verify f) → o ≡ Some f
+verified None f e = cc
+verified (Some g) f e = cc
+
+code_fault_is : (image : List ℕ) (code : List Placed) (f : VerifyFault) → read_image image ≡ Ok code → load_fault image ≡ Some (Verify f) → fault_of code (joined_states code) ≡ Some f
+unfolding load_fault
+code_fault_is image code f read e = verified _ f (sym (ap code_fault read) ∙ e)
+
+pub refusal_reasoned : (image : List ℕ) (code : List Placed) (f : VerifyFault) → IsCodeOf image code → read_image image ≡ Ok code → AreJoinedProper code → IsRefusedWith image (Verify f)
+    → is_some (reason_at code (joined_states code) f) ≡ true
+refusal_reasoned image code f of read proper refused =
+    let fault = code_fault_is image code f read refused.fault_is in
+    let some : 0 < length code = number_below code 0 0 (number_of_zero image code of) in
+    code_reasoned code (joined_states code) (λ k s below is. proper k s below (sym (note_joined code k below) ∙ is)) f fault (fault_is_other image code of f some fault)

@@ -1,0 +1,57 @@
+-- What is explained of an image.
+use Rattle.std.specs.Prelude.{◌≡◌, ◌≢◌, ℕ, ◌+◌, min, List, [], ◌∷◌, ◌++◌, length, Option, Some, None, option_map, is_some, true, Result, Ok, Err, IfSome, codes, string_bytes}
+use Rattle.machine_spec.specs.declared.instruction.{IsaFault.IsaFault, Placed.Placed}
+use Rattle.machine_spec.specs.declared.instruction.IsaFault.TheVariants as isa
+use Rattle.machine_spec.specs.Image.{read_image}
+use Rattle.verifier_spec.specs.declared.fault.{VerifyFault.VerifyFault, LoadFault.TheVariants.Verify}
+use Rattle.verifier_spec.specs.Annotation.{Notes}
+use Rattle.verifier_spec.specs.JoinedStates.{joined_states}
+use Rattle.verifier_spec.specs.Loading.{IsAccepted, IsRefusedWith}
+use Rattle.explain.specs.declared.explanation.{Explanation.Explanation, Refusal.Refusal}
+use Rattle.explain.specs.Texts.{texts_below, lines_at}
+use Rattle.explain.specs.Reasons.{reason_at}
+
+-- An image is accepted, or refused at an instruction with its fault.
+abbrev pub IsVerdict : List ℕ → Option VerifyFault → Type 0
+IsVerdict image None = IsAccepted image
+IsVerdict image (Some fault) = IsRefusedWith image (Verify fault)
+
+-- how many instructions are printed: all, or those up to the refused one
+abbrev pub printed_count : List Placed → Option VerifyFault → ℕ
+printed_count code None = length code
+printed_count code (Some fault) = min (fault.pc + 1) (length code)
+
+-- the last line of an accepted program is `ok`
+abbrev pub end_of : Option VerifyFault → List ℕ
+end_of None = codes "ok" ++ 10 ∷ []
+end_of (Some fault) = []
+
+abbrev pub listing : List Placed → Notes → Option VerifyFault → List ℕ
+listing code notes fault = texts_below (printed_count code fault) (lines_at code notes) ++ end_of fault
+
+abbrev pub refusal_at : List Placed → Notes → VerifyFault → Refusal
+refusal_at code notes fault = record { fault = fault; reason = reason_at code notes fault }
+
+-- what a refusal is about is there
+abbrev pub HasReason : Refusal → Type 0
+HasReason refusal = is_some refusal.reason ≡ true
+
+-- An image with code is explained: by its verdict, the joined states of its instructions, and what its fault is about.
+pub record Explains (image : List ℕ) (explanation : Explanation) : Type 0 where
+  pub code : List Placed
+  pub read : read_image image ≡ Ok code
+  pub fault : Option VerifyFault
+  pub verdict : IsVerdict image fault
+  pub lines : string_bytes explanation.lines ≡ listing code (joined_states code) fault
+  pub refusal : explanation.refusal ≡ option_map (refusal_at code (joined_states code)) fault
+  pub reasoned : IfSome explanation.refusal HasReason
+
+-- One with none has its refusal; nothing is said where memory ran out.
+abbrev pub ExplainsAs : List ℕ → Result Explanation IsaFault → Type 0
+ExplainsAs image (Ok explanation) = Explains image explanation
+ExplainsAs image (Err fault) = fault ≢ isa.Memory → read_image image ≡ Err fault
+
+-- whether an image is refused, and with which fault, for an image that has code
+abbrev pub HasVerdict : List ℕ → Result (Option VerifyFault) IsaFault → Type 0
+HasVerdict image (Ok fault) = IsVerdict image fault
+HasVerdict image (Err fault) = fault ≢ isa.Memory → read_image image ≡ Err fault

@@ -1,0 +1,119 @@
+//! The bytes that an instruction may read or write.
+
+ghost use Rattle.std.specs.Prelude.{◌≡◌, pos, neg_ℤ, ◌+ℤ◌, Some, option_map};
+ghost use Rattle.verifier_spec.specs.Checks.{reach_at};
+ghost use Rattle.explain.specs.Reasons as definitions;
+ghost use Rattle.explain.specs.Reasons.{first_below};
+
+use crate::reason::{Reached, Reason};
+use machine_spec::{MemoryOperand, STACK_SIZE};
+use stack_bytes::contains_all;
+use state_order::kinds;
+use verifier_spec::{Abs, Abstract, StackSet};
+
+fn first_byte(low: i64, offset: i16) -> i128
+    ensures { result ≡ low +ℤ offset }
+{
+    low as i128 + offset as i128
+}
+
+fn last_byte(high: i64, offset: i16, size: u8) -> i128
+    ensures { result ≡ ((high +ℤ offset) +ℤ pos size) +ℤ neg_ℤ (pos 1) }
+{
+    high as i128 + offset as i128 + size as i128 - 1
+}
+
+fn reached_by(m: MemoryOperand, kind: Abs) -> Option<Reached>
+    ensures { result ≡ definitions.reached_by m kind (reach_at m.direction kind m.offset m.size) }
+{
+    match kind {
+        Abs::None => None,
+        Abs::Num(_, _) => None,
+        Abs::Len(_) => None,
+        Abs::Addr(region, low, high) => Some(Reached {
+            base: m.base,
+            kind,
+            region,
+            first: first_byte(low, m.offset),
+            last: last_byte(high, m.offset, m.size.byte_count()),
+        }),
+    }
+}
+
+/// The bytes that an instruction may read or write.
+pub fn reached(memory: Option<MemoryOperand>, state: &Abstract) -> Option<Reached>
+    ensures { result ≡ definitions.reached memory state.now }
+{
+    match memory {
+        Some(m) => reached_by(m, kinds::kind_at(state, m.base)),
+        None => None,
+    }
+}
+
+pub fn read_only(bytes: Option<Reached>) -> Option<Reason>
+    ensures { result ≡ option_map Reason.ReadOnly bytes }
+{
+    match bytes {
+        Some(bytes) => Some(Reason::ReadOnly(bytes)),
+        None => None,
+    }
+}
+
+pub fn outside_record(state: &Abstract, bytes: Option<Reached>) -> Option<Reason>
+    ensures { result ≡ option_map (definitions.outside_record state.now) bytes }
+{
+    match bytes {
+        Some(bytes) => {
+            let least = kinds::least(state, bytes.region);
+            Some(Reason::OutsideRecord(bytes, least))
+        }
+        None => None,
+    }
+}
+
+pub fn outside_stack(bytes: Option<Reached>) -> Option<Reason>
+    ensures { result ≡ option_map Reason.OutsideStack bytes }
+{
+    match bytes {
+        Some(bytes) => Some(Reason::OutsideStack(bytes)),
+        None => None,
+    }
+}
+
+/// Whether a place of the stack is among some bytes and may not be set.
+fn is_unset_in(set: &StackSet, bytes: Reached, place: u64) -> bool
+    ensures { result ≡ definitions.is_unset_in set.now bytes place }
+{
+    bytes.first <= place as i128 && place as i128 <= bytes.last && !contains_all(set, place, 1)
+}
+
+/// The first place of the stack that is among some bytes and may not be set.
+#[tactic(auto, using(crate::proofs::Places::none_first, crate::proofs::Places::none_more, crate::proofs::Places::found_first))]
+fn first_unset(set: &StackSet, bytes: Reached) -> Option<u64>
+    ensures { result ≡ first_below STACK_SIZE (definitions.is_unset_in set.now bytes) }
+{
+    for place in 0..STACK_SIZE as u64 {
+        if is_unset_in(set, bytes, place) {
+            return Some(place);
+        }
+    }
+    None
+}
+
+fn unset_in(set: &StackSet, bytes: Reached) -> Option<Reason>
+    ensures { result ≡ definitions.unset_byte set.now (Some bytes) }
+{
+    match first_unset(set, bytes) {
+        Some(place) => Some(Reason::UnsetByte(bytes, place)),
+        None => None,
+    }
+}
+
+pub fn unset_byte(set: &StackSet, bytes: Option<Reached>) -> Option<Reason>
+    ensures { result ≡ definitions.unset_byte set.now bytes }
+{
+    match bytes {
+        Some(bytes) => unset_in(set, bytes),
+        None => None,
+    }
+}

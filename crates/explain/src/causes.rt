@@ -1,0 +1,140 @@
+//! What a refusal is about.
+
+ghost use Rattle.std.specs.Prelude.{◌≡◌, option_map};
+ghost use Rattle.std.specs.Option.{option_copied};
+ghost use Rattle.machine_spec.specs.Summaries.{summary_of};
+ghost use Rattle.explain.specs.Reasons as definitions;
+
+use crate::accesses::{outside_record, outside_stack, reached, read_only, unset_byte};
+use crate::operands::{first_wrong_argument, wrong_argument, wrong_type};
+use crate::reason::Reason;
+use crate::registers::unknown_register;
+use abstract_regs::State;
+use bpf_isa::Code;
+use machine_spec::{Placed, Summary};
+use notes::note_at;
+use state_order::kinds;
+use verifier_spec::{Abstract, Check, VerifyFault};
+
+// ---- jumps
+
+/// The slot that a jump leads to.
+fn landing(slot: usize, offset: i32) -> i128
+    ensures { result ≡ definitions.landing slot offset }
+{
+    slot as i128 + 1 + offset as i128
+}
+
+fn landing_of(placed: Placed) -> Option<i128>
+    ensures { result ≡ definitions.landing_of placed }
+{
+    match Summary::of(placed.instruction).jump {
+        Some(offset) => Some(landing(placed.slot, offset)),
+        None => None,
+    }
+}
+
+// ---- by check
+
+fn no_target(slot: Option<i128>) -> Option<Reason>
+    ensures { result ≡ option_map Reason.NoTarget slot }
+{
+    match slot {
+        Some(slot) => Some(Reason::NoTarget(slot)),
+        None => None,
+    }
+}
+
+fn back(slot: Option<i128>) -> Option<Reason>
+    ensures { result ≡ option_map Reason.Back slot }
+{
+    match slot {
+        Some(slot) => Some(Reason::Back(slot)),
+        None => None,
+    }
+}
+
+fn no_helper(number: Option<i32>) -> Option<Reason>
+    ensures { result ≡ option_map Reason.NoHelper number }
+{
+    match number {
+        Some(number) => Some(Reason::NoHelper(number)),
+        None => None,
+    }
+}
+
+fn unknown(register: Option<u8>) -> Option<Reason>
+    ensures { result ≡ option_map Reason.Unknown register }
+{
+    match register {
+        Some(register) => Some(Reason::Unknown(register)),
+        None => None,
+    }
+}
+
+/// What a failed check of an instruction's shape is about.
+fn shape_reason(placed: Placed, check: Check) -> Option<Reason>
+    ensures { result ≡ definitions.shape_reason placed check }
+{
+    match check {
+        Check::JumpTarget => no_target(landing_of(placed)),
+        Check::BackJump => back(landing_of(placed)),
+        Check::RunsOff => Some(Reason::Last),
+        Check::Frame
+        | Check::Helper
+        | Check::Unset
+        | Check::WrongType
+        | Check::ReadOnly
+        | Check::RecordBounds
+        | Check::StackBounds
+        | Check::StackUnset
+        | Check::HelperArg
+        | Check::Exit
+        | Check::Memory
+        | Check::Notes => None,
+    }
+}
+
+/// What a failed check of an instruction is about, in a state.
+fn state_reason(placed: Placed, state: &Abstract, check: Check) -> Option<Reason>
+    ensures { result ≡ definitions.state_reason placed (summary_of placed.instruction) state.now check }
+{
+    let summary = Summary::of(placed.instruction);
+    match check {
+        Check::JumpTarget => shape_reason(placed, Check::JumpTarget),
+        Check::BackJump => shape_reason(placed, Check::BackJump),
+        Check::RunsOff => shape_reason(placed, Check::RunsOff),
+        Check::Frame => Some(Reason::Frame),
+        Check::Helper => no_helper(summary.call),
+        Check::Unset => unknown(unknown_register(summary, state)),
+        Check::WrongType => wrong_type(summary, state),
+        Check::ReadOnly => read_only(reached(summary.memory, state)),
+        Check::RecordBounds => outside_record(state, reached(summary.memory, state)),
+        Check::StackBounds => outside_stack(reached(summary.memory, state)),
+        Check::StackUnset => unset_byte(&state.set, reached(summary.memory, state)),
+        Check::HelperArg => wrong_argument(state, first_wrong_argument(summary, state)),
+        Check::Exit => Some(Reason::NoNumber(0, kinds::kind_at(state, 0))),
+        Check::Memory => None,
+        Check::Notes => None,
+    }
+}
+
+fn reason_of(placed: Placed, note: Option<&State>, check: Check) -> Option<Reason>
+    ensures { result ≡ definitions.reason_of placed (option_copied note.entry) check }
+{
+    match note {
+        Some(state) => state_reason(placed, state.as_abstract(), check),
+        None => shape_reason(placed, check),
+    }
+}
+
+/// What a fault of code with these states is about.
+pub fn reason_at(code: &Code, states: &[Option<State>], fault: VerifyFault) -> Option<Reason>
+    ensures { result ≡ definitions.reason_at code.now states.now fault }
+{
+    if fault.pc < code.len() {
+        reason_of(code.get(fault.pc), note_at(states, fault.pc), fault.kind)
+    } else {
+        None
+    }
+}

@@ -1,0 +1,131 @@
+//! What is explained of an image.
+
+ghost use Rattle.std.specs.Prelude.{◌≡◌, ℕ, List, ◌≤◌, ◌++◌, length, option_map, IfOk, OnOk, string_bytes};
+ghost use Rattle.annotate.specs.Loads.{FaultIs};
+ghost use Rattle.explain.specs.Explanations as definitions;
+ghost use Rattle.explain.specs.Explanations.{ExplainsAs, HasVerdict};
+
+use crate::causes::reason_at;
+use crate::listing::push_first;
+use crate::reason::Reason;
+use abstract_regs::State;
+use annotate::{LoadFault, joined_states, load};
+use bpf_isa::{Code, decode};
+use machine_spec::IsaFault;
+use std::alloc::{AllocError, Global};
+use verifier_spec::{Check, VerifyFault};
+
+/// Why a program is refused.
+#[derive(Clone, Copy, Debug, PartialEq, Eq)]
+pub struct Refusal {
+    /// The check that fails, at the lowest instruction that fails one.
+    pub fault: VerifyFault,
+    /// What the check fails on.
+    pub reason: Option<Reason>,
+}
+
+/// What the verifier knows of a program.
+#[derive(Debug, Drop)]
+pub struct Explanation {
+    /// The instructions, each with what is known before it, up to the one that is refused, or all
+    /// and then `ok`.
+    pub lines: String,
+    /// Why the program is refused, if it is.
+    pub refusal: Option<Refusal>,
+}
+
+/// What a refusal of a load says of an image: it has no code, or is refused with a fault.
+fn verdict_of(fault: LoadFault) -> Result<Option<VerifyFault>, IsaFault>
+    ensures { (image : List ℕ) → FaultIs image fault → HasVerdict image result }
+{
+    match fault {
+        LoadFault::Isa(fault) => Err(fault),
+        LoadFault::Verify(fault) => match fault.kind {
+            Check::Memory => Err(IsaFault::Memory),
+            _ => Ok(Some(fault)),
+        },
+    }
+}
+
+/// Whether an image that has code is refused, and with which fault.
+fn verdict(alloc: Global, image: &[u8]) -> Result<Option<VerifyFault>, IsaFault>
+    ensures { HasVerdict image.now result }
+{
+    let _verified = match load(alloc, image) {
+        Err(fault) => return verdict_of(fault),
+        Ok(verified) => verified,
+    };
+    Ok(None)
+}
+
+/// How many instructions are printed.
+fn printed_count(code: &Code, fault: Option<VerifyFault>) -> usize
+    ensures count { result ≡ definitions.printed_count code.now fault }
+    ensures within { result ≤ length code.now }
+{
+    match fault {
+        Some(fault) if fault.pc < code.len() => fault.pc + 1,
+        Some(_) => code.len(),
+        None => code.len(),
+    }
+}
+
+/// Appends what follows on the instructions.
+fn push_end_of(text: &mut String, fault: Option<VerifyFault>) -> Result<(), AllocError>
+    ensures { OnOk result (string_bytes text.new ≡ string_bytes text.old ++ definitions.end_of fault) }
+{
+    match fault {
+        Some(_) => Ok(()),
+        None => text.push_str("ok\n"),
+    }
+}
+
+/// The instructions, each with what is known before it, up to the one that is refused.
+fn listing(
+    alloc: Global,
+    code: &Code,
+    states: &[Option<State>],
+    fault: Option<VerifyFault>,
+) -> Result<String, AllocError>
+    ensures { IfOk result (λ text. string_bytes text ≡ definitions.listing code.now states.now fault) }
+{
+    let mut text = String::new(alloc);
+    push_first(&mut text, code, states, printed_count(code, fault))?;
+    push_end_of(&mut text, fault)?;
+    Ok(text)
+}
+
+fn refusal_with(
+    code: &Code,
+    states: &[Option<State>],
+    fault: Option<VerifyFault>,
+) -> Option<Refusal>
+    ensures { result ≡ option_map (definitions.refusal_at code.now states.now) fault }
+{
+    match fault {
+        Some(fault) => Some(Refusal {
+            fault,
+            reason: reason_at(code, states, fault),
+        }),
+        None => None,
+    }
+}
+
+/// What the verifier knows of an image's program, or why the image has no code. The states are those
+/// that a load finds, and so is the fault.
+pub fn explain_image(alloc: Global, image: &[u8]) -> Result<Explanation, IsaFault>
+    ensures { ExplainsAs image.now result }
+{
+    let fault = verdict(alloc, image)?;
+    let code = decode(alloc, image)?;
+    let Ok(states) = joined_states(alloc, &code) else {
+        return Err(IsaFault::Memory);
+    };
+    match listing(alloc, &code, &states, fault) {
+        Ok(lines) => Ok(Explanation {
+            lines,
+            refusal: refusal_with(&code, &states, fault),
+        }),
+        Err(_) => Err(IsaFault::Memory),
+    }
+}

@@ -1,0 +1,25 @@
+//! Programs by their text, and what is printed of them.
+
+use bpf_asm::assemble;
+use explain::{Explanation, explain_image};
+use std::alloc::{AllocError, Global};
+use std::test::Fail;
+
+/// What is explained of the program of a text.
+pub(crate) fn explained(alloc: Global, program: &str) -> Result<Explanation, Fail> {
+    let image = assemble(alloc, program).ok().ok_or("no image")?;
+    let explanation = explain_image(alloc, &image).ok().ok_or("no code")?;
+    Ok(explanation)
+}
+
+/// The fault of a program and what it is about, each in a line.
+pub(crate) fn refusal_text(alloc: Global, explanation: &Explanation) -> Result<String, AllocError> {
+    let Some(refusal) = explanation.refusal else {
+        return Ok(String::new(alloc));
+    };
+    let fault = refusal.fault;
+    match refusal.reason {
+        Some(reason) => format!(in alloc; "{fault}\n{reason}\n"),
+        None => format!(in alloc; "{fault}\n"),
+    }
+}

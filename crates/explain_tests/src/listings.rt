@@ -1,0 +1,109 @@
+use crate::images::{explained, refusal_text};
+use explain::explain_image;
+use machine_spec::IsaFault;
+use std::test::Fail;
+
+/// Programs, each with the lines of its instructions and those of its refusal.
+const PROGRAMS: [(&str, &str, &str); 4] = [
+    // The value has at least four bytes, and the fifth is loaded.
+    (
+        "imm64 r6, 4294967296\nmov64 r0, 0\njlt64 r2, 4, +2\nld32 r0, [r1+1]\nexit\nexit\n",
+        "0 slot 0: imm64 r6, 4294967296
+  r1: value+0  r2: length of value  r3: key+0  r4: length of key  r5: 0 to 3  r10: stack+512
+1 slot 2: mov64 r0, 0
+  r1: value+0  r2: length of value  r3: key+0  r4: length of key  r5: 0 to 3  r6: 4294967296  r10: stack+512
+2 slot 3: jlt64 r2, 4, +2
+  r0: 0  r1: value+0  r2: length of value  r3: key+0  r4: length of key  r5: 0 to 3  r6: 4294967296  r10: stack+512
+3 slot 4: ld32 r0, [r1+1]
+  r0: 0  r1: value+0  r2: length of value  r3: key+0  r4: length of key  r5: 0 to 3  r6: 4294967296  r10: stack+512
+  value: 4 to 65536 bytes
+",
+        "V7 RecordBounds at 3
+r1 (value+0) reaches bytes 1 to 4 of the value, whose length may be as low as 4
+",
+    ),
+    // Nine bytes of the stack are set, an instruction is jumped over, and four bytes are loaded of which two aren't set.
+    (
+        "stx64 [r10-8], r2\nst8 [r10-16], 0\nja +1\nmov64 r0, 0\nld32 r0, [r10-10]\nexit\n",
+        "0 slot 0: stx64 [r10-8], r2
+  r1: value+0  r2: length of value  r3: key+0  r4: length of key  r5: 0 to 3  r10: stack+512
+1 slot 1: st8 [r10-16], 0
+  r1: value+0  r2: length of value  r3: key+0  r4: length of key  r5: 0 to 3  r10: stack+512
+  stack set: 504 to 511
+2 slot 2: ja +1
+  r1: value+0  r2: length of value  r3: key+0  r4: length of key  r5: 0 to 3  r10: stack+512
+  stack set: 496
+  stack set: 504 to 511
+3 slot 3: mov64 r0, 0
+  unreached
+4 slot 4: ld32 r0, [r10-10]
+  r1: value+0  r2: length of value  r3: key+0  r4: length of key  r5: 0 to 3  r10: stack+512
+  stack set: 496
+  stack set: 504 to 511
+",
+        "V9 StackUnset at 4
+r10 (stack+512) reaches bytes 502 to 505 of the stack, and byte 502 may not be set
+",
+    ),
+    // A call leaves nothing known of r1 to r5.
+    (
+        "mov64 r6, r1\nadd64 r6, r5\nmov64 r1, 0\ncall 3\nld8 r0, [r1+0]\nexit\n",
+        "0 slot 0: mov64 r6, r1
+  r1: value+0  r2: length of value  r3: key+0  r4: length of key  r5: 0 to 3  r10: stack+512
+1 slot 1: add64 r6, r5
+  r1: value+0  r2: length of value  r3: key+0  r4: length of key  r5: 0 to 3  r6: value+0  r10: stack+512
+2 slot 2: mov64 r1, 0
+  r1: value+0  r2: length of value  r3: key+0  r4: length of key  r5: 0 to 3  r6: value+0 to +3  r10: stack+512
+3 slot 3: call 3
+  r1: 0  r2: length of value  r3: key+0  r4: length of key  r5: 0 to 3  r6: value+0 to +3  r10: stack+512
+4 slot 4: ld8 r0, [r1+0]
+  r0: 0 to 3  r6: value+0 to +3  r10: stack+512
+",
+        "V4 Unset at 4
+r1 is read and may hold nothing
+",
+    ),
+    // Where the two ways meet, what is known is what both know.
+    (
+        "mov64 r0, 0\njne64 r4, 5, +2\njlt64 r2, 1, +1\nld8 r0, [r1+0]\nexit\n",
+        "0 slot 0: mov64 r0, 0
+  r1: value+0  r2: length of value  r3: key+0  r4: length of key  r5: 0 to 3  r10: stack+512
+1 slot 1: jne64 r4, 5, +2
+  r0: 0  r1: value+0  r2: length of value  r3: key+0  r4: length of key  r5: 0 to 3  r10: stack+512
+2 slot 2: jlt64 r2, 1, +1
+  r0: 0  r1: value+0  r2: length of value  r3: key+0  r4: length of key  r5: 0 to 3  r10: stack+512
+  key: 5 bytes
+3 slot 3: ld8 r0, [r1+0]
+  r0: 0  r1: value+0  r2: length of value  r3: key+0  r4: length of key  r5: 0 to 3  r10: stack+512
+  key: 5 bytes
+  value: 1 to 65536 bytes
+4 slot 4: exit
+  r0: 0 to 255  r1: value+0  r2: length of value  r3: key+0  r4: length of key  r5: 0 to 3  r10: stack+512
+ok
+",
+        "",
+    ),
+];
+
+#[test]
+fn lists_instructions(rt: HostRuntime) -> Result<(), Fail> {
+    let alloc = rt.alloc();
+    for (program, lines, refusal) in PROGRAMS {
+        let explanation = explained(alloc, program)?;
+        assert_eq!(rt; explanation.lines.as_str(), lines);
+        let text = refusal_text(alloc, &explanation)?;
+        assert_eq!(rt; text.as_str(), refusal);
+    }
+    Ok(())
+}
+
+/// An image with no code has its own refusal.
+#[test]
+fn refuses_images(rt: HostRuntime) -> Result<(), Fail> {
+    let alloc = rt.alloc();
+    let cut = explain_image(alloc, &[0x95, 0, 0, 0]).err();
+    assert!(rt; cut == Some(IsaFault::Size));
+    let left_out = explain_image(alloc, &[0xdb, 0, 0, 0, 0, 0, 0, 0]).err();
+    assert!(rt; left_out == Some(IsaFault::NotInProfile(0)));
+    Ok(())
+}
