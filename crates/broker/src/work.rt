@@ -7,10 +7,10 @@ use crate::ended::{Ended, Until};
 use crate::fault::BrokerFault;
 use out_book::BookFault;
 use part_log::{Names, PartLog, Trail};
-use std::alloc::Global;
+use std::alloc::{AllocError, Global};
 use std::sync::Wait;
 use std::thread;
-use worker::{Gate, Results, Walk, process};
+use worker::{Delivery, Gate, Walk, process};
 
 /// The worker of an input partition, and what it works with.
 #[derive(Drop)]
@@ -119,33 +119,43 @@ impl<'a, Id: Names, C, R: Wait, G: Gate> Worker<'a, Id, C, R, G> {
         requires few { log.now < 64 }
         requires item { 0 < length walk.now.items }
     {
-        let Ok(results) = process(self.alloc, walk, log, self.broker.outputs()) else {
+        let Ok(deliveries) = self.deliveries(log, walk) else {
             return Err(Ended::Fault(BrokerFault::Memory));
         };
         let index = walk.len() - 1;
-        for output in 0..self.broker.outputs() {
+        for delivery in deliveries {
+            let output = delivery.output();
             if !self.gate.pass(walk.partition(), index, output) {
                 return Err(Ended::Stopped(index, output));
             }
-            self.deliver(output, walk, &results).map_err(Ended::Fault)?;
+            self.deliver(walk, delivery).map_err(Ended::Fault)?;
         }
         Ok(())
     }
 
-    /// Offers an item's rows to an output partition.
-    fn deliver(
+    /// The rows of the walk's last item, for each output partition in turn. No lock is held.
+    fn deliveries(
         &self,
-        output: usize,
+        log: &PartLog<Id>,
         walk: &Walk<Id>,
-        results: &Results<Id>,
-    ) -> Result<(), BrokerFault>
-        requires { output < Id.outputs }
+    ) -> Result<Vec<Delivery<Id>>, AllocError>
+        requires walk { walk.now.partition ≡ log.now }
+        requires few { log.now < 64 }
+        requires item { 0 < length walk.now.items }
+        ensures { IfOk result (λ deliveries. length deliveries.items ≡ Id.outputs) }
     {
+        let results = process(self.alloc, walk, log, self.broker.outputs())?;
+        results.into_deliveries(self.alloc)
+    }
+
+    /// Offers an item's rows to their output partition.
+    fn deliver(&self, walk: &Walk<Id>, delivery: Delivery<Id>) -> Result<(), BrokerFault> {
+        let output = delivery.output();
         let mut book = self.broker.book(output).lock(self.rt);
         if book.output() != output {
             return Err(BrokerFault::Book(BookFault::Partition));
         }
-        match book.deliver(walk, results) {
+        match book.receive(walk, delivery) {
             Ok(_) => Ok(()),
             Err(fault) => Err(BrokerFault::Book(fault)),
         }

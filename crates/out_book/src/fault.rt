@@ -1,3 +1,7 @@
+ghost use Rattle.std.specs.Prelude.{◌≡◌};
+ghost use Rattle.out_book.specs.declared.fault.BookFault.TheVariants.{Memory};
+
+use std::alloc::AllocError;
 use thiserror::Error;
 
 /// Why an item's rows are not added to a book. The book stays as it was.
@@ -12,4 +16,12 @@ pub enum BookFault {
     /// Memory ran out.
     #[error("O3 Memory")]
     Memory,
+}
+
+impl From<AllocError> for BookFault {
+    ghost from_gives = { λ _ e. e ≡ Memory };
+
+    fn from(_e: AllocError) -> BookFault {
+        BookFault::Memory
+    }
 }

@@ -2,11 +2,13 @@
 //! and processes the item where it stands for all output partitions at once. No lock is held.
 #![tactic(auto)]
 
+mod delivery;
 mod gate;
 mod processing;
 mod results;
 mod walk;
 
+pub use crate::delivery::Delivery;
 pub use crate::gate::Gate;
 pub use crate::processing::process;
 pub use crate::results::Results;

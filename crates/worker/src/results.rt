@@ -1,12 +1,14 @@
-ghost use Rattle.std.specs.Prelude.{◌≡◌, ◌<◌, ◌≤◌, length};
+ghost use Rattle.std.specs.Prelude.{◌≡◌, ◌<◌, ◌≤◌, IfOk, length};
 ghost use Rattle.item_rows.specs.ItemRows.{rows_in};
 ghost use Rattle.log_spec.specs.Logs.{IsRowsAt};
 ghost use Rattle.worker.specs.Walks.{last, AreRowsOfLast};
-ghost use Rattle.worker.specs.Processed.{processed};
+ghost use Rattle.worker.specs.Processed.{processed, AreInTurn};
 
+use crate::delivery::Delivery;
 use item_rows::ItemRows;
 use log_spec::Row;
 use part_log::{Names, Trail};
+use std::alloc::{AllocError, Global};
 use std::marker::Model;
 
 /// The rows of a walk's last item, for each output partition, with the items up to that one.
@@ -66,5 +68,21 @@ impl<Id: Names> Results<Id> {
         ensures are { IsRowsAt self.now.walk.partition output Id.outputs self.now.walk.items (last self.now.walk.items) result.now }
     {
         self.rows.rows(output)
+    }
+
+    /// The item's rows by value, for each output partition in turn. It fails only where memory runs
+    /// out.
+    pub fn into_deliveries(self, alloc: Global) -> Result<Vec<Delivery<Id>>, AllocError>
+        ensures { IfOk result (λ deliveries. AreInTurn self.walk self.rows deliveries.items) }
+    {
+        let Results { trail, rows } = self;
+        let mut left = rows;
+        let outputs = left.outputs();
+        let mut deliveries = Vec::with_capacity(alloc, outputs)?;
+        for output in 0..outputs {
+            let rows = left.take(alloc, output);
+            deliveries.push(Delivery::new(trail.again(), output, rows))?;
+        }
+        Ok(deliveries)
     }
 }

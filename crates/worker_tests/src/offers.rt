@@ -16,7 +16,7 @@ fn a_book_takes_items_in_order(rt: HostRuntime) -> Result<(), Fail> {
     offer_three::<Brand, _>(&rt, alloc, Cells::new(alloc, 3)?)
 }
 
-/// Of three items the first is offered, then the third, and the first again.
+/// Of three items the first is offered, then the third, the first again, and the second by value.
 fn offer_three<Id: Names, R: Wait + Abort>(rt: &R, alloc: Global, cells: Cells) -> Result<(), Fail>
     requires cells { cells ≡ Id.cells 0 }
     requires outputs { Id.outputs ≡ 1 }
@@ -30,6 +30,7 @@ fn offer_three<Id: Names, R: Wait + Abort>(rt: &R, alloc: Global, cells: Cells) 
     let mut walk = Walk::new(0);
     assert!(rt; advance(&log, &mut walk));
     let first = walk.again();
+    let mut second = walk.again();
     let added = Some(Ok(Delivered::Added(0)));
     assert_eq!(rt; offer(alloc, &log, &walk, &mut book), added);
     assert!(rt; advance(&log, &mut walk) && advance(&log, &mut walk));
@@ -37,6 +38,10 @@ fn offer_three<Id: Names, R: Wait + Abort>(rt: &R, alloc: Global, cells: Cells) 
     assert_eq!(rt; offer(alloc, &log, &walk, &mut book), gap);
     let already = Some(Ok(Delivered::Already));
     assert_eq!(rt; offer(alloc, &log, &first, &mut book), already);
+    assert!(rt; advance(&log, &mut second));
+    assert_eq!(rt; hand_over(alloc, &log, &second, &mut book), added);
+    assert_eq!(rt; hand_over(alloc, &log, &first, &mut book), already);
+    assert_eq!(rt; offer(alloc, &log, &walk, &mut book), added);
     Ok(())
 }
 
@@ -47,6 +52,27 @@ fn advance<Id: Names>(log: &PartLog<Id>, walk: &mut Walk<Id>) -> bool {
     }
     let mut note = log.note(walk.len());
     walk.next(log, &mut note)
+}
+
+/// Gives a book the rows of the item where a walk stands by value.
+fn hand_over<Id: Names>(
+    alloc: Global,
+    log: &PartLog<Id>,
+    walk: &Walk<Id>,
+    book: &mut Book<Id>,
+) -> Option<Result<Delivered, BookFault>>
+    requires { Id.outputs ≡ 1 }
+{
+    if walk.partition() != log.partition() || walk.partition() >= 64 || walk.len() == 0 {
+        return None;
+    }
+    let deliveries = process(alloc, walk, log, 1).ok()?.into_deliveries(alloc).ok()?;
+    for delivery in deliveries {
+        if delivery.output() == book.output() {
+            return Some(book.receive(walk, delivery));
+        }
+    }
+    None
 }
 
 /// Offers the item where a walk stands to a book.
