@@ -10,4 +10,5 @@ mod rows;
 pub use crate::item::item_rows;
 pub use crate::laws::one_list_of_rows;
 pub use crate::origin::Origin;
+pub use crate::records::timestamp;
 pub use crate::rows::ItemRows;

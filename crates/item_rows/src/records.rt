@@ -84,7 +84,7 @@ fn push_record(
 }
 
 /// A record's timestamp in milliseconds.
-fn timestamp(batch: &Batch, given: &Record) -> u64
+pub fn timestamp(batch: &Batch, given: &Record) -> u64
     requires from { pos 0 ≤ℤ timestamp_of batch.now given.now }
     requires to { timestamp_of batch.now given.now <ℤ pos TIMESTAMP_END }
     ensures value { result ≡ unsigned_abs (timestamp_of batch.now given.now) }

@@ -11,3 +11,4 @@ pub use crate::book::{Book, Delivered};
 pub use crate::fault::BookFault;
 pub use crate::laws::follows_core;
 pub use crate::rows::Rows;
+pub use crate::sharing::share_row;

@@ -4,8 +4,9 @@ use kafka_record::{share_bytes, share_headers};
 use log_spec::Row;
 use std::alloc::{AllocError, Global};
 
-/// Another row with the same parts, which share their bytes with the given one.
-fn share_row(alloc: Global, row: &Row) -> Result<Row, AllocError>
+/// Another row with the same parts, which share their bytes with the given one. It fails only where
+/// memory runs out.
+pub fn share_row(alloc: Global, row: &Row) -> Result<Row, AllocError>
     ensures { IfOk result (λ shared. shared ≡ row.now) }
 {
     Ok(Row {

@@ -1,0 +1,4 @@
+pub mod CountLaws
+pub mod FateLaws
+pub mod PlaceLaws
+pub mod WrittenLaws

@@ -1,0 +1,5 @@
+pub mod Fates
+pub mod Totals
+pub mod Holdings
+pub mod Snapshots
+pub mod Texts

@@ -1,0 +1,62 @@
+-- What a snapshot of a broker keeps.
+use Rattle.std.specs.Prelude.{◌≡◌, ℕ, ◌<◌, List, [], length, take, slice_get, slice_index_or, Option, Some, ◌⊎◌}
+use Rattle.part_log.specs.Parts.{Log}
+use Rattle.out_book.specs.declared.fault.BookFault.TheVariants as book
+use Rattle.broker.specs.declared.fault.BrokerFault.{BrokerFault}
+use Rattle.broker.specs.declared.fault.BrokerFault.TheVariants.{Partition, NoProgram, Memory, Catalogue as CatalogueRefuses, Log as LogRefuses, Book as BookRefuses}
+use Rattle.report.specs.Holdings.{Held, IsOutput}
+use Rattle.report.specs.Totals.{Tallied}
+
+-- what each output partition holds of each input partition, and what became of the records of each input partition
+pub record Gathered : Type 0 where
+  pub outputs : List (List Held)
+  pub inputs : List Tallied
+
+abbrev pub gathered : List (List Held) → List Tallied → Gathered
+gathered outputs inputs = record { outputs = outputs; inputs = inputs }
+
+-- what an output partition holds of an input partition
+abbrev pub held_at : List (List Held) → ℕ → ℕ → Option Held
+held_at outputs output input = slice_get (slice_index_or outputs output []) input
+
+-- each output partition's is at its place
+abbrev pub AreOutputs : ℕ → List (List Held) → Type 0
+AreOutputs inputs outputs = (output : ℕ) (holdings : List Held) → slice_get outputs output ≡ Some holdings → IsOutput output inputs holdings
+
+-- The items of an input partition that are done in every output partition: each has them as its first ones, and one of them
+-- has no other.
+pub record IsLeast (outputs : List (List Held)) (input : ℕ) (first : Log) : Type 0 where
+  pub partition_is : first.partition ≡ input
+  pub in_each : (output : ℕ) (h : Held) → held_at outputs output input ≡ Some h → take (length first.items) h.done.items ≡ first.items
+  pub place : ℕ
+  pub least : Held
+  pub least_at : held_at outputs place input ≡ Some least
+  pub in_one : first ≡ least.done
+
+-- The shorter of two logs that agree: both begin with its items, and it is one of them.
+pub record IsShorter (one other shorter : Log) : Type 0 where
+  pub in_one : take (length shorter.items) one.items ≡ shorter.items
+  pub in_other : take (length shorter.items) other.items ≡ shorter.items
+  pub is_either : (shorter ≡ one) ⊎ (shorter ≡ other)
+
+-- the records of each input partition are counted over these items
+abbrev pub AreLeast : List (List Held) → List Tallied → Type 0
+AreLeast outputs inputs = (input : ℕ) (t : Tallied) → slice_get inputs input ≡ Some t → IsLeast outputs input t.first
+
+-- of so many output partitions
+pub record IsGathered (outputs : ℕ) (s : Gathered) : Type 0 where
+  pub count : length s.outputs ≡ outputs
+  pub outputs_are : AreOutputs (length s.inputs) s.outputs
+  pub inputs_are : AreLeast s.outputs s.inputs
+
+-- Memory ran out, and neither in a log nor in the catalogue nor in a book; or a book that is found under a lock is of another
+-- output partition.
+abbrev pub IsGatherFault : BrokerFault → Type 0
+IsGatherFault Memory = Unit {0}
+IsGatherFault (BookRefuses book.Partition) = Unit {0}
+IsGatherFault (BookRefuses book.Memory) = ⊥
+IsGatherFault (BookRefuses (book.Gap expected)) = ⊥
+IsGatherFault Partition = ⊥
+IsGatherFault NoProgram = ⊥
+IsGatherFault (CatalogueRefuses fault) = ⊥
+IsGatherFault (LogRefuses fault) = ⊥

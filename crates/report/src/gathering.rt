@@ -1,0 +1,122 @@
+//! Takes a snapshot of a broker.
+
+ghost use Rattle.std.specs.Prelude.{◌≡◌, ◌<◌, length, IfOk, IfErr};
+ghost use Rattle.report.specs.Holdings.{IsOutput};
+ghost use Rattle.report.specs.Snapshots.{AreOutputs, IsShorter, IsLeast, AreLeast, IsGatherFault};
+
+use crate::holding::Holdings;
+use crate::snapshot::Snapshot;
+use crate::tally::Tally;
+use broker::{Broker, BrokerFault};
+use out_book::BookFault;
+use part_log::{Names, Trail};
+use std::alloc::{AllocError, Global};
+use std::sync::Wait;
+
+/// What the books of a broker hold, and what became of the records of the items that are done in all
+/// of them. The books are locked one after the other. No book is changed. It fails where memory runs
+/// out, or a book that is found under a lock is of another output partition.
+pub fn gather<Id: Names, C, R: Wait>(
+    rt: &R,
+    alloc: Global,
+    broker: &Broker<Id, C>,
+) -> Result<Snapshot<Id>, BrokerFault>
+    ensures ok { IfOk result (λ snapshot. (length snapshot.outputs ≡ Id.outputs) × (length snapshot.inputs ≡ broker.now)) }
+    ensures err { IfErr result IsGatherFault }
+{
+    let outputs = holdings(rt, alloc, broker)?;
+    match tallies(alloc, broker, &outputs) {
+        Ok(inputs) => Ok(Snapshot::new(outputs, inputs)),
+        Err(_) => Err(BrokerFault::Memory),
+    }
+}
+
+/// What the book of each output partition holds.
+fn holdings<Id: Names, C, R: Wait>(
+    rt: &R,
+    alloc: Global,
+    broker: &Broker<Id, C>,
+) -> Result<Vec<Holdings<Id>>, BrokerFault>
+    ensures ok { IfOk result (λ all. (length all.items ≡ Id.outputs) × AreOutputs broker.now all.items) }
+    ensures err { IfErr result IsGatherFault }
+{
+    let mut all = Vec::new(alloc);
+    for output in 0..broker.outputs() {
+        let holdings = holdings_in(rt, alloc, broker, output)?;
+        let Ok(()) = all.push(holdings) else {
+            return Err(BrokerFault::Memory);
+        };
+    }
+    Ok(all)
+}
+
+/// What the book of an output partition holds.
+fn holdings_in<Id: Names, C, R: Wait>(
+    rt: &R,
+    alloc: Global,
+    broker: &Broker<Id, C>,
+    output: usize,
+) -> Result<Holdings<Id>, BrokerFault>
+    requires { output < Id.outputs }
+    ensures ok { IfOk result (IsOutput output broker.now) }
+    ensures err { IfErr result IsGatherFault }
+{
+    let book = broker.book(output).lock(rt);
+    if book.output() != output || book.inputs() != broker.inputs() {
+        return Err(BrokerFault::Book(BookFault::Partition));
+    }
+    match Holdings::of(alloc, &book) {
+        Ok(holdings) => Ok(holdings),
+        Err(_) => Err(BrokerFault::Memory),
+    }
+}
+
+/// What became of the records of each input partition's first items, those that are done in every
+/// output partition.
+fn tallies<Id: Names, C>(
+    alloc: Global,
+    broker: &Broker<Id, C>,
+    outputs: &[Holdings<Id>],
+) -> Result<Vec<Tally<Id>>, AllocError>
+    requires some { 0 < length outputs.now }
+    requires outputs { AreOutputs broker.now outputs.now }
+    ensures { IfOk result (λ all. (length all.items ≡ broker.now) × AreLeast outputs.now all.items) }
+{
+    let mut all = Vec::with_capacity(alloc, broker.inputs())?;
+    for input in 0..broker.inputs() {
+        let first = least(broker, outputs, input);
+        all.push(Tally::of(alloc, broker, first)?)?;
+    }
+    Ok(all)
+}
+
+/// The items of an input partition that are done in every output partition.
+fn least<'a, Id: Names, C>(
+    broker: &Broker<Id, C>,
+    outputs: &'a [Holdings<Id>],
+    input: usize,
+) -> &'a Trail<Id>
+    requires some { 0 < length outputs.now }
+    requires outputs { AreOutputs broker.now outputs.now }
+    requires input { input < broker.now }
+    ensures { IsLeast outputs.now input result.now }
+{
+    let mut first = outputs[0].at(input).done();
+    for holdings in outputs {
+        first = shorter(first, holdings.at(input).done());
+    }
+    first
+}
+
+/// The shorter of two trails of one log: the items that both have.
+fn shorter<'a, Id: Names>(one: &'a Trail<Id>, other: &'a Trail<Id>) -> &'a Trail<Id>
+    requires { other.now.partition ≡ one.now.partition }
+    ensures { IsShorter one.now other.now result.now }
+{
+    one.agrees(other);
+    if one.len() <= other.len() {
+        one
+    } else {
+        other
+    }
+}

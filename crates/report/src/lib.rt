@@ -1,0 +1,24 @@
+//! What became of the records of a broker: the rows that each output partition holds of each input
+//! partition, and how many records of an input's first items were kept, were rejected or met no
+//! program. `gather` takes it from a broker as a `Snapshot`, and `write` writes its lines.
+#![tactic(auto)]
+
+mod counting;
+mod counts;
+mod fate;
+mod fault;
+mod gathering;
+mod holding;
+mod lines;
+mod snapshot;
+mod tally;
+mod writing;
+
+pub use crate::counts::Counts;
+pub use crate::fate::Fate;
+pub use crate::fault::ReportFault;
+pub use crate::gathering::gather;
+pub use crate::holding::Holding;
+pub use crate::snapshot::Snapshot;
+pub use crate::tally::Tally;
+pub use crate::writing::write;

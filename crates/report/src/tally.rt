@@ -1,0 +1,60 @@
+ghost use Rattle.std.specs.Prelude.{◌≡◌, ◌<◌, length, IfOk};
+ghost use Rattle.report.specs.Totals.{AreCountsOf};
+
+use crate::counting::count_items;
+use crate::counts::Counts;
+use broker::Broker;
+use part_log::{Names, Trail};
+use std::alloc::{AllocError, Global};
+use std::marker::Model;
+
+/// The first items of an input partition, and what became of their records. Its type keeps that the
+/// counts are those of what the program in force means on each record.
+#[derive(Drop)]
+pub struct Tally<Id: Names> {
+    first: Trail<Id>,
+    counts: Counts,
+}
+
+impl<Id: Names> Model for Tally<Id> {
+    ghost use Rattle.report.specs.Totals.{Tallied, tallied, IsTallied};
+
+    ghost Value = { Tallied };
+
+    ghost view = { λ t. tallied t.first t.counts };
+
+    ghost invariant = { λ t. IsTallied Id.outputs (tallied t.first t.counts) };
+}
+
+impl<Id: Names> Tally<Id> {
+    /// Of the items of a trail. Each record is run once. It fails only where memory runs out.
+    pub(crate) fn of<C>(
+        alloc: Global,
+        broker: &Broker<Id, C>,
+        first: &Trail<Id>,
+    ) -> Result<Tally<Id>, AllocError>
+        requires { first.now.partition < broker.now }
+        ensures { IfOk result (λ tally. tally.first ≡ first.now) }
+    {
+        let counts = count_items(alloc, broker, first)?;
+        Ok(Tally {
+            first: first.again(),
+            counts,
+        })
+    }
+
+    /// The items whose records are counted.
+    pub fn first(&self) -> &Trail<Id>
+        ensures { result.now ≡ self.now.first }
+    {
+        &self.first
+    }
+
+    /// What became of their records.
+    pub fn counts(&self) -> &Counts
+        ensures counts { result.now ≡ self.now.totals }
+        ensures are { AreCountsOf self.now.first.partition Id.outputs self.now.first.items (length self.now.first.items) result.now }
+    {
+        &self.counts
+    }
+}

@@ -1,0 +1,136 @@
+ghost use Rattle.std.specs.Prelude.{◌≡◌};
+ghost use Rattle.broker.specs.Layouts.{IsNamed};
+
+use crate::calls::{deploy, go, put_byte, reports};
+use broker::{Broker, Parts, Stepped};
+use catalogue::Catalogue;
+use fixtures::FORWARD;
+use part_log::Names;
+use report::gather;
+use std::alloc::Global;
+use std::marker::Brand;
+use std::process::Abort;
+use std::sync::Wait;
+use std::test::Fail;
+use std::thread::Threads;
+
+/// Each record goes to output 0 and then to output 1.
+const BOTH: [u8; 40] = [
+    0xb7, 1, 0, 0, 0, 0, 0, 0, 0x85, 0, 0, 0, 3, 0, 0, 0, 0xb7, 1, 0, 0, 1, 0, 0, 0, 0x85, 0, 0, 0,
+    3, 0, 0, 0, 0x95, 0, 0, 0, 0, 0, 0, 0,
+];
+
+#[test]
+fn lines_are_in_the_order_of_partitions(rt: HostRuntime) -> Result<(), Fail> {
+    let alloc = rt.alloc();
+    fill_two::<Brand, _>(&rt, alloc, Parts::new(&rt, alloc, 2, 2, 4)?)
+}
+
+fn fill_two<Id: Names + Send + Sync, R: Threads + Wait + Abort + Sync>(
+    rt: &R,
+    alloc: Global,
+    parts: Parts<Catalogue<&R>>,
+) -> Result<(), Fail>
+    requires cells { IsNamed Id.cells parts.cells }
+    requires outputs { parts.outputs ≡ Id.outputs }
+{
+    let broker: Broker<Id, Catalogue<&R>> = Broker::new(alloc, parts)?;
+    for (input, value) in [(1, b'B'), (0, b'A')] {
+        assert_eq!(rt; deploy(rt, alloc, &broker, input, &BOTH), Some(0));
+        assert!(rt; put_byte(rt, alloc, &broker, input, value).is_some());
+    }
+    assert!(rt; go(rt, alloc, &broker));
+    let want = "row 0 0 0 0 1000 6b 41 0\n\
+        row 0 1 0 0 1000 6b 42 0\n\
+        row 1 0 0 1 1000 6b 41 0\n\
+        row 1 1 0 1 1000 6b 42 0\n\
+        out 0 in 0 done 2 rows 1\n\
+        out 0 in 1 done 2 rows 1\n\
+        out 1 in 0 done 2 rows 1\n\
+        out 1 in 1 done 2 rows 1\n\
+        in 0 items 2 records 1 unprogrammed 0 kept 1\n\
+        in 1 items 2 records 1 unprogrammed 0 kept 1\n";
+    assert!(rt; reports(rt, alloc, &broker, want));
+    Ok(())
+}
+
+#[test]
+fn items_that_are_done_everywhere_are_counted(rt: HostRuntime) -> Result<(), Fail> {
+    let alloc = rt.alloc();
+    step_apart::<Brand, _>(&rt, alloc, Parts::new(&rt, alloc, 1, 2, 8)?)
+}
+
+/// One book is ahead of the other, and the log of both.
+fn step_apart<Id: Names, R: Wait + Abort>(
+    rt: &R,
+    alloc: Global,
+    parts: Parts<Catalogue<&R>>,
+) -> Result<(), Fail>
+    requires cells { IsNamed Id.cells parts.cells }
+    requires outputs { parts.outputs ≡ Id.outputs }
+{
+    let broker: Broker<Id, Catalogue<&R>> = Broker::new(alloc, parts)?;
+    assert!(rt; reports(rt, alloc, &broker, "out 0 in 0 done 0 rows 0\n\
+        out 1 in 0 done 0 rows 0\n\
+        in 0 items 0 records 0 unprogrammed 0 kept 0\n"));
+    assert_eq!(rt; deploy(rt, alloc, &broker, 0, &FORWARD), Some(0));
+    for value in [b'A', b'B', b'C'] {
+        assert!(rt; put_byte(rt, alloc, &broker, 0, value).is_some());
+    }
+    for output in [0, 1, 0, 1, 0] {
+        assert!(rt; step(rt, alloc, &broker, output).is_some());
+    }
+    let want = "row 0 0 0 0 1000 6b 41 0\n\
+        row 0 0 1 0 1000 6b 42 0\n\
+        out 0 in 0 done 3 rows 2\n\
+        out 1 in 0 done 2 rows 0\n\
+        in 0 items 2 records 1 unprogrammed 0 kept 1\n";
+    assert!(rt; reports(rt, alloc, &broker, want));
+    assert_eq!(rt; parts_of(rt, alloc, &broker), Some((3, 2, 2, 1)));
+    Ok(())
+}
+
+/// A step of an output partition's book over input partition 0.
+fn step<Id: Names, C, R: Wait>(
+    rt: &R,
+    alloc: Global,
+    broker: &Broker<Id, C>,
+    output: usize,
+) -> Option<Stepped> {
+    if output >= broker.outputs() {
+        return None;
+    }
+    let _some = broker.inputs();
+    let mut guard = broker.book(output).lock(rt);
+    let book = &mut *guard;
+    if book.inputs() == 0 {
+        return None;
+    }
+    let done = book.done(0);
+    if done >= broker.cells(0) {
+        return None;
+    }
+    let mut note = broker.note(0, done);
+    broker.step(alloc, book, 0, &mut note).ok()
+}
+
+/// Of input partition 0: how many items and rows output partition 0 has, and how many items and records
+/// are counted.
+fn parts_of<Id: Names, C, R: Wait>(
+    rt: &R,
+    alloc: Global,
+    broker: &Broker<Id, C>,
+) -> Option<(usize, usize, usize, u64)> {
+    let snapshot = gather(rt, alloc, broker).ok()?;
+    if snapshot.outputs() == 0 || snapshot.inputs() == 0 {
+        return None;
+    }
+    let held = snapshot.holding(0, 0);
+    let tally = snapshot.tally(0);
+    Some((
+        held.done().len(),
+        held.rows().len(),
+        tally.first().len(),
+        tally.counts().records(),
+    ))
+}

@@ -1,0 +1,135 @@
+//! A report where memory runs out. The test passes as it is, and in a run in which one request for
+//! memory is refused: `tools/refuse_each.py` runs it once for each of its requests.
+
+ghost use Rattle.std.specs.Prelude.{◌≡◌};
+ghost use Rattle.broker.specs.Layouts.{IsNamed};
+
+use crate::calls::{deploy, go, put_byte};
+use broker::{Broker, BrokerFault, Parts};
+use catalogue::Catalogue;
+use part_log::Names;
+use report::{ReportFault, Snapshot, gather, write};
+use std::alloc::{AllocError, Global};
+use std::marker::Brand;
+use std::process::Abort;
+use std::sync::Wait;
+use std::test::Fail;
+use std::thread::Threads;
+
+/// Each record goes to output 0 and is then rejected by the first byte of its value, if that is not 0.
+const FIRST_BYTE: [u8; 64] = [
+    0xbf, 0x16, 0, 0, 0, 0, 0, 0, 0xbf, 0x27, 0, 0, 0, 0, 0, 0, 0xb7, 1, 0, 0, 0, 0, 0, 0, 0x85, 0,
+    0, 0, 3, 0, 0, 0, 0xb7, 0, 0, 0, 0, 0, 0, 0, 0xa5, 7, 1, 0, 1, 0, 0, 0, 0x71, 0x60, 0, 0, 0, 0,
+    0, 0, 0x95, 0, 0, 0, 0, 0, 0, 0,
+];
+
+const WANT: &str = "row 0 0 1 0 1000 6b 00 0\n\
+    out 0 in 0 done 4 rows 1\n\
+    in 0 items 4 records 3 unprogrammed 0 kept 1\n\
+    in 0 reject 7 count 1\n\
+    in 0 reject 9 count 1\n";
+
+/// Why the calls of a test did not all end well.
+#[derive(Clone, Copy, Debug, PartialEq, Eq)]
+enum Ending {
+    /// There was no memory for a broker.
+    NotMade,
+    /// The named call gave another answer than its own for memory, or a wrong one.
+    Wrong(&'static str),
+}
+
+#[test]
+fn a_refused_report_can_be_made_again(rt: HostRuntime) -> Result<(), Fail> {
+    let alloc = rt.alloc();
+    let mut ending = make_and_report(&rt, alloc);
+    if ending == Err(Ending::NotMade) {
+        ending = make_and_report(&rt, alloc);
+    }
+    assert_eq!(rt; ending, Ok(()));
+    Ok(())
+}
+
+fn make_and_report<R: Threads + Wait + Print + Sync>(
+    rt: &R,
+    alloc: Global,
+) -> Result<(), Ending> {
+    match Parts::new(rt, alloc, 1, 1, 4) {
+        Ok(parts) => report_all::<Brand, R>(rt, alloc, parts),
+        Err(_) => Err(Ending::NotMade),
+    }
+}
+
+fn report_all<Id: Names + Send + Sync, R: Threads + Wait + Print + Sync>(
+    rt: &R,
+    alloc: Global,
+    parts: Parts<Catalogue<&R>>,
+) -> Result<(), Ending>
+    requires cells { IsNamed Id.cells parts.cells }
+    requires outputs { parts.outputs ≡ Id.outputs }
+{
+    let made: Result<Broker<Id, Catalogue<&R>>, AllocError> = Broker::new(alloc, parts);
+    let Ok(broker) = made else {
+        return Err(Ending::NotMade);
+    };
+    fill(rt, alloc, &broker).ok_or(Ending::Wrong("fill"))?;
+    let snapshot = snapshot_of(rt, alloc, &broker).ok_or(Ending::Wrong("gather"))?;
+    if is_written(rt, alloc, &snapshot) {
+        Ok(())
+    } else {
+        Err(Ending::Wrong("write"))
+    }
+}
+
+/// A mark and three records, each tried again where it was refused, and what workers make of them.
+fn fill<Id: Names + Send + Sync, R: Threads + Wait + Sync>(
+    rt: &R,
+    alloc: Global,
+    broker: &Broker<Id, Catalogue<&R>>,
+) -> Option<()> {
+    if deploy(rt, alloc, broker, 0, &FIRST_BYTE).is_none() {
+        deploy(rt, alloc, broker, 0, &FIRST_BYTE)?;
+    }
+    for value in [9, 0, 7] {
+        if put_byte(rt, alloc, broker, 0, value).is_none() {
+            put_byte(rt, alloc, broker, 0, value)?;
+        }
+    }
+    if go(rt, alloc, broker) || go(rt, alloc, broker) {
+        Some(())
+    } else {
+        None
+    }
+}
+
+fn snapshot_of<Id: Names, C, R: Wait + Print>(
+    rt: &R,
+    alloc: Global,
+    broker: &Broker<Id, C>,
+) -> Option<Snapshot<Id>> {
+    match gather(rt, alloc, broker) {
+        Ok(snapshot) => Some(snapshot),
+        Err(fault) => {
+            let _ = println!(rt; "refused gather: {fault}");
+            if fault != BrokerFault::Memory {
+                return None;
+            }
+            gather(rt, alloc, broker).ok()
+        }
+    }
+}
+
+/// Whether the report is the right one, after a refused write at the second try.
+fn is_written<Id: Names, R: Print>(rt: &R, alloc: Global, snapshot: &Snapshot<Id>) -> bool {
+    let mut text: Vec<u8> = Vec::new(alloc);
+    if let Err(fault) = write(alloc, snapshot, &mut text) {
+        let _ = println!(rt; "refused write: {fault}");
+        if fault != ReportFault::Memory || !WANT.as_bytes().starts_with(text.as_slice()) {
+            return false;
+        }
+        text.clear();
+        if write(alloc, snapshot, &mut text).is_err() {
+            return false;
+        }
+    }
+    text.as_slice() == WANT.as_bytes()
+}
