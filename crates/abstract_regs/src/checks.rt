@@ -431,7 +431,8 @@ fn is_whole(address: Abs, count: Abs) -> bool
 
 // ---- calls and the exit
 
-fn is_wrong_argument(state: &Abstract, argument: Argument) -> bool
+/// Whether a helper's argument may not be what it must be.
+pub fn is_wrong_argument(state: &Abstract, argument: Argument) -> bool
     ensures { result ≡ is_wrong_argument_kind state.now argument }
 {
     match argument {

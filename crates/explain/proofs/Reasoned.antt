@@ -162,8 +162,18 @@ pub argument_found : (s : Abstract) (arguments : List Argument) → list_any (is
 argument_found s [] e = cc
 argument_found s (Argument.Nothing ∷ arguments) e = argument_found s arguments e
 argument_found s (Argument.Number r ∷ arguments) e =
-    let wrong = not (is_number_kind (kind_at s r)) in
+    let wrong = is_wrong_argument_kind s (Argument.Number r) in
     let here : Argument = Argument.Number r in
+    let others = find (is_wrong_argument_kind s) arguments in
+    elim (cases_Bool wrong) [
+      | inl is ↦ ap (λ (o : Option Argument). is_some (wrong_argument s o)) (cond-true wrong (Some here) others is)
+      | inr other ↦
+          ap (λ (o : Option Argument). is_some (wrong_argument s o)) (cond-false wrong (Some here) others other)
+          ∙ argument_found s arguments (or_else wrong (list_any (is_wrong_argument_kind s) arguments) e other)
+    ]
+argument_found s (Argument.Bytes address count ∷ arguments) e =
+    let wrong = is_wrong_argument_kind s (Argument.Bytes address count) in
+    let here : Argument = Argument.Bytes address count in
     let others = find (is_wrong_argument_kind s) arguments in
     elim (cases_Bool wrong) [
       | inl is ↦ ap (λ (o : Option Argument). is_some (wrong_argument s o)) (cond-true wrong (Some here) others is)

@@ -112,8 +112,16 @@ unset_byte set None = None
 
 -- ---- calls
 
+-- no address, no number, or bytes that may not be there or not be set
+abbrev pub wrong_bytes : Abstract → ℕ → ℕ → Reason
+wrong_bytes s address count =
+    if not (is_address_kind (kind_at s address)) then Reason.NoAddress address (kind_at s address)
+    else if not (is_number_kind (kind_at s count)) then Reason.NoNumber count (kind_at s count)
+    else Reason.WrongBytes address (kind_at s address) count (kind_at s count)
+
 abbrev pub wrong_argument : Abstract → Option Argument → Option Reason
 wrong_argument s (Some (Argument.Number r)) = Some (Reason.NoNumber r (kind_at s r))
+wrong_argument s (Some (Argument.Bytes address count)) = Some (wrong_bytes s address count)
 wrong_argument s (Some Argument.Nothing) = None
 wrong_argument s None = None
 

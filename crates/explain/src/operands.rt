@@ -6,7 +6,7 @@ ghost use Rattle.verifier_spec.specs.Checks.{source_kind, is_wrong_argument_kind
 ghost use Rattle.explain.specs.Reasons as definitions;
 
 use crate::reason::Reason;
-use abstract_regs::{greatest_displacement, is_one_sign, least_displacement};
+use abstract_regs::{greatest_displacement, is_one_sign, is_wrong_argument, least_displacement};
 use machine_spec::{
     Argument, Condition, MemoryOperand, Operands, Operation, Source, Summary, Width,
 };
@@ -163,15 +163,6 @@ pub fn wrong_type(summary: Summary, state: &Abstract) -> Option<Reason>
 
 // ---- arguments of a call
 
-fn is_wrong_argument(state: &Abstract, argument: Argument) -> bool
-    ensures { result ≡ is_wrong_argument_kind state.now argument }
-{
-    match argument {
-        Argument::Nothing => false,
-        Argument::Number(register) => !kinds::is_number(kinds::kind_at(state, register)),
-    }
-}
-
 fn first_wrong(state: &Abstract, arguments: &[Argument]) -> Option<Argument>
     ensures { result ≡ find (is_wrong_argument_kind state.now) arguments.now }
 {
@@ -192,6 +183,20 @@ pub fn first_wrong_argument(summary: Summary, state: &Abstract) -> Option<Argume
     }
 }
 
+fn wrong_bytes(state: &Abstract, address: u8, count: u8) -> Reason
+    ensures { result ≡ definitions.wrong_bytes state.now address count }
+{
+    let kind = kinds::kind_at(state, address);
+    let count_kind = kinds::kind_at(state, count);
+    if !kinds::is_address(kind) {
+        Reason::NoAddress(address, kind)
+    } else if !kinds::is_number(count_kind) {
+        Reason::NoNumber(count, count_kind)
+    } else {
+        Reason::WrongBytes(address, kind, count, count_kind)
+    }
+}
+
 pub fn wrong_argument(state: &Abstract, argument: Option<Argument>) -> Option<Reason>
     ensures { result ≡ definitions.wrong_argument state.now argument }
 {
@@ -200,6 +205,7 @@ pub fn wrong_argument(state: &Abstract, argument: Option<Argument>) -> Option<Re
             let kind = kinds::kind_at(state, register);
             Some(Reason::NoNumber(register, kind))
         }
+        Some(Argument::Bytes(address, count)) => Some(wrong_bytes(state, address, count)),
         Some(Argument::Nothing) => None,
         None => None,
     }

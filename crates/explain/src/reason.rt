@@ -54,6 +54,10 @@ pub enum Reason {
     OutsideStack(Reached),
     /// Not all bytes are set. Fields: the bytes, the first of them that may not be set.
     UnsetByte(Reached, u64),
+    /// An address and a length that a helper takes may name bytes that are not there or not set.
+    /// Fields: the address's register, what is known of it, the length's register, what is known of
+    /// it.
+    WrongBytes(u8, Abs, u8, Abs),
 }
 
 impl fmt::Display for Reached {
@@ -146,6 +150,15 @@ impl fmt::Display for Reason {
             Reason::OutsideStack(reached) => write!(f, "{reached}, which has bytes 0 to 511"),
             Reason::UnsetByte(reached, place) => {
                 write!(f, "{reached}, and byte {place} may not be set")
+            }
+            Reason::WrongBytes(address, kind, count, count_kind) => {
+                write_kind(f, address, kind, "and ")?;
+                write_kind(
+                    f,
+                    count,
+                    count_kind,
+                    "name bytes that may be outside what is known to be there, or not set",
+                )
             }
         }
     }

@@ -26,6 +26,16 @@ fn unknown_at(state: &Abstract, register: u8) -> Option<u8>
     }
 }
 
+fn unknown_of_registers(state: &Abstract, first: u8, second: u8) -> Option<u8>
+    ensures { result ≡ find (λ r. is_unknown (kind_at state.now r)) (first ∷ second ∷ []) }
+{
+    if is_unknown_at(state, first) {
+        Some(first)
+    } else {
+        unknown_at(state, second)
+    }
+}
+
 fn unknown_source(state: &Abstract, source: Source) -> Option<u8>
     ensures { result ≡ find (λ r. is_unknown (kind_at state.now r)) (source_registers source) }
 {
@@ -80,6 +90,7 @@ fn unknown_argument(state: &Abstract, argument: Argument) -> Option<u8>
     match argument {
         Argument::Nothing => None,
         Argument::Number(register) => unknown_at(state, register),
+        Argument::Bytes(address, count) => unknown_of_registers(state, address, count),
     }
 }
 

@@ -2,7 +2,7 @@ use crate::images::{explained, refusal_text};
 use std::test::Fail;
 
 /// Refused programs, each with its fault and what that is about.
-const REFUSALS: [(&str, &str); 22] = [
+const REFUSALS: [(&str, &str); 25] = [
     (
         "ja +5\nexit\n",
         "V1 JumpTarget at 0\nthe jump leads to slot 6, where no instruction begins\n",
@@ -83,6 +83,18 @@ const REFUSALS: [(&str, &str); 22] = [
     (
         "call 3\nexit\n",
         "V12 HelperArg at 0\nr1 (value+0) is no number, and a number is needed\n",
+    ),
+    (
+        "mov64 r1, 0\nmov64 r2, 0\nmov64 r3, 0\ncall 4\nexit\n",
+        "V12 HelperArg at 3\nr2 (0) is no address, and an address is needed\n",
+    ),
+    (
+        "mov64 r2, r3\nmov64 r3, r1\nmov64 r1, 0\ncall 4\nexit\n",
+        "V12 HelperArg at 3\nr3 (value+0) is no number, and a number is needed\n",
+    ),
+    (
+        "mov64 r1, 0\nmov64 r2, r10\nadd64 r2, -8\nmov64 r3, 8\ncall 4\nexit\n",
+        "V12 HelperArg at 4\nr2 (stack+504) and r3 (8) name bytes that may be outside what is known to be there, or not set\n",
     ),
     (
         "mov64 r0, r1\nexit\n",
