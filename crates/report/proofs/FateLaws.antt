@@ -49,3 +49,12 @@ items_more input outputs items k item old new before at more = record {
 
 pub no_items : (input outputs : ℕ) (items : List Item) (c : Totals) → AreCounts [] c → AreCountsOf input outputs items 0 c
 no_items input outputs items c are = record { fates = []; fates_are = refl; counts_are = are }
+
+-- the same fates by other names
+pub counted_for : (input outputs offset input' outputs' offset' : ℕ) (image image' : Option (List ℕ)) (item : Item) (old new : Totals) → input ≡ input' → outputs ≡ outputs' → image ≡ image' → offset ≡ offset'
+    → AreCounted (AreItemFates input outputs image offset item) old new → AreCounted (AreItemFates input' outputs' image' offset' item) old new
+counted_for input outputs offset input' outputs' offset' image image' item old new at all forced from are =
+    subst (λ (o : ℕ). AreCounted (AreItemFates input' outputs' image' o item) old new) from
+    (subst (λ (p : Option (List ℕ)). AreCounted (AreItemFates input' outputs' p offset item) old new) forced
+    (subst (λ (q : ℕ). AreCounted (AreItemFates input' q image offset item) old new) all
+    (subst (λ (i : ℕ). AreCounted (AreItemFates i outputs image offset item) old new) at are)))

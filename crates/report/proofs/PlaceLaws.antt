@@ -1,9 +1,10 @@
 -- What stands at each place of a list.
-use Rattle.std.proofs.Common.{◌≡◌, ◌≢◌, ℕ, zero, suc, ◌+◌, ◌<◌, ◌≤◌, List, [], ◌∷◌, ◌++◌, length, take, Option, Some, None, ◌⊎◌, inl, inr, ⊎_elim, refl, sym, ap, subst, ◌∙◌, arith}
+use Rattle.std.proofs.Common.{◌≡◌, ◌≢◌, ℕ, zero, suc, ◌+◌, ◌<◌, ◌≤◌, List, [], ◌∷◌, ◌++◌, length, take, get_or, Option, Some, None, ◌⊎◌, inl, inr, ⊎_elim, refl, sym, ap, subst, ◌∙◌, arith}
 use native.Mathlib.Decide.{ℕ_discrete}
 use Rattle.std.specs.Prelude.{slice_get, slice_index_or}
-use Rattle.std.proofs.lemmas.List.{take_all, take-take}
-use Rattle.std.proofs.lemmas.Option.{same_Some}
+use Rattle.std.proofs.lemmas.List.{take_all, take-take, length-take, get_or_read}
+use Rattle.std.proofs.lemmas.Option.{same_Some, slice_get_read, slice_get_within}
+use Rattle.log_spec.specs.Logs.{Item}
 use Rattle.part_log.specs.Parts.{Log}
 use Rattle.report.specs.Holdings.{Held, IsOutput}
 use Rattle.report.specs.Snapshots.{held_at, AreOutputs, IsShorter, IsLeast, AreLeast}
@@ -56,9 +57,12 @@ shorter_yet done first shorter begins le is =
     sym (take-take (length shorter.items) (length first.items) done.items le) ∙ (ap (take (length shorter.items)) begins ∙ is)
 
 pub least_more : (outputs : List (List Held)) (n input : ℕ) (first shorter : Log) (h : Held) → IsLeastOf outputs n input first → held_at outputs n input ≡ Some h → h.done.partition ≡ input
-    → length shorter.items ≤ length first.items → IsShorter first h.done shorter → IsLeastOf outputs (n + 1) input shorter
-least_more outputs n input first shorter h before at of le is = ⊎_elim same other is.is_either
+    → IsShorter first h.done shorter → IsLeastOf outputs (n + 1) input shorter
+least_more outputs n input first shorter h before at of is = ⊎_elim same other is.is_either
   where
+    le : length shorter.items ≤ length first.items
+    le = omega (arith, ap (λ (xs : List Item). length xs) is.in_one, length-take (length shorter.items) first.items)
+
     begins : (output : ℕ) (g : Held) → output < n + 1 → held_at outputs output input ≡ Some g → take (length shorter.items) g.done.items ≡ shorter.items
     begins output g lt e = by_place (ℕ_discrete output n)
       where
@@ -91,3 +95,34 @@ least_more outputs n input first shorter h before at of le is = ⊎_elim same ot
       in_one = e;
     }
 
+
+-- every output partition is one of the first ones
+pub least_end : (outputs : List (List Held)) (n input : ℕ) (first : Log) → length outputs ≤ n → IsLeastOf outputs n input first → IsLeast outputs input first
+least_end outputs n input first all of = record {
+  partition_is = of.partition_is;
+  in_each = λ output h e. of.in_each output h (omega (arith, all, within outputs output input h e)) e;
+  place = of.place;
+  least = of.least;
+  least_at = of.least_at;
+  in_one = of.in_one;
+}
+  where
+    within : (rest : List (List Held)) (output input : ℕ) (h : Held) → held_at rest output input ≡ Some h → output < length rest
+    within [] output input h e = absurd cc
+    within (holdings ∷ rest) zero input h e = omega arith
+    within (holdings ∷ rest) (suc output) input h e = let below = within rest output input h e in omega (arith, below)
+
+-- ---- what stands at a place of an output partition's list
+
+module _ (inputs input k : ℕ) (outputs : List (List Held)) (holdings : List Held) (are : AreOutputs inputs outputs) (lt : k < length outputs) (is : holdings ≡ get_or outputs k holdings) where
+  there : slice_get outputs k ≡ Some holdings
+  there = slice_get_read outputs (length outputs) k holdings refl lt is
+
+  pub holdings_count : length holdings ≡ inputs
+  holdings_count = (are k holdings there).count
+
+  pub partition_at : (h : Held) → slice_get holdings input ≡ Some h → h.done.partition ≡ input
+  partition_at h e = ((are k holdings there).each input h e).1
+
+  pub held_from : (h : Held) → slice_get holdings input ≡ Some h → held_at outputs k input ≡ Some h
+  held_from h e = subst (λ (hs : List Held). slice_get hs input ≡ Some h) (get_or_read outputs k holdings lt is []) e

@@ -1,6 +1,6 @@
 //! Counts the records of first items by what became of them.
 
-ghost use Rattle.std.specs.Prelude.{◌≡◌, ◌<◌, ◌+◌, ◌^◌, Some, length, slice_get, option_map, IfOk, OnOk};
+ghost use Rattle.std.specs.Prelude.{◌≡◌, ◌<◌, ◌≤◌, ◌+◌, ◌^◌, Some, length, slice_get, option_map, IfOk, OnOk};
 ghost use Rattle.log_spec.specs.Logs.{FitsLog, records_in, image_after};
 ghost use Rattle.log_item.specs.Items.{item_view};
 ghost use Rattle.item_rows.specs.ItemRows.{IsOrigin};
@@ -83,6 +83,7 @@ fn count_item(
 ) -> Result<(), AllocError>
     requires origin { IsOrigin origin.now }
     requires few { counts.old.records < 2 ^ 62 }
+    ensures few { records_in (item_view item.now) ≤ 10000 }
     ensures fates { OnOk result (AreCounted (AreItemFates origin.now.input origin.now.outputs (option_map (λ p. p.now) program.entry) origin.now.offset (item_view item.now)) counts.old counts.new) }
     ensures records { OnOk result (counts.new.records ≡ counts.old.records + records_in (item_view item.now)) }
 {

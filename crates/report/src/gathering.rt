@@ -38,6 +38,7 @@ fn holdings<Id: Names, C, R: Wait>(
     broker: &Broker<Id, C>,
 ) -> Result<Vec<Holdings<Id>>, BrokerFault>
     ensures ok { IfOk result (λ all. (length all.items ≡ Id.outputs) × AreOutputs broker.now all.items) }
+    ensures some { IfOk result (λ all. 0 < length all.items) }
     ensures err { IfErr result IsGatherFault }
 {
     let mut all = Vec::new(alloc);

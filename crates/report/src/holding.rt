@@ -114,7 +114,7 @@ impl<Id: Names> Holdings<Id> {
 
 /// A list of rows, which share their bytes with the given ones.
 fn shared(alloc: Global, rows: Rows<'_>) -> Result<Vec<Row>, AllocError>
-    ensures { IfOk result (λ shared. shared.items ≡ rows) }
+    ensures { IfOk result (λ shared. shared.items ≡ rows.entry) }
 {
     let mut left = rows;
     let mut list = Vec::new(alloc);

@@ -1,0 +1,15 @@
+use Rattle.std.proofs.Common.{◌≡◌, ◌+◌, ◌++◌, ◌∷◌, [], ℕ, List, length, sym, ap, subst, ◌∙◌, arith}
+use Rattle.std.proofs.lemmas.List.{length_push}
+use Rattle.report.specs.Holdings.{Held, IsOutput}
+use Rattle.report.specs.Snapshots.{AreOutputs}
+use Rattle.report.proofs.PlaceLaws.{each_pushed}
+use Rattle.report.proofs.gathering.holdings.Goals as goal
+
+pub loop-output-preserved : goal.loop-output-preserved
+loop-output-preserved g c =
+    let inputs = c.args.broker.now in let xs : List (List Held) = c.loop-output.all.items in let x : List Held = c.in_ok-holdings.holdings in
+    let longer : c.push.new.self.items ≡ xs ++ x ∷ [] = c.in-Ok.ensures.items in
+    let at : IsOutput (length xs) inputs x = subst (λ (k : ℕ). IsOutput k inputs x) (sym c.loop-output.invariant.0) c.in_ok-holdings.ensures.ok in (
+      omega (arith, ap (λ (hs : List (List Held)). length hs) longer, length_push xs x, c.loop-output.invariant.0),
+      subst (λ (hs : List (List Held)). AreOutputs inputs hs) (sym longer) (each_pushed (λ (k : ℕ) (hs : List Held). IsOutput k inputs hs) xs x c.loop-output.invariant.1 at),
+    )
