@@ -54,7 +54,7 @@ fn accepts_a_constant(rt: HostRuntime) -> Result<(), Fail> {
     assert_eq!(rt; verified.state(0).map(|s| s.kind(0)), Some(Abs::None));
     assert_eq!(rt; verified.state(1).map(|s| s.kind(0)), Some(Abs::Num(0, 0)));
     assert!(rt; verified.state(2).is_none());
-    assert_eq!(rt; verified.region(0), None);
+    assert_eq!(rt; verified.regions(0).0, None);
     Ok(())
 }
 
@@ -72,8 +72,9 @@ fn accepts_a_guarded_load(rt: HostRuntime) -> Result<(), Fail> {
         verified.state(3).map(|s| s.kind(0)),
         Some(Abs::Num(0, 255))
     );
-    assert_eq!(rt; verified.region(1), None);
-    assert_eq!(rt; verified.region(2), Some(Region::Value));
+    assert_eq!(rt; verified.regions(1).0, None);
+    assert_eq!(rt; verified.regions(2).0, Some(Region::Value));
+    assert_eq!(rt; verified.regions(2).1, None);
     Ok(())
 }
 

@@ -1,4 +1,5 @@
 use annotate::load;
+use machine_spec::Region;
 use std::alloc::{AllocError, Global};
 use std::test::Fail;
 use verifier_spec::Abs;
@@ -606,6 +607,10 @@ fn two_pieces_by_address(rt: HostRuntime) -> Result<(), Fail> {
         assert_eq!(rt; got.as_str(), want);
     }
     let verified = load(alloc, &image)?;
+    assert_eq!(rt; verified.code().len(), 8);
+    assert_eq!(rt; verified.regions(6).0, Some(Region::Value));
+    assert_eq!(rt; verified.regions(6).1, Some(Region::Key));
+    assert_eq!(rt; verified.regions(7).0, None);
     let kind = verified.state(7).map(|s| s.kind(0));
     assert_eq!(rt; kind, Some(Abs::Num(0, 3)));
     let spent = verified.state(7).map(|s| s.kind(5));
