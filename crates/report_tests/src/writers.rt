@@ -70,7 +70,8 @@ fn cut_short<Id: Names + Send + Sync, R: Threads + Wait + Abort + Sync>(
     ] {
         let mut out = Narrow { taken: Vec::new(alloc), room, kind };
         assert_eq!(rt; write(alloc, &snapshot, &mut out), Err(fault));
-        assert!(rt; out.taken.as_slice() == &text[..room]);
+        assert_eq!(rt; out.taken.len(), room);
+        assert!(rt; text.starts_with(out.taken.as_slice()));
     }
     let mut out = Narrow { taken: Vec::new(alloc), room: 1000, kind: io::ErrorKind::Other };
     assert_eq!(rt; write(alloc, &snapshot, &mut out), Ok(()));
