@@ -17,8 +17,10 @@ import sys
 
 U64 = 1 << 64
 
-# Each helper's number: whether it takes an output in r1, and the greatest number that it answers.
-HELPERS = {3: (True, 3), 6: (True, 3), 7: (False, (1 << 62) - 1), 8: (False, (1 << 62) - 1), 9: (False, 63)}
+# Each helper's number: the registers of its numbers, those of the addresses and lengths of its bytes, and the greatest
+# number that it answers.
+HELPERS = {3: ([1], [], 3), 4: ([1], [(2, 3)], 3), 5: ([1], [(2, 3), (4, 5)], 3), 6: ([1], [], 3), 7: ([], [], (1 << 62) - 1),
+           8: ([], [], (1 << 62) - 1), 9: ([], [], 63)}
 TOP = (0, U64 - 1)
 
 
@@ -264,6 +266,24 @@ def shape_fault(code, k):
     return None
 
 
+def argument_registers(helper):
+    numbers, pairs, _ = HELPERS[helper]
+    return numbers + [r for pair in pairs for r in pair]
+
+
+def are_readable(s, address, count):
+    """Whether an address and a number name bytes that can be read."""
+    if address[0] != "addr" or count[0] == "addr":
+        return False
+    _, region, lo, hi = address
+    if lo == hi == 0 and count == ("len", region):
+        return True
+    most = view(s, count)[1]
+    if lo < 0 or hi + most > (512 if region == "stack" else s.low[region]):
+        return False
+    return region != "stack" or s.set >= set(range(lo, hi + most))
+
+
 def state_fault(i, s):
     if i[0] in ("mov", "alu", "change", "wide") and i[1] == 10 or i[0] == "load" and i[2] == 10:
         return "V6 Frame"
@@ -271,7 +291,7 @@ def state_fault(i, s):
         return "V11 Helper"
     read = {"mov": lambda: [i[2]], "alu": lambda: [("reg", i[1]), i[2]], "change": lambda: [("reg", i[2])], "load": lambda: [("reg", i[3])],
             "store": lambda: [("reg", i[2]), i[3]], "ja": lambda: [], "wide": lambda: [],
-            "jump": lambda: [("reg", i[2]), i[3]], "call": lambda: [("reg", 1)] if HELPERS[i[1]][0] else [], "exit": lambda: [("reg", 0)]}[i[0]]()
+            "jump": lambda: [("reg", i[2]), i[3]], "call": lambda: [("reg", r) for r in argument_registers(i[1])], "exit": lambda: [("reg", 0)]}[i[0]]()
     if any(source_kind(s, r) is None for r in read):
         return "V4 Unset"
     if i[0] == "mov" and i[3] == 32 and source_kind(s, i[2])[0] == "addr" or i[0] == "change" and s.regs[i[2]][0] == "addr":
@@ -293,7 +313,8 @@ def state_fault(i, s):
             return "V8 StackBounds" if region == "stack" else "V7 RecordBounds"
         if region == "stack" and i[0] == "load" and not s.set >= set(range(lo + i[4], hi + i[4] + i[1])):
             return "V9 StackUnset"
-    if i[0] == "call" and HELPERS[i[1]][0] and s.regs[1][0] == "addr":
+    if i[0] == "call" and (any(s.regs[r][0] == "addr" for r in HELPERS[i[1]][0])
+                           or not all(are_readable(s, s.regs[a], s.regs[n]) for a, n in HELPERS[i[1]][1])):
         return "V12 HelperArg"
     if i[0] == "exit" and s.regs[0][0] == "addr":
         return "V13 Exit"
@@ -365,7 +386,7 @@ def edges(code, k, s):
     elif i[0] == "wide":
         t.regs[i[1]] = ("num", i[2], i[2])
     elif i[0] == "call":
-        t.regs[0] = ("num", 0, HELPERS[i[1]][1])
+        t.regs[0] = ("num", 0, HELPERS[i[1]][2])
         t.regs[1:6] = [None] * 5
     return [(k + 1, t)]
 
@@ -449,6 +470,14 @@ def changed(change, a):
     return signed(a % (1 << change[2]), change[2]) % (1 << change[1])
 
 
+def named_bytes(bytes_of, address, count):
+    assert isinstance(address, tuple) and isinstance(count, int), "trap: argument"
+    region, at = address
+    assert 0 <= at and at + count <= len(bytes_of[region]), "trap: argument"
+    assert None not in list(bytes_of[region][at:at + count]), "trap: argument"
+    return bytes(bytes_of[region][at:at + count])
+
+
 def run(code, record, outputs, place):
     """The emissions of a record that is kept, or its reject code. The place is its offset, timestamp and input."""
     stack = [None] * 512
@@ -505,9 +534,12 @@ def run(code, record, outputs, place):
         else:
             out = regs[1]
             assert isinstance(out, int), "trap: argument"
-            answer = 1 if out >= outputs else 2 if len(record.key or b"") > 4096 else 3 if len(emitted) >= 16 else 0
+            named = [named_bytes(bytes_of, regs[a], regs[n]) for a, n in HELPERS[i[1]][1]]
+            key, value, headers = {3: lambda: (record.key, record.value, record.headers), 4: lambda: (record.key, named[0], []),
+                                   5: lambda: (named[0], named[1], []), 6: lambda: (record.key, None, [])}[i[1]]()
+            answer = 1 if out >= outputs else 2 if len(key or b"") > 4096 else 3 if len(emitted) >= 16 else 0
             if answer == 0:
-                emitted.append((out, record.value, record.headers) if i[1] == 3 else (out, None, []))
+                emitted.append((out, key, value, headers))
             regs[0], regs[1:6] = answer, [None] * 5
 
 
@@ -794,31 +826,47 @@ class Broker:
         self.out.append("close %d index %d" % (i, index))
 
     def rows(self, i):
-        """The rows that an input partition gives, each with its output."""
-        program, rows = None, []
+        """The rows that an input partition gives, each with its output, and what became of each record: unprogrammed,
+        kept, or the code that it was rejected with."""
+        program, rows, fates = None, [], []
         for item in self.logs[i].items:
             if item[0] == "mark":
                 program = item[1]
-            if item[0] != "batch" or program is None:
+            if item[0] != "batch":
                 continue
             _, base, records, offset = item
+            if program is None:
+                fates += ["unprogrammed"] * len(records)
+                continue
             for k, record in enumerate(records):
                 end = run(program, record, self.outputs, (offset + k, base + record.delta, i))
                 if isinstance(end, int):
                     self.faults["rejected"] += 1
+                    fates.append(end)
                     continue
-                for n, (out, value, headers) in enumerate(end):
+                fates.append("kept")
+                for n, (out, key, value, headers) in enumerate(end):
                     rows.append((out, "row %d %d %d %d %d %s %s %d" % (
-                        out, i, offset + k, n, base + record.delta, shown(record.key), shown(value), len(headers))))
-        return rows
+                        out, i, offset + k, n, base + record.delta, shown(key), shown(value), len(headers))))
+        return rows, fates
 
     def go(self):
         self.order(self.begun())
-        rows = [self.rows(i) for i in range(len(self.logs))]
+        inputs = [self.rows(i) for i in range(len(self.logs))]
         for out in range(self.outputs):
-            for given in rows:
+            for given, _ in inputs:
                 self.out += [row for place, row in given if place == out]
-        self.faults["rows"] += sum(map(len, rows))
+        for out in range(self.outputs):
+            for i, (given, _) in enumerate(inputs):
+                held = sum(place == out for place, _ in given)
+                self.out.append("out %d in %d done %d rows %d" % (out, i, len(self.logs[i].items), held))
+        for i, (_, fates) in enumerate(inputs):
+            counts = collections.Counter(fates)
+            self.out.append("in %d items %d records %d unprogrammed %d kept %d" % (
+                i, len(self.logs[i].items), len(fates), counts["unprogrammed"], counts["kept"]))
+            for code in sorted(code for code in counts if isinstance(code, int)):
+                self.out.append("in %d reject %d count %d" % (i, code, counts[code]))
+        self.faults["rows"] += sum(len(given) for given, _ in inputs)
 
 
 def shown(part):

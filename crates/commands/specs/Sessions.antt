@@ -9,6 +9,8 @@ use Rattle.broker.specs.Layouts.{Layout}
 use Rattle.script.specs.declared.command.Command.{Command}
 use Rattle.script.specs.declared.command.Command.TheVariants.{Partitions, Load, Deploy, Put, Append, Close, Go}
 use Rattle.script.specs.Texts.{deploy_line, append_line, close_line}
+use Rattle.report.specs.Snapshots.{Gathered}
+use Rattle.report.specs.Texts.{report_text}
 use Rattle.commands.specs.Puts.{put_batch}
 
 -- so many input partitions, with so many cells each, and so many output partitions
@@ -58,6 +60,13 @@ Puts input batch receipt before after =
 abbrev pub Closes : ℕ → Received → Option (List ℕ) → Option (List ℕ) → Type 0
 Closes input receipt before after = IsReceiptOf input Closed receipt × Appends before after (close_line input (length receipt.before.items))
 
+-- The report of a snapshot was printed, which has so many output and input partitions.
+pub record Reports (outputs inputs : ℕ) (before after : Option (List ℕ)) : Type 0 where
+  pub snapshot : Gathered
+  pub outputs_are : length snapshot.outputs ≡ outputs
+  pub inputs_are : length snapshot.inputs ≡ inputs
+  pub printed : Appends before after (report_text snapshot)
+
 -- What a command appends, if it is one item, and prints.
 abbrev pub Does : Command → Option Received → Option (List ℕ) → Option (List ℕ) → Type 0
 Does (Deploy input name) (Some receipt) before after = Deploys input name receipt before after
@@ -69,7 +78,7 @@ Does (Close input) None before after = ⊥
 Does (Partitions inputs outputs cells) receipt before after = ⊥
 Does (Load name source) receipt before after = receipt ≡ None
 Does (Append input source) receipt before after = receipt ≡ None
-Does Go receipt before after = receipt ≡ None
+Does Go receipt before after = (receipt ≡ None) × ((outputs : ℕ) × (inputs : ℕ) × Reports outputs inputs before after)
 
 -- the same of a line, which is this command
 abbrev pub LineDoes : Option Command → Option Received → Option (List ℕ) → Option (List ℕ) → Type 0

@@ -9,6 +9,8 @@ use Rattle.broker.specs.declared.fault.BrokerFault.{BrokerFault}
 use Rattle.broker.specs.declared.fault.BrokerFault.TheVariants as broker
 use Rattle.broker.specs.declared.ended.Ended.{Ended}
 use Rattle.broker.specs.declared.ended.Ended.TheVariants as ended
+use Rattle.report.specs.declared.fault.ReportFault.{ReportFault}
+use Rattle.report.specs.declared.fault.ReportFault.TheVariants as report
 use Rattle.commands.specs.declared.stop.Stop.{Stop}
 use Rattle.commands.specs.declared.stop.Stop.TheVariants as stop
 use Rattle.commands.specs.declared.image.Refused.{Refused}
@@ -32,6 +34,11 @@ stop_of_broker (broker.Log log.Memory) = stop.Memory
 stop_of_broker (broker.Book (book.Gap expected)) = stop.Broker (broker.Book (book.Gap expected))
 stop_of_broker (broker.Book book.Partition) = stop.Broker (broker.Book book.Partition)
 stop_of_broker (broker.Book book.Memory) = stop.Memory
+
+-- a report that is not written to its end
+abbrev pub stop_of_report : ReportFault → Stop
+stop_of_report report.Write = stop.Output
+stop_of_report report.Memory = stop.Memory
 
 -- how a worker ended; the gate of a script's workers stops none
 abbrev pub end_of : Ended → Result (Unit {0}) Stop

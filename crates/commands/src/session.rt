@@ -8,19 +8,20 @@ ghost use Rattle.broker.specs.Layouts.{IsNamed};
 ghost use Rattle.broker.specs.declared.fault.BrokerFault.TheVariants.{Partition};
 ghost use Rattle.commands.specs.declared.stop.Stop.TheVariants as stop;
 ghost use Rattle.commands.specs.Puts.{put_batch};
-ghost use Rattle.commands.specs.Sessions.{IsMark, AreAppended, Deploys, Puts, Closes, Does, LineDoes};
+ghost use Rattle.commands.specs.Sessions.{IsMark, AreAppended, Deploys, Puts, Closes, Reports, Does, LineDoes};
 
 use crate::batches::{batch_of, next_batch};
 use crate::files::Files;
 use crate::image::read_image;
+use crate::printing::print;
 use crate::reading::{Unread, cause_of, read_whole};
-use crate::rows::{print, print_books};
 use crate::stop::{Stop, end_of_all};
 use broker::{Broker, BrokerFault, Parts, Until};
 use bytes::Bytes;
 use catalogue::{Catalogue, Finder, Known};
 use log_spec::Name;
 use part_log::{Names, Receipt};
+use report::gather;
 use script::{
     Command, FileName, ScriptFault, Source, append_text, close_text, deploy_text, first_fault,
     load_text, parse,
@@ -282,13 +283,17 @@ impl<'a, Id: Names + Send + Sync, R: Threads + Wait + Sync> Session<'a, Id, R> {
         Ok(receipt)
     }
 
-    /// Runs the programs on every item that the logs have, then prints all rows.
-    fn go<O: Write>(&self, stdout: &mut O) -> Result<(), Stop> {
+    /// Runs the programs on every item that the logs have, then prints the report.
+    fn go<O: Write>(&self, stdout: &mut O) -> Result<(), Stop>
+        ensures { OnOk result (Reports Id.outputs self.now.broker (O.contents stdout.old) (O.contents stdout.new)) }
+    {
         let ended = self
             .broker
             .start(self.rt, self.alloc, Until::Drained, &Open)?;
         end_of_all(&ended)?;
-        print_books(self.rt, self.alloc, stdout, &self.broker)
+        let snapshot = gather(self.rt, self.alloc, &self.broker)?;
+        report::write(self.alloc, &snapshot, stdout)?;
+        Ok(())
     }
 
     /// What a line asks for that is a command. Returns the receipt of what it appends, if that is one

@@ -4,13 +4,14 @@ ghost use Rattle.std.specs.Prelude.{◌≡◌, ◌≢◌};
 ghost use Rattle.std.specs.IoError.{error_kind};
 ghost use Rattle.std.specs.declared.io.ErrorKind.TheVariants.{OutOfMemory};
 ghost use Rattle.commands.specs.declared.stop.Stop.TheVariants as stop;
-ghost use Rattle.commands.specs.Stops.{stop_of_fault, stop_of_broker, status_of, end_of, end_of_all};
+ghost use Rattle.commands.specs.Stops.{stop_of_fault, stop_of_broker, stop_of_report, status_of, end_of, end_of_all};
 
 use batch::BatchFault;
 use broker::{BrokerFault, Ended};
 use catalogue::CatFault;
 use out_book::BookFault;
 use part_log::LogFault;
+use report::ReportFault;
 use script::{FileName, ScriptFault};
 use std::alloc::AllocError;
 use std::io;
@@ -63,6 +64,17 @@ impl From<BrokerFault> for Stop {
             | BrokerFault::Log(LogFault::Memory)
             | BrokerFault::Book(BookFault::Memory) => Stop::Memory,
             _ => Stop::Broker(fault),
+        }
+    }
+}
+
+impl From<ReportFault> for Stop {
+    ghost from_gives = { λ fault e. e ≡ stop_of_report fault };
+
+    fn from(fault: ReportFault) -> Stop {
+        match fault {
+            ReportFault::Write => Stop::Output,
+            ReportFault::Memory => Stop::Memory,
         }
     }
 }

@@ -1,0 +1,19 @@
+use Rattle.std.proofs.Common.{◌≡◌, ◌≢◌, ◌⊎◌, Option, Some, None, sym, ◌∙◌, inl, inr}
+use Rattle.explain.specs.declared.explanation.Refusal.{Refusal}
+use Rattle.commands.specs.Explanations.{status_of_refusal}
+use Rattle.commands.proofs.call.explain_bytes.Goals as goal
+
+not_failed : (refusal : Option Refusal) → status_of_refusal refusal ≢ 3
+not_failed None e = cc
+not_failed (Some refusal) e = cc
+
+pub returns-in-Ok : goal.returns-in-Ok
+returns-in-Ok g c = elim c.print_explanation.ensures.status [
+  | inl same ↦ inr (inl (record {
+      explanation = c.in-Ok.explanation;
+      explained = c.in-Ok.ensures;
+      status_is = same;
+      printed = c.print_explanation.ensures.printed (λ three. not_failed c.in-Ok.explanation.refusal (sym same ∙ three));
+    }))
+  | inr three ↦ inl three
+]
