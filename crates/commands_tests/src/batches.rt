@@ -20,7 +20,8 @@ fn appends_batches(rt: HostRuntime) -> Result<(), Fail> {
         row 0 0 2 0 1700000000005 - . 2\n\
         row 0 0 3 0 1699999999999 . - 0\n\
         row 0 0 4 0 1700000000005 6c6f6e676572206b6579 612076616c7565206f66206d6f7265207468616e2073697874792d74687265652062797465732c20736f207468617420697473206c656e6774682074616b65732074776f206279746573 1\n\
-        row 0 0 5 0 0 6b 76 0\n";
+        row 0 0 5 0 0 6b 76 0\n\
+        out 0 in 0 done 4 rows 6\nin 0 items 4 records 6 unprogrammed 0 kept 6\n";
     let script = format!(in alloc;
         "{BEGIN}deploy 0 fwd\nappend 0 batches.bin\nappend 0 hex:{ONE}\ngo\n"
     )?;

@@ -23,7 +23,12 @@ const BEFORE: &str = "load a version 1\nload b version 1\n\
 /// What the first `go` prints.
 const FIRST_ROWS: &str = "row 0 0 0 0 1 6b 41 0\nrow 0 1 2 1 5 - . 0\n\
     row 1 0 0 1 1 6b 41 0\nrow 1 1 2 0 5 - . 0\n\
-    row 2 0 1 0 4 6b 44 0\nrow 2 1 1 0 3 6b 43 0\n";
+    row 2 0 1 0 4 6b 44 0\nrow 2 1 1 0 3 6b 43 0\n\
+    out 0 in 0 done 4 rows 1\nout 0 in 1 done 5 rows 1\n\
+    out 1 in 0 done 4 rows 1\nout 1 in 1 done 5 rows 1\n\
+    out 2 in 0 done 4 rows 1\nout 2 in 1 done 5 rows 1\n\
+    in 0 items 4 records 2 unprogrammed 0 kept 2\n\
+    in 1 items 5 records 3 unprogrammed 1 kept 2\n";
 
 /// What the lines between the first `go` and the second print.
 const BETWEEN: &str =
@@ -32,7 +37,12 @@ const BETWEEN: &str =
 /// What every later `go` prints.
 const ALL_ROWS: &str = "row 0 0 0 0 1 6b 41 0\nrow 0 0 3 1 7 . - 0\nrow 0 1 2 1 5 - . 0\n\
     row 1 0 0 1 1 6b 41 0\nrow 1 0 3 0 7 . - 0\nrow 1 1 2 0 5 - . 0\n\
-    row 2 0 1 0 4 6b 44 0\nrow 2 0 2 0 6 6b 45 0\nrow 2 1 1 0 3 6b 43 0\n";
+    row 2 0 1 0 4 6b 44 0\nrow 2 0 2 0 6 6b 45 0\nrow 2 1 1 0 3 6b 43 0\n\
+    out 0 in 0 done 7 rows 2\nout 0 in 1 done 5 rows 1\n\
+    out 1 in 0 done 7 rows 2\nout 1 in 1 done 5 rows 1\n\
+    out 2 in 0 done 7 rows 2\nout 2 in 1 done 5 rows 1\n\
+    in 0 items 7 records 4 unprogrammed 0 kept 4\n\
+    in 1 items 5 records 3 unprogrammed 1 kept 2\n";
 
 #[test]
 fn prints_all_rows_at_each_go(rt: HostRuntime) -> Result<(), Fail> {
