@@ -889,6 +889,21 @@ def expected(script, faults):
 
 # ---- random scripts
 
+def some_call_by_address(rng):
+    """Sets the registers of a call of helper 4 or 5 to bytes of the value or of the stack, and calls it."""
+    slot = lambda opcode, dst, src, offset, imm: struct.pack("<BBhi", opcode, dst | src << 4, offset, imm)
+    if rng.random() < 0.5:
+        code = slot(0xBF, 3, 2, 0, 0) if rng.random() < 0.8 else slot(0xB7, 3, 0, 0, rng.choice([0, 1, 4]))
+        code += slot(0xBF, 2, 1, 0, 0)
+    else:
+        code = slot(0x7A, 10, 0, -8, rng.choice([0, -1, 1 << 20])) + slot(0xBF, 2, 10, 0, 0)
+        code += slot(0x07, 2, 0, 0, rng.choice([-8, -8, -8, -4, -9, -1])) + slot(0xB7, 3, 0, 0, rng.choice([0, 1, 4, 4, 8, 9]))
+    by_two = rng.random() < 0.5
+    if by_two:
+        code += rng.choice([slot(0xBF, 4, 2, 0, 0) + slot(0xBF, 5, 3, 0, 0), slot(0xBF, 4, 10, 0, 0) + slot(0xB7, 5, 0, 0, 0)])
+    return code + slot(0xB7, 1, 0, 0, rng.choice([0, 0, 0, 1, 9])) + slot(0x85, 0, 0, 0, 5 if by_two else 4)
+
+
 def some_slot(rng, left):
     r = lambda: rng.choice([0, 0, 1, 2, 3, 4, 5, 6, 6, 7, 9, 10])
     small = lambda: rng.choice([0, 0, 1, 2, 4, 7, 8, 15, 16, 255, 4096, 65535, 65536, 1 << 20, -1, -2, -8, 2147483647, -2147483648])
@@ -929,10 +944,12 @@ def some_slot(rng, left):
     elif kind < 0.85:
         klass, code, by_register = rng.choice([5, 5, 5, 6]), rng.choice([1, 2, 3, 5, 10, 11] * 3 + list(TESTS)), rng.random() < 0.15
         fields = (code << 4 | 8 * by_register | klass, rng.choice([2, 2, 2, 4, 5, r()]), r() if by_register else 0, jump(), 0 if by_register else small())
+    elif kind < 0.87:
+        return some_call_by_address(rng)
     elif kind < 0.95:
         return struct.pack("<BBhi", 0xB7, 1, 0, rng.choice([0, 0, 0, 1, 2, 9])) + struct.pack("<BBhi", 0x85, 0, 0, rng.choice([3, 3, 3, 6, 6, 7, 8, 9, 99]))
     elif kind < 0.97:
-        fields = (0x85, 0, 0, 0, rng.choice([3, 6, 7, 8, 9, 0, 10, -1]))
+        fields = (0x85, 0, 0, 0, rng.choice([3, 4, 5, 6, 7, 8, 9, 0, 10, -1]))
     else:
         fields = (0x95, 0, 0, 0, 0)
     opcode, dst, src, offset, imm = fields
