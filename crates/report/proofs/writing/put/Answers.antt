@@ -1,4 +1,4 @@
-use Rattle.std.proofs.Common.{◌≡◌, ◌-◌, ◌≤◌, List, ℕ, length, take, drop, subst, arith, length-drop}
+use Rattle.std.proofs.Common.{◌≤◌, List, ℕ, length, take, drop, subst, arith, length-drop}
 use Rattle.std.specs.Io.KnownBytes.{Appends}
 use Rattle.report.specs.Writes.{HasBegun}
 use Rattle.report.proofs.WrittenLaws.{writes_fault, rest_is, begun_on, written_on}

@@ -11,7 +11,7 @@ pub loop-code-preserved : goal.loop-code-preserved
 loop-code-preserved g c =
     let text : c.as_str.result.now ≡ reject_line c.args.input c.in-Some.code.now c.in-Some.count.now = search rules in
     seen_more deref_pair (λ (listed : ℕ × ℕ). reject_line c.args.input listed.0 listed.1) c.loop-code.yielded (c.in-Some.code, c.in-Some.count)
-        (g.W.Write.contents c.args.out.now) (g.W.Write.contents c.loop-code.out) (g.W.Write.contents c.put.new.out) c.as_str.result.now c.loop-code.invariant c.in_ok-put.ensures text
+    (g.W.Write.contents c.args.out.now) (g.W.Write.contents c.loop-code.out) (g.W.Write.contents c.put.new.out) c.as_str.result.now c.loop-code.invariant c.in_ok-put.ensures text
 
 pub returns-in_err-line : goal.returns-in_err-line
 returns-in_err-line g c =
