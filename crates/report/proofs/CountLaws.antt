@@ -1,8 +1,7 @@
 -- Counts with one more record.
-use Rattle.std.proofs.Common.{◌≡◌, ℕ, zero, suc, ◌+◌, ◌<◌, ◌≤◌, Bool, true, false, cond, List, [], ◌∷◌, ◌++◌, length, Option, Some, None, refl, sym, ap, subst, ◌∙◌, append_assoc, arith, add-one}
+use Rattle.std.proofs.Common.{◌≡◌, ℕ, zero, suc, ◌+◌, ◌<◌, Bool, true, false, cond, List, [], ◌∷◌, ◌++◌, Option, Some, refl, sym, ap, subst, ◌∙◌, arith, add-one}
 use Rattle.std.specs.Prelude.{◌==◌, count_by, unwrap_or}
 use Rattle.std.specs.List.Sorted.{IsStrictlySortedBy}
-use Rattle.std.specs.Ordering.{nat_cmp}
 use Rattle.std.proofs.lemmas.List.{length_push, append-nil}
 use Rattle.std.proofs.lemmas.List.Sums.{sum_by_push, count_by-le-length}
 use Rattle.std.proofs.lemmas.Bool.Decides.{nat_tests}
@@ -90,16 +89,3 @@ few_rejects fates c code n h few =
 
 pub counted_none : (Holds : List Fate → Type 0) (c : Totals) → Holds [] → AreCounted Holds c c
 counted_none Holds c h = record { here = []; holds = h; counted = λ before are. subst (λ (fs : List Fate). AreCounts fs c) (sym (append-nil before)) are }
-
-pub counted_then : (P Q R : List Fate → Type 0) (a b c : Totals) → AreCounted P a b → AreCounted Q b c → ((x y : List Fate) → P x → Q y → R (x ++ y)) → AreCounted R a c
-counted_then P Q R a b c first second join = record {
-  here = first.here ++ second.here;
-  holds = join first.here second.here first.holds second.holds;
-  counted = λ before are. subst (λ (fs : List Fate). AreCounts fs c) (append_assoc before first.here second.here) (second.counted (before ++ first.here) (first.counted before are));
-}
-
-pub counted_one : (Holds : List Fate → Type 0) (a b : Totals) (fate : Fate) → Holds (fate ∷ []) → ((fates : List Fate) → AreCounts fates a → AreCounts (fates ++ fate ∷ []) b) → AreCounted Holds a b
-counted_one Holds a b fate h more = record { here = fate ∷ []; holds = h; counted = more }
-
-pub counted_as : (P Q : List Fate → Type 0) (a b : Totals) → AreCounted P a b → ((x : List Fate) → P x → Q x) → AreCounted Q a b
-counted_as P Q a b first so = record { here = first.here; holds = so first.here first.holds; counted = first.counted }

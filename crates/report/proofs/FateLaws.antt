@@ -1,14 +1,13 @@
 -- The fates of one more record, and of one more item.
-use Rattle.std.proofs.Common.{◌≡◌, ℕ, zero, suc, ◌+◌, ◌<◌, List, [], ◌∷◌, ◌++◌, length, take, get_or, Option, Some, None, refl, sym, ap, subst, ◌∙◌, append_assoc, add-one, arith}
+use Rattle.std.proofs.Common.{◌≡◌, ℕ, ◌+◌, ◌<◌, List, [], ◌∷◌, ◌++◌, length, take, get_or, Option, Some, refl, sym, ap, subst, ◌∙◌, append_assoc, add-one, arith}
 use Rattle.std.specs.Prelude.{slice_get}
 use Rattle.std.proofs.lemmas.List.{take_more, length-take}
 use Rattle.wire_spec.specs.declared.record.Record.{Record}
 use Rattle.wire_spec.specs.declared.record.Batch.{Batch}
 use Rattle.log_spec.specs.Logs.{Item, in_force, offset_of, place_of}
 use Rattle.report.specs.declared.fate.Fate.{Fate}
-use Rattle.report.specs.Fates.{IsFate, AreRecordsFates, AreItemFates, AreFatesOf}
+use Rattle.report.specs.Fates.{IsFate, AreRecordsFates, AreItemFates}
 use Rattle.report.specs.Totals.{Totals, AreCounts, AreCounted, AreCountsOf}
-use Rattle.report.proofs.CountLaws.{counted_then}
 
 pub fates-next : (input outputs : ℕ) (image : Option (List ℕ)) (batch : Batch) (offset : ℕ) (givens : List Record) (given : Record) (fates : List Fate) (here : Fate)
     → AreRecordsFates input outputs image batch offset givens fates → IsFate image (place_of input outputs (offset + length givens) batch given) given here

@@ -1,14 +1,13 @@
 -- What stands at each place of a list.
-use Rattle.std.proofs.Common.{◌≡◌, ◌≢◌, ℕ, zero, suc, ◌+◌, ◌<◌, ◌≤◌, List, [], ◌∷◌, ◌++◌, length, take, get_or, Option, Some, None, ◌⊎◌, inl, inr, ⊎_elim, refl, sym, ap, subst, ◌∙◌, arith}
+use Rattle.std.proofs.Common.{◌≡◌, ℕ, zero, suc, ◌+◌, ◌<◌, ◌≤◌, List, [], ◌∷◌, ◌++◌, length, take, get_or, Some, ⊎_elim, refl, sym, ap, subst, ◌∙◌, arith}
 use native.Mathlib.Decide.{ℕ_discrete}
-use Rattle.std.specs.Prelude.{slice_get, slice_index_or}
-use Rattle.std.proofs.lemmas.List.{take_all, take-take, length-take, get_or_read}
-use Rattle.std.proofs.lemmas.Option.{same_Some, slice_get_read, slice_get_within}
+use Rattle.std.specs.Prelude.{slice_get}
+use Rattle.std.proofs.lemmas.List.{take-take, length-take, get_or_read}
+use Rattle.std.proofs.lemmas.Option.{same_Some, slice_get_read}
 use Rattle.log_spec.specs.Logs.{Item}
 use Rattle.part_log.specs.Parts.{Log}
-use Rattle.report.specs.Holdings.{Held, IsOutput}
-use Rattle.report.specs.Snapshots.{held_at, AreOutputs, IsShorter, IsLeast, AreLeast}
-use Rattle.report.specs.Totals.{Tallied}
+use Rattle.report.specs.Holdings.{Held}
+use Rattle.report.specs.Snapshots.{held_at, AreOutputs, IsShorter, IsLeast}
 
 -- what holds of each element by its place holds with one more
 pushed : {A : Type 0} (P : ℕ → A → Type 0) (xs : List A) (n : ℕ) (x : A) → ((k : ℕ) (y : A) → slice_get xs k ≡ Some y → P (n + k) y) → P (n + length xs) x
@@ -94,7 +93,6 @@ least_more outputs n input first shorter h before at of is = ⊎_elim same other
       least_at = at;
       in_one = e;
     }
-
 
 -- every output partition is one of the first ones
 pub least_end : (outputs : List (List Held)) (n input : ℕ) (first : Log) → length outputs ≤ n → IsLeastOf outputs n input first → IsLeast outputs input first

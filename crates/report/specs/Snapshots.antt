@@ -1,5 +1,5 @@
 -- What a snapshot of a broker keeps.
-use Rattle.std.specs.Prelude.{◌≡◌, ℕ, ◌<◌, List, [], length, take, slice_get, slice_index_or, Option, Some, ◌⊎◌}
+use Rattle.std.specs.Prelude.{◌≡◌, ℕ, List, [], length, take, slice_get, slice_index_or, Option, Some, ◌⊎◌}
 use Rattle.part_log.specs.Parts.{Log}
 use Rattle.out_book.specs.declared.fault.BookFault.TheVariants as book
 use Rattle.broker.specs.declared.fault.BrokerFault.{BrokerFault}

@@ -45,11 +45,7 @@ pub(crate) fn count_items<Id: Names, C>(
 }
 
 /// An item that a trail knows. Takes no lock.
-fn item_at<'a, Id: Names, C>(
-    broker: &'a Broker<Id, C>,
-    trail: &Trail<Id>,
-    index: usize,
-) -> &'a Item
+fn item_at<'a, Id: Names, C>(broker: &'a Broker<Id, C>, trail: &Trail<Id>, index: usize) -> &'a Item
     requires partition { trail.now.partition < broker.now }
     requires within { index < length trail.now.items }
     ensures { slice_get trail.now.items index ≡ Some (item_view result.now) }

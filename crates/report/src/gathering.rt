@@ -115,9 +115,5 @@ fn shorter<'a, Id: Names>(one: &'a Trail<Id>, other: &'a Trail<Id>) -> &'a Trail
     ensures { IsShorter one.now other.now result.now }
 {
     one.agrees(other);
-    if one.len() <= other.len() {
-        one
-    } else {
-        other
-    }
+    if one.len() <= other.len() { one } else { other }
 }

@@ -31,7 +31,9 @@ pub(crate) fn items_text(
 ) -> Result<String, AllocError>
     ensures { IfOk result (λ text. string_bytes text ≡ items_line input items records unprogrammed kept) }
 {
-    format!(in alloc; "in {input} items {items} records {records} unprogrammed {unprogrammed} kept {kept}\n")
+    format!(in alloc;
+        "in {input} items {items} records {records} unprogrammed {unprogrammed} kept {kept}\n"
+    )
 }
 
 /// The line that tells how many records of an input partition a code rejected.

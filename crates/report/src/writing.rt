@@ -1,11 +1,11 @@
 //! Writes the lines of a snapshot.
 
-ghost use Rattle.std.specs.Prelude.{◌≡◌, ◌≢◌, OnOk};
+ghost use Rattle.std.specs.Prelude.{◌≡◌, ◌≢◌};
 ghost use Rattle.std.specs.IoError.{error_kind};
 ghost use Rattle.std.specs.declared.io.ErrorKind.TheVariants.{OutOfMemory};
-ghost use Rattle.std.specs.Io.KnownBytes.{Appends};
 ghost use Rattle.std.specs.List.{flat_map};
 ghost use Rattle.report.specs.Texts.{held_rows, output_rows, held_line, output_lines, rejects_text, tally_text, report_text};
+ghost use Rattle.report.specs.Writes.{Writes, WritesSome};
 ghost use Rattle.report.specs.declared.fault.ReportFault.TheVariants.{Write as Unwritten, Memory};
 
 use crate::fault::ReportFault;
@@ -30,13 +30,13 @@ impl From<AllocError> for ReportFault {
 
 /// Writes the lines of a snapshot: the rows, by output and by input partition; then, in the same
 /// order, how many items are done and how many rows there are; then, by input partition, what became
-/// of the records of its first items. Where it fails, a beginning of the text may be written.
+/// of the records of its first items. Where it fails, a beginning of the text is written.
 pub fn write<Id: Names, W: Write>(
     alloc: Global,
     snapshot: &Snapshot<Id>,
     out: &mut W,
 ) -> Result<(), ReportFault>
-    ensures { OnOk result (Appends (W.contents out.old) (W.contents out.new) (report_text snapshot.now)) }
+    ensures { Writes (W.contents out.old) (W.contents out.new) (report_text snapshot.now) result }
 {
     put_all_rows(alloc, snapshot.holdings(), out)?;
     put_all_held(alloc, snapshot.holdings(), out)?;
@@ -54,14 +54,34 @@ fn unwritten(error: &io::Error) -> ReportFault
     }
 }
 
+/// Writes the first of some bytes, and returns how many; none where the writer was interrupted.
+#[tactic(auto, using(crate::proofs::WrittenLaws::begun_kept, crate::proofs::WrittenLaws::kept_none, crate::proofs::WrittenLaws::begun_some))]
+fn put_some<W: Write>(bytes: &[u8], out: &mut W) -> Result<usize, ReportFault>
+    ensures { WritesSome (W.contents out.old) (W.contents out.new) bytes.now result }
+{
+    match out.write(bytes) {
+        Ok(0) => Err(ReportFault::Write),
+        Ok(count) => Ok(count),
+        Err(error) => match error.kind() {
+            io::ErrorKind::Interrupted => Ok(0),
+            _ => Err(unwritten(&error)),
+        },
+    }
+}
+
 /// Writes a text.
 fn put<W: Write>(text: &str, out: &mut W) -> Result<(), ReportFault>
-    ensures { OnOk result (Appends (W.contents out.old) (W.contents out.new) text.now) }
+    ensures { Writes (W.contents out.old) (W.contents out.new) text.now result }
 {
-    match out.write_all(text.as_bytes()) {
-        Ok(()) => Ok(()),
-        Err(error) => Err(unwritten(&error)),
+    let bytes = text.as_bytes();
+    let mut done = 0;
+    for _ in 0..u64::MAX {
+        if done == bytes.len() {
+            return Ok(());
+        }
+        done += put_some(&bytes[done..], out)?;
     }
+    Err(ReportFault::Write)
 }
 
 /// Writes the rows of each output partition.
@@ -70,7 +90,7 @@ fn put_all_rows<Id: Names, W: Write>(
     outputs: &[Holdings<Id>],
     out: &mut W,
 ) -> Result<(), ReportFault>
-    ensures { OnOk result (Appends (W.contents out.old) (W.contents out.new) (flat_map output_rows outputs.now)) }
+    ensures { Writes (W.contents out.old) (W.contents out.new) (flat_map output_rows outputs.now) result }
 {
     for holdings in outputs {
         put_output_rows(alloc, holdings.as_slice(), out)?;
@@ -84,7 +104,7 @@ fn put_output_rows<Id: Names, W: Write>(
     holdings: &[Holding<Id>],
     out: &mut W,
 ) -> Result<(), ReportFault>
-    ensures { OnOk result (Appends (W.contents out.old) (W.contents out.new) (output_rows holdings.now)) }
+    ensures { Writes (W.contents out.old) (W.contents out.new) (output_rows holdings.now) result }
 {
     for holding in holdings {
         put_rows(alloc, holding, out)?;
@@ -98,7 +118,7 @@ fn put_rows<Id: Names, W: Write>(
     holding: &Holding<Id>,
     out: &mut W,
 ) -> Result<(), ReportFault>
-    ensures { OnOk result (Appends (W.contents out.old) (W.contents out.new) (held_rows holding.now)) }
+    ensures { Writes (W.contents out.old) (W.contents out.new) (held_rows holding.now) result }
 {
     let mut text = String::new(alloc);
     for row in holding.rows() {
@@ -115,7 +135,7 @@ fn put_all_held<Id: Names, W: Write>(
     outputs: &[Holdings<Id>],
     out: &mut W,
 ) -> Result<(), ReportFault>
-    ensures { OnOk result (Appends (W.contents out.old) (W.contents out.new) (flat_map output_lines outputs.now)) }
+    ensures { Writes (W.contents out.old) (W.contents out.new) (flat_map output_lines outputs.now) result }
 {
     for holdings in outputs {
         put_output_held(alloc, holdings.as_slice(), out)?;
@@ -129,7 +149,7 @@ fn put_output_held<Id: Names, W: Write>(
     holdings: &[Holding<Id>],
     out: &mut W,
 ) -> Result<(), ReportFault>
-    ensures { OnOk result (Appends (W.contents out.old) (W.contents out.new) (output_lines holdings.now)) }
+    ensures { Writes (W.contents out.old) (W.contents out.new) (output_lines holdings.now) result }
 {
     for holding in holdings {
         put_held(alloc, holding, out)?;
@@ -143,7 +163,7 @@ fn put_held<Id: Names, W: Write>(
     holding: &Holding<Id>,
     out: &mut W,
 ) -> Result<(), ReportFault>
-    ensures { OnOk result (Appends (W.contents out.old) (W.contents out.new) (held_line holding.now)) }
+    ensures { Writes (W.contents out.old) (W.contents out.new) (held_line holding.now) result }
 {
     let done = holding.done();
     let rows = holding.rows().len();
@@ -157,7 +177,7 @@ fn put_all_tallies<Id: Names, W: Write>(
     tallies: &[Tally<Id>],
     out: &mut W,
 ) -> Result<(), ReportFault>
-    ensures { OnOk result (Appends (W.contents out.old) (W.contents out.new) (flat_map tally_text tallies.now)) }
+    ensures { Writes (W.contents out.old) (W.contents out.new) (flat_map tally_text tallies.now) result }
 {
     for tally in tallies {
         put_tally(alloc, tally, out)?;
@@ -171,7 +191,7 @@ fn put_tally<Id: Names, W: Write>(
     tally: &Tally<Id>,
     out: &mut W,
 ) -> Result<(), ReportFault>
-    ensures { OnOk result (Appends (W.contents out.old) (W.contents out.new) (tally_text tally.now)) }
+    ensures { Writes (W.contents out.old) (W.contents out.new) (tally_text tally.now) result }
 {
     let input = tally.first().partition();
     let items = tally.first().len();
@@ -195,7 +215,7 @@ fn put_rejects<W: Write>(
     rejects: &BTreeMap<u64, u64>,
     out: &mut W,
 ) -> Result<(), ReportFault>
-    ensures { OnOk result (Appends (W.contents out.old) (W.contents out.new) (rejects_text input rejects.now.entries)) }
+    ensures { Writes (W.contents out.old) (W.contents out.new) (rejects_text input rejects.now.entries) result }
 {
     for (code, count) in rejects {
         let line = reject_text(alloc, input, *code, *count)?;

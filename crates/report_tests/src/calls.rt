@@ -32,11 +32,7 @@ fn shared(alloc: Global, bytes: Option<&[u8]>) -> Result<Option<Bytes>, AllocErr
     }
 }
 
-fn records(
-    alloc: Global,
-    key: Option<&[u8]>,
-    value: Option<&[u8]>,
-) -> Result<Records, AllocError> {
+fn records(alloc: Global, key: Option<&[u8]>, value: Option<&[u8]>) -> Result<Records, AllocError> {
     let record = Record {
         timestamp_delta: 0,
         key: shared(alloc, key)?,

@@ -70,9 +70,16 @@ fn step_apart<Id: Names, R: Wait + Abort>(
     requires outputs { parts.outputs ≡ Id.outputs }
 {
     let broker: Broker<Id, Catalogue<&R>> = Broker::new(alloc, parts)?;
-    assert!(rt; reports(rt, alloc, &broker, "out 0 in 0 done 0 rows 0\n\
+    assert!(rt;
+        reports(
+            rt,
+            alloc,
+            &broker,
+            "out 0 in 0 done 0 rows 0\n\
         out 1 in 0 done 0 rows 0\n\
-        in 0 items 0 records 0 unprogrammed 0 kept 0\n"));
+        in 0 items 0 records 0 unprogrammed 0 kept 0\n"
+        )
+    );
     assert_eq!(rt; deploy(rt, alloc, &broker, 0, &FORWARD), Some(0));
     for value in [b'A', b'B', b'C'] {
         assert!(rt; put_byte(rt, alloc, &broker, 0, value).is_some());

@@ -49,10 +49,7 @@ fn a_refused_report_can_be_made_again(rt: HostRuntime) -> Result<(), Fail> {
     Ok(())
 }
 
-fn make_and_report<R: Threads + Wait + Print + Sync>(
-    rt: &R,
-    alloc: Global,
-) -> Result<(), Ending> {
+fn make_and_report<R: Threads + Wait + Print + Sync>(rt: &R, alloc: Global) -> Result<(), Ending> {
     match Parts::new(rt, alloc, 1, 1, 4) {
         Ok(parts) => report_all::<Brand, R>(rt, alloc, parts),
         Err(_) => Err(Ending::NotMade),

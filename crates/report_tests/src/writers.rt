@@ -68,12 +68,20 @@ fn cut_short<Id: Names + Send + Sync, R: Threads + Wait + Abort + Sync>(
         (40, io::ErrorKind::BrokenPipe, ReportFault::Write),
         (90, io::ErrorKind::OutOfMemory, ReportFault::Memory),
     ] {
-        let mut out = Narrow { taken: Vec::new(alloc), room, kind };
+        let mut out = Narrow {
+            taken: Vec::new(alloc),
+            room,
+            kind,
+        };
         assert_eq!(rt; write(alloc, &snapshot, &mut out), Err(fault));
         assert_eq!(rt; out.taken.len(), room);
         assert!(rt; text.starts_with(out.taken.as_slice()));
     }
-    let mut out = Narrow { taken: Vec::new(alloc), room: 1000, kind: io::ErrorKind::Other };
+    let mut out = Narrow {
+        taken: Vec::new(alloc),
+        room: 1000,
+        kind: io::ErrorKind::Other,
+    };
     assert_eq!(rt; write(alloc, &snapshot, &mut out), Ok(()));
     assert!(rt; out.taken.as_slice() == text);
     Ok(())

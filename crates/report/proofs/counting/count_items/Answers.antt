@@ -1,4 +1,4 @@
-use Rattle.std.proofs.Common.{◌≡◌, ◌+◌, ◌*◌, ◌≤◌, List, ℕ, Option, sym, ap, subst, ◌∙◌, arith, option_map}
+use Rattle.std.proofs.Common.{◌≡◌, ◌+◌, List, ℕ, Option, sym, ap, ◌∙◌, arith, option_map}
 use Rattle.log_spec.specs.Logs.{Item as Kept, records_in, image_after, in_force, offset_of}
 use Rattle.log_spec.proofs.LogLaws.{in_force-next, offset_of-next, in_force-start, offset_of-start}
 use Rattle.log_item.specs.Items.{item_view}

@@ -1,9 +1,8 @@
-use Rattle.std.proofs.Common.{◌≡◌, ◌<◌, ◌≤◌, List, ℕ, Option, length, get_or, ap, subst, ◌∙◌, arith, option_map}
+use Rattle.std.proofs.Common.{◌≡◌, ◌<◌, List, ℕ, length, get_or, ap, subst, ◌∙◌, arith, option_map}
 use Rattle.wire_spec.specs.declared.record.Record.{Record}
 use Rattle.log_spec.specs.Logs.{FitsRecord}
 use Rattle.item_rows.proofs.RowLaws.{each_at}
-use Rattle.report.specs.Fates.{IsFate, AreRecordsFates}
-use Rattle.report.specs.Totals.{AreCounted}
+use Rattle.report.specs.Fates.{IsFate}
 use Rattle.report.proofs.FateLaws.{records_more}
 use Rattle.report.proofs.counting.count_records.Goals as goal
 

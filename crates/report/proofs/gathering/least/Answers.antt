@@ -1,8 +1,8 @@
-use Rattle.std.proofs.Common.{◌≡◌, ◌<◌, List, length, sym, ap, subst, ◌∙◌, arith}
+use Rattle.std.proofs.Common.{◌<◌, List, length, sym, ap, subst, ◌∙◌, arith}
 use Rattle.part_log.specs.Parts.{Log}
 use Rattle.report.specs.Holdings.{Held}
 use Rattle.report.specs.Snapshots.{IsShorter}
-use Rattle.report.proofs.PlaceLaws.{IsLeastOf, least_start, least_more, least_end, holdings_count, partition_at, held_from}
+use Rattle.report.proofs.PlaceLaws.{IsLeastOf, least_start, least_more, holdings_count, partition_at, held_from}
 use Rattle.report.proofs.gathering.least.Goals as goal
 
 pub loop-holdings-init : goal.loop-holdings-init

@@ -1,0 +1,18 @@
+-- What a writer holds after a text was written, or a beginning of it.
+use Rattle.std.specs.Prelude.{ℕ, ◌≤◌, List, length, take, Option, Result, Ok, Err}
+use Rattle.std.specs.Io.KnownBytes.{Appends}
+
+-- what the writer holds, where it is known, has grown by a beginning of a text
+pub record HasBegun (old new : Option (List ℕ)) (text : List ℕ) : Type 0 where
+  pub count : ℕ
+  pub written : Appends old new (take count text)
+
+-- the whole text was written, or a beginning of it
+abbrev pub Writes : {E : Type 0} → Option (List ℕ) → Option (List ℕ) → List ℕ → Result (Unit {0}) E → Type 0
+Writes old new text (Ok done) = Appends old new text
+Writes old new text (Err fault) = HasBegun old new text
+
+-- the first of some bytes were written, so many, or none
+abbrev pub WritesSome : {E : Type 0} → Option (List ℕ) → Option (List ℕ) → List ℕ → Result ℕ E → Type 0
+WritesSome old new bytes (Ok count) = (count ≤ length bytes) × Appends old new (take count bytes)
+WritesSome old new bytes (Err fault) = HasBegun old new bytes
