@@ -363,14 +363,14 @@ fn may_read_unset(memory: Option<MemoryOperand>, state: &Abstract) -> bool
 
 // ---- bytes that a helper reads
 
-/// Whether so many bytes from any place from low to high lie in the first ones of a region.
+/// Whether `count` bytes from any place from `low` to `high` lie in the first `length` of a region.
 fn are_within(low: i64, high: i64, count: u64, length: u32) -> bool
     ensures { result ≡ (int_le (pos 0) low && int_le (high +ℤ pos count) (pos length)) }
 {
     0 <= low && high as i128 + count as i128 <= length as i128
 }
 
-/// How many places there are from low up to high and so many more.
+/// How many places there are from `low` up to `high` and `count` more.
 fn count_from(low: i64, high: i64, count: u64) -> u128
     ensures { result ≡ unsigned_abs (high +ℤ neg_ℤ low) + count }
 {
@@ -378,7 +378,8 @@ fn count_from(low: i64, high: i64, count: u64) -> u128
     apart.unsigned_abs() + count as u128
 }
 
-/// Whether so many bytes from a place from low to high may lie outside their region or not be set.
+/// Whether `count` bytes from a place from `low` to `high` may lie outside their region or not be
+/// set.
 fn may_be_missing(state: &Abstract, region: Region, low: i64, high: i64, count: u64) -> bool
     ensures { result ≡ may_name_wrongly state.now (Some (record {
       direction = Direction.Read;

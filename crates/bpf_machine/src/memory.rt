@@ -129,7 +129,7 @@ impl<'a> Run<'a> {
         }
     }
 
-    /// So many bytes from a place on; one that is not there counts as 0.
+    /// `count` bytes from a place on; one that is not there counts as 0.
     #[tactic(auto, using(crate::proofs::Loads::next_byte))]
     fn bytes_from(
         &self,

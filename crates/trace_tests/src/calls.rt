@@ -174,29 +174,36 @@ fn bytes_of_the_stack(rt: HostRuntime) -> Result<(), Fail> {
     Ok(())
 }
 
-/// Key and value change places; each of the two is tried.
+/// Key and value change places, with these instructions for r5, the new value's length, and for r3, the
+/// new key's.
+fn exchange(value_length: u64, key_length: u64) -> [u64; 8] {
+    [
+        0xbf36_0000_0000_0000, // mov64 r6, r3
+        value_length,
+        0xbf64_0000_0000_0000, // mov64 r4, r6
+        key_length,
+        VALUE,
+        TO_FIRST,
+        0x8500_0000_0500_0000, // call 5
+        EXIT,
+    ]
+}
+
+/// Each of the two pieces is tried.
 #[test]
 fn two_pieces_by_address(rt: HostRuntime) -> Result<(), Fail> {
     let alloc = rt.alloc();
-    // mov64 r6, r3; mov64 r5, r4; mov64 r4, r6; mov64 r3, r2; mov64 r2, r1; mov64 r1, 0; call 5; exit
-    let exchange: [u64; 8] = [
-        0xbf36_0000_0000_0000,
-        0xbf45_0000_0000_0000,
-        0xbf64_0000_0000_0000,
-        0xbf23_0000_0000_0000,
-        0xbf12_0000_0000_0000,
-        TO_FIRST,
-        0x8500_0000_0500_0000,
-        EXIT,
+    // mov64 r5, r4 and mov64 r5, 4: a byte more than the key has
+    // mov64 r3, r2 and mov64 r3, 6: a byte more than the value has
+    let cases = [
+        (0xbf45_0000_0000_0000, LENGTH, "kept 1 after 8"),
+        (0xb705_0000_0400_0000, LENGTH, "K12 after 6"),
+        (0xbf45_0000_0000_0000, 0xb703_0000_0600_0000, "K12 after 6"),
     ];
-    let end = end_of(alloc, &exchange, Some(b"value"), 1)?;
-    assert_eq!(rt; end.as_str(), "kept 1 after 8");
-    // mov64 r5, 4 and mov64 r3, 6: a byte more than the key has, and than the value has
-    for (place, slot) in [(1, 0xb705_0000_0400_0000), (3, 0xb703_0000_0600_0000)] {
-        let mut slots = exchange;
-        slots[place] = slot;
+    for (value_length, key_length, want) in cases {
+        let slots = exchange(value_length, key_length);
         let end = end_of(alloc, &slots, Some(b"value"), 1)?;
-        assert_eq!(rt; end.as_str(), "K12 after 6");
+        assert_eq!(rt; end.as_str(), want);
     }
     Ok(())
 }

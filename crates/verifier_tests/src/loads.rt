@@ -573,39 +573,48 @@ fn bytes_by_address(rt: HostRuntime) -> Result<(), Fail> {
     Ok(())
 }
 
-const EXCHANGED: [u64; 8] = [
-    0xbf36_0000_0000_0000, // mov64 r6, r3
-    0xbf45_0000_0000_0000, // mov64 r5, r4
-    0xbf64_0000_0000_0000, // mov64 r4, r6
-    0xbf23_0000_0000_0000, // mov64 r3, r2
-    0xbf12_0000_0000_0000, // mov64 r2, r1
-    0xb701_0000_0000_0000, // mov64 r1, 0
-    0x8500_0000_0500_0000, // call 5
-    EXIT,
-];
+/// Key and value change places, with these instructions for r5, the new value's length, and for r3, the
+/// new key's.
+fn exchange(value_length: u64, key_length: u64) -> [u64; 8] {
+    [
+        0xbf36_0000_0000_0000, // mov64 r6, r3
+        value_length,
+        0xbf64_0000_0000_0000, // mov64 r4, r6
+        key_length,
+        VALUE,
+        TO_FIRST,
+        0x8500_0000_0500_0000, // call 5
+        EXIT,
+    ]
+}
 
 /// Key and value by address: each of the two is checked.
 #[test]
 fn two_pieces_by_address(rt: HostRuntime) -> Result<(), Fail> {
     let alloc = rt.alloc();
-    let image = image_of(alloc, &EXCHANGED)?;
-    let got = answer(alloc, &image)?;
-    assert_eq!(rt; got.as_str(), "accepted 8");
-    let cases: [(usize, u64, &str); 3] = [
-        // the key of the length of the value: mov64 r5, r2
-        (1, 0xbf25_0000_0000_0000, "V12 HelperArg at 6"),
-        // the value of the length of the key: mov64 r3, r5
-        (3, 0xbf53_0000_0000_0000, "V12 HelperArg at 6"),
-        // call 3 takes the output alone
-        (6, 0x8500_0000_0300_0000, "accepted 8"),
+    // mov64 r5, r4 and mov64 r5, r2; mov64 r3, r2 and mov64 r3, r5
+    let cases = [
+        (0xbf45_0000_0000_0000, LENGTH, "accepted 8"),
+        (0xbf25_0000_0000_0000, LENGTH, "V12 HelperArg at 6"),
+        (
+            0xbf45_0000_0000_0000,
+            0xbf53_0000_0000_0000,
+            "V12 HelperArg at 6",
+        ),
     ];
-    for (place, slot, want) in cases {
-        let mut slots = EXCHANGED;
-        slots[place] = slot;
-        let image = image_of(alloc, &slots)?;
+    for (value_length, key_length, want) in cases {
+        let image = image_of(alloc, &exchange(value_length, key_length))?;
         let got = answer(alloc, &image)?;
         assert_eq!(rt; got.as_str(), want);
     }
+    Ok(())
+}
+
+/// What is known after an emission by address, and the regions that the interpreter takes.
+#[test]
+fn regions_of_two_pieces(rt: HostRuntime) -> Result<(), Fail> {
+    let alloc = rt.alloc();
+    let image = image_of(alloc, &exchange(0xbf45_0000_0000_0000, LENGTH))?;
     let verified = load(alloc, &image)?;
     assert_eq!(rt; verified.code().len(), 8);
     assert_eq!(rt; verified.regions(6).0, Some(Region::Value));
