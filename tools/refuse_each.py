@@ -3,10 +3,11 @@
 
 Not part of the build. From the top of the repository:
 
-    tools/refuse_each.py [CRATE]
+    tools/refuse_each.py [CRATE [WORD]]
 
 The crate is refusal_tests if none is named. `rt test` proves it and builds its tests. Then each test runs once with no request
-refused, and once for each request that it made in that run, with that one refused. A run passes where the test ends with status 0.
+refused, and once for each request that it made in that run, with that one refused. With a word only the tests run whose names have
+it, as `tools/refuse_each.py report_tests refused`. A run passes where the test ends with status 0.
 For each test it prints how many requests and runs there were and how many runs passed, how often each call was refused and with
 which fault (the lines `refused CALL: FAULT` that the tests print), and in full each run that did not pass. It ends with status 1
 where there is such a run. Wants a C compiler; tools/refuse_memory.c says which requests count.
@@ -61,15 +62,16 @@ def series(program, test, folder):
 
 
 def main(words):
-    if len(words) > 1 or words and words[0].startswith("-"):
+    if len(words) > 2 or words and words[0].startswith("-"):
         sys.exit(__doc__)
     crate = words[0] if words else "refusal_tests"
+    word = words[1] if len(words) > 1 else ""
     crate_folder = f"{TOP}/crates/{crate}"
     if subprocess.run(["rt", "test"], cwd=crate_folder, stdout=subprocess.DEVNULL, check=False).returncode:
         sys.exit(f"rt test failed in {crate_folder}")
     program = f"{crate_folder}/out/{crate}_tests"
     listed = subprocess.run([program, "--list"], stdout=subprocess.PIPE, text=True, check=True).stdout
-    tests = [it.removesuffix(": test") for it in listed.splitlines() if it.endswith(": test")]
+    tests = [it.removesuffix(": test") for it in listed.splitlines() if it.endswith(": test") and word in it]
     start = time.monotonic()
     with tempfile.TemporaryDirectory() as folder:
         words = ["cc", "-O2", "-fPIC", "-shared", "-o", f"{folder}/refuse.so", f"{TOOLS}/refuse_memory.c"]

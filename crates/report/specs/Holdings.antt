@@ -25,7 +25,7 @@ pub record HoldsOf (book : Content) (input : ℕ) (h : Held) : Type 0 where
   pub partition_is : h.done.partition ≡ input
   pub rows_are : h.rows ≡ rows_from input book.rows
 
--- what an output partition holds of each of so many input partitions, in their order
+-- what an output partition holds of each input partition, in their order
 pub record IsOutput (output inputs : ℕ) (holdings : List Held) : Type 0 where
   pub count : length holdings ≡ inputs
   pub each : (input : ℕ) (h : Held) → slice_get holdings input ≡ Some h → (h.output ≡ output) × (h.done.partition ≡ input)

@@ -43,7 +43,7 @@ pub record IsShorter (one other shorter : Log) : Type 0 where
 abbrev pub AreLeast : List (List Held) → List Tallied → Type 0
 AreLeast outputs inputs = (input : ℕ) (t : Tallied) → slice_get inputs input ≡ Some t → IsLeast outputs input t.first
 
--- of so many output partitions
+-- a snapshot of this number of output partitions
 pub record IsGathered (outputs : ℕ) (s : Gathered) : Type 0 where
   pub count : length s.outputs ≡ outputs
   pub outputs_are : AreOutputs (length s.inputs) s.outputs

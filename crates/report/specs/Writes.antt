@@ -12,7 +12,7 @@ abbrev pub Writes : {E : Type 0} → Option (List ℕ) → Option (List ℕ) →
 Writes old new text (Ok done) = Appends old new text
 Writes old new text (Err fault) = HasBegun old new text
 
--- the first of some bytes were written, so many, or none
+-- this number of the first bytes was written, or a beginning of them
 abbrev pub WritesSome : {E : Type 0} → Option (List ℕ) → Option (List ℕ) → List ℕ → Result ℕ E → Type 0
 WritesSome old new bytes (Ok count) = (count ≤ length bytes) × Appends old new (take count bytes)
 WritesSome old new bytes (Err fault) = HasBegun old new bytes

@@ -66,7 +66,7 @@ impl Counts {
         self.kept
     }
 
-    /// How many records each code rejected, by rising code; no code stands there that rejected none.
+    /// How many records each code rejected, by rising code. A code that rejected none is not listed.
     pub fn rejects(&self) -> &BTreeMap<u64, u64>
         ensures { result.now.entries ≡ self.now.rejects }
     {

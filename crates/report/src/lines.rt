@@ -5,7 +5,7 @@ ghost use Rattle.report.specs.Texts.{out_line, items_line, reject_line};
 
 use std::alloc::{AllocError, Global};
 
-/// The line that tells how many items of an input partition are done in an output partition, and how
+/// The line that reports how many items of an input partition are done in an output partition, and how
 /// many rows they have there.
 pub(crate) fn out_text(
     alloc: Global,
@@ -19,7 +19,7 @@ pub(crate) fn out_text(
     format!(in alloc; "out {output} in {input} done {done} rows {rows}\n")
 }
 
-/// The line that tells how many of an input partition's items are done in every output partition, how
+/// The line that reports how many of an input partition's items are done in every output partition, how
 /// many records they have, on how many of these no program ran, and how many were kept.
 pub(crate) fn items_text(
     alloc: Global,
@@ -36,7 +36,7 @@ pub(crate) fn items_text(
     )
 }
 
-/// The line that tells how many records of an input partition a code rejected.
+/// The line that reports how many records of an input partition a code rejected.
 pub(crate) fn reject_text(
     alloc: Global,
     input: usize,
