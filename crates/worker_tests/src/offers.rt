@@ -66,7 +66,10 @@ fn hand_over<Id: Names>(
     if walk.partition() != log.partition() || walk.partition() >= 64 || walk.len() == 0 {
         return None;
     }
-    let deliveries = process(alloc, walk, log, 1).ok()?.into_deliveries(alloc).ok()?;
+    let deliveries = process(alloc, walk, log, 1)
+        .ok()?
+        .into_deliveries(alloc)
+        .ok()?;
     for delivery in deliveries {
         if delivery.output() == book.output() {
             return Some(book.receive(walk, delivery));

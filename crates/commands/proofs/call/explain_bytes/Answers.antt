@@ -10,10 +10,10 @@ not_failed (Some refusal) e = cc
 pub returns-in-Ok : goal.returns-in-Ok
 returns-in-Ok g c = elim c.print_explanation.ensures.status [
   | inl same ↦ inr (inl (record {
-      explanation = c.in-Ok.explanation;
-      explained = c.in-Ok.ensures;
-      status_is = same;
-      printed = c.print_explanation.ensures.printed (λ three. not_failed c.in-Ok.explanation.refusal (sym same ∙ three));
-    }))
+    explanation = c.in-Ok.explanation;
+    explained = c.in-Ok.ensures;
+    status_is = same;
+    printed = c.print_explanation.ensures.printed (λ three. not_failed c.in-Ok.explanation.refusal (sym same ∙ three));
+  }))
   | inr three ↦ inl three
 ]
