@@ -9,7 +9,7 @@ use Rattle.broker.specs.Layouts.{Layout}
 use Rattle.script.specs.declared.command.Command.{Command}
 use Rattle.script.specs.declared.command.Command.TheVariants.{Partitions, Load, Deploy, Put, Append, Close, Go}
 use Rattle.script.specs.Texts.{deploy_line, append_line, close_line}
-use Rattle.report.specs.Snapshots.{Gathered}
+use Rattle.report.specs.Snapshots.{Gathered, IsGathered}
 use Rattle.report.specs.Texts.{report_text}
 use Rattle.commands.specs.Puts.{put_batch}
 
@@ -60,27 +60,27 @@ Puts input batch receipt before after =
 abbrev pub Closes : ℕ → Received → Option (List ℕ) → Option (List ℕ) → Type 0
 Closes input receipt before after = IsReceiptOf input Closed receipt × Appends before after (close_line input (length receipt.before.items))
 
--- The report of a snapshot was printed, which has so many output and input partitions.
+-- The report of a snapshot of so many output and input partitions was printed.
 pub record Reports (outputs inputs : ℕ) (before after : Option (List ℕ)) : Type 0 where
   pub snapshot : Gathered
-  pub outputs_are : length snapshot.outputs ≡ outputs
+  pub gathered : IsGathered outputs snapshot
   pub inputs_are : length snapshot.inputs ≡ inputs
   pub printed : Appends before after (report_text snapshot)
 
--- What a command appends, if it is one item, and prints.
-abbrev pub Does : Command → Option Received → Option (List ℕ) → Option (List ℕ) → Type 0
-Does (Deploy input name) (Some receipt) before after = Deploys input name receipt before after
-Does (Deploy input name) None before after = ⊥
-Does (Put input timestamp key value) (Some receipt) before after = Puts input (put_batch timestamp key value) receipt before after
-Does (Put input timestamp key value) None before after = ⊥
-Does (Close input) (Some receipt) before after = Closes input receipt before after
-Does (Close input) None before after = ⊥
-Does (Partitions inputs outputs cells) receipt before after = ⊥
-Does (Load name source) receipt before after = receipt ≡ None
-Does (Append input source) receipt before after = receipt ≡ None
-Does Go receipt before after = (receipt ≡ None) × ((outputs : ℕ) × (inputs : ℕ) × Reports outputs inputs before after)
+-- What a command appends, if it is one item, and prints, by the broker's numbers of output and input partitions.
+abbrev pub Does : ℕ → ℕ → Command → Option Received → Option (List ℕ) → Option (List ℕ) → Type 0
+Does outputs inputs (Deploy input name) (Some receipt) before after = Deploys input name receipt before after
+Does outputs inputs (Deploy input name) None before after = ⊥
+Does outputs inputs (Put input timestamp key value) (Some receipt) before after = Puts input (put_batch timestamp key value) receipt before after
+Does outputs inputs (Put input timestamp key value) None before after = ⊥
+Does outputs inputs (Close input) (Some receipt) before after = Closes input receipt before after
+Does outputs inputs (Close input) None before after = ⊥
+Does outputs inputs (Partitions _ _ cells) receipt before after = ⊥
+Does outputs inputs (Load name source) receipt before after = receipt ≡ None
+Does outputs inputs (Append input source) receipt before after = receipt ≡ None
+Does outputs inputs Go receipt before after = (receipt ≡ None) × Reports outputs inputs before after
 
 -- the same of a line, which is this command
-abbrev pub LineDoes : Option Command → Option Received → Option (List ℕ) → Option (List ℕ) → Type 0
-LineDoes (Some command) receipt before after = Does command receipt before after
-LineDoes None receipt before after = ⊥
+abbrev pub LineDoes : ℕ → ℕ → Option Command → Option Received → Option (List ℕ) → Option (List ℕ) → Type 0
+LineDoes outputs inputs (Some command) receipt before after = Does outputs inputs command receipt before after
+LineDoes outputs inputs None receipt before after = ⊥

@@ -305,7 +305,7 @@ impl<'a, Id: Names + Send + Sync, R: Threads + Wait + Sync> Session<'a, Id, R> {
         stdout: &mut O,
         line: &str,
     ) -> Result<Option<Receipt<Id>>, Stop>
-        ensures { IfOk result (λ receipt. LineDoes (command_of line.now) receipt (O.contents stdout.old) (O.contents stdout.new)) }
+        ensures { IfOk result (λ receipt. LineDoes Id.outputs self.old.broker (command_of line.now) receipt (O.contents stdout.old) (O.contents stdout.new)) }
     {
         let Some(command) = parse(self.alloc, line)? else {
             return Err(Stop::Line(ScriptFault::Syntax));
@@ -325,7 +325,7 @@ impl<'a, Id: Names + Send + Sync, R: Threads + Wait + Sync> Session<'a, Id, R> {
         command: Command,
     ) -> Result<Option<Receipt<Id>>, Stop>
         requires { is_in_range command ≡ true }
-        ensures { IfOk result (λ receipt. Does command receipt (O.contents stdout.old) (O.contents stdout.new)) }
+        ensures { IfOk result (λ receipt. Does Id.outputs self.old.broker command receipt (O.contents stdout.old) (O.contents stdout.new)) }
     {
         match command {
             Command::Partitions(..) => Err(Stop::Line(ScriptFault::Order)),
