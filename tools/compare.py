@@ -17,10 +17,11 @@ import sys
 
 U64 = 1 << 64
 
-# Each helper's number: the registers of its numbers, those of the addresses and lengths of its bytes, and the greatest
-# number that it answers.
-HELPERS = {3: ([1], [], 3), 4: ([1], [(2, 3)], 3), 5: ([1], [(2, 3), (4, 5)], 3), 6: ([1], [], 3), 7: ([], [], (1 << 62) - 1),
-           8: ([], [], (1 << 62) - 1), 9: ([], [], 63)}
+# Each helper's number: the registers of its numbers, those of the addresses and lengths of the bytes that it reads and of
+# the room that it writes, and the greatest number that it answers.
+HELPERS = {1: ([2], [], [(1, 3)], 1), 2: ([2], [], [(1, 3)], 1), 3: ([1], [], [], 3), 4: ([1], [(2, 3)], [], 3),
+           5: ([1], [(2, 3), (4, 5)], [], 3), 6: ([1], [], [], 3), 7: ([], [], [], (1 << 62) - 1), 8: ([], [], [], (1 << 62) - 1),
+           9: ([], [], [], 63)}
 TOP = (0, U64 - 1)
 
 
@@ -267,8 +268,8 @@ def shape_fault(code, k):
 
 
 def argument_registers(helper):
-    numbers, pairs, _ = HELPERS[helper]
-    return numbers + [r for pair in pairs for r in pair]
+    numbers, pairs, rooms, _ = HELPERS[helper]
+    return numbers + [r for pair in pairs + rooms for r in pair]
 
 
 def are_readable(s, address, count):
@@ -282,6 +283,15 @@ def are_readable(s, address, count):
     if lo < 0 or hi + most > (512 if region == "stack" else s.low[region]):
         return False
     return region != "stack" or s.set >= set(range(lo, hi + most))
+
+
+def is_room(s, address, count):
+    """Whether an address and a number name room on the stack, of one byte at least."""
+    if address[:2] != ("addr", "stack") or count[0] == "addr":
+        return False
+    _, _, lo, hi = address
+    least, most = view(s, count)
+    return least >= 1 and lo >= 0 and hi + most <= 512
 
 
 def state_fault(i, s):
@@ -314,7 +324,8 @@ def state_fault(i, s):
         if region == "stack" and i[0] == "load" and not s.set >= set(range(lo + i[4], hi + i[4] + i[1])):
             return "V9 StackUnset"
     if i[0] == "call" and (any(s.regs[r][0] == "addr" for r in HELPERS[i[1]][0])
-                           or not all(are_readable(s, s.regs[a], s.regs[n]) for a, n in HELPERS[i[1]][1])):
+                           or not all(are_readable(s, s.regs[a], s.regs[n]) for a, n in HELPERS[i[1]][1])
+                           or not all(is_room(s, s.regs[a], s.regs[n]) for a, n in HELPERS[i[1]][2])):
         return "V12 HelperArg"
     if i[0] == "exit" and s.regs[0][0] == "addr":
         return "V13 Exit"
@@ -386,7 +397,11 @@ def edges(code, k, s):
     elif i[0] == "wide":
         t.regs[i[1]] = ("num", i[2], i[2])
     elif i[0] == "call":
-        t.regs[0] = ("num", 0, HELPERS[i[1]][2])
+        for a, n in HELPERS[i[1]][2]:
+            _, _, lo, hi = s.regs[a]
+            if lo == hi:
+                t.set = t.set | set(range(lo, lo + view(s, s.regs[n])[0]))
+        t.regs[0] = ("num", 0, HELPERS[i[1]][3])
         t.regs[1:6] = [None] * 5
     return [(k + 1, t)]
 
@@ -529,6 +544,13 @@ def run(code, record, outputs, place):
             assert isinstance(regs[i[2]], int) and isinstance(word(i[3]), int), "trap: type"
             if holds(i[5], i[1], regs[i[2]], word(i[3])):
                 pc = code.target(pc - 1, i[4])
+        elif i[1] in (1, 2):
+            data, (region, start), at, count = bytes_of["value" if i[1] == 1 else "key"], regs[1], regs[2], regs[3]
+            assert region == "stack" and isinstance(at, int) and isinstance(count, int), "trap: argument"
+            assert 1 <= count <= 512 and 0 <= start and start + count <= 512, "trap: argument"
+            is_there = at + count <= len(data)
+            stack[start:start + count] = data[at:at + count] if is_there else bytes(count)
+            regs[0], regs[1:6] = 0 if is_there else 1, [None] * 5
         elif i[1] in (7, 8, 9):
             regs[0], regs[1:6] = place[i[1] - 7], [None] * 5
         else:
@@ -904,6 +926,22 @@ def some_call_by_address(rng):
     return code + slot(0xB7, 1, 0, 0, rng.choice([0, 0, 0, 1, 9])) + slot(0x85, 0, 0, 0, 5 if by_two else 4)
 
 
+def some_copy(rng):
+    """Copies a part of the value or the key to the stack, and reads some of it."""
+    slot = lambda opcode, dst, src, offset, imm: struct.pack("<BBhi", opcode, dst | src << 4, offset, imm)
+    code = slot(0xBF, 1, 10, 0, 0) + slot(0x07, 1, 0, 0, rng.choice([-8, -8, -8, -16, -4, -512, -520, 0]))
+    by_length = rng.random() < 0.2
+    code += slot(0xBF, 3, 2, 0, 0) if by_length else slot(0xB7, 3, 0, 0, rng.choice([1, 2, 4, 7, 8, 8, 8, 9, 0, 512, 513]))
+    code += slot(0xB7, 2, 0, 0, rng.choice([0, 0, 1, 2, 8, -1, 16])) if rng.random() < 0.9 else slot(0xBF, 2, rng.choice([0, 4, 5, 10]), 0, 0)
+    code += slot(0x85, 0, 0, 0, rng.choice([1, 1, 2]))
+    if rng.random() < 0.6:
+        code += slot(rng.choice([0x71, 0x69, 0x61, 0x79, 0x91]), rng.choice([0, 0, 6]), 10, rng.choice([-8, -8, -8, -16, -4, -1]), 0)
+    if rng.random() < 0.3:
+        code += slot(0xBF, 2, 10, 0, 0) + slot(0x07, 2, 0, 0, -8) + slot(0xB7, 3, 0, 0, rng.choice([1, 4, 8])) + slot(0xB7, 1, 0, 0, 0)
+        code += slot(0x85, 0, 0, 0, 4)
+    return code
+
+
 def some_slot(rng, left):
     r = lambda: rng.choice([0, 0, 1, 2, 3, 4, 5, 6, 6, 7, 9, 10])
     small = lambda: rng.choice([0, 0, 1, 2, 4, 7, 8, 15, 16, 255, 4096, 65535, 65536, 1 << 20, -1, -2, -8, 2147483647, -2147483648])
@@ -945,11 +983,11 @@ def some_slot(rng, left):
         klass, code, by_register = rng.choice([5, 5, 5, 6]), rng.choice([1, 2, 3, 5, 10, 11] * 3 + list(TESTS)), rng.random() < 0.15
         fields = (code << 4 | 8 * by_register | klass, rng.choice([2, 2, 2, 4, 5, r()]), r() if by_register else 0, jump(), 0 if by_register else small())
     elif kind < 0.87:
-        return some_call_by_address(rng)
+        return some_call_by_address(rng) if rng.random() < 0.5 else some_copy(rng)
     elif kind < 0.95:
         return struct.pack("<BBhi", 0xB7, 1, 0, rng.choice([0, 0, 0, 1, 2, 9])) + struct.pack("<BBhi", 0x85, 0, 0, rng.choice([3, 3, 3, 6, 6, 7, 8, 9, 99]))
     elif kind < 0.97:
-        fields = (0x85, 0, 0, 0, rng.choice([3, 4, 5, 6, 7, 8, 9, 0, 10, -1]))
+        fields = (0x85, 0, 0, 0, rng.choice([1, 2, 3, 4, 5, 6, 7, 8, 9, 0, 10, -1]))
     else:
         fields = (0x95, 0, 0, 0, 0)
     opcode, dst, src, offset, imm = fields

@@ -17,6 +17,12 @@ typedef unsigned long long u64;
 #define KEY_IS_NULL 1
 #define VALUE_IS_NULL 2
 
+/* Copies the part of the value, or of the key, that begins at a place and is 1 to 512 bytes long to a variable, which is
+ * then set. The result is 0; where there is no such part the variable is all zeros and the result 1. The place may be
+ * any number: no test of a length is needed. */
+static u64 (*const load_value)(void *room, u64 at, u64 length) = (void *)1;
+static u64 (*const load_key)(void *room, u64 at, u64 length) = (void *)2;
+
 /* Emits the record as it is to an output partition. The result is 0, or why nothing was emitted: 1, there is no such
  * output; 2, the key is too long; 3, sixteen emissions were made before. */
 static u64 (*const emit_record)(u64 output) = (void *)3;
