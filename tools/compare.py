@@ -695,15 +695,31 @@ def nullable(part):
     return varint(-1) if part is None else varint(len(part)) + part
 
 
-def spell(records, base, rng):
-    parts = []
-    for place, r in enumerate(records):
-        body = b"\0" + varint(r.delta, 64) + varint(place) + nullable(r.key) + nullable(r.value) + varint(len(r.headers))
-        body += b"".join(varint(len(k)) + k + nullable(v) for k, v in r.headers)
-        parts.append(varint(len(body)) + body)
+def spell_record(place, r):
+    body = b"\0" + varint(r.delta, 64) + varint(place) + nullable(r.key) + nullable(r.value) + varint(len(r.headers))
+    body += b"".join(varint(len(k)) + k + nullable(v) for k, v in r.headers)
+    return varint(len(body)) + body
+
+
+def spell(records, base, producer, offset):
+    parts = [spell_record(place, r) for place, r in enumerate(records)]
     times = [base + r.delta for r in records]
-    covered = struct.pack(">hiqqqhii", 0, len(records) - 1, base, max(times, default=0), rng.choice([-1, 5]), -1, -1, len(records)) + b"".join(parts)
-    return finish(covered, rng.choice([0, 7]))
+    covered = struct.pack(">hiqqqhii", 0, len(records) - 1, base, max(times, default=0), producer, -1, -1, len(records)) + b"".join(parts)
+    return finish(covered, offset)
+
+
+def fetched(rows, place, most):
+    """The batch of as many rows from a place on as one has room for, or none."""
+    if place >= len(rows) or most == 0:
+        return None
+    base, records, size = rows[place][0], [], 61
+    for time, key, value, headers in rows[place:place + min(most, 10000)]:
+        record = Record(time - base, key, value, headers)
+        size += len(spell_record(len(records), record))
+        if size > 1048576:
+            break
+        records.append(record)
+    return spell(records, base, -1, place)
 
 
 def finish(covered, offset):
@@ -756,13 +772,13 @@ class Log:
 class Broker:
     def __init__(self, faults):
         self.out, self.faults = [], faults
-        self.cells, self.logs, self.outputs, self.loaded = 0, None, 0, {}
+        self.cells, self.logs, self.outputs, self.loaded, self.books = 0, None, 0, {}, {}
 
     def line(self, text):
         if not text or text.startswith("#"):
             return
         words = text.split(" ")
-        counts = {"partitions": 4, "load": 3, "deploy": 3, "put": 5, "append": 3, "close": 2, "go": 1}
+        counts = {"partitions": 4, "load": 3, "deploy": 3, "put": 5, "append": 3, "close": 2, "fetch": 4, "go": 1}
         if "" in words or counts.get(words[0]) != len(words):
             raise Refused("S1 Syntax")
         getattr(self, words[0])(*words[1:])
@@ -847,6 +863,16 @@ class Broker:
         self.logs[i].closed = True
         self.out.append("close %d index %d" % (i, index))
 
+    def fetch(self, out, place, most):
+        """Where rows of several inputs are in one output, their order is open: no script asks for them."""
+        out, place, most = number(out), number(place), number(most)
+        self.order(self.begun())
+        if out >= self.outputs:
+            raise Refused("P1 Partition")
+        batch = fetched(self.books.get(out, []), place, most)
+        self.faults["fetched" if batch else "none"] += 1
+        self.out.append(batch.hex() if batch else "none")
+
     def rows(self, i):
         """The rows that an input partition gives, each with its output, and what became of each record: unprogrammed,
         kept, or the code that it was rejected with."""
@@ -868,12 +894,14 @@ class Broker:
                     continue
                 fates.append("kept")
                 for n, (out, key, value, headers) in enumerate(end):
+                    self.books.setdefault(out, []).append((base + record.delta, key, value, headers))
                     rows.append((out, "row %d %d %d %d %d %s %s %d" % (
                         out, i, offset + k, n, base + record.delta, shown(key), shown(value), len(headers))))
         return rows, fates
 
     def go(self):
         self.order(self.begun())
+        self.books = {}
         inputs = [self.rows(i) for i in range(len(self.logs))]
         for out in range(self.outputs):
             for given, _ in inputs:
@@ -1038,7 +1066,7 @@ def some_batch(rng):
         headers = [(rng.choice([b"", b"h", "ä".encode(), b"\xff"] if rng.random() < 0.1 else [b"h", b"name"]), some_bytes(rng))
                    for _ in range(rng.choice([0, 0, 0, 1, 2, 16, 17] if rng.random() < 0.2 else [0, 0, 1]))]
         records.append(Record(rng.choice([0, 0, 5, -3, 1000]), some_bytes(rng), some_bytes(rng), headers))
-    data = spell(records, rng.choice([0, 1000, 1700000000000, (1 << 62) - 1]), rng)
+    data = spell(records, rng.choice([0, 1000, 1700000000000, (1 << 62) - 1]), rng.choice([-1, 5]), rng.choice([0, 7]))
     chance = rng.random()
     if chance < 0.15:
         data = bytearray(data)
@@ -1053,6 +1081,13 @@ def some_batch(rng):
     elif chance < 0.48:
         data = finish(data[21:] + b"\0" * rng.choice([1, 3]), 0)
     return data
+
+
+def some_fetch(rng, inputs):
+    """Rows of several inputs are only asked for where there is none."""
+    out = rng.choice(["0"] * 20 + ["1", "1", "2", "64", "1180591620717411303424", "01", "x"])
+    place = rng.choice(["0"] * 12 + ["1", "1", "2", "3", "5", "00", "-1"]) if inputs == 1 else "1000000"
+    return "fetch %s %s %s" % (out, rng.choice([place] * 8 + ["1000000", "1180591620717411303424"]), rng.choice(["1", "2", "3", "10", "10", "10", "0", "1180591620717411303424", ""] if rng.random() < 0.3 else ["1", "10"]))
 
 
 def some_line(rng, names, inputs):
@@ -1072,17 +1107,37 @@ def some_line(rng, names, inputs):
         return "append %s hex:%s" % (given, data.hex())
     if kind < 0.9:
         return "close %s" % given
+    if kind < 0.94:
+        return some_fetch(rng, inputs)
     if kind < 0.985:
         return "go"
     return rng.choice(["", "#x", "frob", "go ", " go", "go  x", "partitions 1 1 8", "load a", "load a.b hex:", "load a nothing", "load %s hex:" % ("n" * 33),
-                       "put 0 0 6 .", "put 0 0 6K .", "put 0 0 .. .", "deploy 0", "append 0 nothing", "load q hex:00FF", "go\r", "go\t"])
+                       "put 0 0 6 .", "put 0 0 6K .", "put 0 0 .. .", "deploy 0", "append 0 nothing", "fetch 0 0", "load q hex:00FF", "go\r", "go\t"])
 
 
 # the image of a program that emits each record to output 0
 FORWARD = "b70100000000000085000000030000009500000000000000"
 
 
+def some_append(rng):
+    if rng.random() < 0.85:
+        return "put 0 %s %s %s" % (rng.choice(["0", "900", "1000", str((1 << 62) - 1)]), word_of(some_bytes(rng)), word_of(some_bytes(rng)))
+    return "append 0 hex:%s" % b"".join(some_batch(rng) for _ in range(rng.choice([1, 1, 2]))).hex()
+
+
+def some_fetches(rng):
+    """Rows of one input, and fetches of them, more than once."""
+    lines = ["partitions 1 %d 64" % rng.choice([1, 2]), "load a hex:%s" % FORWARD, "deploy 0 a"]
+    for _ in range(rng.choice([1, 1, 2, 3])):
+        lines += [some_append(rng) for _ in range(rng.choice([0, 1, 2, 5]))]
+        lines += ["go"] if rng.random() < 0.9 else []
+        lines += [some_fetch(rng, 1) for _ in range(rng.choice([0, 1, 3]))]
+    return "\n".join(lines)
+
+
 def some_script(rng):
+    if rng.random() < 0.25:
+        return some_fetches(rng)
     cells = rng.choice(["64", "64", "64", "8", "1", "3"] * 8 + ["0", "65537", "08", "65536"])
     inputs, outputs = rng.choice([(1, 1), (1, 2), (2, 1), (2, 3), (3, 2), (5, 5)])
     head = rng.choice(["partitions %d %d %s" % (inputs, outputs, cells)] * 60 + ["partitions 64 64 8", "partitions 65 1 8", "partitions 1 65 8", "go",
@@ -1090,7 +1145,10 @@ def some_script(rng):
     names = ["a"] if rng.random() < 0.7 else ["a", "b-1", "Long-name-of-thirty-two-letters1"]
     good = "load a hex:%s\ndeploy %d a\n" % (accepted_image(rng).hex() if rng.random() < 0.7 else FORWARD, rng.randrange(inputs)) if rng.random() < 0.8 else ""
     lines = [some_line(rng, names, inputs) for _ in range(rng.choice([1, 2, 3, 5, 8, 12, 20]))]
-    return head + "\n" + good + "\n".join(lines) + rng.choice(["", "\n", "\ngo", "\ngo\n"])
+    end = rng.choice(["", "\n", "\ngo", "\ngo\n"])
+    if rng.random() < 0.4:
+        end = "\ngo\n" + "\n".join(some_fetch(rng, inputs) for _ in range(rng.choice([1, 2, 4])))
+    return head + "\n" + good + "\n".join(lines) + end
 
 
 

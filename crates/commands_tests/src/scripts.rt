@@ -192,6 +192,23 @@ fn needs_partitions_first(rt: HostRuntime) -> Result<(), Fail> {
         ),
         ("partitions 2 1 1\nclose 2", "line 2: P1 Partition\n", 1),
         ("close 0", "line 1: S2 Order\n", 1),
+        ("fetch 0 0 1", "line 1: S2 Order\n", 1),
+        ("partitions 1 1 1\nfetch 0 0", "line 2: S1 Syntax\n", 1),
+        (
+            "partitions 1 1 1\nfetch 1 0 1",
+            "line 2: P1 Partition\n",
+            1,
+        ),
+        (
+            "partitions 1 1 1\nfetch 1180591620717411303424 0 1",
+            "line 2: P1 Partition\n",
+            1,
+        ),
+        (
+            "partitions 1 1 1\nfetch 0 1180591620717411303424 1180591620717411303424",
+            "",
+            0,
+        ),
     ] {
         let (told, _out, fault) = called(&rt, alloc, &["run", "script"], script)?;
         assert!(rt; fault.as_str() == err, "{script}: {fault}");

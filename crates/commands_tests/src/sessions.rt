@@ -131,3 +131,41 @@ fn tells_what_logs_refuse(rt: HostRuntime) -> Result<(), Fail> {
     }
     Ok(())
 }
+
+/// Of three records the first has no program, and the others are rejected.
+const NO_ROWS: &str = "partitions 1 1 8\nput 0 5 - .\nload no hex:b7000000050000009500000000000000\n\
+    deploy 0 no\nput 0 6 6b -\nput 0 7 . .\nclose 0\ngo\nfetch 0 0 1\n";
+
+const NO_ROWS_PRINTED: &str = "append 0 index 0 base 0\nload no version 1\n\
+    deploy 0 index 1 no version 1\nappend 0 index 2 base 1\nappend 0 index 3 base 2\n\
+    close 0 index 4\nout 0 in 0 done 5 rows 0\n\
+    in 0 items 5 records 3 unprogrammed 1 kept 0\nin 0 reject 5 count 2\nnone\n";
+
+/// One row is reported twice, and fetched twice.
+const ONE_ROW: &str = "partitions 1 2 8\n\
+    load fwd hex:b70100000000000085000000030000009500000000000000\n\
+    deploy 0 fwd\nput 0 1000 6b 76\ngo\ngo\nfetch 0 0 1\nfetch 0 0 1\nfetch 1 0 1\nfetch 0 1 1\n";
+
+const ONE_ROW_BEGUN: &str =
+    "load fwd version 1\ndeploy 0 index 0 fwd version 1\nappend 0 index 1 base 0\n";
+
+const ONE_ROW_REPORT: &str = "row 0 0 0 0 1000 6b 76 0\n\
+    out 0 in 0 done 2 rows 1\nout 1 in 0 done 2 rows 0\n\
+    in 0 items 2 records 1 unprogrammed 0 kept 1\n";
+
+/// The batch of that row, spelled by another implementation.
+const ONE_ROW_BATCH: &str = "00000000000000000000003a0000000002716a618900000000000000000000000003e800\
+    000000000003e8ffffffffffffffffffffffffffff0000000110000000026b027600\n";
+
+#[test]
+fn prints_fetched_batches(rt: HostRuntime) -> Result<(), Fail> {
+    let alloc = rt.alloc();
+    let one_row = format!(in alloc; "{ONE_ROW_BEGUN}{ONE_ROW_REPORT}{ONE_ROW_REPORT}{ONE_ROW_BATCH}{ONE_ROW_BATCH}none\nnone\n")?;
+    for (script, want) in [(NO_ROWS, NO_ROWS_PRINTED), (ONE_ROW, one_row.as_str())] {
+        let (status, out, err) = called(&rt, alloc, &["run", "stdin"], script)?;
+        assert!(rt; err.as_str() == "", "{err}");
+        assert!(rt; out.as_str() == want, "{out}");
+        assert!(rt; status == 0);
+    }
+    Ok(())
+}
