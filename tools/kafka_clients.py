@@ -3,17 +3,19 @@
 
 Not part of the build. On Debian:
 
-    apt-get install -y python3-kafka python3-confluent-kafka
+    apt-get install -y python3-kafka python3-confluent-kafka golang-go golang-github-shopify-sarama-dev
     /usr/bin/python3 tools/kafka_clients.py KLOG           # KLOG: the built program, crates/klog/out/klog after `rt run`
 
 A small broker on 127.0.0.1 takes what each client produces and keeps the bytes of its batches. Each client, with
 each setting, sends three records; then `klog run stdin` appends the bytes. One line for each: the client, the setting,
 how many bytes came, and klog's answer. The broker answers as few requests as these clients send. It ends by itself.
 """
+import os
 import socket
 import struct
 import subprocess
 import sys
+import tempfile
 import threading
 
 TOPIC = "t"
@@ -103,11 +105,13 @@ class Broker:
         return None
 
     def metadata(self, version):
+        throttle = struct.pack(">i", 0) if version > 2 else b""
         broker = struct.pack(">ii", 1, 0) + text("127.0.0.1") + struct.pack(">i", self.port)
         if version > 0:
-            broker += struct.pack(">hi", -1, 0)
+            broker += struct.pack(">h", -1) + (struct.pack(">h", -1) if version > 1 else b"") + struct.pack(">i", 0)
         topic = struct.pack(">ih", 1, 0) + text(TOPIC) + (b"\0" if version > 0 else b"")
-        return broker + topic + struct.pack(">ihiiiiii", 1, 0, 0, 0, 1, 0, 1, 0)
+        offline = struct.pack(">i", 0) if version > 4 else b""
+        return throttle + broker + topic + struct.pack(">ihiiiiii", 1, 0, 0, 0, 1, 0, 1, 0) + offline
 
     def produce(self, version, request):
         if version >= 3:
@@ -163,11 +167,29 @@ def python(version, **settings):
     return send
 
 
-def cases():
+def sarama(program, version, compression="none", idempotent=False):
+    """The Go client sarama, by a program that was built of tools/sarama_producer.go."""
+
+    def send(broker):
+        words = [program, f"127.0.0.1:{broker.port}", version, compression, "idempotent" if idempotent else "plain"]
+        subprocess.run(words, check=True, timeout=60)
+
+    return send
+
+
+def built_sarama(folder):
+    """Builds tools/sarama_producer.go with Debian's Go packages; the program's name."""
+    program, source = os.path.join(folder, "sarama"), os.path.join(os.path.dirname(os.path.abspath(__file__)), "sarama_producer.go")
+    ways = {**os.environ, "GO111MODULE": "off", "GOPATH": "/usr/share/gocode"}
+    subprocess.run(["go", "build", "-o", program, source], check=True, env=ways, stderr=subprocess.DEVNULL)
+    return program
+
+
+def cases(go):
     import confluent_kafka
     import kafka
 
-    rdkafka, own = "librdkafka " + confluent_kafka.libversion()[0], "python3-kafka " + kafka.__version__
+    rdkafka, own, by_go = "librdkafka " + confluent_kafka.libversion()[0], "python3-kafka " + kafka.__version__, "sarama 1.22.1"
     return [
         (rdkafka, "as it comes", confluent({}), 3),
         (rdkafka, "enable.idempotence", confluent({"enable.idempotence": True}), 3),
@@ -178,6 +200,11 @@ def cases():
         (own, "compression_type=gzip", python((0, 11), compression_type="gzip"), 3),
         (own, "api_version=(0, 10) (magic 1)", python((0, 10)), 2),
         (own, "api_version=(0, 9) (magic 0)", python((0, 9)), 1),
+        (by_go, "Version 1.0.0", sarama(go, "1.0.0"), 3),
+        (by_go, "Version 1.0.0, Idempotent", sarama(go, "1.0.0", idempotent=True), 3),
+        (by_go, "Version 1.0.0, CompressionGZIP", sarama(go, "1.0.0", "gzip"), 3),
+        (by_go, "Version 0.10.0.0 (magic 1)", sarama(go, "0.10.0.0"), 2),
+        (by_go, "Version 0.9.0.1 (magic 0)", sarama(go, "0.9.0.1"), 2),
     ]
 
 
@@ -190,11 +217,12 @@ def answer_of(klog, batches):
 def main():
     if len(sys.argv) != 2:
         sys.exit(__doc__)
-    for client, setting, send, produce in cases():
-        broker = Broker(produce)
-        send(broker)
-        sizes = sum(map(len, broker.kept))
-        print(f"{client} | {setting} | {sizes} bytes | {answer_of(sys.argv[1], broker.kept)}", flush=True)
+    with tempfile.TemporaryDirectory() as folder:
+        for client, setting, send, produce in cases(built_sarama(folder)):
+            broker = Broker(produce)
+            send(broker)
+            sizes = sum(map(len, broker.kept))
+            print(f"{client} | {setting} | {sizes} bytes | {answer_of(sys.argv[1], broker.kept)}", flush=True)
 
 
 main()
