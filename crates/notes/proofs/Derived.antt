@@ -10,14 +10,15 @@ use Rattle.verifier_spec.specs.declared.state.Abstract.{Abstract}
 use Rattle.verifier_spec.specs.declared.fault.{Check.Check, VerifyFault.VerifyFault}
 use Rattle.verifier_spec.specs.declared.fault.Check.TheVariants as check
 use Rattle.verifier_spec.specs.States.{is_proper, entry_state}
-use Rattle.verifier_spec.specs.Checks.{failed_check, jump_of}
+use Rattle.machine_spec.specs.Traps.{first_of}
+use Rattle.verifier_spec.specs.Checks.{failed_check, shape_checks, jump_of}
 use Rattle.verifier_spec.specs.Transfer.{falls_to, jumps_to}
 use Rattle.verifier_spec.specs.JoinedStates.{if_passed}
 use Rattle.verifier_spec.specs.Annotation.{Notes, note_at, note_of, is_covered, is_edge_covered, are_edges_covered, fault_of, IsAnnotation}
 use Rattle.verifier_spec.proofs.Annotations.{covering}
 use Rattle.verifier_spec.proofs.JoinedStates.{covered_refl, covered_trans}
 use Rattle.verifier_spec.proofs.Monotone.{check_monotone, falls_monotone, jumps_monotone}
-use Rattle.notes.specs.Derived.{fallen, given_or, derived_at, derived_from, derived, leads_to, jumps_at, is_target, at_targets, settled, pair_at, kept_note, kept_from, kept_states, are_rising, pairs_fault, AreDerivedProper}
+use Rattle.notes.specs.Derived.{fallen, given_or, derived_at, derived_from, derived, leads_to, jumps_at, is_target, at_targets, settled, pair_at, kept_note, kept_from, kept_states, targets_from, target_count, are_rising, pairs_fault, AreDerivedProper}
 use Rattle.machine_spec.specs.declared.instruction.Region.{Region}
 use Rattle.notes.specs.Regions.{AreRegions, IsVerified}
 use Rattle.notes.proofs.Lookups.{note_at_past}
@@ -69,13 +70,13 @@ pub given_first : (code : List Placed) (given : ℕ → Option Abstract) → der
 unfolding derived_at
 given_first code given = refl
 
-pub given_next : (code : List Placed) (given : ℕ → Option Abstract) (k : ℕ) → derived_at code given (suc k) ≡ given_or (given (suc k)) (fallen (slice_get code k) (derived_at code given k))
+pub given_next : (code : List Placed) (given : ℕ → Option Abstract) (k : ℕ) → derived_at code given (suc k) ≡ given_or (given (suc k)) (fallen code k (slice_get code k) (derived_at code given k))
 unfolding derived_at
 given_next code given k = refl
 
 given_at : (code : List Placed) (given : ℕ → Option Abstract) (k : ℕ) → (follows : Option Abstract) × (derived_at code given k ≡ given_or (given k) follows)
 given_at code given zero = (Some entry_state, given_first code given)
-given_at code given (suc k) = (fallen (slice_get code k) (derived_at code given k), given_next code given k)
+given_at code given (suc k) = (fallen code k (slice_get code k) (derived_at code given k), given_next code given k)
 
 -- ---- other given states
 
@@ -99,15 +100,15 @@ derived_again code given other n again zero under = given_first code other ∙ g
 derived_again code given other n again (suc k) under =
     let before = derived_again code given other n again k (omega arith) in
     given_next code other k
-    ∙ (ap (λ (o : Option Abstract). given_or (other (suc k)) (fallen (slice_get code k) o)) before
-    ∙ given_again code given other (suc k) (fallen (slice_get code k) (derived_at code given k)) (given_next code given k) (again (suc k) under))
+    ∙ (ap (λ (o : Option Abstract). given_or (other (suc k)) (fallen code k (slice_get code k) o)) before
+    ∙ given_again code given other (suc k) (fallen code k (slice_get code k) (derived_at code given k)) (given_next code given k) (again (suc k) under))
 
 derived_at-same : (code : List Placed) (given other : ℕ → Option Abstract) (n : ℕ) → ((k : ℕ) → k < n → other k ≡ given k) → (k : ℕ) → k < n → derived_at code other k ≡ derived_at code given k
 derived_at-same code given other n same zero under = given_first code other ∙ (ap (λ (o : Option Abstract). given_or o (Some entry_state)) (same 0 under) ∙ sym (given_first code given))
 derived_at-same code given other n same (suc k) under =
     given_next code other k
-    ∙ (ap (λ (o : Option Abstract). given_or (other (suc k)) (fallen (slice_get code k) o)) (derived_at-same code given other n same k (omega arith))
-    ∙ (ap (λ (o : Option Abstract). given_or o (fallen (slice_get code k) (derived_at code given k))) (same (suc k) under) ∙ sym (given_next code given k)))
+    ∙ (ap (λ (o : Option Abstract). given_or (other (suc k)) (fallen code k (slice_get code k) o)) (derived_at-same code given other n same k (omega arith))
+    ∙ (ap (λ (o : Option Abstract). given_or o (fallen code k (slice_get code k) (derived_at code given k))) (same (suc k) under) ∙ sym (given_next code given k)))
 
 -- the same given states have the same following
 pub derived_same : (code : List Placed) (given other : ℕ → Option Abstract) → ((k : ℕ) → k < length code → other k ≡ given k) → derived code other ≡ derived code given
@@ -145,6 +146,11 @@ target_is code k placed t at e =
     (subst P (sym read) (leads_itself (target_of code placed.slot (jump_of placed.instruction)) t e))
 
 -- ---- within an annotation
+
+-- what is brought where a check passes is covered where it is
+pub passed_covers : (failed : Option Check) (edge outer : Option Abstract) → is_edge_covered edge outer ≡ true → is_edge_covered (if_passed failed None edge) outer ≡ true
+passed_covers (Some kind) edge outer h = refl
+passed_covers None edge outer h = h
 
 covers_given : (o follows outer : Option Abstract) → (o ≡ outer) ⊎ (o ≡ None) → is_edge_covered follows outer ≡ true → is_edge_covered (given_or o follows) outer ≡ true
 covers_given None follows outer is h = h
@@ -197,14 +203,13 @@ module _ (code : List Placed) (notes : Notes) (annotation : IsAnnotation code no
         covered_trans (jumps_to i s) (jumps_to i t) target (jumps_monotone i s t outer.2 ps (annotation.proper k t outer.1) (annotation.checked k placed t at outer.1)) closed.1
 
   fallen_within : (k : ℕ) (at : Option Placed) (known : Option Abstract) → slice_get code k ≡ at → ((s : Abstract) → known ≡ Some s → is_proper s ≡ true)
-      → is_edge_covered known (note_at notes k) ≡ true → is_edge_covered (fallen at known) (note_at notes (k + 1)) ≡ true
+      → is_edge_covered known (note_at notes k) ≡ true → is_edge_covered (fallen code k at known) (note_at notes (k + 1)) ≡ true
   fallen_within k None known at ps below = refl
   fallen_within k (Some placed) None at ps below = refl
   fallen_within k (Some placed) (Some s) at ps below =
-      elim (failed_check placed.instruction s) as (λ failed. is_edge_covered (if_passed failed None (falls_to placed.instruction s)) (note_at notes (k + 1)) ≡ true) [
-        | Some _ ↦ refl
-        | None ↦ falls_within k placed s at (ps s refl) below
-      ]
+      let falls = falls_to placed.instruction s in
+      passed_covers (first_of (shape_checks code k placed)) (if_passed (failed_check placed.instruction s) None falls) (note_at notes (k + 1))
+      (passed_covers (failed_check placed.instruction s) falls (note_at notes (k + 1)) (falls_within k placed s at (ps s refl) below))
 
   -- each state that follows is within the note there
   pub derived_within : (k : ℕ) → k < length code → is_edge_covered (derived_at code given k) (note_at notes k) ≡ true
@@ -213,7 +218,7 @@ module _ (code : List Placed) (notes : Notes) (annotation : IsAnnotation code no
   derived_within (suc k) under =
       let next : k + 1 ≡ suc k = omega arith in
       let known = derived_at code given k in
-      let follows = fallen (slice_get code k) known in
+      let follows = fallen code k (slice_get code k) known in
       let below : k < length code = omega (arith, under) in
       let falls = fallen_within k (slice_get code k) known refl (λ s e. proper k s below e) (derived_within k below) in
       subst (λ o. is_edge_covered o (note_at notes (suc k)) ≡ true) (sym (given_next code given k))
@@ -243,11 +248,13 @@ module _ (code : List Placed) (notes : Notes) (annotation : IsAnnotation code no
     passed : failed_check placed.instruction s ≡ None
     passed = passed_within k placed s at ps below
 
-    falls_through : fallen (slice_get code k) (derived_at code given k) ≡ falls_to placed.instruction s
+    falls_through : fallen code k (slice_get code k) (derived_at code given k) ≡ falls_to placed.instruction s
     falls_through =
         let i = placed.instruction in
-        ap (λ (o : Option Placed). fallen o (derived_at code given k)) at
-        ∙ (ap (λ (o : Option Abstract). fallen (Some placed) o) (state_is k s noted).1 ∙ ap (λ (failed : Option Check). if_passed failed None (falls_to i s)) passed)
+        ap (λ (o : Option Placed). fallen code k o (derived_at code given k)) at
+        ∙ (ap (λ (o : Option Abstract). fallen code k (Some placed) o) (state_is k s noted).1
+        ∙ (ap (λ (failed : Option Check). if_passed failed None (if_passed (failed_check i s) None (falls_to i s))) (annotation.shape k placed at)
+        ∙ ap (λ (failed : Option Check). if_passed failed None (falls_to i s)) passed))
 
     falls_closed : is_edge_covered (falls_to placed.instruction s) (note_at states (k + 1)) ≡ true
     falls_closed =
@@ -361,6 +368,23 @@ pair_kept code notes k =
     let same : 0 + k ≡ k = omega arith in
     let P : ℕ → Type 0 = λ n. pair_at (kept_from code 0 notes) n ≡ cond (is_target code n) (note_at notes k) None in
     subst P same (pair_from code 0 notes k)
+
+few_more : (wanted : Bool) (k : ℕ) (known : Option Abstract) (kept : List (ℕ × Abstract)) (n : ℕ) → length kept ≤ n → length (kept_note wanted k known ++ kept) ≤ cond wanted 1 0 + n
+few_more true k (Some s) kept n h = omega arith
+few_more true k None kept n h = omega arith
+few_more false k known kept n h = h
+
+few_from : (code : List Placed) (k : ℕ) (rest : List Placed) (notes : Notes) → length notes ≡ length rest → length (kept_from code k notes) ≤ targets_from code k rest
+few_from code k [] [] e = omega arith
+few_from code k [] (first ∷ notes) e = absurd (omega (arith, e))
+few_from code k (placed ∷ rest) [] e = absurd (omega (arith, e))
+few_from code k (placed ∷ rest) (first ∷ notes) e =
+    few_more (is_target code k) k first (kept_from code (k + 1) notes) (targets_from code (k + 1) rest) (few_from code (k + 1) rest notes (omega (arith, e)))
+
+-- one state is kept of a jump target at most
+pub few_kept : (code : List Placed) (notes : Notes) → length notes ≡ length code → length (kept_states code notes) ≤ target_count code
+unfolding kept_states target_count
+few_kept code notes e = few_from code 0 code notes e
 
 -- what follows from the kept states of what follows is the same
 pub settled_again : (code : List Placed) (notes : Notes) → derived code (pair_at (kept_states code (settled code notes))) ≡ settled code notes

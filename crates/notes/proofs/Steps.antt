@@ -136,7 +136,7 @@ pub follows_first : (code : List Placed) (old : Notes) → HasFollowed code old 
 follows_first code old = record { next = given_first code (note_at old); proper = λ k s under e. absurd (omega (arith, under)) }
 
 pub follows_more : (code : List Placed) (old : Notes) (follows state falls : Option Abstract) (k : ℕ) (placed : Placed) → slice_get code k ≡ Some placed
-    → state ≡ given_or (note_at old k) follows → falls ≡ fallen (Some placed) state → ((s : Abstract) → state ≡ Some s → is_proper s ≡ true)
+    → state ≡ given_or (note_at old k) follows → falls ≡ fallen code k (Some placed) state → ((s : Abstract) → state ≡ Some s → is_proper s ≡ true)
     → HasFollowed code old follows k → HasFollowed code old falls (k + 1)
 follows_more code old follows state falls k placed at state_is falls_is proper before =
     let given = note_at old in
@@ -147,7 +147,7 @@ follows_more code old follows state falls k placed at state_is falls_is proper b
       next = subst P one
           (given_next code given k
           ∙ ap (λ (o : Option Abstract). given_or (given (suc k)) o)
-          (ap (λ (o : Option Placed). fallen o (derived_at code given k)) at ∙ (ap (λ (o : Option Abstract). fallen (Some placed) o) here ∙ sym falls_is)));
+          (ap (λ (o : Option Placed). fallen code k o (derived_at code given k)) at ∙ (ap (λ (o : Option Abstract). fallen code k (Some placed) o) here ∙ sym falls_is)));
       proper = λ j s under e. elim (cases_eq j k) [
         | inl same ↦ proper s (sym here ∙ (ap (λ (n : ℕ). derived_at code given n) (sym same) ∙ e))
         | inr other ↦ before.proper j s (omega (arith, under, other)) e

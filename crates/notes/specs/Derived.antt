@@ -6,18 +6,21 @@ use Rattle.machine_spec.specs.Image.{target_of}
 use Rattle.verifier_spec.specs.declared.state.Abstract.{Abstract}
 use Rattle.verifier_spec.specs.declared.fault.{Check.Check, VerifyFault.VerifyFault}
 use Rattle.verifier_spec.specs.States.{is_proper, entry_state}
-use Rattle.verifier_spec.specs.Checks.{failed_check, jump_of}
+use Rattle.machine_spec.specs.Traps.{first_of}
+use Rattle.verifier_spec.specs.Checks.{failed_check, shape_checks, jump_of}
 use Rattle.verifier_spec.specs.Transfer.{falls_to}
 use Rattle.verifier_spec.specs.JoinedStates.{if_passed}
 use Rattle.verifier_spec.specs.Annotation.{Notes, note_at, fault_of}
 
 -- ---- what follows
 
--- What falls through from an instruction: nothing where there is none, where it is not reached or where it fails a check.
-abbrev pub fallen : Option Placed → Option Abstract → Option Abstract
-fallen None s = None
-fallen (Some placed) None = None
-fallen (Some placed) (Some s) = if_passed (failed_check placed.instruction s) None (falls_to placed.instruction s)
+-- What falls through from instruction number k: nothing where there is none, where it is not reached or where it fails a
+-- check, of its shape or in its state.
+abbrev pub fallen : List Placed → ℕ → Option Placed → Option Abstract → Option Abstract
+fallen code k None s = None
+fallen code k (Some placed) None = None
+fallen code k (Some placed) (Some s) =
+    if_passed (first_of (shape_checks code k placed)) None (if_passed (failed_check placed.instruction s) None (falls_to placed.instruction s))
 
 -- the state that is given of an instruction, or else the one that follows
 abbrev pub given_or : Option Abstract → Option Abstract → Option Abstract
@@ -27,7 +30,7 @@ given_or None follows = follows
 -- The state of an instruction: the given one, or else what falls through from the one before; of the first the entry state.
 unfoldable pub derived_at : List Placed → (ℕ → Option Abstract) → ℕ → Option Abstract
 derived_at code given zero = given_or (given 0) (Some entry_state)
-derived_at code given (suc k) = given_or (given (suc k)) (fallen (slice_get code k) (derived_at code given k))
+derived_at code given (suc k) = given_or (given (suc k)) (fallen code k (slice_get code k) (derived_at code given k))
 
 abbrev pub derived_from : List Placed → (ℕ → Option Abstract) → ℕ → List Placed → Notes
 derived_from code given k [] = []
@@ -77,6 +80,15 @@ kept_from code k (note ∷ notes) = kept_note (is_target code k) k note ++ kept_
 -- The states at the jump targets that are reached, in order.
 unfoldable pub kept_states : List Placed → Notes → List (ℕ × Abstract)
 kept_states code notes = kept_from code 0 notes
+
+-- how many of the instructions from number k on are jump targets
+abbrev pub targets_from : List Placed → ℕ → List Placed → ℕ
+targets_from code k [] = 0
+targets_from code k (placed ∷ rest) = (if is_target code k then 1 else 0) + targets_from code (k + 1) rest
+
+-- How many different instructions the jumps of a code lead to.
+unfoldable pub target_count : List Placed → ℕ
+target_count code = targets_from code 0 code
 
 -- each number is below a limit and greater than the one before, and the first is at least the least
 abbrev pub are_rising : ℕ → ℕ → List (ℕ × Abstract) → Bool

@@ -2,27 +2,45 @@ ghost use Rattle.std.specs.Prelude.{◌≡◌, ℕ, ◌<◌, ◌++◌, true, fal
 ghost use Rattle.std.specs.Prelude.{slice_index_or, slice_set, replicate, ◌==◌};
 ghost use Rattle.verifier_spec.specs.States.{is_proper};
 ghost use Rattle.verifier_spec.specs.Annotation.{note_at};
+ghost use Rattle.verifier_spec.specs.Checks.{failed_check};
+ghost use Rattle.verifier_spec.specs.Transfer.{falls_to};
+ghost use Rattle.verifier_spec.specs.JoinedStates.{if_passed};
 ghost use Rattle.notes.specs.Derived.{fallen, given_or, derived, at_targets, settled, pair_at, are_rising, kept_note, kept_states, EachIs, AreDerivedProper, AreTargets};
 
+use crate::shape::failed_shape;
 use abstract_regs::State;
 use bpf_isa::Code;
-use machine_spec::Placed;
+use machine_spec::{MAX_SLOTS, Placed};
 use std::alloc::{AllocError, Global};
 
-/// What falls through from an instruction with its state: nothing where it is not reached or fails
-/// a check.
-fn fallen(placed: Placed, state: Option<State>) -> Option<State>
-    ensures fallen { result ≡ fallen (Some placed) state }
+/// What falls through from the instruction with this number in its state: nothing where it is not
+/// reached or fails a check.
+fn fallen(code: &Code, k: usize, placed: Placed, state: Option<State>) -> Option<State>
+    requires number { k < MAX_SLOTS }
+    requires slot { placed.slot < MAX_SLOTS }
+    ensures fallen { result ≡ fallen code.now k (Some placed) state }
     ensures proper { IfSome state (λ s. is_proper s ≡ true) }
 {
     match state {
-        Some(state) => fallen_from(placed, &state),
+        Some(state) => fallen_from(code, k, placed, &state),
         None => None,
     }
 }
 
-fn fallen_from(placed: Placed, state: &State) -> Option<State>
-    ensures fallen { result ≡ fallen (Some placed) (Some state.now) }
+fn fallen_from(code: &Code, k: usize, placed: Placed, state: &State) -> Option<State>
+    requires number { k < MAX_SLOTS }
+    requires slot { placed.slot < MAX_SLOTS }
+    ensures fallen { result ≡ fallen code.now k (Some placed) (Some state.now) }
+    ensures proper { is_proper state.now ≡ true }
+{
+    match failed_shape(code, k, placed) {
+        Some(_) => None,
+        None => passed_on(placed, state),
+    }
+}
+
+fn passed_on(placed: Placed, state: &State) -> Option<State>
+    ensures passed { result ≡ if_passed (failed_check placed.instruction state.now) None (falls_to placed.instruction state.now) }
     ensures proper { is_proper state.now ≡ true }
 {
     match state.check(placed.instruction) {
@@ -67,18 +85,21 @@ fn keep_marked(marks: &[bool], states: &mut [Option<State>])
 
 /// Gives an instruction without a state the one that follows, and returns what falls through from it.
 fn follow(
-    placed: Placed,
+    code: &Code,
     states: &mut [Option<State>],
     k: usize,
+    placed: Placed,
     follows: Option<State>,
 ) -> Option<State>
-    requires { k < length states.old }
+    requires within { k < length states.old }
+    requires number { k < MAX_SLOTS }
+    requires slot { placed.slot < MAX_SLOTS }
     ensures states { states.new ≡ slice_set states.old k (given_or (note_at states.old k) follows) }
-    ensures fallen { result ≡ fallen (Some placed) (given_or (note_at states.old k) follows) }
+    ensures fallen { result ≡ fallen code.now k (Some placed) (given_or (note_at states.old k) follows) }
     ensures proper { IfSome (given_or (note_at states.old k) follows) (λ s. is_proper s ≡ true) }
 {
     states[k] = given_or(state_of(states, k), follows);
-    fallen(placed, state_of(states, k))
+    fallen(code, k, placed, state_of(states, k))
 }
 
 /// Gives each instruction without a state the one that follows from those before it.
@@ -89,7 +110,7 @@ fn derive(code: &Code, states: &mut [Option<State>])
 {
     let mut follows = Some(State::entry());
     for k in 0..code.len() {
-        follows = follow(code.get(k), states, k, follows);
+        follows = follow(code, states, k, code.get(k), follows);
     }
 }
 
@@ -211,5 +232,6 @@ pub fn kept_states(
     for k in 0..code.len() {
         push_kept(&mut kept, targets[k], k, state_of(states, k))?;
     }
+    kept.shrink_to_fit();
     Ok(kept)
 }

@@ -23,6 +23,12 @@ const UNREACHED: [u8; 32] = [
     0, 0, 0, 0, 0,
 ];
 
+/// r0 = 0, a jump over the next instruction if r2 < r4, a jump out of the image if r2 < r4, EXIT.
+const OUTSIDE: [u8; 32] = [
+    0xb7, 0, 0, 0, 0, 0, 0, 0, 0xad, 0x42, 1, 0, 0, 0, 0, 0, 0xad, 0x42, 100, 0, 0, 0, 0, 0, 0x95,
+    0, 0, 0, 0, 0, 0, 0,
+];
+
 /// The joined state of an instruction that is reached.
 fn joined(alloc: Global, image: &[u8], k: usize) -> Result<State, Fail> {
     let states = joined_states(alloc, &decode(alloc, image)?)?;
@@ -72,6 +78,19 @@ fn states_follow_from_those_of_jump_targets(rt: HostRuntime) -> Result<(), Fail>
     assert_eq!(rt; told(alloc, &FIRST_BYTE, &[(3, last)])?.as_str(), "kept 1");
     assert_eq!(rt; told(alloc, &FIRST_BYTE, &[])?.as_str(), "V15 Notes at 1");
     assert_eq!(rt; told(alloc, &ZERO, &[])?.as_str(), "kept 0");
+    Ok(())
+}
+
+/// Nothing follows on an instruction that fails a check: no state covers the first jump's edge.
+#[test]
+fn nothing_follows_on_a_refused_instruction(rt: HostRuntime) -> Result<(), Fail> {
+    let alloc = rt.alloc();
+    let last = joined(alloc, &OUTSIDE, 1)?;
+    assert_eq!(rt; told(alloc, &OUTSIDE, &[])?.as_str(), "V15 Notes at 1");
+    assert_eq!(rt;
+        told(alloc, &OUTSIDE, &[(3, last)])?.as_str(),
+        "V1 JumpTarget at 2"
+    );
     Ok(())
 }
 

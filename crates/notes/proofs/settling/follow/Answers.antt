@@ -7,5 +7,5 @@ use Rattle.notes.proofs.settling.follow.Goals as goal
 pub returns-clause-fallen : goal.returns-clause-fallen
 returns-clause-fallen c =
     c.fallen.ensures.fallen
-    ∙ ap (λ o. fallen (Some c.args.placed) o)
-    (c.state_of-2.ensures ∙ (note_at-set c.args.states.now c.args.k c.given_or.result c.requires ∙ (c.given_or.ensures ∙ ap (λ o. given_or o c.args.follows) c.state_of.ensures)))
+    ∙ ap (λ o. fallen c.args.code.now c.args.k (Some c.args.placed) o)
+    (c.state_of-2.ensures ∙ (note_at-set c.args.states.now c.args.k c.given_or.result c.requires.within ∙ (c.given_or.ensures ∙ ap (λ o. given_or o c.args.follows) c.state_of.ensures)))

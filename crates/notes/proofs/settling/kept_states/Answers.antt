@@ -1,4 +1,4 @@
-use Rattle.std.proofs.Common.{arith, get_or, false}
+use Rattle.std.proofs.Common.{◌∙◌, arith, get_or, false}
 use Rattle.notes.proofs.Steps.{kept_step, kept_all}
 use Rattle.notes.proofs.settling.kept_states.Goals as goal
 
@@ -9,4 +9,4 @@ loop-k-preserved c =
     c.state_of.ensures c.in_ok-push_kept.ensures c.loop-k.invariant
 
 pub returns : goal.returns
-returns c = kept_all c.args.code.now c.args.states.now c.loop-k.k c.loop-k.kept.items (omega (arith, c.requires.long, c.len-k-end.ensures.is_length)) c.loop-k.invariant
+returns c = c.shrink_to_fit.ensures.items ∙ kept_all c.args.code.now c.args.states.now c.loop-k.k c.loop-k.kept.items (omega (arith, c.requires.long, c.len-k-end.ensures.is_length)) c.loop-k.invariant
