@@ -19,7 +19,7 @@ use crate::stop::{Stop, end_of_all};
 use broker::{Broker, BrokerFault, Parts, Until};
 use bytes::Bytes;
 use catalogue::{Catalogue, Finder, Known};
-use log_spec::Name;
+use log_spec::{Name, RawName};
 use part_log::{Names, Receipt};
 use report::gather;
 use script::{
@@ -139,17 +139,15 @@ impl<'a, Id: Names + Send + Sync, R: Threads + Wait + Sync> Session<'a, Id, R> {
         }
     }
 
-    fn load<O: Write>(&mut self, stdout: &mut O, name: Name, image: Bytes) -> Result<(), Stop> {
-        let (version, known) = self.broker.load(self.rt, self.alloc, &name, &image)?;
-        print(
-            stdout,
-            load_text(self.alloc, name.text.as_str(), version)?.as_str(),
-        )?;
+    fn load<O: Write>(&mut self, stdout: &mut O, name: RawName, image: Bytes) -> Result<(), Stop> {
+        let text = name.text.as_str();
+        let (version, known) = self.broker.load(self.rt, self.alloc, text, &image)?;
+        print(stdout, load_text(self.alloc, text, version)?.as_str())?;
         self.keep(name, known)
     }
 
     /// Keeps what is known of a name.
-    fn keep(&mut self, name: Name, known: Known) -> Result<(), Stop> {
+    fn keep(&mut self, name: RawName, known: Known) -> Result<(), Stop> {
         match self.loaded.insert(name.text, known) {
             Ok(_) => Ok(()),
             Err(_) => Err(Stop::Memory),
@@ -166,18 +164,21 @@ impl<'a, Id: Names + Send + Sync, R: Threads + Wait + Sync> Session<'a, Id, R> {
 
     /// Appends the mark of a loaded name.
     #[tactic(auto, using(crate::proofs::Marks::deployed))]
-    fn mark(&mut self, input: u64, name: &Name) -> Result<(Receipt<Id>, u32), Stop>
+    fn mark(&mut self, input: u64, name: &RawName) -> Result<(Receipt<Id>, u32), Stop>
         ensures { IfOk result (λ marked. IsMark input name.now marked.1 marked.0) }
     {
         let mut finder = self.taken_finder()?;
         let Some(known) = self.loaded.get(name.text.as_str()) else {
             return Err(Stop::Line(ScriptFault::Order));
         };
+        let Some(name) = Name::new(name.text.as_str()) else {
+            return Err(Stop::Line(ScriptFault::Order));
+        };
         let marked = self.broker.deploy(
             self.rt,
             self.alloc,
             input as usize,
-            name,
+            &name,
             &mut finder,
             known,
         );
@@ -194,7 +195,7 @@ impl<'a, Id: Names + Send + Sync, R: Threads + Wait + Sync> Session<'a, Id, R> {
         &mut self,
         stdout: &mut O,
         input: u64,
-        name: Name,
+        name: RawName,
     ) -> Result<Receipt<Id>, Stop>
         ensures { IfOk result (λ receipt. Deploys input name receipt (O.contents stdout.old) (O.contents stdout.new)) }
     {

@@ -1,4 +1,5 @@
 pub mod FittingBatches
 pub mod LogLaws
+pub mod NameLaws
 pub mod OneRows
 pub mod RowOrigins
