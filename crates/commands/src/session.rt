@@ -164,21 +164,18 @@ impl<'a, Id: Names + Send + Sync, R: Threads + Wait + Sync> Session<'a, Id, R> {
 
     /// Appends the mark of a loaded name.
     #[tactic(auto, using(crate::proofs::Marks::deployed))]
-    fn mark(&mut self, input: u64, name: &RawName) -> Result<(Receipt<Id>, u32), Stop>
+    fn mark(&mut self, input: u64, name: &Name) -> Result<(Receipt<Id>, u32), Stop>
         ensures { IfOk result (λ marked. IsMark input name.now marked.1 marked.0) }
     {
         let mut finder = self.taken_finder()?;
         let Some(known) = self.loaded.get(name.text.as_str()) else {
             return Err(Stop::Line(ScriptFault::Order));
         };
-        let Some(name) = Name::new(name.text.as_str()) else {
-            return Err(Stop::Line(ScriptFault::Order));
-        };
         let marked = self.broker.deploy(
             self.rt,
             self.alloc,
             input as usize,
-            &name,
+            name,
             &mut finder,
             known,
         );
@@ -189,8 +186,8 @@ impl<'a, Id: Names + Send + Sync, R: Threads + Wait + Sync> Session<'a, Id, R> {
         }
     }
 
-    /// Deploys a loaded name, and prints where its mark stands.
-    #[tactic(auto, using(crate::proofs::Marks::deploys, crate::proofs::Written::same_text))]
+    /// Deploys a loaded name, and prints where its mark stands. No text that is too long for a name is
+    /// loaded.
     fn deploy<O: Write>(
         &mut self,
         stdout: &mut O,
@@ -199,8 +196,23 @@ impl<'a, Id: Names + Send + Sync, R: Threads + Wait + Sync> Session<'a, Id, R> {
     ) -> Result<Receipt<Id>, Stop>
         ensures { IfOk result (λ receipt. Deploys input name receipt (O.contents stdout.old) (O.contents stdout.new)) }
     {
+        match Name::new(name.text.as_str()) {
+            None => Err(Stop::Line(ScriptFault::Order)),
+            Some(name) => self.deploy_named(stdout, input, &name),
+        }
+    }
+
+    #[tactic(auto, using(crate::proofs::Marks::deploys, crate::proofs::Written::same_text))]
+    fn deploy_named<O: Write>(
+        &mut self,
+        stdout: &mut O,
+        input: u64,
+        name: &Name,
+    ) -> Result<Receipt<Id>, Stop>
+        ensures { IfOk result (λ receipt. Deploys input name.now receipt (O.contents stdout.old) (O.contents stdout.new)) }
+    {
         self.known_input(input)?;
-        let (receipt, version) = self.mark(input, &name)?;
+        let (receipt, version) = self.mark(input, name)?;
         let line = deploy_text(
             self.alloc,
             input,
