@@ -17,10 +17,11 @@ import sys
 
 U64 = 1 << 64
 
-# Each helper's number: the registers of its numbers, those of the addresses and lengths of its bytes, and the greatest
-# number that it answers.
-HELPERS = {3: ([1], [], 3), 4: ([1], [(2, 3)], 3), 5: ([1], [(2, 3), (4, 5)], 3), 6: ([1], [], 3), 7: ([], [], (1 << 62) - 1),
-           8: ([], [], (1 << 62) - 1), 9: ([], [], 63)}
+# Each helper's number: the registers of its numbers, those of the addresses and lengths of the bytes that it reads and of
+# the room that it writes, and the greatest number that it answers.
+HELPERS = {1: ([2], [], [(1, 3)], 1), 2: ([2], [], [(1, 3)], 1), 3: ([1], [], [], 3), 4: ([1], [(2, 3)], [], 3),
+           5: ([1], [(2, 3), (4, 5)], [], 3), 6: ([1], [], [], 3), 7: ([], [], [], (1 << 62) - 1), 8: ([], [], [], (1 << 62) - 1),
+           9: ([], [], [], 63)}
 TOP = (0, U64 - 1)
 
 
@@ -267,8 +268,8 @@ def shape_fault(code, k):
 
 
 def argument_registers(helper):
-    numbers, pairs, _ = HELPERS[helper]
-    return numbers + [r for pair in pairs for r in pair]
+    numbers, pairs, rooms, _ = HELPERS[helper]
+    return numbers + [r for pair in pairs + rooms for r in pair]
 
 
 def are_readable(s, address, count):
@@ -282,6 +283,15 @@ def are_readable(s, address, count):
     if lo < 0 or hi + most > (512 if region == "stack" else s.low[region]):
         return False
     return region != "stack" or s.set >= set(range(lo, hi + most))
+
+
+def is_room(s, address, count):
+    """Whether an address and a number name room on the stack, of one byte at least."""
+    if address[:2] != ("addr", "stack") or count[0] == "addr":
+        return False
+    _, _, lo, hi = address
+    least, most = view(s, count)
+    return least >= 1 and lo >= 0 and hi + most <= 512
 
 
 def state_fault(i, s):
@@ -314,7 +324,8 @@ def state_fault(i, s):
         if region == "stack" and i[0] == "load" and not s.set >= set(range(lo + i[4], hi + i[4] + i[1])):
             return "V9 StackUnset"
     if i[0] == "call" and (any(s.regs[r][0] == "addr" for r in HELPERS[i[1]][0])
-                           or not all(are_readable(s, s.regs[a], s.regs[n]) for a, n in HELPERS[i[1]][1])):
+                           or not all(are_readable(s, s.regs[a], s.regs[n]) for a, n in HELPERS[i[1]][1])
+                           or not all(is_room(s, s.regs[a], s.regs[n]) for a, n in HELPERS[i[1]][2])):
         return "V12 HelperArg"
     if i[0] == "exit" and s.regs[0][0] == "addr":
         return "V13 Exit"
@@ -386,7 +397,11 @@ def edges(code, k, s):
     elif i[0] == "wide":
         t.regs[i[1]] = ("num", i[2], i[2])
     elif i[0] == "call":
-        t.regs[0] = ("num", 0, HELPERS[i[1]][2])
+        for a, n in HELPERS[i[1]][2]:
+            _, _, lo, hi = s.regs[a]
+            if lo == hi:
+                t.set = t.set | set(range(lo, lo + view(s, s.regs[n])[0]))
+        t.regs[0] = ("num", 0, HELPERS[i[1]][3])
         t.regs[1:6] = [None] * 5
     return [(k + 1, t)]
 
@@ -529,6 +544,13 @@ def run(code, record, outputs, place):
             assert isinstance(regs[i[2]], int) and isinstance(word(i[3]), int), "trap: type"
             if holds(i[5], i[1], regs[i[2]], word(i[3])):
                 pc = code.target(pc - 1, i[4])
+        elif i[1] in (1, 2):
+            data, (region, start), at, count = bytes_of["value" if i[1] == 1 else "key"], regs[1], regs[2], regs[3]
+            assert region == "stack" and isinstance(at, int) and isinstance(count, int), "trap: argument"
+            assert 1 <= count <= 512 and 0 <= start and start + count <= 512, "trap: argument"
+            is_there = at + count <= len(data)
+            stack[start:start + count] = data[at:at + count] if is_there else bytes(count)
+            regs[0], regs[1:6] = 0 if is_there else 1, [None] * 5
         elif i[1] in (7, 8, 9):
             regs[0], regs[1:6] = place[i[1] - 7], [None] * 5
         else:
@@ -673,15 +695,31 @@ def nullable(part):
     return varint(-1) if part is None else varint(len(part)) + part
 
 
-def spell(records, base, rng):
-    parts = []
-    for place, r in enumerate(records):
-        body = b"\0" + varint(r.delta, 64) + varint(place) + nullable(r.key) + nullable(r.value) + varint(len(r.headers))
-        body += b"".join(varint(len(k)) + k + nullable(v) for k, v in r.headers)
-        parts.append(varint(len(body)) + body)
+def spell_record(place, r):
+    body = b"\0" + varint(r.delta, 64) + varint(place) + nullable(r.key) + nullable(r.value) + varint(len(r.headers))
+    body += b"".join(varint(len(k)) + k + nullable(v) for k, v in r.headers)
+    return varint(len(body)) + body
+
+
+def spell(records, base, producer, offset):
+    parts = [spell_record(place, r) for place, r in enumerate(records)]
     times = [base + r.delta for r in records]
-    covered = struct.pack(">hiqqqhii", 0, len(records) - 1, base, max(times, default=0), rng.choice([-1, 5]), -1, -1, len(records)) + b"".join(parts)
-    return finish(covered, rng.choice([0, 7]))
+    covered = struct.pack(">hiqqqhii", 0, len(records) - 1, base, max(times, default=0), producer, -1, -1, len(records)) + b"".join(parts)
+    return finish(covered, offset)
+
+
+def fetched(rows, place, most):
+    """The batch of as many rows from a place on as one has room for, or none."""
+    if place >= len(rows) or most == 0:
+        return None
+    base, records, size = rows[place][0], [], 61
+    for time, key, value, headers in rows[place:place + min(most, 10000)]:
+        record = Record(time - base, key, value, headers)
+        size += len(spell_record(len(records), record))
+        if size > 1048576:
+            break
+        records.append(record)
+    return spell(records, base, -1, place)
 
 
 def finish(covered, offset):
@@ -734,13 +772,13 @@ class Log:
 class Broker:
     def __init__(self, faults):
         self.out, self.faults = [], faults
-        self.cells, self.logs, self.outputs, self.loaded = 0, None, 0, {}
+        self.cells, self.logs, self.outputs, self.loaded, self.books = 0, None, 0, {}, {}
 
     def line(self, text):
         if not text or text.startswith("#"):
             return
         words = text.split(" ")
-        counts = {"partitions": 4, "load": 3, "deploy": 3, "put": 5, "append": 3, "close": 2, "go": 1}
+        counts = {"partitions": 4, "load": 3, "deploy": 3, "put": 5, "append": 3, "close": 2, "fetch": 4, "go": 1}
         if "" in words or counts.get(words[0]) != len(words):
             raise Refused("S1 Syntax")
         getattr(self, words[0])(*words[1:])
@@ -825,6 +863,16 @@ class Broker:
         self.logs[i].closed = True
         self.out.append("close %d index %d" % (i, index))
 
+    def fetch(self, out, place, most):
+        """Where rows of several inputs are in one output, their order is open: no script asks for them."""
+        out, place, most = number(out), number(place), number(most)
+        self.order(self.begun())
+        if out >= self.outputs:
+            raise Refused("P1 Partition")
+        batch = fetched(self.books.get(out, []), place, most)
+        self.faults["fetched" if batch else "none"] += 1
+        self.out.append(batch.hex() if batch else "none")
+
     def rows(self, i):
         """The rows that an input partition gives, each with its output, and what became of each record: unprogrammed,
         kept, or the code that it was rejected with."""
@@ -846,12 +894,14 @@ class Broker:
                     continue
                 fates.append("kept")
                 for n, (out, key, value, headers) in enumerate(end):
+                    self.books.setdefault(out, []).append((base + record.delta, key, value, headers))
                     rows.append((out, "row %d %d %d %d %d %s %s %d" % (
                         out, i, offset + k, n, base + record.delta, shown(key), shown(value), len(headers))))
         return rows, fates
 
     def go(self):
         self.order(self.begun())
+        self.books = {}
         inputs = [self.rows(i) for i in range(len(self.logs))]
         for out in range(self.outputs):
             for given, _ in inputs:
@@ -904,6 +954,22 @@ def some_call_by_address(rng):
     return code + slot(0xB7, 1, 0, 0, rng.choice([0, 0, 0, 1, 9])) + slot(0x85, 0, 0, 0, 5 if by_two else 4)
 
 
+def some_copy(rng):
+    """Copies a part of the value or the key to the stack, and reads some of it."""
+    slot = lambda opcode, dst, src, offset, imm: struct.pack("<BBhi", opcode, dst | src << 4, offset, imm)
+    code = slot(0xBF, 1, 10, 0, 0) + slot(0x07, 1, 0, 0, rng.choice([-8, -8, -8, -16, -4, -512, -520, 0]))
+    by_length = rng.random() < 0.2
+    code += slot(0xBF, 3, 2, 0, 0) if by_length else slot(0xB7, 3, 0, 0, rng.choice([1, 2, 4, 7, 8, 8, 8, 9, 0, 512, 513]))
+    code += slot(0xB7, 2, 0, 0, rng.choice([0, 0, 1, 2, 8, -1, 16])) if rng.random() < 0.9 else slot(0xBF, 2, rng.choice([0, 4, 5, 10]), 0, 0)
+    code += slot(0x85, 0, 0, 0, rng.choice([1, 1, 2]))
+    if rng.random() < 0.6:
+        code += slot(rng.choice([0x71, 0x69, 0x61, 0x79, 0x91]), rng.choice([0, 0, 6]), 10, rng.choice([-8, -8, -8, -16, -4, -1]), 0)
+    if rng.random() < 0.3:
+        code += slot(0xBF, 2, 10, 0, 0) + slot(0x07, 2, 0, 0, -8) + slot(0xB7, 3, 0, 0, rng.choice([1, 4, 8])) + slot(0xB7, 1, 0, 0, 0)
+        code += slot(0x85, 0, 0, 0, 4)
+    return code
+
+
 def some_slot(rng, left):
     r = lambda: rng.choice([0, 0, 1, 2, 3, 4, 5, 6, 6, 7, 9, 10])
     small = lambda: rng.choice([0, 0, 1, 2, 4, 7, 8, 15, 16, 255, 4096, 65535, 65536, 1 << 20, -1, -2, -8, 2147483647, -2147483648])
@@ -945,11 +1011,11 @@ def some_slot(rng, left):
         klass, code, by_register = rng.choice([5, 5, 5, 6]), rng.choice([1, 2, 3, 5, 10, 11] * 3 + list(TESTS)), rng.random() < 0.15
         fields = (code << 4 | 8 * by_register | klass, rng.choice([2, 2, 2, 4, 5, r()]), r() if by_register else 0, jump(), 0 if by_register else small())
     elif kind < 0.87:
-        return some_call_by_address(rng)
+        return some_call_by_address(rng) if rng.random() < 0.5 else some_copy(rng)
     elif kind < 0.95:
         return struct.pack("<BBhi", 0xB7, 1, 0, rng.choice([0, 0, 0, 1, 2, 9])) + struct.pack("<BBhi", 0x85, 0, 0, rng.choice([3, 3, 3, 6, 6, 7, 8, 9, 99]))
     elif kind < 0.97:
-        fields = (0x85, 0, 0, 0, rng.choice([3, 4, 5, 6, 7, 8, 9, 0, 10, -1]))
+        fields = (0x85, 0, 0, 0, rng.choice([1, 2, 3, 4, 5, 6, 7, 8, 9, 0, 10, -1]))
     else:
         fields = (0x95, 0, 0, 0, 0)
     opcode, dst, src, offset, imm = fields
@@ -1000,7 +1066,7 @@ def some_batch(rng):
         headers = [(rng.choice([b"", b"h", "ä".encode(), b"\xff"] if rng.random() < 0.1 else [b"h", b"name"]), some_bytes(rng))
                    for _ in range(rng.choice([0, 0, 0, 1, 2, 16, 17] if rng.random() < 0.2 else [0, 0, 1]))]
         records.append(Record(rng.choice([0, 0, 5, -3, 1000]), some_bytes(rng), some_bytes(rng), headers))
-    data = spell(records, rng.choice([0, 1000, 1700000000000, (1 << 62) - 1]), rng)
+    data = spell(records, rng.choice([0, 1000, 1700000000000, (1 << 62) - 1]), rng.choice([-1, 5]), rng.choice([0, 7]))
     chance = rng.random()
     if chance < 0.15:
         data = bytearray(data)
@@ -1015,6 +1081,13 @@ def some_batch(rng):
     elif chance < 0.48:
         data = finish(data[21:] + b"\0" * rng.choice([1, 3]), 0)
     return data
+
+
+def some_fetch(rng, inputs):
+    """Rows of several inputs are only asked for where there is none."""
+    out = rng.choice(["0"] * 20 + ["1", "1", "2", "64", "1180591620717411303424", "01", "x"])
+    place = rng.choice(["0"] * 12 + ["1", "1", "2", "3", "5", "00", "-1"]) if inputs == 1 else "1000000"
+    return "fetch %s %s %s" % (out, rng.choice([place] * 8 + ["1000000", "1180591620717411303424"]), rng.choice(["1", "2", "3", "10", "10", "10", "0", "1180591620717411303424", ""] if rng.random() < 0.3 else ["1", "10"]))
 
 
 def some_line(rng, names, inputs):
@@ -1034,17 +1107,37 @@ def some_line(rng, names, inputs):
         return "append %s hex:%s" % (given, data.hex())
     if kind < 0.9:
         return "close %s" % given
+    if kind < 0.94:
+        return some_fetch(rng, inputs)
     if kind < 0.985:
         return "go"
     return rng.choice(["", "#x", "frob", "go ", " go", "go  x", "partitions 1 1 8", "load a", "load a.b hex:", "load a nothing", "load %s hex:" % ("n" * 33),
-                       "put 0 0 6 .", "put 0 0 6K .", "put 0 0 .. .", "deploy 0", "append 0 nothing", "load q hex:00FF", "go\r", "go\t"])
+                       "put 0 0 6 .", "put 0 0 6K .", "put 0 0 .. .", "deploy 0", "append 0 nothing", "fetch 0 0", "load q hex:00FF", "go\r", "go\t"])
 
 
 # the image of a program that emits each record to output 0
 FORWARD = "b70100000000000085000000030000009500000000000000"
 
 
+def some_append(rng):
+    if rng.random() < 0.85:
+        return "put 0 %s %s %s" % (rng.choice(["0", "900", "1000", str((1 << 62) - 1)]), word_of(some_bytes(rng)), word_of(some_bytes(rng)))
+    return "append 0 hex:%s" % b"".join(some_batch(rng) for _ in range(rng.choice([1, 1, 2]))).hex()
+
+
+def some_fetches(rng):
+    """Rows of one input, and fetches of them, more than once."""
+    lines = ["partitions 1 %d 64" % rng.choice([1, 2]), "load a hex:%s" % FORWARD, "deploy 0 a"]
+    for _ in range(rng.choice([1, 1, 2, 3])):
+        lines += [some_append(rng) for _ in range(rng.choice([0, 1, 2, 5]))]
+        lines += ["go"] if rng.random() < 0.9 else []
+        lines += [some_fetch(rng, 1) for _ in range(rng.choice([0, 1, 3]))]
+    return "\n".join(lines)
+
+
 def some_script(rng):
+    if rng.random() < 0.25:
+        return some_fetches(rng)
     cells = rng.choice(["64", "64", "64", "8", "1", "3"] * 8 + ["0", "65537", "08", "65536"])
     inputs, outputs = rng.choice([(1, 1), (1, 2), (2, 1), (2, 3), (3, 2), (5, 5)])
     head = rng.choice(["partitions %d %d %s" % (inputs, outputs, cells)] * 60 + ["partitions 64 64 8", "partitions 65 1 8", "partitions 1 65 8", "go",
@@ -1052,7 +1145,10 @@ def some_script(rng):
     names = ["a"] if rng.random() < 0.7 else ["a", "b-1", "Long-name-of-thirty-two-letters1"]
     good = "load a hex:%s\ndeploy %d a\n" % (accepted_image(rng).hex() if rng.random() < 0.7 else FORWARD, rng.randrange(inputs)) if rng.random() < 0.8 else ""
     lines = [some_line(rng, names, inputs) for _ in range(rng.choice([1, 2, 3, 5, 8, 12, 20]))]
-    return head + "\n" + good + "\n".join(lines) + rng.choice(["", "\n", "\ngo", "\ngo\n"])
+    end = rng.choice(["", "\n", "\ngo", "\ngo\n"])
+    if rng.random() < 0.4:
+        end = "\ngo\n" + "\n".join(some_fetch(rng, inputs) for _ in range(rng.choice([1, 2, 4])))
+    return head + "\n" + good + "\n".join(lines) + end
 
 
 

@@ -1,10 +1,12 @@
 -- The kinds of registers after a call.
-use Rattle.std.proofs.Common.{◌≡◌, true, List, [], ◌∷◌, length, slice_index_or, refl, arith}
-use Rattle.std.proofs.lemmas.Bool.{and_from, eqb-true}
-use Rattle.std.specs.List.{list_all}
+use Rattle.std.proofs.Common.{◌≡◌, ℕ, ◌+◌, ◌<◌, Bool, true, false, List, [], ◌∷◌, length, get_or, drop, slice_index_or, refl, ap, subst, add-one, arith}
+use Rattle.std.proofs.lemmas.Bool.{and_from, or_parts, eqb-true}
+use Rattle.std.specs.List.{list_all, list_any, fold}
+use Rattle.std.proofs.Math.Seq.{drop-cons}
+use Rattle.machine_spec.specs.declared.helper.Argument.{Argument}
 use Rattle.verifier_spec.specs.declared.state.Abs.{Abs}
 use Rattle.verifier_spec.specs.declared.state.Abs.TheVariants as abs
-use Rattle.verifier_spec.specs.declared.state.Abstract.{Abstract}
+use Rattle.verifier_spec.specs.declared.state.{Abstract.Abstract, StackSet.StackSet}
 use Rattle.verifier_spec.specs.Kinds.{is_proper_kind}
 use Rattle.verifier_spec.specs.States.{is_proper}
 use Rattle.verifier_spec.specs.Transfer.{after_call_kinds}
@@ -35,8 +37,8 @@ after_call_all kinds answer count all one = rw (after_call_eleven kinds answer c
 pub after_call_length : (kinds : List Abs) (answer : Abs) → length kinds ≡ 11 → length (after_call_kinds kinds answer) ≡ 11
 after_call_length kinds answer count = rw (after_call_eleven kinds answer count) refl
 
-pub called_proper : (s : Abstract) (answer : Abs) → is_proper s ≡ true → is_proper_kind answer ≡ true → is_proper (record s { registers = after_call_kinds s.registers answer }) ≡ true
-called_proper s answer proper one =
+pub called_proper : (s : Abstract) (answer : Abs) (set : StackSet) → is_proper s ≡ true → is_proper_kind answer ≡ true → is_proper (record s { registers = after_call_kinds s.registers answer; set = set }) ≡ true
+called_proper s answer set proper one =
     let p = proper_parts s proper in
     let count : length s.registers ≡ 11 = eqb-true _ _ p.count in
     proper_from _ (record {
@@ -47,3 +49,18 @@ called_proper s answer proper one =
       value = p.value;
       value_most = p.value_most;
     })
+
+-- ---- the arguments one after the other
+
+-- where no argument from one on is wrong, that one is not, nor is any behind it
+pub next_right : (p : Argument → Bool) (arguments : List Argument) (i : ℕ) (d : Argument) → i < length arguments → list_any p (drop i arguments) ≡ false
+    → (p (get_or arguments i d) ≡ false) × (list_any p (drop (i + 1) arguments) ≡ false)
+next_right p arguments i d inside h =
+    let e : drop i arguments ≡ get_or arguments i d ∷ drop (i + 1) arguments = rw (add-one, drop-cons arguments i d inside) refl in
+    or_parts (p (get_or arguments i d)) (list_any p (drop (i + 1) arguments)) (subst (λ xs. list_any p xs ≡ false) e h)
+
+pub next_fold : (f : StackSet → Argument → StackSet) (arguments : List Argument) (i : ℕ) (d : Argument) (set : StackSet) → i < length arguments
+    → fold f set (drop i arguments) ≡ fold f (f set (get_or arguments i d)) (drop (i + 1) arguments)
+next_fold f arguments i d set inside =
+    let e : drop i arguments ≡ get_or arguments i d ∷ drop (i + 1) arguments = rw (add-one, drop-cons arguments i d inside) refl in
+    ap (fold f set) e

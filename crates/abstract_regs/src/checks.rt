@@ -1,9 +1,9 @@
-ghost use Rattle.std.specs.Prelude.{◌≡◌, ◌+◌, pos, neg_ℤ, ◌+ℤ◌, ◌&&◌, int_le, unsigned_abs};
+ghost use Rattle.std.specs.Prelude.{◌≡◌, ◌+◌, pos, neg_ℤ, ◌+ℤ◌, ◌&&◌, ◌||◌, int_le, unsigned_abs};
 ghost use Rattle.std.specs.List.{list_any, flat_map};
 ghost use Rattle.machine_spec.specs.Arithmetic.{signed};
 ghost use Rattle.machine_spec.specs.Traps.{source_registers, operand_registers, base_registers, condition_registers, argument_registers, arguments_of};
 ghost use Rattle.verifier_spec.specs.Kinds.{kind_at, is_unknown, furthest};
-ghost use Rattle.verifier_spec.specs.Checks.{reads_unknown, is_one_sign, least_displacement, greatest_displacement, can_move, can_compute_kinds, has_wrong_kinds, has_wrong_base_kind, has_wrong_condition_kind, reach_at, reach_of, may_write_record, may_leave_record, may_leave_stack, may_read_unset, named_reach, may_name_wrongly, is_whole, is_wrong_argument_kind, may_exit_wrongly, failed_check};
+ghost use Rattle.verifier_spec.specs.Checks.{reads_unknown, is_one_sign, least_displacement, greatest_displacement, can_move, can_compute_kinds, has_wrong_kinds, has_wrong_base_kind, has_wrong_condition_kind, reach_at, reach_of, may_write_record, may_leave_record, may_leave_stack, may_read_unset, named_reach, may_name_wrongly, may_be_wrong_room, is_whole, is_wrong_argument_kind, may_exit_wrongly, failed_check};
 
 use machine_spec::{
     Argument, Condition, Direction, Helper, Instruction, MemoryOperand, Operands, Operation,
@@ -70,7 +70,7 @@ fn is_unknown_argument(state: &Abstract, argument: Argument) -> bool
     match argument {
         Argument::Nothing => false,
         Argument::Number(register) => is_unknown_at(state, register),
-        Argument::Bytes(address, count) => {
+        Argument::Bytes(address, count) | Argument::Room(address, count) => {
             is_unknown_at(state, address) || is_unknown_at(state, count)
         }
     }
@@ -400,7 +400,7 @@ fn may_be_missing(state: &Abstract, region: Region, low: i64, high: i64, count: 
 }
 
 fn may_name_wrongly(state: &Abstract, address: Abs, count: Option<Interval>) -> bool
-    ensures { result ≡ may_name_wrongly state.now (named_reach address count) }
+    ensures { result ≡ may_name_wrongly state.now (named_reach Direction.Read address count) }
 {
     match address {
         Abs::Addr(region, low, high) => match count {
@@ -430,6 +430,46 @@ fn is_whole(address: Abs, count: Abs) -> bool
     }
 }
 
+// ---- room that a helper writes
+
+/// Whether `count` bytes from any place from `low` to `high` may not be on the stack or pass its end.
+fn may_leave_room(region: Region, low: i64, high: i64, count: u64) -> bool
+    ensures { result ≡ (may_write_record (Some (record {
+      direction = Direction.Write;
+      region = region;
+      low = low;
+      high = high;
+      size = count;
+    })) || may_leave_stack (Some (record {
+      direction = Direction.Write;
+      region = region;
+      low = low;
+      high = high;
+      size = count;
+    }))) }
+{
+    match region {
+        Region::Stack => !are_within(low, high, count, STACK_SIZE as u32),
+        Region::Key => true,
+        Region::Value => true,
+    }
+}
+
+/// Whether room may be none at all, not be on the stack or pass its end.
+fn may_be_wrong_room(address: Abs, count: Option<Interval>) -> bool
+    ensures { result ≡ may_be_wrong_room (named_reach Direction.Write address count) count }
+{
+    match address {
+        Abs::Addr(region, low, high) => match count {
+            Some(count) => count.low == 0 || may_leave_room(region, low, high, count.high),
+            None => true,
+        },
+        Abs::None => true,
+        Abs::Num(_, _) => true,
+        Abs::Len(_) => true,
+    }
+}
+
 // ---- calls and the exit
 
 /// Whether a helper's argument may not be what it must be.
@@ -444,6 +484,13 @@ pub fn is_wrong_argument(state: &Abstract, argument: Argument) -> bool
             let count = kinds::kind_at(state, count);
             !is_whole(address, count)
                 && may_name_wrongly(state, address, kinds::range_of(state, count))
+        }
+        Argument::Room(address, count) => {
+            let count = kinds::kind_at(state, count);
+            may_be_wrong_room(
+                kinds::kind_at(state, address),
+                kinds::range_of(state, count),
+            )
         }
     }
 }

@@ -3,14 +3,16 @@ ghost use Rattle.verifier_spec.specs.Intervals.{from_to};
 ghost use Rattle.verifier_spec.specs.Kinds.{kind_at, greatest, range_of, is_proper_kind, furthest};
 ghost use Rattle.verifier_spec.specs.States.{is_proper};
 ghost use Rattle.std.specs.Ordering.{int_eq};
+ghost use Rattle.std.specs.List.{list_any, fold};
+ghost use Rattle.machine_spec.specs.Machine.{signature_of, helper_of};
 ghost use Rattle.machine_spec.specs.declared.summary.Direction.TheVariants as direction;
-ghost use Rattle.verifier_spec.specs.Checks.{can_move, can_compute_kinds, source_kind, reach_at, may_leave_stack, failed_check};
-ghost use Rattle.verifier_spec.specs.Transfer.{with_kind, numbers, on_ranges, moved_address, moved_kind, computed_kind, changed_kind, loaded_kind, with_stored, with_length, with_range, narrowed_range, tested, answer_kind, after_call_kinds, called_kinds, met_edge, jump_edge, falls_to, jumps_to};
+ghost use Rattle.verifier_spec.specs.Checks.{can_move, can_compute_kinds, source_kind, reach_at, may_leave_stack, named_reach, may_be_wrong_room, is_wrong_argument_kind, failed_check};
+ghost use Rattle.verifier_spec.specs.Transfer.{with_kind, numbers, on_ranges, moved_address, moved_kind, computed_kind, changed_kind, loaded_kind, with_stored, with_room, with_argument, with_length, with_range, narrowed_range, tested, answer_kind, after_call_kinds, called_kinds, met_edge, jump_edge, falls_to, jumps_to};
 
 use crate::checks;
 use machine_spec::{
-    Change, Condition, Extension, Helper, Instruction, Operation, Region, Size, Source, Summary,
-    Test, Width,
+    Argument, Change, Condition, Extension, Helper, Instruction, Operation, Region, Size, Source,
+    Summary, Test, Width,
 };
 use stack_bytes::{StackSet, with_places};
 use state_order::kinds;
@@ -210,7 +212,11 @@ fn with_stored(set: &StackSet, base: Abs, offset: i16, size: Size) -> StackSet
     match base {
         Abs::Addr(region, low, high) => {
             if region.is_stack() && is_one_place(low, high, offset) {
-                with_places(set, checks::first_place(low, offset), size.byte_count())
+                with_places(
+                    set,
+                    checks::first_place(low, offset),
+                    u64::from(size.byte_count()),
+                )
             } else {
                 *set
             }
@@ -361,9 +367,77 @@ fn after_call_kinds(kinds: &[Abs; 11], answer: Abs) -> [Abs; 11]
     ]
 }
 
+/// Whether an address from low to high is one place.
+fn is_known(low: i64, high: i64) -> bool
+    ensures { result ≡ int_eq low high }
+{
+    low == high
+}
+
+/// The set of stack bytes after a helper wrote room: where the room is at one known place, as many
+/// bytes of it are set as it has at least.
+#[tactic(auto, using(crate::proofs::Stores::room_inside))]
+fn with_room(set: &StackSet, address: Abs, count: Option<Interval>) -> StackSet
+    requires inside { may_be_wrong_room (named_reach direction.Write address count) count ≡ false }
+    requires order { IfSome count (λ r. r.low ≤ r.high) }
+    ensures { result ≡ with_room set.now address count }
+{
+    match address {
+        Abs::Addr(region, low, high) => match count {
+            Some(count) => {
+                if region.is_stack() && is_known(low, high) {
+                    with_places(set, low.unsigned_abs(), count.low)
+                } else {
+                    *set
+                }
+            }
+            None => *set,
+        },
+        Abs::None => *set,
+        Abs::Num(_, _) => *set,
+        Abs::Len(_) => *set,
+    }
+}
+
+/// The set of stack bytes after a helper wrote to what one of its arguments names.
+fn with_argument(state: &Abstract, set: &StackSet, argument: Argument) -> StackSet
+    requires state { is_proper state.now ≡ true }
+    requires right { is_wrong_argument_kind state.now argument ≡ false }
+    ensures { result ≡ with_argument state.now set.now argument }
+{
+    match argument {
+        Argument::Nothing => *set,
+        Argument::Number(_) => *set,
+        Argument::Bytes(_, _) => *set,
+        Argument::Room(address, count) => {
+            let count = kinds::kind_at(state, count);
+            with_room(
+                set,
+                kinds::kind_at(state, address),
+                kinds::range_of(state, count),
+            )
+        }
+    }
+}
+
+/// The set of stack bytes after a helper wrote to what its arguments name.
+#[tactic(auto, using(crate::proofs::Calls::next_right, crate::proofs::Calls::next_fold))]
+fn with_arguments(state: &Abstract, arguments: &[Argument]) -> StackSet
+    requires state { is_proper state.now ≡ true }
+    requires right { list_any (is_wrong_argument_kind state.now) arguments.now ≡ false }
+    ensures { result ≡ fold (with_argument state.now) state.now.set arguments.now }
+{
+    let mut set = state.set;
+    for argument in arguments {
+        set = with_argument(state, &set, *argument);
+    }
+    set
+}
+
 #[tactic(auto, using(crate::proofs::Calls::called_proper))]
 fn called(state: &Abstract, helper: Helper) -> Abstract
-    requires { is_proper state.now ≡ true }
+    requires state { is_proper state.now ≡ true }
+    requires right { list_any (is_wrong_argument_kind state.now) (signature_of helper).arguments ≡ false }
     ensures called { Some result ≡ called_kinds (Some helper) state.now }
     ensures proper { is_proper result ≡ true }
 {
@@ -373,7 +447,20 @@ fn called(state: &Abstract, helper: Helper) -> Abstract
         key_max: state.key_max,
         value_min: state.value_min,
         value_max: state.value_max,
-        set: state.set,
+        set: with_arguments(state, &helper.signature().arguments),
+    }
+}
+
+/// The state after a call, if a helper has the number.
+fn called_by(state: &Abstract, number: i32) -> Option<Abstract>
+    requires state { is_proper state.now ≡ true }
+    requires passes { failed_check (Instruction.Call number) state.now ≡ None }
+    ensures called { result ≡ called_kinds (helper_of number) state.now }
+    ensures proper { IfSome result (λ s. is_proper s ≡ true) }
+{
+    match Helper::with_number(number) {
+        Some(helper) => Some(called(state, helper)),
+        None => None,
     }
 }
 
@@ -434,10 +521,7 @@ pub fn falls_to(instruction: Instruction, state: &Abstract) -> Option<Abstract>
         }
         Instruction::Jump(_) => None,
         Instruction::Wide(dst, number) => Some(with_kind(state, dst, Abs::Num(number, number))),
-        Instruction::Call(number) => match Helper::with_number(number) {
-            Some(helper) => Some(called(state, helper)),
-            None => None,
-        },
+        Instruction::Call(number) => called_by(state, number),
         Instruction::Exit => None,
     }
 }

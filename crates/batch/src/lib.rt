@@ -8,7 +8,7 @@ mod sharing;
 mod times;
 mod writing;
 
-pub use limits::fits;
+pub use limits::{HEADER, MAX_BATCH, MAX_RECORDS, fits, record_len};
 pub use reading::{decode, one_spelling};
 pub use sharing::share;
 pub use wire_spec::{Batch, BatchFault, Headers, Records};

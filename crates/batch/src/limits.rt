@@ -27,8 +27,8 @@ fn records_fit(records: &[Record]) -> bool
     true
 }
 
-/// How many bytes the record of this place takes.
-fn record_len(record: &Record, place: usize) -> usize
+/// How many bytes the record of this place takes in a batch.
+pub fn record_len(record: &Record, place: usize) -> usize
     requires place { place < 10000 }
     requires fits { RecordFits «record».now }
     ensures size { result ≡ length (record_spelling (pos place) «record».now) }

@@ -91,7 +91,7 @@ pub const ARITHMETIC: [Kind; 6] = [
 ];
 
 /// Long programs of loads and stores, of jumps, of wide numbers and of calls.
-pub const OTHERS: [Kind; 6] = [
+pub const OTHERS: [Kind; 8] = [
     Kind {
         name: "stack",
         head: "mov64 r6, -77\n",
@@ -126,6 +126,20 @@ pub const OTHERS: [Kind; 6] = [
         body: "mov64 r1, 1\ncall 3\n",
         times: 2047,
         runs: 1,
+    },
+    Kind {
+        name: "1 emission",
+        head: "mov64 r0, 0\n",
+        body: "mov64 r1, 0\ncall 3\n",
+        times: 1,
+        runs: 256,
+    },
+    Kind {
+        name: "1 emission by address",
+        head: "mov64 r3, r2\nmov64 r2, r1\n",
+        body: "mov64 r1, 0\ncall 4\n",
+        times: 1,
+        runs: 256,
     },
     Kind {
         name: "16 emissions",

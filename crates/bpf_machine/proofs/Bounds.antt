@@ -67,7 +67,7 @@ module _ (program : Program) (input : Input) (s : State) (within : s.slot < slot
   goes_called (Some helper) e = goes_one
   goes_called None e = absurd (false≢true (sym e))
 
-  pub goes_further : (i : Instruction) → i ≢ Exit → IsFree program i s → (s.slot < (after i input s).slot) × ((after i input s).slot ≤ slot_count program.image + 1)
+  pub goes_further : (i : Instruction) → i ≢ Exit → IsFree program input i s → (s.slot < (after i input s).slot) × ((after i input s).slot ≤ slot_count program.image + 1)
   unfolding after
   goes_further (Move a b c) other free = goes_one
   goes_further (Compute a b c d) other free = goes_one

@@ -6,7 +6,7 @@ use Rattle.machine_spec.specs.declared.outcome.Outcome.{Outcome}
 use Rattle.machine_spec.specs.Image.{Program, slot_count}
 use Rattle.machine_spec.specs.Summaries.{summary_of}
 use Rattle.machine_spec.specs.Machine.{Input, State, access_of, after}
-use Rattle.machine_spec.specs.Traps.{trap_at}
+use Rattle.machine_spec.specs.Traps.{calls_wrongly, trap_at}
 use Rattle.machine_spec.specs.Meaning.{Step, Reaches, outcome_of}
 use Rattle.machine_spec.proofs.Meanings.{exit_is, other_than_exit}
 use Rattle.bpf_machine.specs.declared.tracing.End.TheVariants as end
@@ -20,6 +20,9 @@ use Rattle.bpf_machine.proofs.Only.{ends_only}
 module _ (program : Program) (input : Input) (s : State) where
   pub writable : (i : Instruction) → IsNext program input s i → IsWritable (access_of (summary_of i).memory s.registers)
   writable i next = let free = is_free program input s i next.no_trap next.form in record { record_stays = free.record_stays; in_stack = free.in_stack }
+
+  pub rightly : (i : Instruction) → IsNext program input s i → calls_wrongly input (summary_of i).call s ≡ false
+  rightly i next = (is_free program input s i next.no_trap next.form).argument
 
   pub stepped : (i : Instruction) (t : State) → IsNext program input s i → (summary_of i).exits ≡ false → t ≡ after i input s → Step program input s t
   stepped i t next stays is = record { instruction = i; form = next.form; goes_on = other_than_exit i stays; no_trap = next.no_trap; next_is = is }

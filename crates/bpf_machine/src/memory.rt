@@ -1,5 +1,7 @@
 //! The bytes that an instruction reads or writes.
-ghost use Rattle.std.specs.Prelude.{◌≡◌, ℕ, ◌+◌, ◌<◌, ◌^◌, length, slice_get, unwrap_or, unsigned_abs, ◌+ℤ◌, Some, IfOk};
+ghost use Rattle.std.specs.Prelude.{◌≡◌, ℕ, ◌+◌, ◌<◌, ◌≤◌, ◌^◌, pos, false, length, slice_get, unwrap_or, unsigned_abs, ◌+ℤ◌, Some, IfOk};
+ghost use Rattle.machine_spec.specs.declared.limits.TheConstants.{STACK_SIZE};
+ghost use Rattle.machine_spec.specs.Traps.{is_wrong_room};
 ghost use Rattle.machine_spec.specs.Values as values;
 ghost use Rattle.machine_spec.specs.Values.{little_endian, byte_count};
 ghost use Rattle.machine_spec.specs.Machine.{access_at, access_of, named, byte_in, bytes_from, bytes_read, length_of, loaded};
@@ -68,13 +70,13 @@ pub fn span_of(memory: Option<MemoryOperand>, registers: &[Tagged; REGISTERS]) -
 }
 
 /// The bytes that an address and a length name, if they are one.
-pub fn named(address: Tagged, count: Tagged) -> Option<Span>
-    ensures { access_in result ≡ named (value_of address) (value_of count) }
+pub fn named(direction: Direction, address: Tagged, count: Tagged) -> Option<Span>
+    ensures { access_in result ≡ named direction (value_of address) (value_of count) }
 {
     match address {
         Tagged::Address(region, start) => match count {
             Tagged::Number(size) => Some(Span {
-                direction: Direction::Read,
+                direction,
                 region,
                 start,
                 size,
@@ -84,6 +86,26 @@ pub fn named(address: Tagged, count: Tagged) -> Option<Span>
         },
         Tagged::Nothing => None,
         Tagged::Number(_) => None,
+    }
+}
+
+/// Where the room begins that an address and a length name, which is on the stack, and how many bytes
+/// it has.
+pub fn room_of(address: Tagged, count: Tagged) -> (usize, usize)
+    requires { is_wrong_room (named Direction.Write (value_of address) (value_of count)) ≡ false }
+    ensures within { result.0 + result.1 ≤ STACK_SIZE }
+    ensures room { named Direction.Write (value_of address) (value_of count)
+        ≡ Some (record { direction = Direction.Write; region = Region.Stack; start = pos result.0; size = result.1 }) }
+    ensures count { values.Number result.1 ≡ value_of count }
+{
+    match address {
+        Tagged::Address(_, start) => match count {
+            Tagged::Number(count) => (start.unsigned_abs() as usize, count as usize),
+            Tagged::Nothing => unreachable!(),
+            Tagged::Address(_, _) => unreachable!(),
+        },
+        Tagged::Nothing => unreachable!(),
+        Tagged::Number(_) => unreachable!(),
     }
 }
 
@@ -157,9 +179,9 @@ impl<'a> Run<'a> {
         count: Tagged,
     ) -> Result<Vec<u8>, AllocError>
         ensures { IfOk result (λ bytes. bytes.items
-            ≡ bytes_read (input_of self.now) (stack_of stack.now) (named (value_of address) (value_of count))) }
+            ≡ bytes_read (input_of self.now) (stack_of stack.now) (named Direction.Read (value_of address) (value_of count))) }
     {
-        match named(address, count) {
+        match named(Direction::Read, address, count) {
             Some(span) => {
                 self.bytes_from(stack, span.region, span.start.unsigned_abs(), span.size)
             }

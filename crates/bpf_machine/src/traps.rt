@@ -15,7 +15,8 @@ use crate::slots::is_first_slot;
 use crate::stack::Stack;
 use crate::tagged::{Tagged, can_compute, is_address, is_nothing, is_number, is_taken};
 use machine_spec::{
-    Argument, Condition, Helper, MemoryOperand, Operands, STACK_SIZE, Source, Summary, Trap,
+    Argument, Condition, Direction, Helper, MemoryOperand, Operands, STACK_SIZE, Source, Summary,
+    Trap,
 };
 
 // ---- registers that are read
@@ -72,7 +73,7 @@ fn is_argument_nothing(registers: &[Tagged; REGISTERS], argument: Argument) -> b
     match argument {
         Argument::Nothing => false,
         Argument::Number(register) => has_nothing(registers, register),
-        Argument::Bytes(address, count) => {
+        Argument::Bytes(address, count) | Argument::Room(address, count) => {
             has_nothing(registers, address) || has_nothing(registers, count)
         }
     }
@@ -246,6 +247,16 @@ fn names_wrongly(run: &Run, stack: &Stack, span: Option<Span>) -> bool
     }
 }
 
+/// Whether room has no byte, is not on the stack or passes its end, or there is none.
+fn is_wrong_room(span: Option<Span>) -> bool
+    ensures { result ≡ definitions.is_wrong_room (access_in span) }
+{
+    match span {
+        Some(room) => room.size == 0 || writes_record(span) || leaves_stack(span),
+        None => true,
+    }
+}
+
 fn is_wrong_argument(run: &Run, machine: &Machine, argument: Argument) -> bool
     ensures { result ≡ definitions.is_wrong_argument (input_of run.now) (state_of machine.now) argument }
 {
@@ -254,8 +265,13 @@ fn is_wrong_argument(run: &Run, machine: &Machine, argument: Argument) -> bool
         Argument::Nothing => false,
         Argument::Number(register) => !is_number(get(registers, register)),
         Argument::Bytes(address, count) => {
-            let span = named(get(registers, address), get(registers, count));
+            let address = get(registers, address);
+            let span = named(Direction::Read, address, get(registers, count));
             names_wrongly(run, &machine.stack, span)
+        }
+        Argument::Room(address, count) => {
+            let address = get(registers, address);
+            is_wrong_room(named(Direction::Write, address, get(registers, count)))
         }
     }
 }

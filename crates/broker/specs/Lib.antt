@@ -1,6 +1,7 @@
 pub mod Answers
 pub mod Audits
 pub mod Deployments
+pub mod Fetches
 pub mod ItemRanges
 pub mod Layouts
 pub mod Steps

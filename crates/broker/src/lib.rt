@@ -11,6 +11,7 @@ mod broker;
 mod deploy;
 mod ended;
 mod fault;
+mod fetch;
 mod load;
 mod parts;
 mod start;

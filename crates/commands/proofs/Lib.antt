@@ -1,5 +1,6 @@
 pub mod Appended
 pub mod BatchLaws
+pub mod Loaded
 pub mod Marks
 pub mod Said
 pub mod Written

@@ -10,6 +10,6 @@ pub begins : {E : Type 0} (said : Option Command) (command : Command) (made : Re
     → Some command ≡ said → IfOk made (λ parts. Begins (Some command) parts) → IfOk made (λ parts. Begins said parts)
 begins said command made is given = subst (λ (s : Option Command). IfOk made (λ parts. Begins s parts)) is given
 
-pub line_does : {E : Type 0} (outputs inputs : ℕ) (said : Option Command) (command : Command) (before after : Option (List ℕ)) (done : Result (Option Received) E)
-    → Some command ≡ said → IfOk done (λ receipt. Does outputs inputs command receipt before after) → IfOk done (λ receipt. LineDoes outputs inputs said receipt before after)
-line_does outputs inputs said command before after done is given = subst (λ (s : Option Command). IfOk done (λ receipt. LineDoes outputs inputs s receipt before after)) is given
+pub line_does : {E : Type 0} (outputs inputs : ℕ) (files : List ℕ → Option (List ℕ)) (said : Option Command) (command : Command) (before after : Option (List ℕ)) (done : Result (Option Received) E)
+    → Some command ≡ said → IfOk done (λ receipt. Does outputs inputs files command receipt before after) → IfOk done (λ receipt. LineDoes outputs inputs files said receipt before after)
+line_does outputs inputs files said command before after done is given = subst (λ (s : Option Command). IfOk done (λ receipt. LineDoes outputs inputs files s receipt before after)) is given

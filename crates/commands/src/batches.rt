@@ -23,6 +23,7 @@ pub fn next_batch(alloc: Global, bytes: &Bytes) -> Result<(Batch, usize), BatchF
 }
 
 /// A batch of one record.
+#[tactic(auto, using(crate::proofs::BatchLaws::put_fits))]
 pub fn batch_of(
     alloc: Global,
     timestamp: u64,

@@ -1,6 +1,6 @@
 //! The commands of a script after its first, one after the other.
 
-ghost use Rattle.std.specs.Prelude.{◌≡◌, ◌<◌, ◌≤◌, [], true, OnOk, IfOk, IfErr};
+ghost use Rattle.std.specs.Prelude.{◌≡◌, ◌<◌, ◌≤◌, [], true, OnOk, IfOk, IfErr, option_map};
 ghost use Rattle.script.specs.Commands.{command_of};
 ghost use Rattle.script.specs.Faults.{text_size, is_in_range};
 ghost use Rattle.log_spec.specs.Logs.{FitsLog};
@@ -8,7 +8,7 @@ ghost use Rattle.broker.specs.Layouts.{IsNamed};
 ghost use Rattle.broker.specs.declared.fault.BrokerFault.TheVariants.{Partition};
 ghost use Rattle.commands.specs.declared.stop.Stop.TheVariants as stop;
 ghost use Rattle.commands.specs.Puts.{put_batch};
-ghost use Rattle.commands.specs.Sessions.{IsMark, AreAppended, Deploys, Puts, Closes, Reports, Does, LineDoes};
+ghost use Rattle.commands.specs.Sessions.{IsMark, IsImageIn, AreAppended, Loads, Deploys, Puts, Closes, Fetches, Reports, Does, LineDoes};
 
 use crate::batches::{batch_of, next_batch};
 use crate::files::Files;
@@ -23,8 +23,8 @@ use log_spec::Name;
 use part_log::{Names, Receipt};
 use report::gather;
 use script::{
-    Command, FileName, ScriptFault, Source, append_text, close_text, deploy_text, first_fault,
-    load_text, parse,
+    Command, FileName, ScriptFault, Source, append_text, close_text, deploy_text, fetch_text,
+    first_fault, load_text, parse,
 };
 use std::alloc::{AllocError, Global};
 use std::collections::BTreeMap;
@@ -108,7 +108,10 @@ impl<'a, Id: Names + Send + Sync, R: Threads + Wait + Sync> Session<'a, Id, R> {
         }
     }
 
-    fn image<F: Files>(&self, files: &mut F, source: Source) -> Result<Bytes, Stop> {
+    /// The image that a command names.
+    fn image<F: Files>(&self, files: &mut F, source: Source) -> Result<Bytes, Stop>
+        ensures { IfOk result (IsImageIn (F.bytes files.old) source) }
+    {
         match source {
             Source::Line(image) => Ok(image),
             Source::File(name) => match read_image(self.alloc, files, name.text.as_str()) {
@@ -139,13 +142,16 @@ impl<'a, Id: Names + Send + Sync, R: Threads + Wait + Sync> Session<'a, Id, R> {
         }
     }
 
-    fn load<O: Write>(&mut self, stdout: &mut O, name: Name, image: Bytes) -> Result<(), Stop> {
+    /// Loads an image under a name, and prints its version.
+    #[tactic(auto, using(crate::proofs::Loaded::loads, crate::proofs::Written::same_text))]
+    fn load<O: Write>(&mut self, stdout: &mut O, name: Name, image: Bytes) -> Result<(), Stop>
+        ensures { OnOk result (Loads name image (O.contents stdout.old) (O.contents stdout.new)) }
+    {
         let (version, known) = self.broker.load(self.rt, self.alloc, &name, &image)?;
-        print(
-            stdout,
-            load_text(self.alloc, name.text.as_str(), version)?.as_str(),
-        )?;
-        self.keep(name, known)
+        let line = load_text(self.alloc, name.text.as_str(), version)?;
+        print(stdout, line.as_str())?;
+        self.keep(name, known)?;
+        Ok(())
     }
 
     /// Keeps what is known of a name.
@@ -283,6 +289,19 @@ impl<'a, Id: Names + Send + Sync, R: Threads + Wait + Sync> Session<'a, Id, R> {
         Ok(receipt)
     }
 
+    /// Prints the rows of an output partition from a place on as one record batch, or `none`.
+    #[tactic(auto, using(crate::proofs::Loaded::fetches, crate::proofs::Written::same_text))]
+    fn fetch<O: Write>(&self, stdout: &mut O, output: u64, place: u64, max: u64) -> Result<(), Stop>
+        ensures { OnOk result (Fetches Id.outputs output place max (O.contents stdout.old) (O.contents stdout.new)) }
+    {
+        let found = self
+            .broker
+            .fetch(self.rt, output as usize, place as usize, max as usize)?;
+        let line = fetch_text(self.alloc, &found)?;
+        print(stdout, line.as_str())?;
+        Ok(())
+    }
+
     /// Runs the programs on every item that the logs have, then prints the report.
     fn go<O: Write>(&self, stdout: &mut O) -> Result<(), Stop>
         ensures { OnOk result (Reports Id.outputs self.now.broker (O.contents stdout.old) (O.contents stdout.new)) }
@@ -305,7 +324,7 @@ impl<'a, Id: Names + Send + Sync, R: Threads + Wait + Sync> Session<'a, Id, R> {
         stdout: &mut O,
         line: &str,
     ) -> Result<Option<Receipt<Id>>, Stop>
-        ensures { IfOk result (λ receipt. LineDoes Id.outputs self.old.broker (command_of line.now) receipt (O.contents stdout.old) (O.contents stdout.new)) }
+        ensures { IfOk result (λ receipt. LineDoes Id.outputs self.old.broker (F.bytes files.old) (command_of line.now) receipt (O.contents stdout.old) (O.contents stdout.new)) }
     {
         let Some(command) = parse(self.alloc, line)? else {
             return Err(Stop::Line(ScriptFault::Syntax));
@@ -325,7 +344,7 @@ impl<'a, Id: Names + Send + Sync, R: Threads + Wait + Sync> Session<'a, Id, R> {
         command: Command,
     ) -> Result<Option<Receipt<Id>>, Stop>
         requires { is_in_range command ≡ true }
-        ensures { IfOk result (λ receipt. Does Id.outputs self.old.broker command receipt (O.contents stdout.old) (O.contents stdout.new)) }
+        ensures { IfOk result (λ receipt. Does Id.outputs self.old.broker (F.bytes files.old) command receipt (O.contents stdout.old) (O.contents stdout.new)) }
     {
         match command {
             Command::Partitions(..) => Err(Stop::Line(ScriptFault::Order)),
@@ -344,6 +363,10 @@ impl<'a, Id: Names + Send + Sync, R: Threads + Wait + Sync> Session<'a, Id, R> {
                 Ok(None)
             }
             Command::Close(input) => Ok(Some(self.close(stdout, input)?)),
+            Command::Fetch(output, place, max) => {
+                self.fetch(stdout, output, place, max)?;
+                Ok(None)
+            }
             Command::Go => {
                 self.go(stdout)?;
                 Ok(None)

@@ -2,7 +2,7 @@
 //!
 //! A program is made of pieces that mostly load: arithmetic, loads behind a test of the length,
 //! stores with loads of what they wrote, jumps over a piece, 64-bit immediates and calls, some of
-//! which emit bytes of the record or the stack by address.
+//! which emit bytes of the record or the stack by address, or copy a part of the record to the stack.
 
 ghost use Rattle.std.specs.Prelude.{◌<◌};
 
@@ -313,14 +313,60 @@ impl Random {
         }
     }
 
+    /// In r2 the place at which a part begins, which need not be there.
+    fn push_place(&mut self, image: &mut Vec<u8>) -> Result<(), AllocError> {
+        let place = match self.below(4) {
+            0 => slot(0xbf, 2, self.register(), 0, 0),
+            1 => slot(0xb7, 2, 0, 0, self.immediate()),
+            _ => slot(0xb7, 2, 0, 0, self.below(20) as i32),
+        };
+        image.extend_from_slice(&place)?;
+        Ok(())
+    }
+
+    /// The address of a place of the stack.
+    fn push_address(
+        &mut self,
+        image: &mut Vec<u8>,
+        register: u8,
+        offset: i16,
+    ) -> Result<(), AllocError> {
+        image.extend_from_slice(&slot(0xbf, register, 10, 0, 0))?;
+        image.extend_from_slice(&slot(0x07, register, 0, 0, i32::from(offset)))?;
+        Ok(())
+    }
+
+    /// A copy of a part of the value or the key to the stack, a load of some of its bytes, and perhaps
+    /// an emission of them.
+    fn push_copy(&mut self, image: &mut Vec<u8>) -> Result<(), AllocError> {
+        let offset = -8 - self.below(24) as i16;
+        let length = self.below(11) as i32;
+        self.push_address(image, 1, offset)?;
+        self.push_place(image)?;
+        image.extend_from_slice(&slot(0xb7, 3, 0, 0, length))?;
+        let number = 1 + self.below(2) as i32;
+        image.extend_from_slice(&slot(0x85, 0, 0, 0, number))?;
+        let place = self.below(LOADS.len() as u64) as usize;
+        let (opcode, _) = LOADS.get(place).copied().unwrap_or((0x71, 1));
+        let dst = self.register();
+        image.extend_from_slice(&slot(opcode, dst, 10, offset, 0))?;
+        if self.below(2) == 0 {
+            self.push_address(image, 2, offset)?;
+            image.extend_from_slice(&slot(0xb7, 3, 0, 0, length))?;
+            self.push_call(image, 4)?;
+        }
+        Ok(())
+    }
+
     /// Perhaps a call, then r0 and the exit.
     fn push_end(&mut self, image: &mut Vec<u8>) -> Result<(), AllocError> {
-        match self.below(4) {
+        match self.below(5) {
             0 => {
                 let number = i32::from(self.byte_of(&HELPERS));
                 self.push_call(image, number)?;
             }
             1 => self.push_emission(image)?,
+            2 => self.push_copy(image)?,
             _ => {}
         }
         match self.below(4) {

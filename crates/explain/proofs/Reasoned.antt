@@ -158,26 +158,23 @@ leaves_stack memory s e = reached_some memory s (leaves_stack_some (reach_of mem
 
 -- ---- calls
 
+-- an argument that has a reason where it is wrong, or one behind it
+first_found : (s : Abstract) (here : Argument) (arguments : List Argument) → is_some (wrong_argument s (Some here)) ≡ true
+    → (list_any (is_wrong_argument_kind s) arguments ≡ true → is_some (wrong_argument s (find (is_wrong_argument_kind s) arguments)) ≡ true)
+    → list_any (is_wrong_argument_kind s) (here ∷ arguments) ≡ true → is_some (wrong_argument s (find (is_wrong_argument_kind s) (here ∷ arguments))) ≡ true
+first_found s here arguments reasoned behind e =
+    let wrong = is_wrong_argument_kind s here in
+    let others = find (is_wrong_argument_kind s) arguments in
+    elim (cases_Bool wrong) [
+      | inl is ↦ ap (λ (o : Option Argument). is_some (wrong_argument s o)) (cond-true wrong (Some here) others is) ∙ reasoned
+      | inr other ↦
+          ap (λ (o : Option Argument). is_some (wrong_argument s o)) (cond-false wrong (Some here) others other)
+          ∙ behind (or_else wrong (list_any (is_wrong_argument_kind s) arguments) e other)
+    ]
+
 pub argument_found : (s : Abstract) (arguments : List Argument) → list_any (is_wrong_argument_kind s) arguments ≡ true → is_some (wrong_argument s (find (is_wrong_argument_kind s) arguments)) ≡ true
 argument_found s [] e = cc
 argument_found s (Argument.Nothing ∷ arguments) e = argument_found s arguments e
-argument_found s (Argument.Number r ∷ arguments) e =
-    let wrong = is_wrong_argument_kind s (Argument.Number r) in
-    let here : Argument = Argument.Number r in
-    let others = find (is_wrong_argument_kind s) arguments in
-    elim (cases_Bool wrong) [
-      | inl is ↦ ap (λ (o : Option Argument). is_some (wrong_argument s o)) (cond-true wrong (Some here) others is)
-      | inr other ↦
-          ap (λ (o : Option Argument). is_some (wrong_argument s o)) (cond-false wrong (Some here) others other)
-          ∙ argument_found s arguments (or_else wrong (list_any (is_wrong_argument_kind s) arguments) e other)
-    ]
-argument_found s (Argument.Bytes address count ∷ arguments) e =
-    let wrong = is_wrong_argument_kind s (Argument.Bytes address count) in
-    let here : Argument = Argument.Bytes address count in
-    let others = find (is_wrong_argument_kind s) arguments in
-    elim (cases_Bool wrong) [
-      | inl is ↦ ap (λ (o : Option Argument). is_some (wrong_argument s o)) (cond-true wrong (Some here) others is)
-      | inr other ↦
-          ap (λ (o : Option Argument). is_some (wrong_argument s o)) (cond-false wrong (Some here) others other)
-          ∙ argument_found s arguments (or_else wrong (list_any (is_wrong_argument_kind s) arguments) e other)
-    ]
+argument_found s (Argument.Number r ∷ arguments) e = first_found s (Argument.Number r) arguments refl (argument_found s arguments) e
+argument_found s (Argument.Bytes address count ∷ arguments) e = first_found s (Argument.Bytes address count) arguments refl (argument_found s arguments) e
+argument_found s (Argument.Room address count ∷ arguments) e = first_found s (Argument.Room address count) arguments refl (argument_found s arguments) e

@@ -1,5 +1,5 @@
 -- What a refusal is about: the register that a check asks for something else of, the bytes that an access may reach.
-use Rattle.std.specs.Prelude.{ℕ, zero, suc, ℤ, pos, ◌+ℤ◌, neg_ℤ, Bool, true, false, ◌&&◌, not, int_le, if◌then◌else◌, List, Option, Some, None, option_map, find, slice_get}
+use Rattle.std.specs.Prelude.{ℕ, zero, suc, ℤ, pos, ◌+ℤ◌, neg_ℤ, Bool, true, false, ◌&&◌, not, int_le, if◌then◌else◌, List, Option, Some, None, option_map, unwrap_or, find, slice_get}
 use Rattle.std.specs.Option.{option_or}
 use Rattle.machine_spec.specs.declared.limits.TheConstants.{STACK_SIZE}
 use Rattle.machine_spec.specs.declared.instruction.{Region.Region, Source.Source, Source.TheVariants.Register, Source.TheVariants.Immediate, Placed.Placed}
@@ -112,16 +112,25 @@ unset_byte set None = None
 
 -- ---- calls
 
--- no address, no number, or bytes that may not be there or not be set
+-- no address or no number
+abbrev pub wrong_pair : Abstract → ℕ → ℕ → Option Reason
+wrong_pair s address count =
+    if not (is_address_kind (kind_at s address)) then Some (Reason.NoAddress address (kind_at s address))
+    else if not (is_number_kind (kind_at s count)) then Some (Reason.NoNumber count (kind_at s count))
+    else None
+
+-- or bytes that may not be there or not be set
 abbrev pub wrong_bytes : Abstract → ℕ → ℕ → Reason
-wrong_bytes s address count =
-    if not (is_address_kind (kind_at s address)) then Reason.NoAddress address (kind_at s address)
-    else if not (is_number_kind (kind_at s count)) then Reason.NoNumber count (kind_at s count)
-    else Reason.WrongBytes address (kind_at s address) count (kind_at s count)
+wrong_bytes s address count = unwrap_or (wrong_pair s address count) (Reason.WrongBytes address (kind_at s address) count (kind_at s count))
+
+-- or room that may have no byte or not lie on the stack
+abbrev pub wrong_room : Abstract → ℕ → ℕ → Reason
+wrong_room s address count = unwrap_or (wrong_pair s address count) (Reason.WrongRoom address (kind_at s address) count (kind_at s count))
 
 abbrev pub wrong_argument : Abstract → Option Argument → Option Reason
 wrong_argument s (Some (Argument.Number r)) = Some (Reason.NoNumber r (kind_at s r))
 wrong_argument s (Some (Argument.Bytes address count)) = Some (wrong_bytes s address count)
+wrong_argument s (Some (Argument.Room address count)) = Some (wrong_room s address count)
 wrong_argument s (Some Argument.Nothing) = None
 wrong_argument s None = None
 

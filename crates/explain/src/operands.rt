@@ -183,17 +183,40 @@ pub fn first_wrong_argument(summary: Summary, state: &Abstract) -> Option<Argume
     }
 }
 
+/// The kind that an argument's address or length should not have, if one has such a kind.
+fn wrong_pair(state: &Abstract, address: u8, count: u8) -> Option<Reason>
+    ensures { result ≡ definitions.wrong_pair state.now address count }
+{
+    let kind = kinds::kind_at(state, address);
+    let count_kind = kinds::kind_at(state, count);
+    if !kinds::is_address(kind) {
+        Some(Reason::NoAddress(address, kind))
+    } else if !kinds::is_number(count_kind) {
+        Some(Reason::NoNumber(count, count_kind))
+    } else {
+        None
+    }
+}
+
 fn wrong_bytes(state: &Abstract, address: u8, count: u8) -> Reason
     ensures { result ≡ definitions.wrong_bytes state.now address count }
 {
     let kind = kinds::kind_at(state, address);
     let count_kind = kinds::kind_at(state, count);
-    if !kinds::is_address(kind) {
-        Reason::NoAddress(address, kind)
-    } else if !kinds::is_number(count_kind) {
-        Reason::NoNumber(count, count_kind)
-    } else {
-        Reason::WrongBytes(address, kind, count, count_kind)
+    match wrong_pair(state, address, count) {
+        Some(reason) => reason,
+        None => Reason::WrongBytes(address, kind, count, count_kind),
+    }
+}
+
+fn wrong_room(state: &Abstract, address: u8, count: u8) -> Reason
+    ensures { result ≡ definitions.wrong_room state.now address count }
+{
+    let kind = kinds::kind_at(state, address);
+    let count_kind = kinds::kind_at(state, count);
+    match wrong_pair(state, address, count) {
+        Some(reason) => reason,
+        None => Reason::WrongRoom(address, kind, count, count_kind),
     }
 }
 
@@ -206,6 +229,7 @@ pub fn wrong_argument(state: &Abstract, argument: Option<Argument>) -> Option<Re
             Some(Reason::NoNumber(register, kind))
         }
         Some(Argument::Bytes(address, count)) => Some(wrong_bytes(state, address, count)),
+        Some(Argument::Room(address, count)) => Some(wrong_room(state, address, count)),
         Some(Argument::Nothing) => None,
         None => None,
     }

@@ -58,6 +58,9 @@ pub enum Reason {
     /// Fields: the address's register, what is known of it, the length's register, what is known of
     /// it.
     WrongBytes(u8, Abs, u8, Abs),
+    /// An address and a length that a helper takes may name room that has no byte or that does not lie
+    /// on the stack. Fields: as of `WrongBytes`.
+    WrongRoom(u8, Abs, u8, Abs),
 }
 
 impl fmt::Display for Reached {
@@ -158,6 +161,15 @@ impl fmt::Display for Reason {
                     count,
                     count_kind,
                     "name bytes that may be outside what is known to be there, or not set",
+                )
+            }
+            Reason::WrongRoom(address, kind, count, count_kind) => {
+                write_kind(f, address, kind, "and ")?;
+                write_kind(
+                    f,
+                    count,
+                    count_kind,
+                    "name room that may have no byte, or not lie on the stack",
                 )
             }
         }

@@ -91,6 +91,7 @@ fn unknown_argument(state: &Abstract, argument: Argument) -> Option<u8>
         Argument::Nothing => None,
         Argument::Number(register) => unknown_at(state, register),
         Argument::Bytes(address, count) => unknown_of_registers(state, address, count),
+        Argument::Room(address, count) => unknown_of_registers(state, address, count),
     }
 }
 

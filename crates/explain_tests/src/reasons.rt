@@ -2,7 +2,7 @@ use crate::images::{explained, refusal_text};
 use std::test::Fail;
 
 /// Refused programs, each with its fault and what that is about.
-const REFUSALS: [(&str, &str); 25] = [
+const REFUSALS: [(&str, &str); 27] = [
     (
         "ja +5\nexit\n",
         "V1 JumpTarget at 0\nthe jump leads to slot 6, where no instruction begins\n",
@@ -95,6 +95,14 @@ const REFUSALS: [(&str, &str); 25] = [
     (
         "mov64 r1, 0\nmov64 r2, r10\nadd64 r2, -8\nmov64 r3, 8\ncall 4\nexit\n",
         "V12 HelperArg at 4\nr2 (stack+504) and r3 (8) name bytes that may be outside what is known to be there, or not set\n",
+    ),
+    (
+        "mov64 r1, r10\nadd64 r1, -8\nmov64 r2, 0\nmov64 r3, 9\ncall 1\nexit\n",
+        "V12 HelperArg at 4\nr1 (stack+504) and r3 (9) name room that may have no byte, or not lie on the stack\n",
+    ),
+    (
+        "mov64 r2, 0\nmov64 r3, 8\ncall 2\nexit\n",
+        "V12 HelperArg at 2\nr1 (value+0) and r3 (8) name room that may have no byte, or not lie on the stack\n",
     ),
     (
         "mov64 r0, r1\nexit\n",

@@ -3,6 +3,7 @@ use Rattle.std.proofs.Common.{◌≡◌, ℕ, zero, suc, ◌+◌, ◌<◌, ◌�
 use Rattle.std.specs.Prelude.{◌==◌, OnOk}
 use Rattle.std.specs.List.{AllByRecursion}
 use Rattle.std.proofs.lemmas.List.{take_more, length-take, length-append, append-nil, drop_all}
+use Rattle.std.proofs.lemmas.List.Elements.{All-nil}
 use Rattle.wire_spec.specs.declared.record.Record.{Record}
 use Rattle.wire_spec.specs.declared.record.Batch.{Batch}
 use Rattle.machine_spec.specs.declared.outcome.Emission.{Emission}
@@ -10,10 +11,11 @@ use Rattle.machine_spec.specs.declared.outcome.Outcome.{Outcome}
 use Rattle.machine_spec.specs.declared.outcome.Place.{Place}
 use Rattle.machine_spec.specs.Meaning.{Means}
 use Rattle.log_spec.specs.declared.row.Row.{Row}
-use Rattle.log_spec.specs.Logs.{Item as Kept, rows_to, rows_of, row_of, place_of, IsRecordRows, IsRecordsRows, IsItemRows}
+use Rattle.log_spec.specs.Logs.{Item as Kept, Records, rows_to, rows_of, row_of, place_of, IsRecordRows, IsRecordsRows, IsItemRows, FitsLog, RowFits}
+use Rattle.log_spec.proofs.FittingRows.{batch_rows_fit}
 use Rattle.log_spec.proofs.LogLaws.{rows_to-next, records-next}
 use Rattle.item_rows.specs.declared.origin.Origin.{Origin}
-use Rattle.item_rows.specs.ItemRows.{rows_in, AreItemRows, AreEmpty, Adds}
+use Rattle.item_rows.specs.ItemRows.{rows_in, GivesRows, AreItemRows, AreEmpty, Adds}
 
 -- ---- what is added
 
@@ -117,22 +119,36 @@ no_program_rows input output outputs batch offset (given ∷ givens) = ([], [], 
 
 -- the program and the item by other names
 pub adds_for : (origin : Origin) (image : Option (List ℕ)) (item : Kept) (image' : Option (List ℕ)) (item' : Kept) (one two : List (List Row)) → image ≡ image' → item ≡ item'
-    → Adds one two (λ q here. IsItemRows origin.input q origin.outputs image origin.offset item here)
-    → Adds one two (λ q here. IsItemRows origin.input q origin.outputs image' origin.offset item' here)
+    → Adds one two (GivesRows origin image item) → Adds one two (GivesRows origin image' item')
 adds_for origin image item image' item' one two same alike adds =
-    subst (λ (i : Option (List ℕ)). Adds one two (λ q here. IsItemRows origin.input q origin.outputs i origin.offset item' here)) same
-    (subst (λ (k : Kept). Adds one two (λ q here. IsItemRows origin.input q origin.outputs image origin.offset k here)) alike adds)
+    subst (λ (i : Option (List ℕ)). Adds one two (GivesRows origin i item')) same (subst (λ (k : Kept). Adds one two (GivesRows origin image k)) alike adds)
+
+-- no rows, each of which fits
+pub no_rows : (origin : Origin) (image : Option (List ℕ)) (item : Kept) (all : List (List Row)) → ((q : ℕ) → IsItemRows origin.input q origin.outputs image origin.offset item [])
+    → Adds all all (GivesRows origin image item)
+no_rows origin image item all none = adds_none all (GivesRows origin image item) (λ q. record { are = none q; fit = All-nil RowFits })
+
+-- the rows of a batch that fits a log
+pub batch_rows : (origin : Origin) (image : Option (List ℕ)) (batch : Batch) (one two : List (List Row)) → FitsLog batch
+    → Adds one two (λ q here. IsRecordsRows origin.input q origin.outputs image batch origin.offset batch.records here) → Adds one two (GivesRows origin image (Records batch))
+batch_rows origin image batch one two fits adds =
+    adds_as one two (λ q here. IsRecordsRows origin.input q origin.outputs image batch origin.offset batch.records here) (GivesRows origin image (Records batch)) adds
+    (λ q here is. record { are = is; fit = batch_rows_fit origin.input q origin.outputs image batch origin.offset here fits is })
 
 -- rows added where there were none
 pub item_rows_are : (origin : Origin) (image : Option (List ℕ)) (item : Kept) (old new : List (List Row)) → AreEmpty origin.outputs old
-    → Adds old new (λ q here. IsItemRows origin.input q origin.outputs image origin.offset item here) → AreItemRows origin image item new
+    → Adds old new (GivesRows origin image item) → AreItemRows origin image item new
 item_rows_are origin image item old new none adds = record {
   outputs = adds.count ∙ none.count;
-  each = λ q lt.
-      let x = adds.each q (subst (λ (n : ℕ). q < n) (sym none.count) lt) in
-      let is : x.0 ≡ rows_in new q = sym (x.2 ∙ ap (λ (rs : List Row). rs ++ x.0) (none.each q)) in
-      subst (λ (rs : List Row). IsItemRows origin.input q origin.outputs image origin.offset item rs) is x.1;
+  each = λ q lt. (gives q lt).are;
+  fit = λ q lt. (gives q lt).fit;
 }
+  where
+    gives : (q : ℕ) → q < origin.outputs → GivesRows origin image item q (rows_in new q)
+    gives q lt =
+        let x = adds.each q (subst (λ (n : ℕ). q < n) (sym none.count) lt) in
+        let is : x.0 ≡ rows_in new q = sym (x.2 ∙ ap (λ (rs : List Row). rs ++ x.0) (none.each q)) in
+        subst (GivesRows origin image item q) is x.1
 
 -- ---- lists
 

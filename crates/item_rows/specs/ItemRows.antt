@@ -1,7 +1,7 @@
 -- The rows of an item in every output partition.
-use Rattle.std.specs.Prelude.{◌≡◌, ℕ, ◌<◌, ◌≤◌, ◌++◌, List, [], length, Option, get_or}
+use Rattle.std.specs.Prelude.{◌≡◌, ℕ, ◌<◌, ◌≤◌, ◌++◌, List, [], length, All, Option, get_or}
 use Rattle.log_spec.specs.declared.row.Row.{Row}
-use Rattle.log_spec.specs.Logs.{Item as Kept, IsItemRows}
+use Rattle.log_spec.specs.Logs.{Item as Kept, IsItemRows, RowFits}
 use Rattle.item_rows.specs.declared.origin.Origin.{Origin}
 
 -- the numbers of an origin are in their ranges
@@ -15,10 +15,16 @@ pub record IsOrigin (origin : Origin) : Type 0 where
 abbrev pub rows_in : List (List Row) → ℕ → List Row
 rows_in all output = get_or all output []
 
--- a list for each output has the item's rows there
+-- the rows that an item gives to an output, each within the limits of a record
+pub record GivesRows (origin : Origin) (image : Option (List ℕ)) (item : Kept) (output : ℕ) (rows : List Row) : Type 0 where
+  pub are : IsItemRows origin.input output origin.outputs image origin.offset item rows
+  pub fit : All RowFits rows
+
+-- a list for each output has the item's rows there, each within the limits of a record
 pub record AreItemRows (origin : Origin) (image : Option (List ℕ)) (item : Kept) (all : List (List Row)) : Type 0 where
   pub outputs : length all ≡ origin.outputs
   pub each : (output : ℕ) → output < origin.outputs → IsItemRows origin.input output origin.outputs image origin.offset item (rows_in all output)
+  pub fit : (output : ℕ) → output < origin.outputs → All RowFits (rows_in all output)
 
 -- no rows in each of so many outputs
 pub record AreEmpty (outputs : ℕ) (all : List (List Row)) : Type 0 where

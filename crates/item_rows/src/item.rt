@@ -1,7 +1,6 @@
 ghost use Rattle.std.specs.Prelude.{IfOk, OnOk, option_map};
-ghost use Rattle.log_spec.specs.Logs.{IsItemRows};
 ghost use Rattle.log_item.specs.Items.{item_view};
-ghost use Rattle.item_rows.specs.ItemRows.{IsOrigin, AreItemRows, Adds};
+ghost use Rattle.item_rows.specs.ItemRows.{IsOrigin, GivesRows, AreItemRows, Adds};
 
 use crate::origin::Origin;
 use crate::records::push_records;
@@ -18,7 +17,7 @@ fn push_item(
     all: &mut [OutputRows],
 ) -> Result<(), AllocError>
     requires { IsOrigin origin.now }
-    ensures { OnOk result (Adds all.old all.new (λ output here. IsItemRows origin.now.input output origin.now.outputs (option_map (λ p. p.now) program.entry) origin.now.offset (item_view item.now) here)) }
+    ensures { OnOk result (Adds all.old all.new (GivesRows origin.now (option_map (λ p. p.now) program.entry) (item_view item.now))) }
 {
     match item {
         Item::Mark { .. } => Ok(()),

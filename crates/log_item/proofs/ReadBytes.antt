@@ -8,16 +8,18 @@ use Rattle.machine_spec.specs.declared.instruction.Instruction.{Instruction}
 use Rattle.machine_spec.specs.declared.instruction.Region.{Region}
 use Rattle.machine_spec.specs.declared.instruction.Region.TheVariants as region
 use Rattle.machine_spec.specs.declared.instruction.Trap.TheVariants as trap
+use Rattle.machine_spec.specs.declared.summary.Direction.TheVariants.{Write}
+use Rattle.machine_spec.specs.Values.{Value, Nothing, Number, Address}
 use Rattle.machine_spec.specs.Summaries.{summary_of}
 use Rattle.machine_spec.specs.Image.{Program, slot_count, form_at}
-use Rattle.machine_spec.specs.Machine.{Input, State, Access, access_of, byte_in, bytes_of, length_of}
+use Rattle.machine_spec.specs.Machine.{Input, State, Access, access_of, named, byte_in, bytes_of, length_of}
 use Rattle.machine_spec.specs.declared.limits.TheConstants.{STACK_SIZE}
-use Rattle.machine_spec.specs.Traps.{is_within, is_stack, is_read, has_unset, leaves_record, leaves_stack, reads_unset, helper_called, arguments_of, argument_access, names_wrongly, is_wrong_argument, calls_wrongly, first_of, traps, trap_of, trap_at}
+use Rattle.machine_spec.specs.Traps.{is_within, is_stack, is_read, has_unset, leaves_record, leaves_stack, reads_unset, helper_called, arguments_of, names_wrongly, is_wrong_argument, calls_wrongly, first_of, traps, trap_of, trap_at}
 use Rattle.machine_spec.specs.declared.helper.Argument.{Argument}
 use Rattle.machine_spec.specs.declared.helper.Argument.TheVariants as argument
 use Rattle.machine_spec.proofs.FirstOf.{none_hold}
 use Rattle.machine_spec.proofs.Helpers.{names_parts}
-use Rattle.log_item.specs.Programs.{ReadsWithin}
+use Rattle.log_item.specs.Programs.{argument_access, ReadsWithin}
 
 -- a byte of a list that is long enough
 has_byte : (bytes : List ℕ) (k : ℕ) → k < length bytes → IsSome (slice_get bytes k)
@@ -86,11 +88,20 @@ element_fails p [] k x h e = absurd (none-some x e)
 element_fails p (y ∷ ys) zero x h e = subst (λ z. p z ≡ false) (same_Some y x e) (or_parts (p y) (list_any p ys) h).0
 element_fails p (y ∷ ys) (suc k) x h e = element_fails p ys k x (or_parts (p y) (list_any p ys) h).1 e
 
+-- room is not read
+room_unread : (address count : Value) (a : Access) → named Write address count ≡ Some a → is_read a.direction ≡ true → ⊥
+room_unread (Address at start) (Number n) a e reads = false≢true (ap (λ (b : Access). is_read b.direction) (same_Some _ a e) ∙ reads)
+room_unread (Address at start) Nothing a e reads = none-some a e
+room_unread (Address at start) (Address other there) a e reads = none-some a e
+room_unread Nothing count a e reads = none-some a e
+room_unread (Number n) count a e reads = none-some a e
+
 -- bytes that an argument names rightly
-argument_inside : (input : Input) (s : State) (x : Argument) (a : Access) → is_wrong_argument input s x ≡ false → argument_access s.registers x ≡ Some a → IsInside input s (Some a)
-argument_inside input s argument.Nothing a h e = absurd (none-some a e)
-argument_inside input s (argument.Number r) a h e = absurd (none-some a e)
-argument_inside input s (argument.Bytes address count) a h e =
+argument_inside : (input : Input) (s : State) (x : Argument) (a : Access) → is_wrong_argument input s x ≡ false → argument_access s.registers x ≡ Some a → is_read a.direction ≡ true → IsInside input s (Some a)
+argument_inside input s argument.Nothing a h e reads = absurd (none-some a e)
+argument_inside input s (argument.Number r) a h e reads = absurd (none-some a e)
+argument_inside input s (argument.Room address count) a h e reads = absurd (room_unread (s.registers address) (s.registers count) a e reads)
+argument_inside input s (argument.Bytes address count) a h e reads =
     let parts = names_parts input s.stack a (subst (λ (o : Option Access). names_wrongly input s.stack o ≡ false) e h) in
     record { inside = parts.0; on_stack = parts.1; set = parts.2 }
 
@@ -117,5 +128,5 @@ module _ (program : Program) (input : Input) (s : State) (free : trap_at program
       (λ memory. access_inside input s (access_of (summary_of i).memory s.registers) a place inside memory reads below)
       (λ argument.
       let right = element_fails (is_wrong_argument input s) (arguments_of (helper_called (summary_of i).call)) argument.0 argument.1 named argument.2 in
-      access_inside input s (Some a) a place (argument_inside input s argument.1 a right argument.3) refl reads below)
+      access_inside input s (Some a) a place (argument_inside input s argument.1 a right argument.3 reads) refl reads below)
       access

@@ -1,15 +1,15 @@
 -- What loading an image returns, and what holds of every run of a program.
-use Rattle.std.specs.Prelude.{◌≡◌, ℕ, ◌+◌, ◌<◌, ◌≤◌, pos, ◌≤ℤ◌, ◌⊎◌, true, List, length, slice_get, Some, None, Result, Ok, Err, IsSome, unsigned_abs}
+use Rattle.std.specs.Prelude.{◌≡◌, ℕ, ◌+◌, ◌<◌, ◌≤◌, pos, ◌≤ℤ◌, ◌⊎◌, true, List, length, slice_get, Option, Some, None, Result, Ok, Err, IsSome, unsigned_abs}
 use Rattle.machine_spec.specs.declared.instruction.Instruction.{Instruction}
 use Rattle.machine_spec.specs.declared.instruction.Placed.{Placed}
 use Rattle.machine_spec.specs.declared.outcome.Outcome.{Outcome}
 use Rattle.machine_spec.specs.declared.helper.Argument.{Argument}
-use Rattle.machine_spec.specs.declared.summary.Summary.{Summary}
+use Rattle.machine_spec.specs.declared.summary.{Direction.TheVariants.Read, Direction.TheVariants.Write, Summary.Summary}
 use Rattle.machine_spec.specs.Values.{Registers}
 use Rattle.machine_spec.specs.Summaries.{summary_of}
 use Rattle.machine_spec.specs.Image.{Program, form_at, IsCodeOf}
-use Rattle.machine_spec.specs.Machine.{Input, State, Access, access_of, byte_in}
-use Rattle.machine_spec.specs.Traps.{helper_called, arguments_of, argument_access, is_read, trap_at}
+use Rattle.machine_spec.specs.Machine.{Input, State, Access, access_of, named, byte_in}
+use Rattle.machine_spec.specs.Traps.{helper_called, arguments_of, is_read, trap_at}
 use Rattle.machine_spec.specs.Meaning.{Reaches, Means}
 use Rattle.verifier_spec.specs.declared.fault.LoadFault.{LoadFault}
 use Rattle.verifier_spec.specs.Loading.{IsAccepted}
@@ -19,6 +19,12 @@ use Rattle.annotate.specs.Loads.{FaultIs}
 abbrev pub ProgramIs : List ℕ → Result (List ℕ) LoadFault → Type 0
 ProgramIs image (Ok program) = (program ≡ image) × IsAccepted image
 ProgramIs image (Err fault) = FaultIs image fault
+
+-- the bytes that an argument of a helper names, or the room
+abbrev pub argument_access : Registers → Argument → Option Access
+argument_access registers (Argument.Bytes address count) = named Read (registers address) (registers count)
+argument_access registers (Argument.Room address count) = named Write (registers address) (registers count)
+argument_access registers _ = None
 
 -- bytes that an instruction reads or writes by address: those of a load or a store, or those that an argument of the
 -- helper that it calls names

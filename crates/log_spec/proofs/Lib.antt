@@ -1,4 +1,5 @@
 pub mod FittingBatches
+pub mod FittingRows
 pub mod LogLaws
 pub mod OneRows
 pub mod RowOrigins

@@ -11,7 +11,7 @@ use Rattle.machine_spec.specs.declared.instruction.Region.TheVariants as region
 use Rattle.machine_spec.specs.declared.instruction.Instruction.{Instruction}
 use Rattle.machine_spec.specs.declared.instruction.Instruction.TheVariants.{Move, Compute, Load, Unary, Store, JumpIf, Jump, Wide, Call, Exit}
 use Rattle.machine_spec.specs.declared.helper.Helper.{Helper}
-use Rattle.machine_spec.specs.declared.helper.Helper.TheVariants.{EmitRecord, EmitValue, Emit, EmitNull, Offset, Timestamp, Partition}
+use Rattle.machine_spec.specs.declared.helper.Helper.TheVariants.{LoadValue, LoadKey, EmitRecord, EmitValue, Emit, EmitNull, Offset, Timestamp, Partition}
 use Rattle.machine_spec.specs.declared.outcome.Emission.{Emission}
 use Rattle.machine_spec.specs.Image.{Program, form_at, slot_count}
 use Rattle.machine_spec.specs.Summaries.{summary_of}
@@ -86,7 +86,7 @@ module _ (input : Input) (key : length (bytes_of input.given.key) ≤ MAX_KEY) (
   few_bytes region.Key = omega (arith, key)
   few_bytes region.Value = value
 
-  within_few : (stack : ℕ → Option ℕ) (at : Region) (start : ℤ) (n : ℕ) → names_wrongly input stack (named (Address at start) (Number n)) ≡ false → n ≤ MAX_VALUE
+  within_few : (stack : ℕ → Option ℕ) (at : Region) (start : ℤ) (n : ℕ) → names_wrongly input stack (named Read (Address at start) (Number n)) ≡ false → n ≤ MAX_VALUE
   within_few stack region.Stack start n h =
       let inside = not-false (is_within start n STACK_SIZE) (names_parts input stack (record { direction = Read; region = region.Stack; start = start; size = n }) h).1 in
       within_is_few start n STACK_SIZE inside (omega arith)
@@ -97,7 +97,7 @@ module _ (input : Input) (key : length (bytes_of input.given.key) ≤ MAX_KEY) (
       let inside = not-false (is_within start n (length_of input region.Value)) (names_parts input stack (record { direction = Read; region = region.Value; start = start; size = n }) h).0 in
       within_is_few start n (length_of input region.Value) inside (few_bytes region.Value)
 
-  named_few : (stack : ℕ → Option ℕ) (address count : Value) → names_wrongly input stack (named address count) ≡ false → length (bytes_read input stack (named address count)) ≤ MAX_VALUE
+  named_few : (stack : ℕ → Option ℕ) (address count : Value) → names_wrongly input stack (named Read address count) ≡ false → length (bytes_read input stack (named Read address count)) ≤ MAX_VALUE
   named_few stack Nothing count h = absurd (false≢true (sym h))
   named_few stack (Number n) count h = absurd (false≢true (sym h))
   named_few stack (Address at start) Nothing h = absurd (false≢true (sym h))
@@ -107,6 +107,8 @@ module _ (input : Input) (key : length (bytes_of input.given.key) ≤ MAX_KEY) (
   -- ---- a call, an instruction and a run
 
   effect_emits : (helper : Helper) (s : State) → list_any (is_wrong_argument input s) (signature_of helper).arguments ≡ false → AreEmissions input s.emitted → AreEmissions input (effect_of helper input s).emitted
+  effect_emits LoadValue s right are = are
+  effect_emits LoadKey s right are = are
   effect_emits EmitRecord s right are = emitted_one s.emitted (whole_record input (number_held (s.registers 1))) value (inl refl) are
   effect_emits EmitValue s right are =
       let bytes = named_few s.stack (s.registers 2) (s.registers 3) (or_parts _ _ (or_parts _ _ right).1).0 in

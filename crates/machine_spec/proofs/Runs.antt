@@ -217,6 +217,11 @@ from_stack count =
     at_end 0x62 10 8 (small 7)
     ++ (slot 0xbf 0xa2 0 0 ++ ((0x07 ∷ 2 ∷ 0 ∷ 0 ∷ 0xf8 ∷ 0xff ∷ 0xff ∷ 0xff ∷ []) ++ (move_to 3 count ++ (move_to 1 0 ++ (call 4 ++ exit)))))
 
+-- mov64 r1, r10; add64 r1, -8; r2 set to a place; mov64 r3, COUNT; call 1; ld64 r0, [r10-8]; exit
+abbrev value_part : List ℕ → ℕ → List ℕ
+value_part at count =
+    slot 0xbf 0xa1 0 0 ++ ((0x07 ∷ 1 ∷ 0 ∷ 0 ∷ 0xf8 ∷ 0xff ∷ 0xff ∷ 0xff ∷ []) ++ (at ++ (move_to 3 count ++ (call 1 ++ (load_64 ++ exit)))))
+
 abbrev outcomes : List Row
 outcomes =
     -- mov64 r0, 0; exit
@@ -243,6 +248,12 @@ outcomes =
     ∷ (exchanged, Some (118 ∷ 119 ∷ []), Out (Kept (record { out = 0; key = Some (118 ∷ 119 ∷ []); value = Some (107 ∷ []); headers = [] } ∷ [])) 8)
     -- st32 [r10-8], 7 and four bytes from there
     ∷ (from_stack 4, None, Out (Kept (record { out = 0; key = Some (107 ∷ []); value = Some (7 ∷ 0 ∷ 0 ∷ 0 ∷ []); headers = [] } ∷ [])) 7)
+    -- eight bytes of the value, copied to the stack
+    ∷ (value_part (move_to 2 0) 8, Some (1 ∷ 0 ∷ 0 ∷ 0 ∷ 0 ∷ 0 ∷ 0 ∷ 0 ∷ []), Out (Rejected 1) 7)
+    -- seven bytes have no such part: eight zeros
+    ∷ (value_part (move_to 2 0) 8, Some (1 ∷ 0 ∷ 0 ∷ 0 ∷ 0 ∷ 0 ∷ 0 ∷ []), Out (Kept []) 7)
+    -- mov64 r2, -1: the sum of the place and the length does not wrap
+    ∷ (value_part (0xb7 ∷ 2 ∷ 0 ∷ 0 ∷ all_ones) 8, Some (1 ∷ 0 ∷ 0 ∷ 0 ∷ 0 ∷ 0 ∷ 0 ∷ 0 ∷ []), Out (Kept []) 7)
     -- ld16 r0, [r1+1]; exit: the low byte stands first
     ∷ (slot 0x69 0x10 1 0 ++ exit, Some (9 ∷ 2 ∷ 1 ∷ []), Out (Rejected 258) 2)
     -- mov64 r3, r1; add64 r3, 2; sub64 r3, 1; ld8 r0, [r3+0]; exit: the value's second byte
@@ -499,6 +510,16 @@ trapped_runs =
     ∷ (move_to 3 0 ++ (slot 0xbf 0x12 0 0 ++ (slot 0x07 2 0 1 ++ (move_to 1 0 ++ (call 4 ++ exit)))), None, Stopped trap.HelperArgument 4)
     -- four of the eight bytes are not set
     ∷ (from_stack 8, None, Stopped trap.HelperArgument 5)
+    -- the part has four of the eight bytes that the load reads
+    ∷ (value_part (move_to 2 0) 4, None, Stopped trap.StackUnset 5)
+    -- room for nine bytes passes the end of the stack
+    ∷ (value_part (move_to 2 0) 9, None, Stopped trap.HelperArgument 4)
+    -- room for none
+    ∷ (value_part (move_to 2 0) 0, None, Stopped trap.HelperArgument 4)
+    -- call 9; mov64 r2, 0; mov64 r3, 1; mov64 r1, r0; call 1: room is named by an address
+    ∷ (call 9 ++ (move_to 2 0 ++ (move_to 3 1 ++ (slot 0xbf 0x01 0 0 ++ (call 1 ++ exit)))), None, Stopped trap.HelperArgument 4)
+    -- mov64 r2, 0; mov64 r3, 1; call 2: and not in the value
+    ∷ (move_to 2 0 ++ (move_to 3 1 ++ (call 2 ++ exit)), Some (118 ∷ []), Stopped trap.HelperArgument 2)
     -- call 9; call 4: the first call has spent r1
     ∷ (call 9 ++ (call 4 ++ exit), None, Stopped trap.Unset 1)
     -- mov64 r0, r1; exit

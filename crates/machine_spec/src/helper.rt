@@ -9,6 +9,11 @@ use wire_spec::TIMESTAMP_END;
 /// A function of the host that a program may call.
 #[derive(Clone, Copy, Debug, PartialEq, Eq)]
 pub enum Helper {
+    /// Copies a part of the record's value to the stack, or zeros where it has no such part. r1 and
+    /// r3: the address and the length of the room for it, r2: where the part begins.
+    LoadValue,
+    /// Copies a part of the record's key in the same way.
+    LoadKey,
     /// Emits the record as it is. r1: the output partition.
     EmitRecord,
     /// Emits the record's key with other bytes as its value and no headers. r1: the output
@@ -36,6 +41,9 @@ pub enum Argument {
     Number(u8),
     /// Bytes that the helper reads. Fields: the registers of their address and of their length.
     Bytes(u8, u8),
+    /// Room on the stack that the helper writes to, of one byte at least. Fields: the registers of
+    /// its address and of its length.
+    Room(u8, u8),
 }
 
 /// What a helper takes and what it answers.
@@ -50,7 +58,9 @@ pub struct Signature {
 }
 
 /// Every helper.
-pub const HELPERS: [Helper; 7] = [
+pub const HELPERS: [Helper; 9] = [
+    Helper::LoadValue,
+    Helper::LoadKey,
     Helper::EmitRecord,
     Helper::EmitValue,
     Helper::Emit,
@@ -59,6 +69,9 @@ pub const HELPERS: [Helper; 7] = [
     Helper::Timestamp,
     Helper::Partition,
 ];
+
+/// A helper takes room on the stack, and the place where the part begins that it copies there.
+const WITH_ROOM: [Argument; 3] = [Argument::Room(1, 3), Argument::Number(2), Argument::Nothing];
 
 /// A helper's only argument is the output partition that it emits to.
 const TO_OUTPUT: [Argument; 3] = [Argument::Number(1), Argument::Nothing, Argument::Nothing];
@@ -104,6 +117,16 @@ impl Helper {
         ensures { result ≡ signature_of self }
     {
         match self {
+            Helper::LoadValue => Signature {
+                number: 1,
+                arguments: WITH_ROOM,
+                greatest: 1,
+            },
+            Helper::LoadKey => Signature {
+                number: 2,
+                arguments: WITH_ROOM,
+                greatest: 1,
+            },
             Helper::EmitRecord => Signature {
                 number: 3,
                 arguments: TO_OUTPUT,

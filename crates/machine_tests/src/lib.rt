@@ -2,8 +2,6 @@
 #![tactic(auto)]
 
 #[cfg(test)]
-mod addresses;
-#[cfg(test)]
 mod changes;
 #[cfg(test)]
 mod images;

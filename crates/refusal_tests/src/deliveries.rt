@@ -59,11 +59,29 @@ fn deliver_all<Id: Names, R: Wait + Print>(
             return Err(Ending::Wrong("deliver"));
         }
     }
-    if done_in(&book) == Some(3) {
+    if done_in(&book) != Some(3) {
+        return Err(Ending::Wrong("rows"));
+    }
+    if fetched(rt, &book) == Some(97) {
         Ok(())
     } else {
-        Err(Ending::Wrong("rows"))
+        Err(Ending::Wrong("fetch"))
     }
+}
+
+/// How many bytes the batch of all rows of a book has, in which three items are done.
+fn fetched<Id: Names, R: Print>(rt: &R, book: &Book<Id>) -> Option<usize> {
+    let found = match book.fetch(0, 10) {
+        Ok(found) => found,
+        Err(fault) => {
+            say(rt, "fetch", BrokerFault::Book(fault));
+            if fault != BookFault::Memory || done_in(book) != Some(3) {
+                return None;
+            }
+            book.fetch(0, 10).ok()?
+        }
+    };
+    Some(found?.len())
 }
 
 /// A mark and the batches `A` and `B`, each in its place.

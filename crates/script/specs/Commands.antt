@@ -3,7 +3,7 @@ use Rattle.std.specs.Prelude.{ℕ, ◌==◌, nat_lt, nat_eq, if◌then◌else◌
 use Rattle.std.specs.List.{list_all, starts_with}
 use Rattle.std.specs.Str.{bytes_eq}
 use Rattle.script.specs.declared.command.Command.{Command}
-use Rattle.script.specs.declared.command.Command.TheVariants.{Partitions, Load, Deploy, Put, Append, Close, Go}
+use Rattle.script.specs.declared.command.Command.TheVariants.{Partitions, Load, Deploy, Put, Append, Close, Fetch, Go}
 use Rattle.script.specs.declared.command.Source.{Source}
 use Rattle.script.specs.declared.command.Source.TheVariants.{Line, File}
 use Rattle.script.specs.Words.{words_of, word_at, decimal_of, spelled_bytes, hex_bytes}
@@ -63,6 +63,14 @@ close_of None = None
 abbrev pub close_line : List (List ℕ) → Option Command
 close_line words = if length words == 2 then close_of (decimal_of (word_at words 1)) else None
 
+abbrev pub fetch_of : Option ℕ → Option ℕ → Option ℕ → Option Command
+fetch_of (Some output) (Some place) (Some max) = Some (Fetch output place max)
+fetch_of _ _ _ = None
+
+-- `fetch Q PLACE MAX`
+abbrev pub fetch_line : List (List ℕ) → Option Command
+fetch_line words = if length words == 4 then fetch_of (decimal_of (word_at words 1)) (decimal_of (word_at words 2)) (decimal_of (word_at words 3)) else None
+
 -- `go`
 abbrev pub go_line : List (List ℕ) → Option Command
 go_line words = if length words == 1 then Some Go else None
@@ -75,6 +83,7 @@ command_of_words words =
     if bytes_eq (word_at words 0) (codes "put") then put_line words else
     if bytes_eq (word_at words 0) (codes "append") then append_line words else
     if bytes_eq (word_at words 0) (codes "close") then close_line words else
+    if bytes_eq (word_at words 0) (codes "fetch") then fetch_line words else
     if bytes_eq (word_at words 0) (codes "go") then go_line words else None
 
 -- the command of words, none of which is empty

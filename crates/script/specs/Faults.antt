@@ -3,7 +3,7 @@ use Rattle.std.specs.Prelude.{ℕ, Bool, true, not, ◌&&◌, nat_lt, nat_le, if
 use Rattle.wire_spec.specs.declared.limits.TheConstants.{MAX_KEY, MAX_VALUE, TIMESTAMP_END}
 use Rattle.log_spec.specs.declared.limits.TheConstants.{MAX_CELLS, MAX_PARTITIONS}
 use Rattle.script.specs.declared.command.Command.{Command}
-use Rattle.script.specs.declared.command.Command.TheVariants.{Partitions, Load, Deploy, Put, Append, Close, Go}
+use Rattle.script.specs.declared.command.Command.TheVariants.{Partitions, Load, Deploy, Put, Append, Close, Fetch, Go}
 use Rattle.script.specs.declared.fault.ScriptFault.{ScriptFault}
 use Rattle.script.specs.declared.fault.ScriptFault.TheVariants.{Order, Range}
 
@@ -15,6 +15,7 @@ is_in_order (Deploy input name) has_begun is_loaded = has_begun && is_loaded
 is_in_order (Put input timestamp key value) has_begun is_loaded = has_begun
 is_in_order (Append input source) has_begun is_loaded = has_begun
 is_in_order (Close input) has_begun is_loaded = has_begun
+is_in_order (Fetch output place max) has_begun is_loaded = has_begun
 is_in_order Go has_begun is_loaded = has_begun
 
 -- null has no bytes
@@ -34,6 +35,7 @@ is_in_range (Deploy input name) = true
 is_in_range (Put input timestamp key value) = nat_lt timestamp TIMESTAMP_END && (nat_le (text_size key) MAX_KEY && nat_le (text_size value) MAX_VALUE)
 is_in_range (Append input source) = true
 is_in_range (Close input) = true
+is_in_range (Fetch output place max) = true
 is_in_range Go = true
 
 -- the order is looked at before the numbers

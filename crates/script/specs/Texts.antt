@@ -38,6 +38,14 @@ append_line input index base = codes "append " ++ (decimal input ++ (codes " ind
 abbrev pub close_line : ℕ → ℕ → List ℕ
 close_line input index = codes "close " ++ (decimal input ++ (codes " index " ++ (decimal index ++ 10 ∷ [])))
 
+-- what a fetch returned: `none`, or the bytes of a batch in hex
+abbrev pub found_text : Option (List ℕ) → List ℕ
+found_text None = codes "none"
+found_text (Some bytes) = hex_text bytes
+
+abbrev pub fetch_line : Option (List ℕ) → List ℕ
+fetch_line found = found_text found ++ 10 ∷ []
+
 -- `row Q I OFFSET NUMBER TS KEY VALUE HEADERS`, of which the last is the number of headers
 abbrev pub row_line : ℕ → Row → List ℕ
 row_line output row =

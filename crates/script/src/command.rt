@@ -3,7 +3,7 @@
 ghost use Rattle.std.specs.Prelude.{◌≡◌, ◌<◌, length, drop, nat_eq, nat_lt, codes, IfOk, if◌then◌else◌};
 ghost use Rattle.std.specs.List.{list_all, starts_with};
 ghost use Rattle.script.specs.Words.{texts, hex_bytes};
-ghost use Rattle.script.specs.Commands.{source_of, partitions_line, load_line, deploy_line, put_line, append_line, close_line, go_line, command_of_words, command_from, command_of};
+ghost use Rattle.script.specs.Commands.{source_of, partitions_line, load_line, deploy_line, put_line, append_line, close_line, fetch_line, go_line, command_of_words, command_from, command_of};
 
 use crate::pairs::{bytes_word, hex};
 use crate::words::{number_at, word, words};
@@ -51,6 +51,9 @@ pub enum Command {
     Append(u64, Source),
     /// Closes the log of an input partition.
     Close(u64),
+    /// Reads rows of an output partition as one record batch: from which place on, and how many at
+    /// most.
+    Fetch(u64, u64, u64),
     /// Runs the programs on all that was appended, and prints the rows.
     Go,
 }
@@ -169,6 +172,18 @@ fn close(words: &[&str]) -> Option<Command>
     Some(Command::Close(input))
 }
 
+fn fetch(words: &[&str]) -> Option<Command>
+    ensures { result ≡ fetch_line (texts words.now) }
+{
+    if words.len() != 4 {
+        return None;
+    }
+    let output = number_at(words, 1)?;
+    let place = number_at(words, 2)?;
+    let max = number_at(words, 3)?;
+    Some(Command::Fetch(output, place, max))
+}
+
 fn go(words: &[&str]) -> Option<Command>
     ensures { result ≡ go_line (texts words.now) }
 {
@@ -197,6 +212,8 @@ fn command_said(alloc: Global, words: &[&str]) -> Result<Option<Command>, AllocE
         append(alloc, words)
     } else if name == "close" {
         Ok(close(words))
+    } else if name == "fetch" {
+        Ok(fetch(words))
     } else if name == "go" {
         Ok(go(words))
     } else {

@@ -1,7 +1,7 @@
 //! The lines that commands print.
 
-ghost use Rattle.std.specs.Prelude.{◌≡◌, ◌<◌, ◌++◌, IfOk, OnOk, string_bytes};
-ghost use Rattle.script.specs.Texts.{load_line, deploy_line, append_line, close_line, row_line, bytes_text, hex_text, byte_text, hex_glyph};
+ghost use Rattle.std.specs.Prelude.{◌≡◌, ◌<◌, ◌++◌, IfOk, OnOk, option_map, string_bytes};
+ghost use Rattle.script.specs.Texts.{load_line, deploy_line, append_line, close_line, fetch_line, row_line, bytes_text, found_text, hex_text, byte_text, hex_glyph};
 
 use bytes::Bytes;
 use log_spec::Row;
@@ -83,6 +83,26 @@ fn push_bytes(text: &mut String, bytes: &Option<Bytes>) -> Result<(), AllocError
             }
         }
     }
+}
+
+fn push_found(text: &mut String, found: &Option<Vec<u8>>) -> Result<(), AllocError>
+    ensures { OnOk result (string_bytes text.new ≡ string_bytes text.old ++ found_text (option_map (λ bytes. bytes.items) found.now)) }
+{
+    match found {
+        None => text.push_str("none"),
+        Some(bytes) => push_hex(text, bytes.as_slice()),
+    }
+}
+
+/// The line that says what a fetch returned: the bytes of a batch in hex, or `none`. It fails only
+/// where memory runs out.
+pub fn fetch_text(alloc: Global, found: &Option<Vec<u8>>) -> Result<String, AllocError>
+    ensures { IfOk result (λ text. string_bytes text ≡ fetch_line (option_map (λ bytes. bytes.items) found.now)) }
+{
+    let mut text = String::new(alloc);
+    push_found(&mut text, found)?;
+    text.push_str("\n")?;
+    Ok(text)
 }
 
 /// Appends the line of a row of an output partition to a text. It fails only where memory runs out;

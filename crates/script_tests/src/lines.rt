@@ -1,8 +1,8 @@
 use bytes::Bytes;
 use log_spec::Row;
 use script::{
-    Command, ScriptFault, Source, append_text, close_text, deploy_text, first_fault, load_text,
-    parse, push_row,
+    Command, ScriptFault, Source, append_text, close_text, deploy_text, fetch_text, first_fault,
+    load_text, parse, push_row,
 };
 use std::alloc::{AllocError, Global};
 use std::test::Fail;
@@ -50,6 +50,7 @@ fn command_shown(alloc: Global, command: &Command) -> Result<String, AllocError>
         }
         Command::Append(input, source) => append_shown(alloc, *input, source),
         Command::Close(input) => format!(in alloc; "close {input}"),
+        Command::Fetch(output, place, max) => format!(in alloc; "fetch {output} {place} {max}"),
         Command::Go => String::from_str(alloc, "go"),
     }
 }
@@ -62,7 +63,7 @@ fn shown(alloc: Global, line: &str) -> Result<String, AllocError> {
     }
 }
 
-const LINES: [(&str, &str); 36] = [
+const LINES: [(&str, &str); 40] = [
     ("partitions 1 1 8", "partitions 1 1 8"),
     ("partitions 1 1 08", "none"),
     ("partitions 1 1 +8", "none"),
@@ -100,6 +101,13 @@ const LINES: [(&str, &str); 36] = [
     ("close 3", "close 3"),
     ("close", "none"),
     ("close 0 0", "none"),
+    ("fetch 0 1 2", "fetch 0 1 2"),
+    (
+        "fetch 3 18446744073709551616 0",
+        "fetch 3 18446744073709551615 0",
+    ),
+    ("fetch 0 1", "none"),
+    ("fetch 0 01 2", "none"),
     ("Go", "none"),
     (" ", "none"),
 ];
@@ -113,7 +121,7 @@ fn reads_lines(rt: HostRuntime) -> Result<(), Fail> {
     Ok(())
 }
 
-const FAULTS: [(&str, bool, bool, Option<ScriptFault>); 18] = [
+const FAULTS: [(&str, bool, bool, Option<ScriptFault>); 20] = [
     ("go", false, true, Some(ScriptFault::Order)),
     ("go", true, true, None),
     ("append 0 f", false, true, Some(ScriptFault::Order)),
@@ -133,6 +141,8 @@ const FAULTS: [(&str, bool, bool, Option<ScriptFault>); 18] = [
     ("partitions 0 1 8", false, true, Some(ScriptFault::Range)),
     ("partitions 1 0 8", true, true, Some(ScriptFault::Order)),
     ("close 9", true, true, None),
+    ("fetch 99 1180591620717411303424 0", true, true, None),
+    ("fetch 0 0 1", false, true, Some(ScriptFault::Order)),
     ("close 0", false, true, Some(ScriptFault::Order)),
     ("deploy 0 fwd", true, false, Some(ScriptFault::Order)),
     ("put 9 4611686018427387903 - -", true, true, None),
@@ -163,6 +173,9 @@ fn writes_lines(rt: HostRuntime) -> Result<(), Fail> {
     assert!(rt; deploy_text(alloc, 0, 3, "fwd", 2)?.as_str() == "deploy 0 index 3 fwd version 2\n");
     assert!(rt; append_text(alloc, 0, 1, 10)?.as_str() == "append 0 index 1 base 10\n");
     assert!(rt; close_text(alloc, 63, 65_535)?.as_str() == "close 63 index 65535\n");
+    assert!(rt; fetch_text(alloc, &None)?.as_str() == "none\n");
+    let bytes = Some(Vec::from_slice(alloc, &[0, 0x0f, 0xa0])?);
+    assert!(rt; fetch_text(alloc, &bytes)?.as_str() == "000fa0\n");
     Ok(())
 }
 

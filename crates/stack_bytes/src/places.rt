@@ -1,4 +1,4 @@
-ghost use Rattle.std.specs.Prelude.{◌≡◌, ◌/◌, ◌%◌, ◌^◌, ◌==◌, ◌<◌, true, bit_or, if◌then◌else◌, slice_index};
+ghost use Rattle.std.specs.Prelude.{◌≡◌, ◌+◌, ◌/◌, ◌%◌, ◌^◌, ◌==◌, ◌<◌, true, bit_or, if◌then◌else◌, slice_index};
 ghost use Rattle.std.specs.Int.{bit_at};
 ghost use Rattle.verifier_spec.specs.Kinds.{is_set};
 ghost use Rattle.verifier_spec.specs.Checks.{are_set};
@@ -79,14 +79,14 @@ fn words_with(words: &[u64; 8], place: u64) -> [u64; 8]
 
 /// The set and so many places from one on.
 #[tactic(auto, using(crate::proofs::Runs::with_next, crate::proofs::Runs::with_none))]
-pub fn with_places(set: &StackSet, place: u64, count: u8) -> StackSet
-    requires { place < STACK_SIZE }
+pub fn with_places(set: &StackSet, place: u64, count: u64) -> StackSet
+    requires { place + count < 2 ^ 64 }
     ensures { result ≡ with_places set.now place count }
 {
     let mut with = *set;
     for k in 0..count {
         with = StackSet {
-            words: words_with(&with.words, place + u64::from(k)),
+            words: words_with(&with.words, place + k),
         };
     }
     with

@@ -207,3 +207,181 @@ fn two_pieces_by_address(rt: HostRuntime) -> Result<(), Fail> {
     }
     Ok(())
 }
+
+const LOAD_VALUE: u64 = 0x8500_0000_0100_0000; // call 1
+
+const LOAD_KEY: u64 = 0x8500_0000_0200_0000; // call 2
+
+const STACK_END: u64 = 0xbfa1_0000_0000_0000; // mov64 r1, r10
+
+const EIGHT_BELOW: u64 = 0x0701_0000_f8ff_ffff; // add64 r1, -8
+
+const FROM_START: u64 = 0xb702_0000_0000_0000; // mov64 r2, 0
+
+const FROM_PAST_ALL: u64 = 0xb702_0000_ffff_ffff; // mov64 r2, -1
+
+const EIGHT: u64 = 0xb703_0000_0800_0000; // mov64 r3, 8
+
+const LAST_BYTES: u64 = 0x79a0_f8ff_0000_0000; // ld64 r0, [r10-8]
+
+/// The first eight bytes of the value, or zeros.
+#[test]
+fn parts_of_the_value(rt: HostRuntime) -> Result<(), Fail> {
+    let alloc = rt.alloc();
+    let cases: [(u64, Option<&'static [u8]>, &str); 6] = [
+        (
+            FROM_START,
+            Some(&[1, 0, 0, 0, 0, 0, 0, 0]),
+            "rejected 1 after 7",
+        ),
+        (FROM_START, Some(&[1, 0, 0, 0, 0, 0, 0]), "kept 0 after 7"),
+        (FROM_START, None, "kept 0 after 7"),
+        (
+            FROM_PAST_ALL,
+            Some(&[1, 0, 0, 0, 0, 0, 0, 0]),
+            "kept 0 after 7",
+        ),
+        (FROM_PAST_ALL, Some(&[]), "kept 0 after 7"),
+        (FROM_PAST_ALL, None, "kept 0 after 7"),
+    ];
+    for (at, value, want) in cases {
+        let slots = [
+            STACK_END,
+            EIGHT_BELOW,
+            at,
+            EIGHT,
+            LOAD_VALUE,
+            LAST_BYTES,
+            EXIT,
+        ];
+        let end = end_of(alloc, &slots, value, 1)?;
+        assert_eq!(rt; end.as_str(), want);
+    }
+    Ok(())
+}
+
+/// Room for a part: what the key `key` gives, and room that is none.
+#[test]
+fn room_for_a_part(rt: HostRuntime) -> Result<(), Fail> {
+    let alloc = rt.alloc();
+    // ld8 r0, [r10-8]: the first byte that was copied
+    let byte = 0x71a0_f8ff_0000_0000;
+    let three = 0xb703_0000_0300_0000; // mov64 r3, 3
+    let cases: [(&[u64], &str); 12] = [
+        (
+            &[
+                STACK_END,
+                EIGHT_BELOW,
+                FROM_START,
+                three,
+                LOAD_KEY,
+                byte,
+                EXIT,
+            ],
+            "rejected 107 after 7",
+        ),
+        (
+            &[STACK_END, EIGHT_BELOW, FROM_START, EIGHT, LOAD_KEY, EXIT],
+            "rejected 1 after 6",
+        ),
+        // ld64 r0, [r10-8]: five of its bytes are not set
+        (
+            &[
+                STACK_END,
+                EIGHT_BELOW,
+                FROM_START,
+                three,
+                LOAD_KEY,
+                LAST_BYTES,
+                EXIT,
+            ],
+            "K9 after 5",
+        ),
+        // mov64 r3, 9 passes the end; mov64 r3, 0 is no byte; mov64 r3, -1 is more than there are
+        (
+            &[
+                STACK_END,
+                EIGHT_BELOW,
+                FROM_START,
+                0xb703_0000_0900_0000,
+                LOAD_KEY,
+                EXIT,
+            ],
+            "K12 after 4",
+        ),
+        (
+            &[
+                STACK_END,
+                EIGHT_BELOW,
+                FROM_START,
+                0xb703_0000_0000_0000,
+                LOAD_KEY,
+                EXIT,
+            ],
+            "K12 after 4",
+        ),
+        (
+            &[
+                STACK_END,
+                EIGHT_BELOW,
+                FROM_START,
+                0xb703_0000_ffff_ffff,
+                LOAD_KEY,
+                EXIT,
+            ],
+            "K12 after 4",
+        ),
+        // add64 r1, -520: before the stack
+        (
+            &[
+                STACK_END,
+                0x0701_0000_f8fd_ffff,
+                FROM_START,
+                EIGHT,
+                LOAD_KEY,
+                EXIT,
+            ],
+            "K12 after 4",
+        ),
+        // the value is no room
+        (&[FROM_START, EIGHT, LOAD_KEY, EXIT], "K12 after 2"),
+        // nor is a number: mov64 r1, 0
+        (
+            &[TO_FIRST, FROM_START, EIGHT, LOAD_KEY, EXIT],
+            "K12 after 3",
+        ),
+        // an address as the place: mov64 r2, r10; as the length: mov64 r3, r10
+        (
+            &[
+                STACK_END,
+                EIGHT_BELOW,
+                0xbfa2_0000_0000_0000,
+                EIGHT,
+                LOAD_KEY,
+                EXIT,
+            ],
+            "K12 after 4",
+        ),
+        (
+            &[
+                STACK_END,
+                EIGHT_BELOW,
+                FROM_START,
+                0xbfa3_0000_0000_0000,
+                LOAD_KEY,
+                EXIT,
+            ],
+            "K12 after 4",
+        ),
+        // nothing as the length, where r1 is no address either
+        (
+            &[OFFSET, TO_FIRST, FROM_START, LOAD_KEY, EXIT],
+            "K4 after 3",
+        ),
+    ];
+    for (slots, want) in cases {
+        let end = end_of(alloc, slots, Some(b"value"), 1)?;
+        assert_eq!(rt; end.as_str(), want);
+    }
+    Ok(())
+}

@@ -16,6 +16,7 @@ pub mod RangesMonotone
 pub mod RangesProper
 pub mod RangesSound
 pub mod Registers
+pub mod Rooms
 pub mod Safety
 pub mod Sound
 pub mod StackSets

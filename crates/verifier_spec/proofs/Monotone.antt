@@ -1,9 +1,9 @@
 -- Checks and transfer keep the order of states: of two states, one within the other, the first passes each check that
 -- the second passes, and what an edge brings from the first is within what it brings from the second.
-use Rattle.std.proofs.Common.{◌≡◌, ℕ, zero, suc, ◌+◌, ◌-◌, ◌<◌, ◌≤◌, ℤ, pos, negsuc, ◌+ℤ◌, neg_ℤ, ◌≤ℤ◌, Bool, true, false, not, List, ◌∷◌, length, get_or, Option, Some, None, int_le, unsigned_abs, ◌&&◌, ◌||◌, refl, sym, ap, subst, inl, inr, ⊎_elim, arith}
-use Rattle.std.specs.Ordering.{int_eq}
+use Rattle.std.proofs.Common.{◌≡◌, ◌≢◌, ℕ, zero, suc, ◌+◌, ◌-◌, ◌<◌, ◌≤◌, ℤ, pos, negsuc, ◌+ℤ◌, neg_ℤ, ◌≤ℤ◌, Bool, true, false, not, ◌==◌, List, [], ◌∷◌, length, get_or, Option, Some, None, int_le, unsigned_abs, ◌&&◌, ◌||◌, refl, sym, ap, subst, inl, inr, ⊎_elim, arith}
+use Rattle.std.specs.{Ordering.int_eq, List.list_any, List.fold}
 use Rattle.std.proofs.lemmas.Bool.Decides.{Decides-int_eq}
-use Rattle.std.proofs.lemmas.Bool.{and_parts, and_from, or_from, not-false, not_from_true, cases_Bool, cond-true, cond-false, le-leb, false≢true}
+use Rattle.std.proofs.lemmas.Bool.{and_parts, and_from, or_parts, or_from, eqb-false, ne_eqb, not-false, not_from_true, cases_Bool, cond-true, cond-false, le-leb, false≢true}
 use Rattle.std.proofs.lemmas.Int.{ints}
 use Rattle.machine_spec.specs.declared.limits.TheConstants.{STACK_SIZE}
 use Rattle.machine_spec.specs.declared.operation.Width.TheVariants.{Bits32, Bits64}
@@ -29,23 +29,24 @@ use Rattle.machine_spec.specs.Summaries.{summary_of}
 use Rattle.machine_spec.specs.Values.{byte_count}
 use Rattle.machine_spec.specs.Machine.{signature_of, helper_of}
 use Rattle.machine_spec.specs.Traps.{helper_called, arguments_of, read_registers, is_stack}
+use Rattle.verifier_spec.specs.declared.interval.Interval.{Interval}
 use Rattle.verifier_spec.specs.declared.state.Abs.{Abs}
 use Rattle.verifier_spec.specs.declared.state.Abs.TheVariants as abs
 use Rattle.verifier_spec.specs.declared.state.StackSet.{StackSet}
 use Rattle.verifier_spec.specs.declared.state.Abstract.{Abstract}
-use Rattle.verifier_spec.specs.Kinds.{is_set, kind_at, range_of, is_unknown, is_address_kind, is_proper_kind, is_kind_within, same_region}
+use Rattle.verifier_spec.specs.Kinds.{is_set, kind_at, least, greatest, range_of, is_unknown, is_number_kind, is_address_kind, is_proper_kind, is_kind_within, same_region}
 use Rattle.verifier_spec.specs.States.{is_proper, is_within}
-use Rattle.verifier_spec.specs.Checks.{source_kind, reads_unknown, has_wrong_kinds, has_wrong_base_kind, has_wrong_condition_kind, reach_at, reach_of, is_reach_within, may_write_record, may_leave_record, may_leave_stack, are_set, may_read_unset, Reach, named_reach, may_name_wrongly, is_whole, is_wrong_argument_kind, may_call_wrongly, may_exit_wrongly, failed_check}
-use Rattle.verifier_spec.specs.Transfer.{with_stored, with_kind, moved_kind, changed_kind, loaded_kind, answer_kind, after_call_kinds, called_kinds, jump_edge, falls_to, jumps_to}
+use Rattle.verifier_spec.specs.Checks.{source_kind, reads_unknown, has_wrong_kinds, has_wrong_base_kind, has_wrong_condition_kind, reach_at, reach_of, is_reach_within, may_write_record, may_leave_record, may_leave_stack, are_set, may_read_unset, Reach, named_reach, may_name_wrongly, may_be_wrong_room, is_whole, is_wrong_argument_kind, may_call_wrongly, may_exit_wrongly, failed_check}
+use Rattle.verifier_spec.specs.Transfer.{with_stored, with_room, with_argument, with_kind, moved_kind, changed_kind, loaded_kind, answer_kind, after_call_kinds, called_kinds, jump_edge, falls_to, jumps_to}
 use Rattle.verifier_spec.specs.Annotation.{is_edge_covered}
 use Rattle.verifier_spec.specs.Soundness.{KeepsOrder}
 use Rattle.verifier_spec.proofs.Order.{IsWithin, within_parts, within_from, region_is}
 use Rattle.verifier_spec.proofs.Proper.{proper_parts, proper_kind, addr_order, source_proper}
-use Rattle.verifier_spec.proofs.Safety.{Passes, passes, failed_from, set_at, none_kept, may_name_parts, named_kinds, whole_parts}
+use Rattle.verifier_spec.proofs.Safety.{Passes, passes, failed_from, set_at, none_kept, may_name_parts, named_kinds, room_kinds, whole_parts}
 use Rattle.verifier_spec.proofs.StackSets.{places_kept, places_set, places_only}
 use Rattle.verifier_spec.proofs.Tighter.{tested_within}
 use Rattle.verifier_spec.proofs.Whole.{le_z-true, le-le_z, le_trans_z, negative, gap_is}
-use Rattle.verifier_spec.proofs.Wider.{narrower, other_kinds, other_set, kind_within_narrower, kind_within, known_within, number_within, address_within, AreAddresses, addresses_within, ranges_within, can_within, computed_within, changed_within, low_half_within, source_within, within_set}
+use Rattle.verifier_spec.proofs.Wider.{IsNarrower, narrower, other_set, kind_within_narrower, kind_within, known_within, number_within, address_within, AreAddresses, addresses_within, AreRanges, ranges_within, can_within, computed_within, changed_within, low_half_within, source_within, within_set}
 
 -- ---- bytes of a region
 
@@ -96,6 +97,20 @@ called_pairs P (j0 ∷ j1 ∷ j2 ∷ j3 ∷ j4 ∷ j5 ∷ js) (k0 ∷ k1 ∷ k2 
 called_pairs P (j0 ∷ j1 ∷ j2 ∷ j3 ∷ j4 ∷ j5 ∷ js) ks answer q d e h p n = absurd (omega arith)
 called_pairs P js ks answer q d e h p n = absurd (omega arith)
 
+-- and the lengths of regions stay
+called_narrower : (a : Abstract) (kinds : List Abs) (set : StackSet) → IsNarrower (record a { registers = kinds; set = set }) a
+called_narrower a kinds set = record { low = low; high = high }
+  where
+    low : (at : Region) → least a at ≤ least (record a { registers = kinds; set = set }) at
+    low region.Stack = omega arith
+    low region.Key = omega arith
+    low region.Value = omega arith
+
+    high : (at : Region) → greatest (record a { registers = kinds; set = set }) at ≤ greatest a at
+    high region.Stack = omega arith
+    high region.Key = omega arith
+    high region.Value = omega arith
+
 number_kept : (c : Abstract) (low high : ℕ) → is_kind_within c (abs.Num low high) (abs.Num low high) ≡ true
 number_kept c low high = and_from _ _ (le-leb low low (omega arith)) (le-leb high high (omega arith))
 
@@ -106,6 +121,44 @@ stored_kept set at low high size q inside h = elim (cases_Bool (is_stack at && i
   | inl one ↦ subst (λ s. is_set s q ≡ true) (sym (cond-true _ _ _ one)) (places_kept set (unsigned_abs low) size q inside h)
   | inr many ↦ subst (λ s. is_set s q ≡ true) (sym (cond-false _ _ _ many)) h
 ]
+
+-- and in a call
+room_keeps : (set : StackSet) (at : Region) (low high : ℤ) (range : Interval) (q : ℕ) → q < 512 → is_set set q ≡ true → is_set (with_room set (abs.Addr at low high) (Some range)) q ≡ true
+room_keeps set at low high range q inside h = elim (cases_Bool (is_stack at && int_eq low high)) [
+  | inl one ↦ subst (λ s. is_set s q ≡ true) (sym (cond-true _ _ _ one)) (places_kept set (unsigned_abs low) range.low q inside h)
+  | inr many ↦ subst (λ s. is_set s q ≡ true) (sym (cond-false _ _ _ many)) h
+]
+
+-- room at a narrower address that has as many bytes becomes set where that at a wider one does
+room_set : (inner outer : StackSet) (at : Region) (lo hi low high : ℤ) (part whole : Interval) → ((q : ℕ) → q < 512 → is_set outer q ≡ true → is_set inner q ≡ true) → low ≤ℤ lo → lo ≤ℤ hi → hi ≤ℤ high
+    → whole.low ≤ part.low → (q : ℕ) → q < 512 → is_set (with_room outer (abs.Addr at low high) (Some whole)) q ≡ true → is_set (with_room inner (abs.Addr at lo hi) (Some part)) q ≡ true
+room_set inner outer at lo hi low high part whole kept p order r more q inside h = elim (cases_Bool (is_stack at && int_eq low high)) [
+  | inl one ↦
+      let parts : (is_stack at ≡ true) × (int_eq low high ≡ true) = and_parts (is_stack at) (int_eq low high) one in
+      let same : low ≡ high = (Decides-int_eq low high).0 parts.1 in
+      let ends : lo ≡ hi = omega (arith, ints) in
+      let starts : unsigned_abs low ≡ unsigned_abs lo =
+      (let is : low ≡ lo = omega (arith, ints) in ap unsigned_abs is) in
+      let narrow = and_from _ _ parts.0 ((Decides-int_eq lo hi).1 ends) in
+      subst (λ s. is_set s q ≡ true) (sym (cond-true _ _ _ narrow))
+      (⊎_elim
+      (λ before. places_kept inner (unsigned_abs lo) part.low q inside (kept q inside before))
+      (λ among. places_set inner (unsigned_abs lo) part.low q inside (omega (arith, among.0, starts)) (omega (arith, among.1, starts)))
+      (places_only outer (unsigned_abs low) whole.low q inside (subst (λ s. is_set s q ≡ true) (cond-true _ _ _ one) h)))
+  | inr many ↦ room_keeps inner at lo hi part q inside (kept q inside (subst (λ s. is_set s q ≡ true) (cond-false _ _ _ many) h))
+]
+
+-- room within wider room is right where that is
+room_within : (at : Region) (lo hi low high : ℤ) (part whole : Interval) → low ≤ℤ lo → hi ≤ℤ high → whole.low ≤ part.low → part.high ≤ whole.high
+    → may_be_wrong_room (Some (record { direction = direction.Write; region = at; low = low; high = high; size = whole.high })) (Some whole) ≡ false
+    → may_be_wrong_room (Some (record { direction = direction.Write; region = at; low = lo; high = hi; size = part.high })) (Some part) ≡ false
+room_within region.Stack lo hi low high part whole p q more few c =
+    let t = or_parts (whole.low == 0) (may_leave_stack (Some (record { direction = direction.Write; region = region.Stack; low = low; high = high; size = whole.high }))) c in
+    let some : whole.low ≢ 0 = eqb-false whole.low 0 t.0 in
+    or_from _ _ (ne_eqb part.low 0 (λ none. some (omega (arith, none))))
+    (not_from_true _ (reach_within direction.Write region.Stack lo hi low high part.high whole.high STACK_SIZE STACK_SIZE p q few (omega arith) (not-false _ t.1)))
+room_within region.Key lo hi low high part whole p q more few c = absurd (false≢true (sym (or_parts (whole.low == 0) true c).1))
+room_within region.Value lo hi low high part whole p q more few c = absurd (false≢true (sym (or_parts (whole.low == 0) true c).1))
 
 and_false : (x y : Bool) → y ≡ false → (x && y) ≡ false
 and_false true y h = h
@@ -236,13 +289,16 @@ module _ (a b : Abstract) (w : IsWithin a b) (pa : is_proper a ≡ true) (pb : i
       may_name_from a (record { direction = direction.Read; region = region.Value; low = lo; high = hi; size = size })
       (not_from_true _ (reach_within direction.Read region.Value lo hi low high size most b.value_min a.value_min p q few w.value_min (not-false _ parts.0))) refl refl
 
-  named_kept : (address count : ℕ) → may_name_wrongly b (named_reach (kind_at b address) (range_of b (kind_at b count))) ≡ false
-      → may_name_wrongly a (named_reach (kind_at a address) (range_of a (kind_at a count))) ≡ false
+  number_ranges : (count : ℕ) → is_number_kind (kind_at b count) ≡ true → AreRanges a b (kind_at a count) (kind_at b count)
+  number_ranges count is = ranges_within a b (narrower a b w) pa pb (kind_at a count) (kind_at b count) (proper_kind a count pa) (proper_kind b count pb) (kind_within a b w pb count) is
+
+  named_kept : (address count : ℕ) → may_name_wrongly b (named_reach direction.Read (kind_at b address) (range_of b (kind_at b count))) ≡ false
+      → may_name_wrongly a (named_reach direction.Read (kind_at a address) (range_of a (kind_at a count))) ≡ false
   named_kept address count c =
       let kinds = named_kinds b (kind_at b address) (kind_at b count) c in
       let x = bases address kinds.0 in
-      let y = ranges_within a b (narrower a b w) pa pb (kind_at a count) (kind_at b count) (proper_kind a count pa) (proper_kind b count pb) (kind_within a b w pb count) kinds.1 in
-      let c' : may_name_wrongly b (named_reach (abs.Addr x.at x.low x.high) (Some y.outer)) ≡ false = rw (x.outer, y.outer_is) at c in
+      let y = number_ranges count kinds.1 in
+      let c' : may_name_wrongly b (named_reach direction.Read (abs.Addr x.at x.low x.high) (Some y.outer)) ≡ false = rw (x.outer, y.outer_is) at c in
       rw (x.inner, y.inner_is) (reach_kept x.at x.lo x.hi x.low x.high y.inner.high y.outer.high x.from x.order x.to y.part.high c')
 
   -- what names a whole key or value does so in a narrower state
@@ -254,15 +310,25 @@ module _ (a b : Abstract) (w : IsWithin a b) (pa : is_proper a ≡ true) (pb : i
       whole_within a (kind_at a address) (kind_at a count) whole.at (proper_kind a address pa) first long
 
   bytes_kept : (address count : ℕ) (whole : Bool) → is_whole (kind_at b address) (kind_at b count) ≡ whole
-      → (not whole && may_name_wrongly b (named_reach (kind_at b address) (range_of b (kind_at b count)))) ≡ false
-      → (not (is_whole (kind_at a address) (kind_at a count)) && may_name_wrongly a (named_reach (kind_at a address) (range_of a (kind_at a count)))) ≡ false
+      → (not whole && may_name_wrongly b (named_reach direction.Read (kind_at b address) (range_of b (kind_at b count)))) ≡ false
+      → (not (is_whole (kind_at a address) (kind_at a count)) && may_name_wrongly a (named_reach direction.Read (kind_at a address) (range_of a (kind_at a count)))) ≡ false
   bytes_kept address count true is c = rw (whole_kept address count is) refl
   bytes_kept address count false is c = and_false _ _ (named_kept address count c)
+
+  room_kept : (address count : ℕ) → may_be_wrong_room (named_reach direction.Write (kind_at b address) (range_of b (kind_at b count))) (range_of b (kind_at b count)) ≡ false
+      → may_be_wrong_room (named_reach direction.Write (kind_at a address) (range_of a (kind_at a count))) (range_of a (kind_at a count)) ≡ false
+  room_kept address count c =
+      let kinds = room_kinds b (kind_at b address) (kind_at b count) c in
+      let x = bases address kinds.0 in
+      let y = number_ranges count kinds.1 in
+      let c' : may_be_wrong_room (named_reach direction.Write (abs.Addr x.at x.low x.high) (Some y.outer)) (Some y.outer) ≡ false = rw (x.outer, y.outer_is) at c in
+      rw (x.inner, y.inner_is) (room_within x.at x.lo x.hi x.low x.high y.inner y.outer x.from x.to y.part.low y.part.high c')
 
   argument_kept : (x : Argument) → is_wrong_argument_kind b x ≡ false → is_wrong_argument_kind a x ≡ false
   argument_kept argument.Nothing c = refl
   argument_kept (argument.Number r) c = not_from_true _ (number_within a (kind_at a r) (kind_at b r) (kind_within a b w pb r) (not-false _ c))
   argument_kept (argument.Bytes address count) c = bytes_kept address count (is_whole (kind_at b address) (kind_at b count)) refl c
+  argument_kept (argument.Room address count) c = room_kept address count c
 
   call_kept : (call : Option ℤ) → may_call_wrongly call b ≡ false → may_call_wrongly call a ≡ false
   call_kept call c = none_kept (is_wrong_argument_kind b) (is_wrong_argument_kind a) argument_kept (arguments_of (helper_called call)) c
@@ -338,19 +404,43 @@ module _ (a b : Abstract) (w : IsWithin a b) (pa : is_proper a ≡ true) (pb : i
       rw (x.inner, x.outer) (λ q. stored_set x.at x.lo x.hi x.low x.high offset (byte_count size) q x.from x.order x.to) in
       set_kept _ _ kept
 
-  call_edge : (helper : Option Helper) → is_edge_covered (called_kinds helper a) (called_kinds helper b) ≡ true
-  call_edge None = refl
-  call_edge (Some helper) =
-      let c : Abstract = record a { registers = after_call_kinds a.registers (answer_kind helper) } in
-      let n = other_kinds a (after_call_kinds a.registers (answer_kind helper)) in
+  room_set_at : (address count : ℕ) → AreAddresses (kind_at a address) (kind_at b address) → AreRanges a b (kind_at a count) (kind_at b count) → (inner outer : StackSet)
+      → ((q : ℕ) → q < 512 → is_set outer q ≡ true → is_set inner q ≡ true)
+      → (q : ℕ) → q < 512 → is_set (with_room outer (kind_at b address) (range_of b (kind_at b count))) q ≡ true → is_set (with_room inner (kind_at a address) (range_of a (kind_at a count))) q ≡ true
+  room_set_at address count x y inner outer kept =
+      rw (x.inner, x.outer, y.inner_is, y.outer_is) (room_set inner outer x.at x.lo x.hi x.low x.high y.inner y.outer kept x.from x.order x.to y.part.low)
+
+  -- the room of an argument becomes set where it does in a wider state
+  argument_set : (x : Argument) → is_wrong_argument_kind b x ≡ false → (inner outer : StackSet) → ((q : ℕ) → q < 512 → is_set outer q ≡ true → is_set inner q ≡ true)
+      → (q : ℕ) → q < 512 → is_set (with_argument b outer x) q ≡ true → is_set (with_argument a inner x) q ≡ true
+  argument_set argument.Nothing c inner outer kept = kept
+  argument_set (argument.Number r) c inner outer kept = kept
+  argument_set (argument.Bytes address count) c inner outer kept = kept
+  argument_set (argument.Room address count) c inner outer kept =
+      let kinds = room_kinds b (kind_at b address) (kind_at b count) c in
+      room_set_at address count (bases address kinds.0) (number_ranges count kinds.1) inner outer kept
+
+  arguments_set : (xs : List Argument) → list_any (is_wrong_argument_kind b) xs ≡ false → (inner outer : StackSet) → ((q : ℕ) → q < 512 → is_set outer q ≡ true → is_set inner q ≡ true)
+      → (q : ℕ) → q < 512 → is_set (fold (with_argument b) outer xs) q ≡ true → is_set (fold (with_argument a) inner xs) q ≡ true
+  arguments_set [] c inner outer kept = kept
+  arguments_set (x ∷ xs) c inner outer kept =
+      let p = or_parts (is_wrong_argument_kind b x) (list_any (is_wrong_argument_kind b) xs) c in
+      arguments_set xs p.1 (with_argument a inner x) (with_argument b outer x) (argument_set x p.0 inner outer kept)
+
+  call_edge : (helper : Option Helper) → list_any (is_wrong_argument_kind b) (arguments_of helper) ≡ false → is_edge_covered (called_kinds helper a) (called_kinds helper b) ≡ true
+  call_edge None c = refl
+  call_edge (Some helper) c =
+      let set = fold (with_argument a) a.set (signature_of helper).arguments in
+      let to : Abstract = record a { registers = after_call_kinds a.registers (answer_kind helper); set = set } in
+      let n = called_narrower a (after_call_kinds a.registers (answer_kind helper)) set in
       within_from _ _ (record {
-        kinds = λ q low. called_pairs (λ j k. is_kind_within c j k ≡ true) a.registers b.registers (answer_kind helper) q (proper_parts a pa).eleven (proper_parts b pb).eleven
-            (kind_within_narrower a c (kind_at a q) (kind_at b q) n (w.kinds q low)) (number_kept c 0 (signature_of helper).greatest) refl;
+        kinds = λ q low. called_pairs (λ j k. is_kind_within to j k ≡ true) a.registers b.registers (answer_kind helper) q (proper_parts a pa).eleven (proper_parts b pb).eleven
+            (kind_within_narrower a to (kind_at a q) (kind_at b q) n (w.kinds q low)) (number_kept to 0 (signature_of helper).greatest) refl;
         key_min = w.key_min;
         key_max = w.key_max;
         value_min = w.value_min;
         value_max = w.value_max;
-        set = w.set;
+        set = arguments_set (signature_of helper).arguments c a.set b.set w.set;
       })
 
   falls_kept : (i : Instruction) → is_within a b ≡ true → Passes (summary_of i) b → is_edge_covered (falls_to i a) (falls_to i b) ≡ true
@@ -373,7 +463,7 @@ module _ (a b : Abstract) (w : IsWithin a b) (pa : is_proper a ≡ true) (pb : i
   falls_kept (JumpIf width test dst source offset) h p = tested_within a b w pa pb width test false dst source h (and_parts _ _ (not-false _ p.condition)).0
   falls_kept (Jump distance) h p = refl
   falls_kept (Wide dst number) h p = set_edge dst (abs.Num number number) (abs.Num number number) (number_kept a number number)
-  falls_kept (Call number) h p = call_edge (helper_of number)
+  falls_kept (Call number) h p = call_edge (helper_of number) p.argument
   falls_kept Exit h p = refl
 
   edge_kept : (condition : Option Condition) (jump : Option ℤ) → is_within a b ≡ true → has_wrong_condition_kind condition b ≡ false → is_edge_covered (jump_edge condition jump a) (jump_edge condition jump b) ≡ true

@@ -115,9 +115,9 @@ may_read_unset s None = false
 -- ---- calls and the exit
 
 -- the bytes that an address and a number may name
-abbrev pub named_reach : Abs → Option Interval → Option Reach
-named_reach (Abs.Addr region lo hi) (Some range) = Some (record { direction = Direction.Read; region = region; low = lo; high = hi; size = range.high })
-named_reach _ _ = None
+abbrev pub named_reach : Direction → Abs → Option Interval → Option Reach
+named_reach direction (Abs.Addr region lo hi) (Some range) = Some (record { direction = direction; region = region; low = lo; high = hi; size = range.high })
+named_reach direction _ _ = None
 
 -- they may lie outside what is known of their region or not be set
 abbrev pub may_name_wrongly : Abstract → Option Reach → Bool
@@ -129,12 +129,19 @@ abbrev pub is_whole : Abs → Abs → Bool
 is_whole (Abs.Addr region lo hi) (Abs.Len other) = same_region region other && (int_eq lo (pos 0) && int_eq hi (pos 0))
 is_whole _ _ = false
 
+-- room may be no byte at all, not be on the stack or pass its end
+abbrev pub may_be_wrong_room : Option Reach → Option Interval → Bool
+may_be_wrong_room (Some reach) (Some range) = range.low == 0 || (may_write_record (Some reach) || may_leave_stack (Some reach))
+may_be_wrong_room _ _ = true
+
 -- an argument may not be what it must be
 abbrev pub is_wrong_argument_kind : Abstract → Argument → Bool
 is_wrong_argument_kind s Argument.Nothing = false
 is_wrong_argument_kind s (Argument.Number r) = not (is_number_kind (kind_at s r))
 is_wrong_argument_kind s (Argument.Bytes address count) =
-    not (is_whole (kind_at s address) (kind_at s count)) && may_name_wrongly s (named_reach (kind_at s address) (range_of s (kind_at s count)))
+    not (is_whole (kind_at s address) (kind_at s count)) && may_name_wrongly s (named_reach Direction.Read (kind_at s address) (range_of s (kind_at s count)))
+is_wrong_argument_kind s (Argument.Room address count) =
+    may_be_wrong_room (named_reach Direction.Write (kind_at s address) (range_of s (kind_at s count))) (range_of s (kind_at s count))
 
 abbrev pub may_call_wrongly : Option ℤ → Abstract → Bool
 may_call_wrongly call s = list_any (is_wrong_argument_kind s) (arguments_of (helper_called call))

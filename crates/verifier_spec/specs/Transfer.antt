@@ -1,10 +1,10 @@
 -- What an instruction makes of an abstract state, along each of its edges.
 use Rattle.std.specs.Prelude.{ℕ, zero, suc, ◌+◌, ◌-◌, ◌*◌, ◌/◌, ◌%◌, ◌^◌, ℤ, ◌+ℤ◌, Bool, true, false, ◌==◌, ◌&&◌, if◌then◌else◌, bit_or, List, [], ◌∷◌, map, slice_index, slice_set, Option, Some, None, unsigned_abs}
-use Rattle.std.specs.Ordering.{int_eq}
+use Rattle.std.specs.{Ordering.int_eq, List.fold}
 use Rattle.machine_spec.specs.declared.operation.{Width.Width, Width.TheVariants.Bits32, Width.TheVariants.Bits64, Operation.Operation, Change.Change, Test.Test}
 use Rattle.machine_spec.specs.declared.instruction.{Region.Region, Size.Size, Extension.Extension, Extension.TheVariants.Zero, Extension.TheVariants.Sign, Source.Source, Source.TheVariants.Register, Source.TheVariants.Immediate, Instruction.Instruction}
 use Rattle.machine_spec.specs.declared.instruction.Instruction.TheVariants.{Move, Compute, Load, Unary, Store, JumpIf, Jump, Wide, Call, Exit}
-use Rattle.machine_spec.specs.declared.helper.Helper.{Helper}
+use Rattle.machine_spec.specs.declared.helper.{Helper.Helper, Argument.Argument}
 use Rattle.machine_spec.specs.declared.summary.{Direction.TheVariants.Write, Condition.Condition}
 use Rattle.machine_spec.specs.Summaries.{summary_of}
 use Rattle.machine_spec.specs.Values.{immediate, byte_count}
@@ -117,8 +117,17 @@ abbrev pub after_call_kinds : List Abs → Abs → List Abs
 after_call_kinds (_ ∷ _ ∷ _ ∷ _ ∷ _ ∷ _ ∷ kinds) answer = answer ∷ Abs.None ∷ Abs.None ∷ Abs.None ∷ Abs.None ∷ Abs.None ∷ kinds
 after_call_kinds kinds answer = kinds
 
+-- room at one known place of the stack: as many bytes as it has at least become set
+abbrev pub with_room : StackSet → Abs → Option Interval → StackSet
+with_room set (Abs.Addr region lo hi) (Some range) = if is_stack region && int_eq lo hi then with_places set (unsigned_abs lo) range.low else set
+with_room set _ _ = set
+
+abbrev pub with_argument : Abstract → StackSet → Argument → StackSet
+with_argument s set (Argument.Room address count) = with_room set (kind_at s address) (range_of s (kind_at s count))
+with_argument s set _ = set
+
 abbrev pub called_kinds : Option Helper → Abstract → Option Abstract
-called_kinds (Some helper) s = Some (record s { registers = after_call_kinds s.registers (answer_kind helper) })
+called_kinds (Some helper) s = Some (record s { registers = after_call_kinds s.registers (answer_kind helper); set = fold (with_argument s) s.set (signature_of helper).arguments })
 called_kinds None s = None
 
 -- ---- the two edges

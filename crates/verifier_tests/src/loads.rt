@@ -573,6 +573,206 @@ fn bytes_by_address(rt: HostRuntime) -> Result<(), Fail> {
     Ok(())
 }
 
+const LOAD_VALUE: u64 = 0x8500_0000_0100_0000; // call 1
+
+const END: u64 = 0xbfa1_0000_0000_0000; // mov64 r1, r10
+
+const BELOW: u64 = 0x0701_0000_f8ff_ffff; // add64 r1, -8
+
+const FROM_START: u64 = 0xb702_0000_0000_0000; // mov64 r2, 0
+
+const LAST_BYTES: u64 = 0x79a0_f8ff_0000_0000; // ld64 r0, [r10-8]
+
+/// Programs that name room for a part, and what a load answers.
+const ROOMS: [([u64; 7], &str); 10] = [
+    (
+        [END, BELOW, FROM_START, EIGHT, LOAD_VALUE, LAST_BYTES, EXIT],
+        "accepted 7",
+    ),
+    // any number is a place
+    (
+        [
+            END,
+            BELOW,
+            0xb702_0000_ffff_ffff,
+            EIGHT,
+            LOAD_VALUE,
+            LAST_BYTES,
+            EXIT,
+        ],
+        "accepted 7",
+    ),
+    // mov64 r3, 7: the load reads a byte more than the helper sets
+    (
+        [
+            END,
+            BELOW,
+            FROM_START,
+            0xb703_0000_0700_0000,
+            LOAD_VALUE,
+            LAST_BYTES,
+            EXIT,
+        ],
+        "V9 StackUnset at 5",
+    ),
+    // mov64 r3, 9: one byte past the stack's end
+    (
+        [
+            END,
+            BELOW,
+            FROM_START,
+            0xb703_0000_0900_0000,
+            LOAD_VALUE,
+            LAST_BYTES,
+            EXIT,
+        ],
+        "V12 HelperArg at 4",
+    ),
+    // mov64 r3, 0: no byte
+    (
+        [
+            END,
+            BELOW,
+            FROM_START,
+            0xb703_0000_0000_0000,
+            LOAD_VALUE,
+            LAST_BYTES,
+            EXIT,
+        ],
+        "V12 HelperArg at 4",
+    ),
+    // add64 r1, -520: before the stack
+    (
+        [
+            END,
+            0x0701_0000_f8fd_ffff,
+            FROM_START,
+            EIGHT,
+            LOAD_VALUE,
+            LAST_BYTES,
+            EXIT,
+        ],
+        "V12 HelperArg at 4",
+    ),
+    // the value as room
+    (
+        [ZERO, ZERO, FROM_START, EIGHT, LOAD_VALUE, LAST_BYTES, EXIT],
+        "V12 HelperArg at 4",
+    ),
+    // mov64 r2, r3: the key's address as a place
+    (
+        [
+            END,
+            BELOW,
+            0xbf32_0000_0000_0000,
+            EIGHT,
+            LOAD_VALUE,
+            LAST_BYTES,
+            EXIT,
+        ],
+        "V12 HelperArg at 4",
+    ),
+    // mov64 r3, r3: the key's address as a length
+    (
+        [
+            END,
+            BELOW,
+            FROM_START,
+            0xbf33_0000_0000_0000,
+            LOAD_VALUE,
+            LAST_BYTES,
+            EXIT,
+        ],
+        "V12 HelperArg at 4",
+    ),
+    // mov64 r3, r4: the key's length, which may be 0
+    (
+        [
+            END,
+            BELOW,
+            FROM_START,
+            0xbf43_0000_0000_0000,
+            LOAD_VALUE,
+            LAST_BYTES,
+            EXIT,
+        ],
+        "V12 HelperArg at 4",
+    ),
+];
+
+/// Room that a helper writes: its address and its length, and what is known of the stack afterwards.
+#[test]
+fn room_on_the_stack(rt: HostRuntime) -> Result<(), Fail> {
+    let alloc = rt.alloc();
+    for (slots, want) in &ROOMS {
+        let got = answer(alloc, &image_of(alloc, slots)?)?;
+        assert_eq!(rt; got.as_str(), *want, "of {slots:?}");
+    }
+    Ok(())
+}
+
+/// A length that a jump bounds by 512, as the whole stack has, and by 513.
+#[test]
+fn room_of_a_bounded_length(rt: HostRuntime) -> Result<(), Fail> {
+    let alloc = rt.alloc();
+    let cases = [
+        (0x2502_0500_0002_0000, "accepted 9"), // jgt64 r2, 512, +5
+        (0x2502_0500_0102_0000, "V12 HelperArg at 7"), // jgt64 r2, 513, +5
+    ];
+    for (bound, want) in cases {
+        let slots = [
+            ZERO,
+            0xa502_0600_0100_0000, // jlt64 r2, 1, +6
+            bound,
+            LENGTH,
+            FROM_START,
+            END,
+            0x0701_0000_00fe_ffff, // add64 r1, -512
+            LOAD_VALUE,
+            EXIT,
+        ];
+        let got = answer(alloc, &image_of(alloc, &slots)?)?;
+        assert_eq!(rt; got.as_str(), want);
+    }
+    Ok(())
+}
+
+/// What is known after a load of 4 to 8 bytes to one place: r0 is 0 or 1, four bytes are set.
+#[test]
+fn after_a_part_is_copied(rt: HostRuntime) -> Result<(), Fail> {
+    let alloc = rt.alloc();
+    let cases = [
+        (0x61a0_f8ff_0000_0000, "accepted 10"), // ld32 r0, [r10-8]
+        (0x71a0_fcff_0000_0000, "V9 StackUnset at 8"), // ld8 r0, [r10-4]
+    ];
+    for (last, want) in cases {
+        let slots = [
+            ZERO,
+            0xa502_0700_0400_0000, // jlt64 r2, 4, +7
+            0x2502_0600_0800_0000, // jgt64 r2, 8, +6
+            LENGTH,
+            FROM_START,
+            END,
+            BELOW,
+            LOAD_VALUE,
+            last,
+            EXIT,
+        ];
+        let got = answer(alloc, &image_of(alloc, &slots)?)?;
+        assert_eq!(rt; got.as_str(), want);
+    }
+    let image = image_of(alloc, &[END, BELOW, FROM_START, EIGHT, LOAD_VALUE, EXIT])?;
+    let verified = load(alloc, &image)?;
+    assert_eq!(rt; verified.code().len(), 6);
+    assert_eq!(rt; verified.regions(4).0, Some(Region::Stack));
+    assert_eq!(rt; verified.regions(4).1, None);
+    let kind = verified.state(5).map(|s| s.kind(0));
+    assert_eq!(rt; kind, Some(Abs::Num(0, 1)));
+    let spent = verified.state(5).map(|s| s.kind(1));
+    assert_eq!(rt; spent, Some(Abs::None));
+    Ok(())
+}
+
 /// Key and value change places, with these instructions for r5, the new value's length, and for r3, the
 /// new key's.
 fn exchange(value_length: u64, key_length: u64) -> [u64; 8] {

@@ -1,9 +1,9 @@
 -- The rows of an item, taken for one output after the other.
-use Rattle.std.proofs.Common.{◌≡◌, ℕ, zero, suc, ◌+◌, ◌<◌, ◌≤◌, List, [], ◌∷◌, ◌++◌, length, Some, slice_get, slice_set, refl, sym, ap, subst, ◌∙◌, arith}
+use Rattle.std.proofs.Common.{◌≡◌, ℕ, zero, suc, ◌+◌, ◌<◌, ◌≤◌, List, [], ◌∷◌, ◌++◌, length, All, Some, slice_get, slice_set, refl, sym, ap, subst, ◌∙◌, arith}
 use Rattle.std.proofs.lemmas.Option.{same_Some, get_or_from_slice_get}
 use Rattle.std.proofs.lemmas.List.{length-append, get_or-set_other}
 use Rattle.log_spec.specs.declared.row.Row.{Row}
-use Rattle.log_spec.specs.Logs.{IsRowsAt}
+use Rattle.log_spec.specs.Logs.{IsRowsAt, RowFits}
 use Rattle.part_log.specs.Parts.{Log}
 use Rattle.item_rows.specs.ItemRows.{rows_in}
 use Rattle.worker.specs.Walks.{last, AreRowsOfLast}
@@ -69,4 +69,5 @@ is_of_last outputs walk all left n shares rows are taken at within =
     record {
       output = lt;
       rows_are = subst (λ (rs : List Row). IsRowsAt walk.partition n outputs walk.items (last walk.items) rs) (sym here) (are.each n lt);
+      fit = subst (λ (rs : List Row). All RowFits rs) (sym here) (are.fit n lt);
     }

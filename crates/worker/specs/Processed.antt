@@ -1,7 +1,7 @@
 -- What processing a walk's last item gives.
-use Rattle.std.specs.Prelude.{◌≡◌, ℕ, ◌<◌, List, length, slice_get, Some}
+use Rattle.std.specs.Prelude.{◌≡◌, ℕ, ◌<◌, List, length, All, slice_get, Some}
 use Rattle.log_spec.specs.declared.row.Row.{Row}
-use Rattle.log_spec.specs.Logs.{IsRowsAt}
+use Rattle.log_spec.specs.Logs.{IsRowsAt, RowFits}
 use Rattle.item_rows.specs.ItemRows.{rows_in}
 use Rattle.part_log.specs.Parts.{Log}
 use Rattle.worker.specs.Walks.{last}
@@ -23,10 +23,11 @@ pub record OutputShare : Type 0 where
 abbrev pub output_share : Log → ℕ → List Row → OutputShare
 output_share walk output rows = record { walk = walk; output = output; rows = rows }
 
--- the rows are those of the last item in that output
+-- the rows are those of the last item in that output, each within the limits of a record
 pub record IsOfLast (outputs : ℕ) (share : OutputShare) : Type 0 where
   pub output : share.output < outputs
   pub rows_are : IsRowsAt share.walk.partition share.output outputs share.walk.items (last share.walk.items) share.rows
+  pub fit : All RowFits share.rows
 
 -- the rows for each output in turn
 pub record AreInTurn (walk : Log) (all : List (List Row)) (shares : List OutputShare) : Type 0 where

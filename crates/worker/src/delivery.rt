@@ -1,5 +1,5 @@
-ghost use Rattle.std.specs.Prelude.{◌≡◌, ◌<◌};
-ghost use Rattle.log_spec.specs.Logs.{IsRowsAt};
+ghost use Rattle.std.specs.Prelude.{◌≡◌, ◌<◌, All};
+ghost use Rattle.log_spec.specs.Logs.{IsRowsAt, RowFits};
 ghost use Rattle.worker.specs.Walks.{last};
 ghost use Rattle.worker.specs.Processed.{IsOfLast, output_share};
 
@@ -58,6 +58,7 @@ impl<Id: Names> Delivery<Id> {
     pub fn into_rows(self) -> Vec<Row>
         ensures rows { result.items ≡ self.rows }
         ensures are { IsRowsAt self.walk.partition self.output Id.outputs self.walk.items (last self.walk.items) result.items }
+        ensures fit { All RowFits result.items }
     {
         let Delivery { rows, .. } = self;
         rows

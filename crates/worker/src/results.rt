@@ -1,6 +1,6 @@
-ghost use Rattle.std.specs.Prelude.{◌≡◌, ◌<◌, ◌≤◌, IfOk, length};
+ghost use Rattle.std.specs.Prelude.{◌≡◌, ◌<◌, ◌≤◌, All, IfOk, length};
 ghost use Rattle.item_rows.specs.ItemRows.{rows_in};
-ghost use Rattle.log_spec.specs.Logs.{IsRowsAt};
+ghost use Rattle.log_spec.specs.Logs.{IsRowsAt, RowFits};
 ghost use Rattle.worker.specs.Walks.{last, AreRowsOfLast};
 ghost use Rattle.worker.specs.Processed.{processed, AreInTurn};
 
@@ -66,6 +66,7 @@ impl<Id: Names> Results<Id> {
         requires { output < Id.outputs }
         ensures rows { result.now ≡ rows_in self.now.rows output }
         ensures are { IsRowsAt self.now.walk.partition output Id.outputs self.now.walk.items (last self.now.walk.items) result.now }
+        ensures fit { All RowFits result.now }
     {
         self.rows.rows(output)
     }

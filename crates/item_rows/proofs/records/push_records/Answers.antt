@@ -2,6 +2,7 @@ use Rattle.std.proofs.Common.{◌≡◌, ◌<◌, ◌≤◌, List, ℕ, Some, le
 use Rattle.wire_spec.specs.declared.record.Record.{Record}
 use Rattle.log_spec.specs.Logs.{FitsRecord, IsRecordRows, IsRecordsRows}
 use Rattle.item_rows.specs.ItemRows.{Adds}
+use Rattle.log_spec.proofs.FittingBatches.{within_limits}
 use Rattle.item_rows.proofs.RowLaws.{each_at, records_more, take_all}
 use Rattle.item_rows.proofs.records.push_records.Goals as goal
 
@@ -12,7 +13,7 @@ push_record-requires-clause-limits c =
     let here : c.given-item.result ≡ get_or c.args.batch.now.records c.loop-given.given-index c.given-item.result =
     c.given-item.is ∙ ap (λ (gs : List Record). get_or gs c.loop-given.given-index c.given-item.result) items-is in
     let fits = each_at (FitsRecord c.args.batch.now) c.args.batch.now.records c.loop-given.given-index c.given-item.result c.requires.fits.each lt here in
-    fits.limits (record { partition = c.args.origin.now.input; offset = c.loop-given.offset; timestamp = c.timestamp.result; outputs = c.args.origin.now.outputs })
+    within_limits c.given-item.result (record { partition = c.args.origin.now.input; offset = c.loop-given.offset; timestamp = c.timestamp.result; outputs = c.args.origin.now.outputs }) fits.limits
 
 pub loop-given-preserved : goal.loop-given-preserved
 loop-given-preserved c =

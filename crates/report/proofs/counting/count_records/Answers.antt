@@ -1,6 +1,7 @@
 use Rattle.std.proofs.Common.{◌≡◌, ◌<◌, List, ℕ, length, get_or, ap, subst, ◌∙◌, arith, option_map}
 use Rattle.wire_spec.specs.declared.record.Record.{Record}
 use Rattle.log_spec.specs.Logs.{FitsRecord}
+use Rattle.log_spec.proofs.FittingBatches.{within_limits}
 use Rattle.item_rows.proofs.RowLaws.{each_at}
 use Rattle.report.specs.Fates.{IsFate}
 use Rattle.report.proofs.FateLaws.{records_more}
@@ -13,7 +14,7 @@ record_fate-requires-clause-limits c =
     let here : c.given-item.result ≡ get_or c.args.batch.now.records c.loop-given.given-index c.given-item.result =
     c.given-item.is ∙ ap (λ (gs : List Record). get_or gs c.loop-given.given-index c.given-item.result) items-is in
     let fits = each_at (FitsRecord c.args.batch.now) c.args.batch.now.records c.loop-given.given-index c.given-item.result c.requires.fits.each lt here in
-    fits.limits (record { partition = c.args.origin.now.input; offset = c.loop-given.offset; timestamp = c.timestamp.result; outputs = c.args.origin.now.outputs })
+    within_limits c.given-item.result (record { partition = c.args.origin.now.input; offset = c.loop-given.offset; timestamp = c.timestamp.result; outputs = c.args.origin.now.outputs }) fits.limits
 
 pub loop-given-preserved : goal.loop-given-preserved
 loop-given-preserved c =

@@ -1,0 +1,17 @@
+-- What a load and a fetch print.
+use Rattle.std.proofs.Common.{◌≡◌, List, ℕ}
+use Rattle.std.specs.Prelude.{Option, Ok}
+use Rattle.std.specs.Io.KnownBytes.{Appends}
+use Rattle.script.specs.Texts.{load_line, fetch_line}
+use Rattle.catalogue.specs.Versions.{Version}
+use Rattle.broker.specs.Deployments.{LoadIs}
+use Rattle.broker.specs.Fetches.{IsFetch}
+use Rattle.commands.specs.Sessions.{Loads, Fetches}
+
+pub loads : (name image : List ℕ) (loaded : ℕ × Version) (before after : Option (List ℕ)) → LoadIs name image (Ok loaded) → Appends before after (load_line name loaded.0)
+    → Loads name image before after
+loads name image loaded before after is printed = record { version = loaded.0; known = loaded.1; loaded = is; printed = printed }
+
+pub fetches : (outputs output place max : ℕ) (found : Option (List ℕ)) (before after : Option (List ℕ)) → IsFetch outputs output place max found
+    → Appends before after (fetch_line found) → Fetches outputs output place max before after
+fetches outputs output place max found before after is printed = record { found = found; fetched = is; printed = printed }

@@ -1,0 +1,26 @@
+//! The bytes that a helper writes to the stack.
+ghost use Rattle.std.specs.Prelude.{◌≡◌, if◌then◌else◌, length};
+ghost use Rattle.machine_spec.specs.Machine.{has_part, part_of};
+
+/// Whether there are `count` bytes from a place on. The sum does not wrap.
+fn has_part(bytes: &[u8], at: u64, count: usize) -> bool
+    ensures { result ≡ has_part bytes.now at count }
+{
+    at as u128 + count as u128 <= bytes.len() as u128
+}
+
+/// Copies the part of a key or a value that begins at a place and is as long as the room, and answers
+/// 0. Where there is no such part it fills the room with zeros and answers 1.
+pub fn load_part(bytes: &[u8], at: u64, room: &mut [u8]) -> u64
+    ensures answer { result ≡ (if has_part bytes.now at (length room.old) then 0 else 1) }
+    ensures room { room.new ≡ part_of bytes.now at (length room.old) }
+{
+    if has_part(bytes, at, room.len()) {
+        let start = at as usize;
+        room.copy_from_slice(&bytes[start..start + room.len()]);
+        0
+    } else {
+        room.fill(0);
+        1
+    }
+}

@@ -1,0 +1,2 @@
+pub mod RowBatches
+pub mod FirstRows

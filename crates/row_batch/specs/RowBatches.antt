@@ -1,0 +1,49 @@
+-- Rows of an output partition as record batches.
+use Rattle.std.specs.Prelude.{◌≡◌, ℕ, ◌+◌, ◌≤◌, ℤ, pos, negsuc, ◌-ℤ◌, List, [], ◌∷◌, length, map, take, drop, Option, Some, None, ◌⊎◌}
+use Rattle.wire_spec.specs.declared.record.{Record.Record, Batch.Batch}
+use Rattle.wire_spec.specs.BatchSpelling.{max_batch, max_records, batch_spelling, BatchFits}
+use Rattle.log_spec.specs.declared.row.Row.{Row}
+
+-- a row as a record of a batch with this base timestamp
+abbrev pub record_of : ℕ → Row → Record
+record_of base row = record { timestamp_delta = pos row.timestamp -ℤ pos base; key = row.key; value = row.value; headers = row.headers }
+
+-- the timestamp of the first row
+abbrev pub first_timestamp : List Row → ℕ
+first_timestamp [] = 0
+first_timestamp (row ∷ rows) = row.timestamp
+
+-- The batch of some rows, of which the first has this place: that is its base offset, and the first row's timestamp is its
+-- base timestamp. No producer is named.
+abbrev pub batch_of : ℕ → List Row → Batch
+batch_of place rows = record {
+  base_offset = pos place;
+  leader_epoch = pos 0;
+  base_timestamp = pos (first_timestamp rows);
+  producer_id = negsuc 0;
+  producer_epoch = negsuc 0;
+  base_sequence = negsuc 0;
+  records = map (record_of (first_timestamp rows)) rows;
+}
+
+-- So many rows from a place on may be in one batch: they are no more than are wanted and there, and their batch has no more
+-- records and bytes than one may have.
+pub record MayTake (rows : List Row) (place max count : ℕ) : Type 0 where
+  pub some : 1 ≤ count
+  pub wanted : count ≤ max
+  pub there : count ≤ length (drop place rows)
+  pub few_records : count ≤ max_records
+  pub few_bytes : length (batch_spelling (batch_of place (take count (drop place rows)))) ≤ max_batch
+
+-- it is the greatest such number
+pub record TakesMost (rows : List Row) (place max count : ℕ) : Type 0 where
+  pub may : MayTake rows place max count
+  pub most : (more : ℕ) → MayTake rows place max more → more ≤ count
+
+-- The bytes of the batch of as many rows from a place on as may be in one, or none where no row is there or wanted. The
+-- batch is one that is read again from its bytes.
+abbrev pub IsFetched : List Row → ℕ → ℕ → Option (List ℕ) → Type 0
+IsFetched rows place max None = (length rows ≤ place) ⊎ (max ≡ 0)
+IsFetched rows place max (Some bytes) =
+    (count : ℕ) × TakesMost rows place max count × BatchFits (batch_of place (take count (drop place rows)))
+    × (bytes ≡ batch_spelling (batch_of place (take count (drop place rows))))

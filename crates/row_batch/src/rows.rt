@@ -1,0 +1,55 @@
+//! The batch of rows from a place on.
+
+ghost use Rattle.std.specs.Prelude.{◌≡◌, ◌<◌, ◌≤◌, ◌^◌, ℕ, length, All, IfOk, option_map};
+ghost use Rattle.log_spec.specs.Logs.{RowFits};
+ghost use Rattle.row_batch.specs.RowBatches.{IsFetched};
+ghost use Rattle.row_batch.specs.FirstRows.{IsFirst};
+
+use crate::records::first_records;
+use batch::{MAX_RECORDS, encode};
+use log_spec::Row;
+use std::alloc::{AllocError, Global};
+use wire_spec::Batch;
+
+/// The batch of the first rows, as many as it has room for. The first row has this place.
+fn first_batch(alloc: Global, place: usize, rows: &[Row]) -> Result<Batch, AllocError>
+    requires place { place < 2 ^ 63 }
+    requires some { 0 < length rows.now }
+    requires few { length rows.now ≤ 10000 }
+    requires fit { All RowFits rows.now }
+    ensures { IfOk result (λ batch. (count : ℕ) × IsFirst place rows.now count batch) }
+{
+    let base = rows[0].timestamp;
+    Ok(Batch {
+        base_offset: place as i64,
+        leader_epoch: 0,
+        base_timestamp: base as i64,
+        producer_id: -1,
+        producer_epoch: -1,
+        base_sequence: -1,
+        records: first_records(alloc, base, rows)?,
+    })
+}
+
+/// The bytes of a record batch of the rows from a place on: as many as are there, at most `max` and
+/// 10,000, with which the batch has at most 1,048,576 bytes. None where no row has that place, or `max` is
+/// 0. The batch's base offset is the place, and its base timestamp the first row's. The rows' bytes are
+/// copied once, and the time does not depend on the rows before the place. It fails only where memory
+/// runs out.
+pub fn row_batch(
+    alloc: Global,
+    rows: &[Row],
+    place: usize,
+    max: usize,
+) -> Result<Option<Vec<u8>>, AllocError>
+    requires { All RowFits rows.now }
+    ensures { IfOk result (λ found. IsFetched rows.now place max (option_map (λ bytes. bytes.items) found)) }
+{
+    if place >= rows.len() || max == 0 {
+        return Ok(None);
+    }
+    let left = &rows[place..];
+    let most = left.len().min(max).min(MAX_RECORDS as usize);
+    let batch = first_batch(alloc, place, &left[..most])?;
+    Ok(Some(encode(alloc, &batch)?))
+}
