@@ -1,8 +1,8 @@
 //! Runs a broker by many threads at once: producers append, deployers load programs and mark them in
 //! the logs, workers are started and stopped, auditors wait for what they appended. In the end every
 //! book is compared with the plain core's over the same logs, and every record is looked for in them.
-//! The arguments are how many records the producers append, and a seed; with none the program does
-//! nothing.
+//! The arguments are how many records the producers append, and a seed. With none it is the short form:
+//! 1,000 records with the seed 1, of which it prints what is the same in every run.
 #![tactic(auto)]
 
 mod auditing;
@@ -37,7 +37,13 @@ fn soaked<R: Threads + Wait + Sync>(
 fn main(rt: HostRuntime) -> io::Result<()> {
     let mut arguments = env::args(&rt)?.skip(1);
     let Some(records) = arguments.next() else {
-        return Ok(());
+        return match soaked(&rt, rt.alloc(), 1_000, 1) {
+            Some(sums) => println!(rt;
+                "{} records once, {} again, {} lists differ",
+                sums.once, sums.again, sums.different
+            ),
+            None => println!(rt; "a thread ended badly"),
+        };
     };
     let records: usize = records.as_str().parse().unwrap_or(0);
     let seed: u64 = match arguments.next() {
@@ -52,6 +58,3 @@ fn main(rt: HostRuntime) -> io::Result<()> {
         None => println!(rt; "seed {seed}: a thread ended badly"),
     }
 }
-
-#[cfg(test)]
-mod tests;
