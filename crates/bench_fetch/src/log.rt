@@ -7,7 +7,7 @@ use crate::Shape;
 use broker::{Broker, Ended, Until};
 use bytes::Bytes;
 use catalogue::Catalogue;
-use fixtures::{FORWARD, batch_at, name_of};
+use fixtures::{FORWARD, batch_at};
 use part_log::Names;
 use std::alloc::{AllocError, Global};
 use std::sync::Wait;
@@ -59,11 +59,10 @@ fn forward<Id: Names, H: Wait + Drop, R: Wait>(
     alloc: Global,
     broker: &Broker<Id, Catalogue<H>>,
 ) -> Option<()> {
-    let name = name_of(alloc, "program").ok()?;
     let image = Bytes::copy_from_slice(alloc, &FORWARD).ok()?;
-    let (_version, known) = broker.load(rt, alloc, &name, &image).ok()?;
+    let (_version, known) = broker.load(rt, alloc, "program", &image).ok()?;
     let mut finder = broker.finder(rt, alloc).ok()?;
-    let deployed = broker.deploy(rt, alloc, 0, &name, &mut finder, &known);
+    let deployed = broker.deploy(rt, alloc, 0, known.name(), &mut finder, &known);
     let _marked = deployed.ok()?;
     Some(())
 }

@@ -6,7 +6,6 @@ ghost use Rattle.broker.specs.Layouts.{IsNamed};
 use broker::{Broker, Parts};
 use bytes::Bytes;
 use catalogue::{Catalogue, Known};
-use log_spec::Name;
 use part_log::Names;
 use std::alloc::{AllocError, Global};
 use std::marker::Brand;
@@ -17,6 +16,9 @@ use std::sync::atomic::{AtomicU64, Ordering};
 use std::thread::Threads;
 use std::time::Instant;
 use std::{io, thread};
+
+/// The name of the program.
+const NAME: &str = "fwd";
 
 /// How often a reader finds.
 const FINDS: u64 = 200_000;
@@ -36,12 +38,11 @@ struct Work {
     seconds: f64,
 }
 
-/// Finds a name again and again.
+/// Finds the name again and again.
 fn find_all<Id: Names, H: Wait + Drop, R: Wait + Clock>(
     rt: &R,
     alloc: Global,
     broker: &Broker<Id, Catalogue<H>>,
-    name: &Name,
     known: &Known,
     ended: &AtomicU64,
 ) -> Option<Work> {
@@ -49,7 +50,7 @@ fn find_all<Id: Names, H: Wait + Drop, R: Wait + Clock>(
     let start = Instant::now(rt).ok()?;
     let mut count = 0u64;
     for _ in 0..FINDS {
-        let found = finder.find(alloc, name, known).ok()?;
+        let found = finder.find(alloc, known.name(), known).ok()?;
         count = count.wrapping_add(found.is_some() as u64);
     }
     let seconds = start.elapsed(rt).ok()?.as_secs_f64();
@@ -57,12 +58,11 @@ fn find_all<Id: Names, H: Wait + Drop, R: Wait + Clock>(
     Some(Work { count, seconds })
 }
 
-/// Loads a name again and again, until all readers have ended.
+/// Loads the name again and again, until all readers have ended.
 fn load_all<Id: Names, H: Wait + Drop, R: Wait + Clock>(
     rt: &R,
     alloc: Global,
     broker: &Broker<Id, Catalogue<H>>,
-    name: &Name,
     readers: u64,
     ended: &AtomicU64,
 ) -> Option<Work> {
@@ -73,7 +73,7 @@ fn load_all<Id: Names, H: Wait + Drop, R: Wait + Clock>(
         if ended.load(Ordering::SeqCst) >= readers {
             break;
         }
-        broker.load(rt, alloc, name, &image).ok()?;
+        broker.load(rt, alloc, NAME, &image).ok()?;
         count = count.wrapping_add(1);
     }
     let seconds = start.elapsed(rt).ok()?.as_secs_f64();
@@ -85,18 +85,12 @@ fn load_first<Id: Names, H: Wait + Drop, R: Wait>(
     rt: &R,
     alloc: Global,
     broker: &Broker<Id, Catalogue<H>>,
-    name: &Name,
 ) -> Result<Known, AllocError> {
     let image = Bytes::copy_from_slice(alloc, &FORWARD)?;
     let (_version, known) = broker
-        .load(rt, alloc, name, &image)
+        .load(rt, alloc, NAME, &image)
         .map_err(|_| AllocError)?;
     Ok(known)
-}
-
-fn name_of(alloc: Global) -> Result<Name, AllocError> {
-    let text = String::from_str(alloc, "fwd")?;
-    Ok(Name { text })
 }
 
 /// What the writer did, and then what each reader did.
@@ -111,13 +105,12 @@ fn run<Id: Names + Send + Sync, R: Threads + Wait + Clock + Sync>(
 {
     let made: Broker<Id, Catalogue<&R>> = Broker::new(alloc, parts)?;
     let (broker, ended) = (&made, &AtomicU64::new(0));
-    let name = &name_of(alloc)?;
-    let known = &load_first(rt, alloc, broker, name)?;
+    let known = &load_first(rt, alloc, broker)?;
     let one = move |number: usize| -> Option<Work> {
         if number == 0 {
-            load_all(rt, alloc, broker, name, readers as u64, ended)
+            load_all(rt, alloc, broker, readers as u64, ended)
         } else {
-            find_all(rt, alloc, broker, name, known, ended)
+            find_all(rt, alloc, broker, known, ended)
         }
     };
     thread::map_indices(rt, alloc, readers.wrapping_add(1), &one)

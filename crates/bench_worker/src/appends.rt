@@ -6,7 +6,7 @@ ghost use Rattle.log_spec.specs.Logs.{FitsLog};
 use broker::{Broker, Ended};
 use bytes::Bytes;
 use catalogue::Catalogue;
-use fixtures::{FORWARD, batch_at, name_of};
+use fixtures::{FORWARD, batch_at};
 use part_log::Names;
 use std::alloc::{AllocError, Global};
 use std::sync::Wait;
@@ -90,12 +90,11 @@ pub(crate) fn deploy<Id: Names, H: Wait + Drop, R: Wait>(
     input: usize,
     target: Target,
 ) -> Option<()> {
-    let name = name_of(alloc, "forward").ok()?;
     let image = image_of(alloc, target).ok()?;
-    let (_version, known) = broker.load(rt, alloc, &name, &image).ok()?;
+    let (_version, known) = broker.load(rt, alloc, "forward", &image).ok()?;
     let mut finder = broker.finder(rt, alloc).ok()?;
     broker
-        .deploy(rt, alloc, input, &name, &mut finder, &known)
+        .deploy(rt, alloc, input, known.name(), &mut finder, &known)
         .ok()?;
     Some(())
 }

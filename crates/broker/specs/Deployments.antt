@@ -48,7 +48,7 @@ pub record IsDeployed (input : ℕ) (name : List ℕ) (known : Version) (old : L
 abbrev pub DeployIs : ℕ → ℕ → List ℕ → Version → List Version → Result (Received × ℕ) BrokerFault → List Version → Type 0
 DeployIs inputs input name known old (Ok deployed) new = (input < inputs) × IsDeployed input name known old deployed.0 deployed.1 new
 DeployIs inputs input name known old (Err Partition) new = (inputs ≤ input) × (new ≡ old)
-DeployIs inputs input name known old (Err Memory) new = (input < inputs) × (new ≡ old)
+DeployIs inputs input name known old (Err Memory) new = ⊥
 DeployIs inputs input name known old (Err (CatalogueRefuses fault)) new = (input < inputs) × IsFindFault fault × (new ≡ old)
 DeployIs inputs input name known old (Err NoProgram) new = (input < inputs) × IsFound name known old new None
 DeployIs inputs input name known old (Err (LogRefuses fault)) new = (input < inputs) × (found : ℕ × List ℕ) × IsFound name known old new (Some found)

@@ -9,7 +9,6 @@ use crate::fault::BrokerFault;
 use catalogue::{Finder, Known};
 use log_spec::Name;
 use part_log::{Names, Receipt};
-use program_table::share_name;
 use std::alloc::Global;
 use std::sync::Wait;
 
@@ -30,15 +29,12 @@ impl<Id: Names, C> Broker<Id, C> {
         ensures never_back { (other : List ℕ) → IsNoOlder (among finder.old other) (among finder.new other) }
     {
         let log = self.log(input)?;
-        let Ok(marked) = share_name(alloc, name) else {
-            return Err(BrokerFault::Memory);
-        };
         let (version, program) = match finder.find(alloc, name, known) {
             Err(fault) => return Err(BrokerFault::Catalogue(fault)),
             Ok(None) => return Err(BrokerFault::NoProgram),
             Ok(Some(found)) => found,
         };
-        match log.mark(rt, alloc, marked, version, program) {
+        match log.mark(rt, alloc, name.again(), version, program) {
             Ok(receipt) => Ok((receipt, version)),
             Err(fault) => Err(BrokerFault::Log(fault)),
         }

@@ -7,7 +7,6 @@ use crate::broker::Broker;
 use crate::fault::BrokerFault;
 use bytes::Bytes;
 use catalogue::{Catalogue, Finder, Known};
-use log_spec::Name;
 use part_log::Names;
 use std::alloc::Global;
 use std::sync::Wait;
@@ -19,7 +18,7 @@ impl<Id: Names, W: Wait + Drop> Broker<Id, Catalogue<W>> {
         &self,
         rt: &R,
         alloc: Global,
-        name: &Name,
+        name: &str,
         image: &Bytes,
     ) -> Result<(u32, Known), BrokerFault>
         ensures { LoadIs name.now image.now result }

@@ -11,7 +11,7 @@ use crate::known::Known;
 use bytes::Bytes;
 use left_right::WriteHandle;
 use log_spec::Name;
-use program_table::{Table, share_name};
+use program_table::Table;
 use std::alloc::{AllocError, Global};
 use std::marker::Model;
 use std::sync::{Arc, Wait};
@@ -35,15 +35,14 @@ impl<R: Wait + Drop> Model for Catalogue<R> {
 }
 
 /// The last version of a name that is loaded.
-fn latest_of(alloc: Global, table: &Table, name: &Name) -> Result<Known, AllocError>
+fn latest_of(table: &Table, name: &Name) -> Result<Known, AllocError>
     requires { images_of table.now name.now ≢ [] }
     ensures { IfOk result (λ known. (known.name ≡ name.now) × LatestIs (images_of table.now name.now) (Some (known.number, known.image))) }
 {
     match table.latest(name) {
         Some((version, program)) => {
-            let name = share_name(alloc, name)?;
             let program = Arc::try_clone(program)?;
-            Ok(Known::new(name, version, program))
+            Ok(Known::new(name.again(), version, program))
         }
         None => unreachable!(),
     }
@@ -63,7 +62,23 @@ impl<R: Wait + Drop> Catalogue<R> {
     /// Loads an image under a name and publishes the table with it. Returns the name's version,
     /// from 1. It waits for readers that still read the table before the published one. An `Err`
     /// changes nothing.
+    #[tactic(auto, using(log_spec::proofs::NameLaws::long_refused))]
     pub fn load(
+        &mut self,
+        alloc: Global,
+        name: &str,
+        image: &Bytes,
+    ) -> Result<(u32, Known), CatFault>
+        ensures { Publishes self.old name.now image.now result self.new }
+    {
+        match Name::new(name) {
+            None => Err(CatFault::Name),
+            Some(name) => self.load_named(alloc, &name, image),
+        }
+    }
+
+    /// The same under a name that is not too long.
+    fn load_named(
         &mut self,
         alloc: Global,
         name: &Name,
@@ -77,7 +92,7 @@ impl<R: Wait + Drop> Catalogue<R> {
         match next.load(alloc, name, image) {
             Err(refusal) => Err(fault_of(refusal)),
             Ok(version) => {
-                let Ok(known) = latest_of(alloc, &next, name) else {
+                let Ok(known) = latest_of(&next, name) else {
                     return Err(CatFault::Memory);
                 };
                 let Ok(()) = self.publish(alloc, next) else {

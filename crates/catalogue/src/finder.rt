@@ -10,7 +10,6 @@ use crate::known::Known;
 use left_right::ReadHandle;
 use log_item::Program;
 use log_spec::Name;
-use program_table::share_name;
 use std::alloc::{AllocError, Global};
 use std::marker::Model;
 use std::sync::Arc;
@@ -151,7 +150,7 @@ fn keep(
 {
     match place_of(seen, name) {
         Some(place) => seen[place].renew(version, program),
-        None => seen.push(Known::new(share_name(alloc, name)?, version, program))?,
+        None => seen.push(Known::new(name.again(), version, program))?,
     }
     Ok(())
 }

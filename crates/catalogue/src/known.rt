@@ -5,7 +5,6 @@ ghost use Rattle.catalogue.specs.Versions.{Version};
 use crate::fault::CatFault;
 use log_item::Program;
 use log_spec::Name;
-use program_table::share_name;
 use std::alloc::Global;
 use std::marker::Model;
 use std::sync::Arc;
@@ -68,12 +67,9 @@ impl Known {
     pub fn again(&self, alloc: Global) -> Result<Known, CatFault>
         ensures { IfOk result (λ known. known ≡ self.now) }
     {
-        let Ok(name) = share_name(alloc, &self.name) else {
-            return Err(CatFault::Memory);
-        };
         let Ok(program) = Arc::try_clone(&self.program) else {
             return Err(CatFault::Memory);
         };
-        Ok(Known::new(name, self.version, program))
+        Ok(Known::new(self.name.again(), self.version, program))
     }
 }

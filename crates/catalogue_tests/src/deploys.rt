@@ -4,7 +4,8 @@ ghost use Rattle.broker.specs.Layouts.{IsNamed};
 use broker::{Broker, BrokerFault, Parts};
 use bytes::Bytes;
 use catalogue::{CatFault, Catalogue, Finder, Known};
-use fixtures::{FORWARD, name_of};
+use fixtures::FORWARD;
+use log_spec::Name;
 use part_log::{Item, LogFault, Names};
 use std::alloc::Global;
 use std::marker::Brand;
@@ -52,9 +53,8 @@ fn load<Id: Names, H: Wait + Drop, R: Wait>(
     alloc: Global,
     broker: &Broker<Id, Catalogue<H>>,
 ) -> Result<Known, Fail> {
-    let name = name_of(alloc, "fwd")?;
     let image = Bytes::copy_from_slice(alloc, &FORWARD)?;
-    let (version, known) = broker.load(rt, alloc, &name, &image)?;
+    let (version, known) = broker.load(rt, alloc, "fwd", &image)?;
     if version != known.version() {
         return Err(Fail::from("another version"));
     }
@@ -107,8 +107,8 @@ fn deploy<Id: Names, C, R: Wait>(
     finder: &mut Finder,
     known: &Known,
 ) -> Result<(usize, u32), BrokerFault> {
-    let Ok(name) = name_of(alloc, name) else {
-        return Err(BrokerFault::Memory);
+    let Some(name) = Name::new(name) else {
+        return Err(BrokerFault::NoProgram);
     };
     let (receipt, version) = broker.deploy(rt, alloc, input, &name, finder, known)?;
     Ok((receipt.index(), version))

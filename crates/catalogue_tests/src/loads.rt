@@ -4,8 +4,7 @@ ghost use Rattle.broker.specs.Layouts.{IsNamed};
 use broker::{Broker, Parts};
 use bytes::Bytes;
 use catalogue::{Catalogue, Finder, Known};
-use fixtures::{FORWARD, name_of};
-use log_spec::Name;
+use fixtures::FORWARD;
 use part_log::Names;
 use std::alloc::Global;
 use std::marker::Brand;
@@ -38,12 +37,11 @@ fn chase<Id: Names + Send + Sync, R: Threads + Wait + Abort + Sync>(
 {
     let made: Broker<Id, Catalogue<&R>> = Broker::new(alloc, parts)?;
     let (broker, told) = (&made, &Mutex::new(Vec::new(alloc)));
-    let name = &name_of(alloc, "fwd")?;
     let one = move |number: usize| -> usize {
         if number == 0 {
-            load_all(rt, alloc, broker, name, told)
+            load_all(rt, alloc, broker, told)
         } else {
-            deploy_all(rt, alloc, broker, name, told)
+            deploy_all(rt, alloc, broker, told)
         }
     };
     for count in &thread::map_indices(rt, alloc, 2, &one)? {
@@ -57,7 +55,6 @@ fn load_all<Id: Names, H: Wait + Drop, R: Wait>(
     rt: &R,
     alloc: Global,
     broker: &Broker<Id, Catalogue<H>>,
-    name: &Name,
     told: &Told,
 ) -> usize {
     let Ok(image) = Bytes::copy_from_slice(alloc, &FORWARD) else {
@@ -65,7 +62,7 @@ fn load_all<Id: Names, H: Wait + Drop, R: Wait>(
     };
     let mut count = 0usize;
     for _ in 0..LOADS {
-        let Ok((version, known)) = broker.load(rt, alloc, name, &image) else {
+        let Ok((version, known)) = broker.load(rt, alloc, "fwd", &image) else {
             return count;
         };
         count = count.wrapping_add(1);
@@ -81,7 +78,6 @@ fn deploy_all<Id: Names, H: Wait + Drop, R: Wait>(
     rt: &R,
     alloc: Global,
     broker: &Broker<Id, Catalogue<H>>,
-    name: &Name,
     told: &Told,
 ) -> usize {
     let Ok(mut finder) = broker.finder(rt, alloc) else {
@@ -94,7 +90,7 @@ fn deploy_all<Id: Names, H: Wait + Drop, R: Wait>(
         if taken.is_empty() {
             thread::yield_now();
         }
-        let Some(version) = deploy_each(rt, alloc, broker, name, &mut finder, &taken, last) else {
+        let Some(version) = deploy_each(rt, alloc, broker, &mut finder, &taken, last) else {
             return 0;
         };
         last = version;
@@ -111,14 +107,15 @@ fn deploy_each<Id: Names, C, R: Wait>(
     rt: &R,
     alloc: Global,
     broker: &Broker<Id, C>,
-    name: &Name,
     finder: &mut Finder,
     taken: &[Known],
     first: u32,
 ) -> Option<u32> {
     let mut last = first;
     for known in taken {
-        let (_receipt, version) = broker.deploy(rt, alloc, 0, name, finder, known).ok()?;
+        let (_receipt, version) = broker
+            .deploy(rt, alloc, 0, known.name(), finder, known)
+            .ok()?;
         if version < known.version() || version < last {
             return None;
         }

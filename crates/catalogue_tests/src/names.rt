@@ -1,6 +1,7 @@
 use bytes::Bytes;
 use catalogue::{CatFault, Catalogue, Finder, Known};
-use fixtures::{FORWARD, name_of};
+use fixtures::FORWARD;
+use log_spec::Name;
 use machine_spec::IsaFault;
 use std::alloc::Global;
 use std::process::Abort;
@@ -27,13 +28,10 @@ fn version_of<R: Wait + Drop>(
     name: &str,
     image: &[u8],
 ) -> Result<u32, CatFault> {
-    let Ok(name) = name_of(alloc, name) else {
-        return Err(CatFault::Memory);
-    };
     let Ok(image) = Bytes::copy_from_slice(alloc, image) else {
         return Err(CatFault::Memory);
     };
-    let (version, known) = catalogue.load(alloc, &name, &image)?;
+    let (version, known) = catalogue.load(alloc, name, &image)?;
     if known.version() == version {
         Ok(version)
     } else {
@@ -106,8 +104,8 @@ fn find(
     name: &str,
     known: &Known,
 ) -> Result<Option<u32>, CatFault> {
-    let Ok(name) = name_of(alloc, name) else {
-        return Err(CatFault::Memory);
+    let Some(name) = Name::new(name) else {
+        return Ok(None);
     };
     match finder.find(alloc, &name, known)? {
         Some((version, _program)) => Ok(Some(version)),
@@ -117,13 +115,10 @@ fn find(
 
 /// What is known after a load of the forwarding program.
 fn load<R: Wait + Drop>(alloc: Global, catalogue: &mut Catalogue<R>) -> Result<Known, CatFault> {
-    let Ok(name) = name_of(alloc, "fwd") else {
-        return Err(CatFault::Memory);
-    };
     let Ok(image) = Bytes::copy_from_slice(alloc, &FORWARD) else {
         return Err(CatFault::Memory);
     };
-    let (_version, known) = catalogue.load(alloc, &name, &image)?;
+    let (_version, known) = catalogue.load(alloc, "fwd", &image)?;
     Ok(known)
 }
 

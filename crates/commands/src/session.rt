@@ -19,7 +19,7 @@ use crate::stop::{Stop, end_of_all};
 use broker::{Broker, BrokerFault, Parts, Until};
 use bytes::Bytes;
 use catalogue::{Catalogue, Finder, Known};
-use log_spec::Name;
+use log_spec::{Name, RawName};
 use part_log::{Names, Receipt};
 use report::gather;
 use script::{
@@ -144,18 +144,19 @@ impl<'a, Id: Names + Send + Sync, R: Threads + Wait + Sync> Session<'a, Id, R> {
 
     /// Loads an image under a name, and prints its version.
     #[tactic(auto, using(crate::proofs::Loaded::loads, crate::proofs::Written::same_text))]
-    fn load<O: Write>(&mut self, stdout: &mut O, name: Name, image: Bytes) -> Result<(), Stop>
+    fn load<O: Write>(&mut self, stdout: &mut O, name: RawName, image: Bytes) -> Result<(), Stop>
         ensures { OnOk result (Loads name image (O.contents stdout.old) (O.contents stdout.new)) }
     {
-        let (version, known) = self.broker.load(self.rt, self.alloc, &name, &image)?;
-        let line = load_text(self.alloc, name.text.as_str(), version)?;
+        let text = name.text.as_str();
+        let (version, known) = self.broker.load(self.rt, self.alloc, text, &image)?;
+        let line = load_text(self.alloc, text, version)?;
         print(stdout, line.as_str())?;
         self.keep(name, known)?;
         Ok(())
     }
 
     /// Keeps what is known of a name.
-    fn keep(&mut self, name: Name, known: Known) -> Result<(), Stop> {
+    fn keep(&mut self, name: RawName, known: Known) -> Result<(), Stop> {
         match self.loaded.insert(name.text, known) {
             Ok(_) => Ok(()),
             Err(_) => Err(Stop::Memory),
@@ -194,18 +195,33 @@ impl<'a, Id: Names + Send + Sync, R: Threads + Wait + Sync> Session<'a, Id, R> {
         }
     }
 
-    /// Deploys a loaded name, and prints where its mark stands.
-    #[tactic(auto, using(crate::proofs::Marks::deploys, crate::proofs::Written::same_text))]
+    /// Deploys a loaded name, and prints where its mark stands. No text that is too long for a name is
+    /// loaded.
     fn deploy<O: Write>(
         &mut self,
         stdout: &mut O,
         input: u64,
-        name: Name,
+        name: RawName,
     ) -> Result<Receipt<Id>, Stop>
         ensures { IfOk result (λ receipt. Deploys input name receipt (O.contents stdout.old) (O.contents stdout.new)) }
     {
+        match Name::new(name.text.as_str()) {
+            None => Err(Stop::Line(ScriptFault::Order)),
+            Some(name) => self.deploy_named(stdout, input, &name),
+        }
+    }
+
+    #[tactic(auto, using(crate::proofs::Marks::deploys, crate::proofs::Written::same_text))]
+    fn deploy_named<O: Write>(
+        &mut self,
+        stdout: &mut O,
+        input: u64,
+        name: &Name,
+    ) -> Result<Receipt<Id>, Stop>
+        ensures { IfOk result (λ receipt. Deploys input name.now receipt (O.contents stdout.old) (O.contents stdout.new)) }
+    {
         self.known_input(input)?;
-        let (receipt, version) = self.mark(input, &name)?;
+        let (receipt, version) = self.mark(input, name)?;
         let line = deploy_text(
             self.alloc,
             input,

@@ -3,12 +3,12 @@ ghost use Rattle.log_spec.specs.Worlds.{FitsEvent};
 ghost use Rattle.log_spec.specs.Logs.{FitsLog};
 
 use bytes::Bytes;
-use fixtures::{FORWARD, batch_at, name_of};
+use fixtures::{FORWARD, batch_at, raw_name_of};
 use std::alloc::{AllocError, Global};
 use std::process::Abort;
 use std::test::Fail;
 use wire_spec::{Batch, Headers, Record, Records};
-use world::{Event, Row, World, run};
+use world::{Event, Name, Row, World, run};
 
 /// mov64 r1, 0; call 3; mov64 r1, 1; call 3; exit: to output 0 and then to output 1.
 const FIRST: &[u8] = &[
@@ -69,11 +69,9 @@ fn event_of(alloc: Global, act: Act) -> Option<Event>
     match act {
         Act::Load(name, image) => {
             let image = Bytes::copy_from_slice(alloc, image).ok()?;
-            Some(Event::Load(name_of(alloc, name).ok()?, image))
+            Some(Event::Load(raw_name_of(alloc, name).ok()?, image))
         }
-        Act::Mark(input, name, version) => {
-            Some(Event::Mark(input, name_of(alloc, name).ok()?, version))
-        }
+        Act::Mark(input, name, version) => Some(Event::Mark(input, Name::new(name)?, version)),
         Act::Put(input, values) => Some(Event::Batch(input, batch_of(alloc, values)?)),
         Act::Close(input) => Some(Event::Close(input)),
         Act::Deliver(input, output) => Some(Event::Deliver(input, output)),
@@ -215,9 +213,16 @@ fn each_record_goes_by_the_mark_before_it(rt: HostRuntime) -> Result<(), Fail> {
     compare_books(&rt, alloc, &world, &MARKED_BOOKS)
 }
 
-const REFUSED: [(Act, &str); 30] = [
+const LONGEST: &str = "abcdefghijklmnopqrstuvwxyz-01234";
+
+const TOO_LONG: &str = "abcdefghijklmnopqrstuvwxyz-012345";
+
+const REFUSED: [(Act, &str); 33] = [
     (Act::Load("", &FORWARD), "C1 Name"),
     (Act::Load("a_b", &[]), "C1 Name"),
+    (Act::Load(TOO_LONG, &FORWARD), "C1 Name"),
+    (Act::Load(TOO_LONG, &[]), "C1 Name"),
+    (Act::Load(LONGEST, &FORWARD), "Loaded(1)"),
     (Act::Load("a-b", &[]), "I1 Size"),
     (Act::Load("a", UNSAFE), "V7 RecordBounds at 0"),
     (Act::Mark(64, "a", 1), "P1 Partition"),

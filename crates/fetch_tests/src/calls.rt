@@ -7,7 +7,7 @@ use batch::decode;
 use broker::{Broker, Ended, Until};
 use bytes::Bytes;
 use catalogue::Catalogue;
-use fixtures::{FORWARD, batch_at, name_of};
+use fixtures::{FORWARD, batch_at};
 use part_log::Names;
 use std::alloc::{AllocError, Global};
 use std::sync::Wait;
@@ -83,11 +83,10 @@ pub(crate) fn forward<Id: Names, H: Wait + Drop, R: Wait>(
     alloc: Global,
     broker: &Broker<Id, Catalogue<H>>,
 ) -> Option<usize> {
-    let name = name_of(alloc, "program").ok()?;
     let image = Bytes::copy_from_slice(alloc, &FORWARD).ok()?;
-    let (_version, known) = broker.load(rt, alloc, &name, &image).ok()?;
+    let (_version, known) = broker.load(rt, alloc, "program", &image).ok()?;
     let mut finder = broker.finder(rt, alloc).ok()?;
-    let deployed = broker.deploy(rt, alloc, 0, &name, &mut finder, &known);
+    let deployed = broker.deploy(rt, alloc, 0, known.name(), &mut finder, &known);
     let (receipt, _marked) = deployed.ok()?;
     Some(receipt.index())
 }

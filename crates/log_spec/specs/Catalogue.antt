@@ -3,6 +3,7 @@ use Rattle.std.specs.Prelude.{ℕ, zero, suc, ◌-◌, ◌^◌, Bool, ◌==◌, 
 use Rattle.std.specs.{List.list_all, List.list_any, Str.bytes_eq}
 use Rattle.verifier_spec.specs.Loading.{IsAccepted, IsRefusedWith}
 use Rattle.log_spec.specs.declared.event.Refusal.{Refusal}
+use Rattle.log_spec.specs.declared.limits.TheConstants.{MAX_NAME}
 
 -- a name, and the images that were accepted under it, oldest first: version v is number v - 1
 pub record Entry : Type 0 where
@@ -38,7 +39,7 @@ abbrev pub is_name_byte : ℕ → Bool
 is_name_byte byte = (nat_le 97 byte && nat_le byte 122) || ((nat_le 65 byte && nat_le byte 90) || ((nat_le 48 byte && nat_le byte 57) || (byte == 45)))
 
 abbrev pub is_name : List ℕ → Bool
-is_name name = nat_le 1 (length name) && (nat_le (length name) 32 && list_all is_name_byte name)
+is_name name = nat_le 1 (length name) && (nat_le (length name) MAX_NAME && list_all is_name_byte name)
 
 abbrev pub most_names : ℕ
 most_names = 64

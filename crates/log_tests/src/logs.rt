@@ -4,7 +4,8 @@ ghost use Rattle.broker.specs.Layouts.{IsNamed};
 use broker::{Broker, BrokerFault, Parts};
 use bytes::Bytes;
 use catalogue::{CatFault, Catalogue};
-use fixtures::{FORWARD, batch_of, name_of};
+use fixtures::{FORWARD, batch_of};
+use log_spec::Name;
 use out_book::BookFault;
 use part_log::{Cells, LogFault, Names, PartLog, Program, Receipt};
 use std::alloc::Global;
@@ -33,7 +34,7 @@ fn mark<Id: Names, R: Wait>(
     let Some(program) = forward(alloc) else {
         return Err(LogFault::Memory);
     };
-    let Ok(name) = name_of(alloc, "fwd") else {
+    let Some(name) = Name::new("fwd") else {
         return Err(LogFault::Memory);
     };
     Ok(place_of(&log.mark(rt, alloc, name, 1, program)?))

@@ -17,43 +17,43 @@ or_false true b e = absurd cc
 or_false false b e = (refl, e)
 
 pub has_name-next : (entries : List Entry) (i : ℕ) (d : Entry) (name : List ℕ) → i < length entries → has_name (table_view (take i entries)) name ≡ false
-    → bytes_eq (get_or entries i d).name.bytes name ≡ false → has_name (table_view (take (suc i) entries)) name ≡ false
+    → bytes_eq (get_or entries i d).name name ≡ false → has_name (table_view (take (suc i) entries)) name ≡ false
 has_name-next [] i d name lt h e = absurd (omega arith)
 has_name-next (entry ∷ entries) zero d name lt h e = rw e refl
 has_name-next (entry ∷ entries) (suc i) d name lt h e =
-    let p = or_false (bytes_eq entry.name.bytes name) (has_name (table_view (take i entries)) name) h in
+    let p = or_false (bytes_eq entry.name name) (has_name (table_view (take i entries)) name) h in
     let below : i < length entries = omega arith in
     rw p.0 (has_name-next entries i d name below p.1 e)
 
 pub images_of-found : (entries : List Entry) (i : ℕ) (d : Entry) (name : List ℕ) → i < length entries → has_name (table_view (take i entries)) name ≡ false
-    → bytes_eq (get_or entries i d).name.bytes name ≡ true → images_of (table_view entries) name ≡ map (λ program. arc_value program) (get_or entries i d).programs.items
+    → bytes_eq (get_or entries i d).name name ≡ true → images_of (table_view entries) name ≡ map (λ program. arc_value program) (get_or entries i d).programs.items
 images_of-found [] i d name lt h e = absurd (omega arith)
 images_of-found (entry ∷ entries) zero d name lt h e = rw e refl
 images_of-found (entry ∷ entries) (suc i) d name lt h e =
-    let p = or_false (bytes_eq entry.name.bytes name) (has_name (table_view (take i entries)) name) h in
+    let p = or_false (bytes_eq entry.name name) (has_name (table_view (take i entries)) name) h in
     let below : i < length entries = omega arith in
     rw p.0 (images_of-found entries i d name below p.1 e)
 
 pub has_name-found : (entries : List Entry) (i : ℕ) (d : Entry) (name : List ℕ) → i < length entries
-    → bytes_eq (get_or entries i d).name.bytes name ≡ true → has_name (table_view entries) name ≡ true
+    → bytes_eq (get_or entries i d).name name ≡ true → has_name (table_view entries) name ≡ true
 has_name-found [] i d name lt e = absurd (omega arith)
 has_name-found (entry ∷ entries) zero d name lt e = rw e refl
 has_name-found (entry ∷ entries) (suc i) d name lt e =
     let below : i < length entries = omega arith in
     let later : has_name (table_view entries) name ≡ true = has_name-found entries i d name below e in
-    rw later (elim (bytes_eq entry.name.bytes name) as (λ b. (b || true) ≡ true) [ true ↦ refl | false ↦ refl ])
+    rw later (elim (bytes_eq entry.name name) as (λ b. (b || true) ≡ true) [ true ↦ refl | false ↦ refl ])
 
 pub with_image-found : (entries : List Entry) (i : ℕ) (d changed : Entry) (name image : List ℕ) → i < length entries → has_name (table_view (take i entries)) name ≡ false
-    → bytes_eq (get_or entries i d).name.bytes name ≡ true → changed.name.bytes ≡ (get_or entries i d).name.bytes
+    → bytes_eq (get_or entries i d).name name ≡ true → changed.name ≡ (get_or entries i d).name
     → map (λ program. arc_value program) changed.programs.items ≡ map (λ program. arc_value program) (get_or entries i d).programs.items ++ image ∷ []
     → with_image (table_view entries) name image ≡ table_view (set entries i changed)
 with_image-found [] i d changed name image lt h e same more = absurd (omega arith)
 with_image-found (entry ∷ entries) zero d changed name image lt h e same more =
     rw e (ap (λ (first : Loaded). first ∷ table_view entries) (sym
     (ap (λ (n : List ℕ). record { name = n; images = map (λ program. arc_value program) changed.programs.items }) same
-    ∙ ap (λ (images : List (List ℕ)). record { name = entry.name.bytes; images = images }) more)))
+    ∙ ap (λ (images : List (List ℕ)). record { name = entry.name; images = images }) more)))
 with_image-found (entry ∷ entries) (suc i) d changed name image lt h e same more =
-    let p = or_false (bytes_eq entry.name.bytes name) (has_name (table_view (take i entries)) name) h in
+    let p = or_false (bytes_eq entry.name name) (has_name (table_view (take i entries)) name) h in
     let below : i < length entries = omega arith in
     rw p.0 (ap (λ (rest : Table). entry_view entry ∷ rest) (with_image-found entries i d changed name image below p.1 e same more))
 
@@ -116,24 +116,24 @@ refused_form table name image form = refused_early table name image refusal.Name
 
 -- how many versions the name at a place has
 pub versions_of-found : (entries : List Entry) (i : ℕ) (d : Entry) (name : List ℕ) → i < length entries → has_name (table_view (take i entries)) name ≡ false
-    → bytes_eq (get_or entries i d).name.bytes name ≡ true → length (images_of (table_view entries) name) ≡ length (get_or entries i d).programs.items
+    → bytes_eq (get_or entries i d).name name ≡ true → length (images_of (table_view entries) name) ≡ length (get_or entries i d).programs.items
 versions_of-found entries i d name lt h e =
     ap length (images_of-found entries i d name lt h e) ∙ length-map (get_or entries i d).programs.items (λ program. arc_value program)
 
 -- the images of the name at a place of the entries that are a table
 pub images_here : (table : Table) (kept entries : List Entry) (i : ℕ) (d : Entry) (name : List ℕ) → table_view kept ≡ table → entries ≡ kept
-    → i < length entries → has_name (table_view (take i entries)) name ≡ false → bytes_eq (get_or entries i d).name.bytes name ≡ true
+    → i < length entries → has_name (table_view (take i entries)) name ≡ false → bytes_eq (get_or entries i d).name name ≡ true
     → images_of table name ≡ map (λ program. arc_value program) (get_or entries i d).programs.items
 images_here table kept entries i d name is same lt h e =
     ap (λ (t : Table). images_of t name) (sym is ∙ ap table_view (sym same)) ∙ images_of-found entries i d name lt h e
 
 -- how many versions the name at a place has, and that nothing but its image is refused where there are fewer than there can be
 pub versions_here : (entries : List Entry) (i : ℕ) (d : Entry) (name : List ℕ) → i < length entries → has_name (table_view (take i entries)) name ≡ false
-    → bytes_eq (get_or entries i d).name.bytes name ≡ true → d ≡ get_or entries i d → length (images_of (table_view entries) name) ≡ length d.programs.items
+    → bytes_eq (get_or entries i d).name name ≡ true → d ≡ get_or entries i d → length (images_of (table_view entries) name) ≡ length d.programs.items
 versions_here entries i d name lt h e here = versions_of-found entries i d name lt h e ∙ ap (λ (entry : Entry). length entry.programs.items) (sym here)
 
 pub refusal_here : (entries : List Entry) (i : ℕ) (d : Entry) (name : List ℕ) → is_name name ≡ true → i < length entries
-    → has_name (table_view (take i entries)) name ≡ false → bytes_eq (get_or entries i d).name.bytes name ≡ true → d ≡ get_or entries i d
+    → has_name (table_view (take i entries)) name ≡ false → bytes_eq (get_or entries i d).name name ≡ true → d ≡ get_or entries i d
     → length d.programs.items < 2 ^ 32 - 1 → name_refusal (table_view entries) name ≡ None
 refusal_here entries i d name form lt h e here few =
     let versions = versions_here entries i d name lt h e here in

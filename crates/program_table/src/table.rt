@@ -12,7 +12,7 @@ ghost use Rattle.arrayvec.specs.ArrayVec.{array_vec_len};
 use arrayvec::{ArrayString, ArrayVec};
 use bytes::Bytes;
 use log_item::Program;
-use log_spec::{Name, Refusal};
+use log_spec::{MAX_NAME, Name, Refusal};
 use machine_spec::IsaFault;
 use std::alloc::{AllocError, Global};
 use std::default::MadeWith;
@@ -23,16 +23,13 @@ use verifier_spec::{Check, LoadFault};
 /// How many names are loaded at most.
 const MOST_NAMES: usize = 64;
 
-/// How many bytes a name has at most.
-const LONGEST_NAME: usize = 32;
-
 /// The greatest version.
 const MOST_VERSIONS: usize = 0xffff_ffff;
 
 /// A name with its programs, oldest first.
 #[derive(Drop)]
 pub struct Entry {
-    pub name: ArrayString<LONGEST_NAME>,
+    pub name: Name,
     pub programs: Vec<Arc<Program>>,
 }
 
@@ -40,7 +37,9 @@ pub struct Entry {
 impl MadeWith<Global> for Entry {
     fn made_with(alloc: Global) -> Entry {
         Entry {
-            name: ArrayString::new(),
+            name: Name {
+                text: ArrayString::new(),
+            },
             programs: Vec::new(alloc),
         }
     }
@@ -83,7 +82,7 @@ fn has_name_form(name: &str) -> bool
     ensures { result ≡ is_name name.now }
 {
     let bytes = name.as_bytes();
-    if bytes.is_empty() || bytes.len() > LONGEST_NAME {
+    if bytes.is_empty() || bytes.len() > MAX_NAME {
         return false;
     }
     are_name_chars(bytes)
@@ -94,10 +93,10 @@ fn place_of(entries: &[Entry], name: &Name) -> Option<usize>
     ensures absent { IfNone result (has_name (table_view entries.now) name.now ≡ false) }
     ensures found { IfSome result (λ i. i < length entries.now) }
     ensures first { IfSome result (λ i. has_name (table_view (take i entries.now)) name.now ≡ false) }
-    ensures named { IfSome result (λ i. (d : Entry) → bytes_eq (slice_index_or entries.now i d).name.bytes name.now ≡ true) }
+    ensures named { IfSome result (λ i. (d : Entry) → bytes_eq (slice_index_or entries.now i d).name name.now ≡ true) }
 {
     for (i, entry) in entries.iter().enumerate() {
-        if entry.name.as_str() == name.text.as_str() {
+        if entry.name.text.as_str() == name.text.as_str() {
             return Some(i);
         }
     }
@@ -153,7 +152,7 @@ fn add_version(
     requires form { is_name name.now ≡ true }
     requires inside { place < length entries.old }
     requires first { has_name (table_view (take place entries.old)) name.now ≡ false }
-    requires named { (d : Entry) → bytes_eq (slice_index_or entries.old place d).name.bytes name.now ≡ true }
+    requires named { (d : Entry) → bytes_eq (slice_index_or entries.old place d).name name.now ≡ true }
     ensures { LoadsInto (table_view entries.old) name.now image.now result (table_view entries.new) }
 {
     let versions = entries[place].programs.len();
@@ -192,24 +191,15 @@ fn add_name(
     }
 }
 
-/// The text of a name, in the entry itself.
-fn kept_name(name: &str) -> ArrayString<LONGEST_NAME>
-    requires { length name.now ≤ 32 }
-    ensures { result.bytes ≡ name.now }
-{
-    let mut kept = ArrayString::new();
-    kept.push_str(name);
-    kept
-}
-
 fn entry_of(alloc: Global, name: &Name, program: Arc<Program>) -> Result<Entry, AllocError>
-    requires { is_name name.now ≡ true }
     ensures { IfOk result (λ entry. entry_view entry ≡ record { name = name.now; images = arc_value program ∷ [] }) }
 {
     let mut programs = Vec::new(alloc);
     programs.push(program)?;
-    let name = kept_name(name.text.as_str());
-    Ok(Entry { name, programs })
+    Ok(Entry {
+        name: name.again(),
+        programs,
+    })
 }
 
 fn add_entry(
@@ -218,8 +208,7 @@ fn add_entry(
     name: &Name,
     program: Arc<Program>,
 ) -> Result<(), AllocError>
-    requires form { is_name name.now ≡ true }
-    requires room { array_vec_len entries.old < 64 }
+    requires { array_vec_len entries.old < 64 }
     ensures ok { OnOk result (table_view entries.new.items ≡ table_view entries.old.items ++ record { name = name.now; images = arc_value program ∷ [] } ∷ []) }
     ensures err { OnErr result (table_view entries.new.items ≡ table_view entries.old.items) }
 {
@@ -325,8 +314,10 @@ fn copy_of_entry(alloc: Global, entry: &Entry) -> Result<Entry, AllocError>
     ensures { IfOk result (λ copy. entry_view copy ≡ entry_view entry.now) }
 {
     let programs = copies_of_programs(alloc, &entry.programs)?;
-    let name = entry.name;
-    Ok(Entry { name, programs })
+    Ok(Entry {
+        name: entry.name.again(),
+        programs,
+    })
 }
 
 fn copies_of_entries(alloc: Global, entries: &[Entry]) -> Result<Entries, AllocError>

@@ -1,10 +1,9 @@
 //! The calls of a broker that append and load, each made again where memory was refused. None says
 //! that something was wrong.
 
-use crate::making::{batch, image, say};
+use crate::making::{NAME, batch, image, say};
 use broker::{Broker, BrokerFault};
 use catalogue::{CatFault, Catalogue, Finder, Known};
-use log_spec::Name;
 use part_log::{LogFault, Names, Receipt};
 use std::alloc::Global;
 use std::sync::Wait;
@@ -36,18 +35,17 @@ pub(crate) fn load<Id: Names, H: Wait + Drop, R: Wait + Print>(
     rt: &R,
     alloc: Global,
     broker: &Broker<Id, Catalogue<H>>,
-    name: &Name,
     before: Option<&Known>,
 ) -> Option<Known> {
     let image = image(alloc)?;
-    let (version, known) = match broker.load(rt, alloc, name, &image) {
+    let (version, known) = match broker.load(rt, alloc, NAME, &image) {
         Ok(loaded) => loaded,
         Err(fault) => {
             say(rt, "load", fault);
-            if fault != C6 || !is_newest(rt, alloc, broker, name, before) {
+            if fault != C6 || !is_newest(rt, alloc, broker, before) {
                 return None;
             }
-            broker.load(rt, alloc, name, &image).ok()?
+            broker.load(rt, alloc, NAME, &image).ok()?
         }
     };
     let want = match before {
@@ -66,25 +64,19 @@ fn is_newest<Id: Names, H: Wait + Drop, R: Wait>(
     rt: &R,
     alloc: Global,
     broker: &Broker<Id, Catalogue<H>>,
-    name: &Name,
     known: Option<&Known>,
 ) -> bool {
     let Some(known) = known else {
         return true;
     };
     match broker.finder(rt, alloc) {
-        Ok(mut finder) => find_once(alloc, &mut finder, name, known) == Ok(Some(known.version())),
+        Ok(mut finder) => find_once(alloc, &mut finder, known) == Ok(Some(known.version())),
         Err(_) => false,
     }
 }
 
-fn find_once(
-    alloc: Global,
-    finder: &mut Finder,
-    name: &Name,
-    known: &Known,
-) -> Result<Option<u32>, CatFault> {
-    match finder.find(alloc, name, known)? {
+fn find_once(alloc: Global, finder: &mut Finder, known: &Known) -> Result<Option<u32>, CatFault> {
+    match finder.find(alloc, known.name(), known)? {
         Some((version, _program)) => Ok(Some(version)),
         None => Ok(None),
     }
@@ -95,17 +87,16 @@ pub(crate) fn find<R: Print>(
     rt: &R,
     alloc: Global,
     finder: &mut Finder,
-    name: &Name,
     known: &Known,
 ) -> Option<u32> {
-    match find_once(alloc, finder, name, known) {
+    match find_once(alloc, finder, known) {
         Ok(found) => found,
         Err(fault) => {
             say(rt, "find", BrokerFault::Catalogue(fault));
             if fault != CatFault::Memory {
                 return None;
             }
-            find_once(alloc, finder, name, known).ok()?
+            find_once(alloc, finder, known).ok()?
         }
     }
 }
@@ -126,20 +117,21 @@ pub(crate) fn deploy<Id: Names, C, R: Wait + Print>(
     rt: &R,
     alloc: Global,
     broker: &Broker<Id, C>,
-    name: &Name,
     finder: &mut Finder,
     known: &Known,
 ) -> Option<(usize, u32)> {
     let before = items(rt, broker)?;
-    let (receipt, version) = match broker.deploy(rt, alloc, 0, name, finder, known) {
+    let (receipt, version) = match broker.deploy(rt, alloc, 0, known.name(), finder, known) {
         Ok(deployed) => deployed,
         Err(fault) => {
             say(rt, "deploy", fault);
-            let is_memory = fault == BrokerFault::Memory || fault == C6 || fault == L4;
+            let is_memory = fault == C6 || fault == L4;
             if !is_memory || items(rt, broker) != Some(before) {
                 return None;
             }
-            broker.deploy(rt, alloc, 0, name, finder, known).ok()?
+            broker
+                .deploy(rt, alloc, 0, known.name(), finder, known)
+                .ok()?
         }
     };
     Some((receipt.index(), version))
@@ -190,11 +182,10 @@ pub(crate) fn fill<Id: Names, H: Wait + Drop, R: Wait + Print>(
     rt: &R,
     alloc: Global,
     broker: &Broker<Id, Catalogue<H>>,
-    name: &Name,
 ) -> Option<()> {
-    let known = load(rt, alloc, broker, name, None)?;
+    let known = load(rt, alloc, broker, None)?;
     let mut finder = finder(rt, alloc, broker)?;
-    let mark = deploy(rt, alloc, broker, name, &mut finder, &known);
+    let mark = deploy(rt, alloc, broker, &mut finder, &known);
     let first = append(rt, alloc, broker, b'A');
     let second = append(rt, alloc, broker, b'B');
     if mark == Some((0, 1)) && first == Some((1, 0)) && second == Some((2, 2)) {

@@ -3,9 +3,10 @@
 ghost use Rattle.std.specs.Prelude.{◌≡◌};
 
 use crate::calls::place_of;
-use crate::making::{Ending, batch, image, name, say};
+use crate::making::{Ending, NAME, batch, image, say};
 use crate::rows::done_in;
 use broker::BrokerFault;
+use log_spec::Name;
 use out_book::{Book, BookFault, Delivered};
 use part_log::{Cells, LogFault, Names, PartLog, Program};
 use std::alloc::Global;
@@ -129,13 +130,14 @@ fn mark<Id: Names, R: Wait + Print>(
     alloc: Global,
     log: &PartLog<Id>,
 ) -> Option<(usize, u64)> {
-    let receipt = match log.mark(rt, alloc, name(alloc)?, 1, program(alloc)?) {
+    let receipt = match log.mark(rt, alloc, Name::new(NAME)?, 1, program(alloc)?) {
         Ok(receipt) => receipt,
         Err(fault) => {
             if !is_refused(rt, log, "mark", fault, 0) {
                 return None;
             }
-            log.mark(rt, alloc, name(alloc)?, 1, program(alloc)?).ok()?
+            log.mark(rt, alloc, Name::new(NAME)?, 1, program(alloc)?)
+                .ok()?
         }
     };
     Some(place_of(&receipt))

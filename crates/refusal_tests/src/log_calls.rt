@@ -4,10 +4,9 @@ ghost use Rattle.std.specs.Prelude.{◌≡◌};
 ghost use Rattle.broker.specs.Layouts.{IsNamed};
 
 use crate::calls::{append, close, deploy, find, finder, items, load};
-use crate::making::{Ending, name};
+use crate::making::Ending;
 use broker::{Broker, Parts};
 use catalogue::Catalogue;
-use log_spec::Name;
 use part_log::Names;
 use std::alloc::{AllocError, Global};
 use std::marker::Brand;
@@ -45,8 +44,7 @@ fn call_all<Id: Names, R: Wait + Print>(
     let Ok(broker) = made else {
         return Err(Ending::NotMade);
     };
-    let name = name(alloc).ok_or(Ending::Wrong("name"))?;
-    program_calls(rt, alloc, &broker, &name)?;
+    program_calls(rt, alloc, &broker)?;
     if append(rt, alloc, &broker, b'A') != Some((1, 0)) {
         return Err(Ending::Wrong("append"));
     }
@@ -64,19 +62,18 @@ fn program_calls<Id: Names, H: Wait + Drop, R: Wait + Print>(
     rt: &R,
     alloc: Global,
     broker: &Broker<Id, Catalogue<H>>,
-    name: &Name,
 ) -> Result<(), Ending> {
     let mut first = finder(rt, alloc, broker).ok_or(Ending::Wrong("finder"))?;
     let mut second = finder(rt, alloc, broker).ok_or(Ending::Wrong("finder"))?;
-    let known = load(rt, alloc, broker, name, None).ok_or(Ending::Wrong("load"))?;
-    if find(rt, alloc, &mut first, name, &known) != Some(1) {
+    let known = load(rt, alloc, broker, None).ok_or(Ending::Wrong("load"))?;
+    if find(rt, alloc, &mut first, &known) != Some(1) {
         return Err(Ending::Wrong("find"));
     }
-    let _later = load(rt, alloc, broker, name, Some(&known)).ok_or(Ending::Wrong("load again"))?;
-    if find(rt, alloc, &mut first, name, &known) != Some(2) {
+    let _later = load(rt, alloc, broker, Some(&known)).ok_or(Ending::Wrong("load again"))?;
+    if find(rt, alloc, &mut first, &known) != Some(2) {
         return Err(Ending::Wrong("find again"));
     }
-    if deploy(rt, alloc, broker, name, &mut second, &known) != Some((0, 2)) {
+    if deploy(rt, alloc, broker, &mut second, &known) != Some((0, 2)) {
         return Err(Ending::Wrong("deploy"));
     }
     Ok(())

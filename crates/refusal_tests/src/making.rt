@@ -5,10 +5,12 @@ ghost use Rattle.log_spec.specs.Logs.{FitsLog};
 
 use broker::BrokerFault;
 use bytes::Bytes;
-use fixtures::{batch_at, name_of};
-use log_spec::Name;
+use fixtures::batch_at;
 use std::alloc::{AllocError, Global};
 use wire_spec::{Batch, Headers, Record, Records};
+
+/// The program's name.
+pub(crate) const NAME: &str = "both";
 
 /// Each record goes to output 0 and then to output 1.
 pub(crate) const BOTH: [u8; 40] = [
@@ -29,13 +31,6 @@ pub(crate) enum Ending {
 /// Prints which call was refused, and how.
 pub(crate) fn say<R: Print>(rt: &R, call: &str, fault: BrokerFault) {
     let _ = println!(rt; "refused {call}: {fault}");
-}
-
-pub(crate) fn name(alloc: Global) -> Option<Name> {
-    match name_of(alloc, "both") {
-        Ok(name) => Some(name),
-        Err(_) => name_of(alloc, "both").ok(),
-    }
 }
 
 pub(crate) fn image(alloc: Global) -> Option<Bytes> {

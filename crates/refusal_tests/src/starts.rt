@@ -4,7 +4,7 @@ ghost use Rattle.std.specs.Prelude.{◌≡◌};
 ghost use Rattle.broker.specs.Layouts.{IsNamed};
 
 use crate::calls::fill;
-use crate::making::{Ending, name, say};
+use crate::making::{Ending, say};
 use crate::rows::done_of;
 use broker::{Broker, BrokerFault, Ended, Parts, Until};
 use catalogue::Catalogue;
@@ -59,8 +59,7 @@ fn start_all<Id: Names + Send + Sync, R: Threads + Wait + Print + Sync>(
     let Ok(broker) = made else {
         return Err(Ending::NotMade);
     };
-    let name = name(alloc).ok_or(Ending::Wrong("name"))?;
-    fill(rt, alloc, &broker, &name).ok_or(Ending::Wrong("fill"))?;
+    fill(rt, alloc, &broker).ok_or(Ending::Wrong("fill"))?;
     if start(rt, alloc, &broker) != Some(Ok(Ended::Done(3))) {
         return Err(Ending::Wrong("start"));
     }

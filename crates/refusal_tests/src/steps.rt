@@ -4,7 +4,7 @@ ghost use Rattle.std.specs.Prelude.{◌≡◌};
 ghost use Rattle.broker.specs.Layouts.{IsNamed};
 
 use crate::calls::fill;
-use crate::making::{Ending, name, say};
+use crate::making::{Ending, say};
 use crate::rows::{done_in, done_of};
 use broker::{Broker, BrokerFault, Parts, Stepped};
 use catalogue::Catalogue;
@@ -48,8 +48,7 @@ fn step_all<Id: Names, R: Wait + Print>(
     let Ok(broker) = made else {
         return Err(Ending::NotMade);
     };
-    let name = name(alloc).ok_or(Ending::Wrong("name"))?;
-    fill(rt, alloc, &broker, &name).ok_or(Ending::Wrong("fill"))?;
+    fill(rt, alloc, &broker).ok_or(Ending::Wrong("fill"))?;
     for want in [
         Stepped::Added(0),
         Stepped::Added(2),

@@ -6,7 +6,7 @@ ghost use Rattle.log_spec.specs.Logs.{FitsLog};
 use broker::{Broker, Ended, Until};
 use bytes::Bytes;
 use catalogue::Catalogue;
-use fixtures::{batch_at, name_of};
+use fixtures::batch_at;
 use part_log::{Names, Receipt};
 use report::{gather, write};
 use std::alloc::{AllocError, Global};
@@ -91,11 +91,10 @@ pub(crate) fn deploy<Id: Names, H: Wait + Drop, R: Wait>(
     input: usize,
     image: &[u8],
 ) -> Option<usize> {
-    let name = name_of(alloc, "program").ok()?;
     let image = Bytes::copy_from_slice(alloc, image).ok()?;
-    let (_version, known) = broker.load(rt, alloc, &name, &image).ok()?;
+    let (_version, known) = broker.load(rt, alloc, "program", &image).ok()?;
     let mut finder = broker.finder(rt, alloc).ok()?;
-    let deployed = broker.deploy(rt, alloc, input, &name, &mut finder, &known);
+    let deployed = broker.deploy(rt, alloc, input, known.name(), &mut finder, &known);
     let (receipt, _marked) = deployed.ok()?;
     Some(receipt.index())
 }

@@ -8,7 +8,7 @@ ghost use Rattle.script.specs.Commands.{source_of, partitions_line, load_line, d
 use crate::pairs::{bytes_word, hex};
 use crate::words::{number_at, word, words};
 use bytes::Bytes;
-use log_spec::Name;
+use log_spec::RawName;
 use std::alloc::{AllocError, Global};
 use std::marker::Model;
 
@@ -41,9 +41,9 @@ pub enum Command {
     /// The numbers of input and output partitions, and how many cells a log has.
     Partitions(u64, u64, u64),
     /// Loads a program under a name.
-    Load(Name, Source),
+    Load(RawName, Source),
     /// Deploys a loaded program to an input partition.
-    Deploy(u64, Name),
+    Deploy(u64, RawName),
     /// Appends one record to an input partition: its timestamp in milliseconds, its key and its
     /// value, which may be null.
     Put(u64, u64, Option<Bytes>, Option<Bytes>),
@@ -58,11 +58,11 @@ pub enum Command {
     Go,
 }
 
-fn name_of(alloc: Global, text: &str) -> Result<Name, AllocError>
+fn name_of(alloc: Global, text: &str) -> Result<RawName, AllocError>
     ensures { IfOk result (λ name. name ≡ text.now) }
 {
     let text = String::from_str(alloc, text)?;
-    Ok(Name { text })
+    Ok(RawName { text })
 }
 
 fn file_of(alloc: Global, text: &str) -> Result<FileName, AllocError>

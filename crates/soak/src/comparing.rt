@@ -7,7 +7,8 @@ use crate::making::{image, program_name};
 use crate::numbers::Numbers;
 use crate::threads::{CELLS, DEPLOYERS, INPUTS, OUTPUTS};
 use broker::Broker;
-use log_spec::{Event, Name, Refusal, Row};
+use fixtures::raw_name_of;
+use log_spec::{Event, Refusal, Row};
 use out_book::Book;
 use part_log::{Item, Names, Receipt, Trail};
 use std::alloc::Global;
@@ -58,7 +59,7 @@ pub(crate) fn compare<Id: Names, C, R: Wait>(
 /// Loads the programs of a deployer.
 fn load_all(alloc: Global, core: &mut World, deployer: usize, versions: usize) -> Option<()> {
     for turn in 0..versions {
-        let name = program_name(alloc, deployer)?;
+        let name = raw_name_of(alloc, program_name(deployer)).ok()?;
         let event = Event::Load(name, image(alloc, turn)?);
         core.step(alloc, &event).ok()?;
     }
@@ -116,10 +117,7 @@ fn event_of(alloc: Global, input: usize, item: &Item) -> Option<Event>
             let batch = batch::share(alloc, logged.batch()).ok()?;
             Some(Event::Batch(input, batch))
         }
-        Item::Mark { name, version, .. } => {
-            let text = name.text.clone().ok()?;
-            Some(Event::Mark(input, Name { text }, *version))
-        }
+        Item::Mark { name, version, .. } => Some(Event::Mark(input, name.again(), *version)),
     }
 }
 

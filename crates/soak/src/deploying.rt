@@ -4,7 +4,6 @@ use crate::making::{image, program_name};
 use crate::threads::INPUTS;
 use broker::Broker;
 use catalogue::{Catalogue, Finder};
-use log_spec::Name;
 use part_log::Names;
 use std::alloc::Global;
 use std::sync::Wait;
@@ -28,10 +27,10 @@ pub(crate) fn deploy_all<Id: Names, H: Wait + Drop, R: Wait>(
     first: usize,
     end: usize,
 ) -> Option<()> {
-    let name = program_name(alloc, deployer)?;
+    let name = program_name(deployer);
     let mut finder = broker.finder(rt, alloc).ok()?;
     for turn in first..end {
-        deploy(rt, alloc, broker, &name, &mut finder, turn)?;
+        deploy(rt, alloc, broker, name, &mut finder, turn)?;
         rest();
     }
     Some(())
@@ -47,14 +46,14 @@ fn deploy<Id: Names, H: Wait + Drop, R: Wait>(
     rt: &R,
     alloc: Global,
     broker: &Broker<Id, Catalogue<H>>,
-    name: &Name,
+    name: &str,
     finder: &mut Finder,
     turn: usize,
 ) -> Option<()> {
     let image = image(alloc, turn)?;
     let (_version, known) = broker.load(rt, alloc, name, &image).ok()?;
     broker
-        .deploy(rt, alloc, input_of(turn), name, finder, &known)
+        .deploy(rt, alloc, input_of(turn), known.name(), finder, &known)
         .ok()?;
     Some(())
 }

@@ -4,8 +4,7 @@ ghost use Rattle.std.specs.Prelude.{IfSome};
 ghost use Rattle.log_spec.specs.Logs.{FitsLog};
 
 use bytes::Bytes;
-use fixtures::{batch_at, name_of};
-use log_spec::Name;
+use fixtures::batch_at;
 use std::alloc::{AllocError, Global};
 use wire_spec::{Batch, Headers, Record, Records};
 
@@ -31,8 +30,8 @@ pub(crate) fn mixed(number: u64) -> u64 {
 }
 
 /// The name that a deployer loads its programs under.
-pub(crate) fn program_name(alloc: Global, deployer: usize) -> Option<Name> {
-    name_of(alloc, if deployer == 0 { "first" } else { "second" }).ok()
+pub(crate) fn program_name(deployer: usize) -> &'static str {
+    if deployer == 0 { "first" } else { "second" }
 }
 
 /// The image that a deployer loads as its version after this number of versions.

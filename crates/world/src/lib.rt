@@ -10,5 +10,5 @@ mod state;
 
 pub use crate::runs::run;
 pub use crate::state::World;
-pub use log_spec::{Event, Name, Refusal, Reply, Row};
+pub use log_spec::{Event, Name, RawName, Refusal, Reply, Row};
 pub use verifier_spec::LoadFault;

@@ -18,7 +18,7 @@ returns-in-Some-clause-ok c =
 pub returns-in_ok-push-in-None-clause-ok : goal.returns-in_ok-push-in-None-clause-ok
 returns-in_ok-push-in-None-clause-ok c =
     let seen = c.args.seen.now.items in let kept = c.new.result in let name = c.args.name.now in
-    let named : kept.name ≡ name = ap (λ (v : Version). v.name) c.new.ensures ∙ c.in_ok-share_name-in-None.ensures in
+    let named : kept.name ≡ name = ap (λ (v : Version). v.name) c.new.ensures ∙ c.again.ensures in
     let pushed : c.push.new.self.items ≡ seen ++ kept ∷ [] = search rules in
     subst (λ (new : List Version). Keeps seen new name (c.args.version, arc_value c.args.program)) (sym pushed)
     (subst (λ (v : Version). Keeps seen (seen ++ kept ∷ []) name (v.number, v.image)) c.new.ensures

@@ -49,5 +49,5 @@ returns-in-Ok-add_program c =
     = pushed ∙ ap (λ (image : List ℕ). map (λ program. arc_value program) old.programs.items ++ image ∷ []) c.in-Ok.ensures.program in (
       refused_image (table_view items) c.args.name.now c.args.image.now None first c.in-Ok.ensures.accepted,
       omega (arith, versions, count, d.programs.ok.0),
-      sym (with_image-found items c.args.place m c.add_program.new.entry c.args.name.now c.args.image.now c.requires.inside c.requires.first (c.requires.named m) (ap (λ name. name.bytes) c.add_program.ensures.name) more),
+      sym (with_image-found items c.args.place m c.add_program.new.entry c.args.name.now c.args.image.now c.requires.inside c.requires.first (c.requires.named m) c.add_program.ensures.name more),
     )

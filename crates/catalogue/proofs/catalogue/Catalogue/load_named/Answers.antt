@@ -4,7 +4,7 @@ use Rattle.catalogue.specs.Faults.{IsFaultOf}
 use Rattle.program_table.specs.Tables.{LatestIs}
 use Rattle.catalogue.proofs.VersionLaws.{version_is}
 use Rattle.catalogue.proofs.TableLaws.{images_of-with_image, some_image, latest-last}
-use Rattle.catalogue.proofs.catalogue.Catalogue.load.Goals as goal
+use Rattle.catalogue.proofs.catalogue.Catalogue.load_named.Goals as goal
 
 pub latest_of-requires : goal.latest_of-requires
 latest_of-requires g c = λ e.
