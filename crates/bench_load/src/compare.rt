@@ -8,7 +8,7 @@ ghost use Rattle.verifier_spec.specs.Checks.{failed_check};
 use crate::programs::random_image;
 use crate::random::Random;
 use abstract_regs::State;
-use annotate::{LoadFault, load};
+use annotate::{LoadFault, joined_states, load};
 use bpf_isa::{Code, Placed, decode};
 use machine_spec::{Region, Summary};
 use notes::{Check, Verified, VerifyFault, check};
@@ -44,19 +44,6 @@ impl Tally {
 /// One more.
 fn count(number: &mut u64) {
     *number = number.saturating_add(1);
-}
-
-/// The states of a verified program.
-fn states_of(alloc: Global, verified: &Verified) -> Option<Vec<Option<State>>> {
-    let mut states = Vec::new(alloc);
-    for k in 0..verified.code().len() {
-        let state = match verified.state(k) {
-            Some(state) => Some(*state),
-            None => None,
-        };
-        states.push(state).ok()?;
-    }
-    Some(states)
 }
 
 /// A state to join another with: what is known of some registers, lengths and no stack byte.
@@ -156,7 +143,8 @@ fn fault_of(
     }
 }
 
-/// Whether `check` accepts `load`'s states, and a list of joined states made anew.
+/// Whether `check` accepts the joined states and keeps as many as `load`, and accepts a list of
+/// joined states made anew.
 fn agrees_accepted(
     alloc: Global,
     image: &[u8],
@@ -164,9 +152,13 @@ fn agrees_accepted(
     verified: &Verified,
 ) -> Option<bool> {
     let code = decode(alloc, image).ok()?;
-    let states = states_of(alloc, verified)?;
+    let states = joined_states(alloc, &code).ok()?;
+    let kept = verified.kept();
     let again = fault_of(alloc, image, random, false)?;
-    Some(check(alloc, code, states).is_ok() && again.is_none())
+    match check(alloc, code, states) {
+        Ok(same) => Some(same.kept() == kept && again.is_none()),
+        Err(_) => Some(false),
+    }
 }
 
 /// Whether `check` refuses the joined states with the same fault.

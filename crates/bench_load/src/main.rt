@@ -2,10 +2,13 @@
 //! With no argument it does nothing.
 //!
 //! `random COUNT SEED` makes programs and prints in how many the two differ. `time BRANCHES ROUNDS`
-//! loads a program of that many branches so many times.
+//! loads a program of that many branches so many times. `keep BRANCHES COUNT` does the same, for 0
+//! branches in a straight line, and keeps all that is loaded until the end: the process's memory
+//! then says what a program takes.
 #![tactic(auto)]
 
 mod compare;
+mod keeping;
 mod programs;
 mod random;
 mod timing;
@@ -42,6 +45,14 @@ fn time_all<R: Print + Clock>(rt: &R, alloc: Global, branches: u32, rounds: u32)
     println!(rt; "{instructions} instructions, {branches} branches: {each} ns a load")
 }
 
+fn print_kept<R: Print>(rt: &R, alloc: Global, branches: u32, count: u32) -> io::Result<()> {
+    let Some(kept) = keeping::keep_all(alloc, branches, count) else {
+        return Ok(());
+    };
+    let (programs, instructions, states) = (kept.programs, kept.instructions, kept.states);
+    println!(rt; "{programs} programs of {instructions} instructions, {states} states kept of each")
+}
+
 fn main(rt: HostRuntime) -> io::Result<()> {
     let alloc = rt.alloc();
     let mut arguments = env::args(&rt)?;
@@ -59,6 +70,8 @@ fn main(rt: HostRuntime) -> io::Result<()> {
     let second: u32 = second.as_str().parse().unwrap_or(1);
     if mode.as_str() == "time" {
         time_all(&rt, alloc, first, second)
+    } else if mode.as_str() == "keep" {
+        print_kept(&rt, alloc, first, second)
     } else {
         compare_all(&rt, alloc, first, u64::from(second))
     }

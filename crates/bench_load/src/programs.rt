@@ -129,3 +129,13 @@ pub(crate) fn branching(alloc: Global, branches: u32) -> Option<Vec<u8>> {
     image.extend_from_slice(&EXIT).ok()?;
     Some(image)
 }
+
+/// So many times r0 = 0, EXIT.
+pub(crate) fn straight(alloc: Global, moves: u32) -> Option<Vec<u8>> {
+    let mut image = Vec::new(alloc);
+    for _ in 0..moves {
+        image.extend_from_slice(&ZERO).ok()?;
+    }
+    image.extend_from_slice(&EXIT).ok()?;
+    Some(image)
+}

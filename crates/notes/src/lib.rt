@@ -1,14 +1,18 @@
 //! The checker of annotations: from code and a list of abstract states, one for each reached
 //! instruction, it makes a verified program or tells why the list is no annotation of the code.
+//!
+//! A verified program keeps the states at the targets of jumps; the others follow from them.
 #![tactic(auto)]
 
 mod edges;
 mod faults;
 mod lookup;
 mod regions;
+mod settling;
 mod shape;
+mod targets;
 mod verified;
 
 pub use lookup::note_at;
-pub use verified::{Verified, check};
+pub use verified::{Verified, check, check_sparse};
 pub use verifier_spec::{Check, VerifyFault};

@@ -51,9 +51,7 @@ fn accepts_a_constant(rt: HostRuntime) -> Result<(), Fail> {
     let notes = vec![in rt.alloc(); Some(State::entry()), Some(zero)]?;
     let verified = check(rt.alloc(), decode(rt.alloc(), &ZERO)?, notes)?;
     assert_eq!(rt; verified.code().len(), 2);
-    assert_eq!(rt; verified.state(0).map(|s| s.kind(0)), Some(Abs::None));
-    assert_eq!(rt; verified.state(1).map(|s| s.kind(0)), Some(Abs::Num(0, 0)));
-    assert!(rt; verified.state(2).is_none());
+    assert_eq!(rt; verified.kept(), 0);
     assert_eq!(rt; verified.regions(0).0, None);
     Ok(())
 }
@@ -68,10 +66,7 @@ fn accepts_a_guarded_load(rt: HostRuntime) -> Result<(), Fail> {
     ]?;
     let verified = check(rt.alloc(), decode(rt.alloc(), &FIRST_BYTE)?, notes)?;
     assert_eq!(rt; verified.code().len(), 4);
-    assert_eq!(rt;
-        verified.state(3).map(|s| s.kind(0)),
-        Some(Abs::Num(0, 255))
-    );
+    assert_eq!(rt; verified.kept(), 1);
     assert_eq!(rt; verified.regions(1).0, None);
     assert_eq!(rt; verified.regions(2).0, Some(Region::Value));
     assert_eq!(rt; verified.regions(2).1, None);

@@ -6,4 +6,6 @@ mod annotations;
 #[cfg(test)]
 mod loads;
 #[cfg(test)]
+mod sparse;
+#[cfg(test)]
 mod states;

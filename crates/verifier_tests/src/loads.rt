@@ -1,5 +1,7 @@
-use annotate::load;
+use annotate::{joined_states, load};
+use bpf_isa::decode;
 use machine_spec::Region;
+use notes::note_at;
 use std::alloc::{AllocError, Global};
 use std::test::Fail;
 use verifier_spec::Abs;
@@ -15,6 +17,12 @@ fn image_of(alloc: Global, slots: &[u64]) -> Result<Vec<u8>, AllocError> {
         image.extend_from_slice(&slot.to_be_bytes())?;
     }
     Ok(image)
+}
+
+/// What is known of a register before an instruction, if it is reached.
+fn kind_of(alloc: Global, image: &[u8], k: usize, register: usize) -> Result<Option<Abs>, Fail> {
+    let states = joined_states(alloc, &decode(alloc, image)?)?;
+    Ok(note_at(&states, k).map(|s| s.kind(register)))
 }
 
 /// What a load answers: how many instructions are accepted, or the fault's text.
@@ -414,9 +422,7 @@ fn answers(rt: HostRuntime) -> Result<(), Fail> {
     ];
     for (call, greatest) in cases {
         let image = image_of(alloc, &[call, EXIT])?;
-        let verified = load(alloc, &image)?;
-        let kind = verified.state(1).map(|s| s.kind(0));
-        assert_eq!(rt; kind, Some(Abs::Num(0, greatest)));
+        assert_eq!(rt; kind_of(alloc, &image, 1, 0)?, Some(Abs::Num(0, greatest)));
     }
     Ok(())
 }
@@ -820,9 +826,7 @@ fn regions_of_two_pieces(rt: HostRuntime) -> Result<(), Fail> {
     assert_eq!(rt; verified.regions(6).0, Some(Region::Value));
     assert_eq!(rt; verified.regions(6).1, Some(Region::Key));
     assert_eq!(rt; verified.regions(7).0, None);
-    let kind = verified.state(7).map(|s| s.kind(0));
-    assert_eq!(rt; kind, Some(Abs::Num(0, 3)));
-    let spent = verified.state(7).map(|s| s.kind(5));
-    assert_eq!(rt; spent, Some(Abs::None));
+    assert_eq!(rt; kind_of(alloc, &image, 7, 0)?, Some(Abs::Num(0, 3)));
+    assert_eq!(rt; kind_of(alloc, &image, 7, 5)?, Some(Abs::None));
     Ok(())
 }

@@ -1,6 +1,8 @@
-use Rattle.std.proofs.Common.{sym, subst, ◌≡◌, ◌≢◌, ◌∙◌}
+use Rattle.std.proofs.Common.{refl, sym, subst, ◌≡◌, ◌≢◌, ◌∙◌}
 use Rattle.verifier_spec.specs.declared.fault.Check.TheVariants as check
 use Rattle.verifier_spec.specs.Run.{Annotated}
+use Rattle.verifier_spec.specs.Annotation.{Notes, IsAnnotation}
+use Rattle.verifier_spec.specs.JoinedStates.{joined_states}
 use Rattle.annotate.specs.Loads.{Accepts}
 use Rattle.annotate.proofs.Answered.{isa_refused}
 use Rattle.annotate.proofs.Best.{joined_best, noted_refused, no_notes_fault}
@@ -24,13 +26,12 @@ returns-in-Err-check-clause-other c = λ is.
 pub returns-in-Ok-check-clause-answer : goal.returns-in-Ok-check-clause-answer
 returns-in-Ok-check-clause-answer c =
     let code = c.in-Ok.code in
-    let notes = c.in-Ok-joined_states.states.items in
     let joined = c.in-Ok-joined_states.ensures in
-    subst (λ (v : Annotated). Accepts c.args.image.now v) (sym c.in-Ok-check.ensures.ok)
+    subst (λ (v : Annotated). Accepts c.args.image.now v) (sym (c.in-Ok-check.ensures.joined joined.states))
     (record {
       read = c.in-Ok.ensures.exact;
       code = c.in-Ok.ensures.is_code;
-      notes = joined.states;
-      annotation = c.in-Ok-check.ensures.annotated;
-      best = joined_best code notes joined.states joined.proper;
+      notes = refl;
+      annotation = subst (λ (ns : Notes). IsAnnotation code ns) joined.states c.in-Ok-check.ensures.annotated;
+      best = joined_best code (joined_states code) refl joined.proper;
     })

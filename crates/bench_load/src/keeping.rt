@@ -1,0 +1,37 @@
+use crate::programs::{branching, straight};
+use annotate::load;
+use std::alloc::Global;
+
+/// What is kept of loaded programs: how many there are, and of how many instructions and states
+/// each is.
+pub(crate) struct Kept {
+    pub(crate) programs: usize,
+    pub(crate) instructions: usize,
+    pub(crate) states: usize,
+}
+
+/// A program of 4,096 instructions or so: with these branches, or in a straight line where there are
+/// none.
+fn image_of(alloc: Global, branches: u32) -> Option<Vec<u8>> {
+    if branches == 0 {
+        straight(alloc, 4_095)
+    } else {
+        branching(alloc, branches)
+    }
+}
+
+/// Loads a program so many times and keeps all that is loaded until the last.
+pub(crate) fn keep_all(alloc: Global, branches: u32, count: u32) -> Option<Kept> {
+    let image = image_of(alloc, branches)?;
+    let mut programs = Vec::new(alloc);
+    for _ in 0..count {
+        let program = load(alloc, &image).ok()?;
+        programs.push(program).ok()?;
+    }
+    let first = programs.first()?;
+    Some(Kept {
+        programs: programs.len(),
+        instructions: first.code().len(),
+        states: first.kept(),
+    })
+}

@@ -1,0 +1,431 @@
+-- The states that follow from given ones: of an annotation's they are an annotation.
+use Rattle.std.proofs.Common.{◌≡◌, ◌≢◌, ℕ, zero, suc, ◌+◌, ◌<◌, ◌≤◌, Bool, true, false, cond, ◌==◌, List, [], ◌∷◌, ◌++◌, length, get_or, Option, Some, None, refl, sym, ap, ◌∙◌, subst, ◌⊎◌, inl, inr, arith}
+use Rattle.std.specs.Prelude.{slice_get, unwrap_or}
+use Rattle.std.proofs.lemmas.Bool.{cond-true, cond-false, cases_Bool, cases_lt, cases_eq, eq-eqb, eqb-true, and_parts, and_from, false≢true}
+use Rattle.std.proofs.lemmas.Option.{none-some, slice_get_within, unwrap_or-slice_get}
+use Rattle.std.proofs.lemmas.List.Folds.{list_any_at}
+use Rattle.machine_spec.specs.declared.instruction.Placed.{Placed}
+use Rattle.machine_spec.specs.Image.{target_of}
+use Rattle.verifier_spec.specs.declared.state.Abstract.{Abstract}
+use Rattle.verifier_spec.specs.declared.fault.{Check.Check, VerifyFault.VerifyFault}
+use Rattle.verifier_spec.specs.declared.fault.Check.TheVariants as check
+use Rattle.verifier_spec.specs.States.{is_proper, entry_state}
+use Rattle.machine_spec.specs.Traps.{first_of}
+use Rattle.verifier_spec.specs.Checks.{failed_check, shape_checks, jump_of}
+use Rattle.verifier_spec.specs.Transfer.{falls_to, jumps_to}
+use Rattle.verifier_spec.specs.JoinedStates.{if_passed}
+use Rattle.verifier_spec.specs.Annotation.{Notes, note_at, note_of, is_covered, is_edge_covered, are_edges_covered, fault_of, IsAnnotation}
+use Rattle.verifier_spec.proofs.Annotations.{covering}
+use Rattle.verifier_spec.proofs.JoinedStates.{covered_refl, covered_trans}
+use Rattle.verifier_spec.proofs.Monotone.{check_monotone, falls_monotone, jumps_monotone}
+use Rattle.notes.specs.Derived.{fallen, given_or, derived_at, derived_from, derived, leads_to, jumps_at, is_target, at_targets, settled, pair_at, kept_note, kept_from, kept_states, targets_from, target_count, are_rising, pairs_fault, AreDerivedProper}
+use Rattle.machine_spec.specs.declared.instruction.Region.{Region}
+use Rattle.notes.specs.Regions.{AreRegions, IsVerified}
+use Rattle.notes.proofs.Lookups.{note_at_past}
+
+-- ---- the list
+
+length-derived_from : (code : List Placed) (given : ℕ → Option Abstract) (k : ℕ) (rest : List Placed) → length (derived_from code given k rest) ≡ length rest
+length-derived_from code given k [] = refl
+length-derived_from code given k (placed ∷ rest) = ap (λ (n : ℕ). suc n) (length-derived_from code given (k + 1) rest)
+
+note_from : (code : List Placed) (given : ℕ → Option Abstract) (k : ℕ) (rest : List Placed) (j : ℕ) → j < length rest → note_at (derived_from code given k rest) j ≡ derived_at code given (k + j)
+note_from code given k [] j under = absurd (omega arith)
+note_from code given k (placed ∷ rest) zero under =
+    let at : k ≡ k + 0 = omega arith in
+    ap (λ (n : ℕ). derived_at code given n) at
+note_from code given k (placed ∷ rest) (suc j) under =
+    let at : (k + 1) + j ≡ k + suc j = omega arith in
+    note_from code given (k + 1) rest j (omega arith) ∙ ap (λ (n : ℕ). derived_at code given n) at
+
+pub length-derived : (code : List Placed) (given : ℕ → Option Abstract) → length (derived code given) ≡ length code
+unfolding derived
+length-derived code given = length-derived_from code given 0 code
+
+pub note_derived : (code : List Placed) (given : ℕ → Option Abstract) (j : ℕ) → j < length code → note_at (derived code given) j ≡ derived_at code given j
+unfolding derived
+note_derived code given j under =
+    let at : 0 + j ≡ j = omega arith in
+    note_from code given 0 code j under ∙ ap (λ (n : ℕ). derived_at code given n) at
+
+pub same_notes : (a b : Notes) → length a ≡ length b → ((j : ℕ) → j < length a → note_at a j ≡ note_at b j) → a ≡ b
+same_notes [] [] long each = refl
+same_notes [] (y ∷ b) long each = absurd (omega arith)
+same_notes (x ∷ a) [] long each = absurd (omega arith)
+same_notes (x ∷ a) (y ∷ b) long each =
+    let first : x ≡ y = each 0 (omega arith) in
+    let rest : a ≡ b = same_notes a b (omega arith) (λ j under. each (suc j) (omega arith)) in
+    cc
+
+-- a list with these notes is the list of them
+pub is_derived : (code : List Placed) (given : ℕ → Option Abstract) (notes : Notes) → length notes ≡ length code → ((j : ℕ) → j < length code → note_at notes j ≡ derived_at code given j) → notes ≡ derived code given
+is_derived code given notes long each =
+    same_notes notes (derived code given) (long ∙ sym (length-derived code given)) (λ j under.
+    let below : j < length code = omega (arith, under, long) in
+    each j below ∙ sym (note_derived code given j below))
+
+-- ---- one state
+
+pub given_first : (code : List Placed) (given : ℕ → Option Abstract) → derived_at code given 0 ≡ given_or (given 0) (Some entry_state)
+unfolding derived_at
+given_first code given = refl
+
+pub given_next : (code : List Placed) (given : ℕ → Option Abstract) (k : ℕ) → derived_at code given (suc k) ≡ given_or (given (suc k)) (fallen code k (slice_get code k) (derived_at code given k))
+unfolding derived_at
+given_next code given k = refl
+
+given_at : (code : List Placed) (given : ℕ → Option Abstract) (k : ℕ) → (follows : Option Abstract) × (derived_at code given k ≡ given_or (given k) follows)
+given_at code given zero = (Some entry_state, given_first code given)
+given_at code given (suc k) = (fallen code k (slice_get code k) (derived_at code given k), given_next code given k)
+
+-- ---- other given states
+
+-- a given state is what was derived, or there is none and was none
+abbrev pub IsAgain : List Placed → (ℕ → Option Abstract) → (ℕ → Option Abstract) → ℕ → Type 0
+IsAgain code given other k = (other k ≡ derived_at code given k) ⊎ ((other k ≡ None) × (given k ≡ None))
+
+given_twice : (o follows : Option Abstract) → given_or (given_or o follows) follows ≡ given_or o follows
+given_twice None None = refl
+given_twice None (Some s) = refl
+given_twice (Some s) follows = refl
+
+given_again : (code : List Placed) (given other : ℕ → Option Abstract) (k : ℕ) (follows : Option Abstract) → derived_at code given k ≡ given_or (given k) follows → IsAgain code given other k
+    → given_or (other k) follows ≡ derived_at code given k
+given_again code given other k follows is (inl same) = ap (λ (o : Option Abstract). given_or o follows) (same ∙ is) ∙ given_twice (given k) follows ∙ sym is
+given_again code given other k follows is (inr none) = ap (λ (o : Option Abstract). given_or o follows) (none.0 ∙ sym none.1) ∙ sym is
+
+-- they give the same
+pub derived_again : (code : List Placed) (given other : ℕ → Option Abstract) (n : ℕ) → ((k : ℕ) → k < n → IsAgain code given other k) → (k : ℕ) → k < n → derived_at code other k ≡ derived_at code given k
+derived_again code given other n again zero under = given_first code other ∙ given_again code given other 0 (Some entry_state) (given_first code given) (again 0 under)
+derived_again code given other n again (suc k) under =
+    let before = derived_again code given other n again k (omega arith) in
+    given_next code other k
+    ∙ (ap (λ (o : Option Abstract). given_or (other (suc k)) (fallen code k (slice_get code k) o)) before
+    ∙ given_again code given other (suc k) (fallen code k (slice_get code k) (derived_at code given k)) (given_next code given k) (again (suc k) under))
+
+derived_at-same : (code : List Placed) (given other : ℕ → Option Abstract) (n : ℕ) → ((k : ℕ) → k < n → other k ≡ given k) → (k : ℕ) → k < n → derived_at code other k ≡ derived_at code given k
+derived_at-same code given other n same zero under = given_first code other ∙ (ap (λ (o : Option Abstract). given_or o (Some entry_state)) (same 0 under) ∙ sym (given_first code given))
+derived_at-same code given other n same (suc k) under =
+    given_next code other k
+    ∙ (ap (λ (o : Option Abstract). given_or (other (suc k)) (fallen code k (slice_get code k) o)) (derived_at-same code given other n same k (omega arith))
+    ∙ (ap (λ (o : Option Abstract). given_or o (fallen code k (slice_get code k) (derived_at code given k))) (same (suc k) under) ∙ sym (given_next code given k)))
+
+-- the same given states have the same following
+pub derived_same : (code : List Placed) (given other : ℕ → Option Abstract) → ((k : ℕ) → k < length code → other k ≡ given k) → derived code other ≡ derived code given
+derived_same code given other same =
+    is_derived code given (derived code other) (length-derived code other) (λ k under. note_derived code other k under ∙ derived_at-same code given other (length code) same k under)
+
+pub proper_same : (code : List Placed) (given other : ℕ → Option Abstract) (n : ℕ) → ((k : ℕ) → k < n → other k ≡ given k) → AreDerivedProper code other n → AreDerivedProper code given n
+proper_same code given other n same proper k s under e = proper k s under (derived_at-same code given other n same k under ∙ e)
+
+-- ---- jump targets
+
+-- what is given of an instruction is its note, or nothing
+pub at_cases : (code : List Placed) (notes : Notes) (k : ℕ) → (at_targets code notes k ≡ note_at notes k) ⊎ (at_targets code notes k ≡ None)
+at_cases code notes k = elim (cases_Bool (is_target code k)) [
+  | inl jumped ↦ inl (cond-true (is_target code k) (note_at notes k) None jumped)
+  | inr apart ↦ inr (cond-false (is_target code k) (note_at notes k) None apart)
+]
+
+leads_itself : (o : Option ℕ) (t : ℕ) → o ≡ Some t → leads_to o t ≡ true
+leads_itself (Some n) t e =
+    let same : n ≡ t = cc in
+    eq-eqb n t same
+leads_itself None t e = absurd (none-some t e)
+
+pub read_placed : (code : List Placed) (k : ℕ) (placed : Placed) → slice_get code k ≡ Some placed → get_or code k placed ≡ placed
+read_placed code k placed at = sym (unwrap_or-slice_get code k placed) ∙ ap (λ (o : Option Placed). unwrap_or o placed) at
+
+-- where a jump of the code leads is a target
+pub target_is : (code : List Placed) (k : ℕ) (placed : Placed) (t : ℕ) → slice_get code k ≡ Some placed → target_of code placed.slot (jump_of placed.instruction) ≡ Some t → is_target code t ≡ true
+unfolding is_target
+target_is code k placed t at e =
+    let read = read_placed code k placed at in
+    let P : Placed → Type 0 = λ p. jumps_at code t p ≡ true in
+    list_any_at (jumps_at code t) code k placed (slice_get_within code k placed at)
+    (subst P (sym read) (leads_itself (target_of code placed.slot (jump_of placed.instruction)) t e))
+
+-- ---- within an annotation
+
+-- what is brought where a check passes is covered where it is
+pub passed_covers : (failed : Option Check) (edge outer : Option Abstract) → is_edge_covered edge outer ≡ true → is_edge_covered (if_passed failed None edge) outer ≡ true
+passed_covers (Some kind) edge outer h = refl
+passed_covers None edge outer h = h
+
+covers_given : (o follows outer : Option Abstract) → (o ≡ outer) ⊎ (o ≡ None) → is_edge_covered follows outer ≡ true → is_edge_covered (given_or o follows) outer ≡ true
+covers_given None follows outer is h = h
+covers_given (Some s) follows outer (inl same) h = subst (λ o. is_edge_covered (Some s) o ≡ true) same (covered_refl (Some s))
+covers_given (Some s) follows outer (inr none) h = absurd (none-some s (sym none))
+
+-- an edge that is covered by a note is covered by what is given or, where nothing is, by itself
+edge_given : (edge o outer : Option Abstract) → (o ≡ outer) ⊎ (o ≡ None) → is_edge_covered edge outer ≡ true → is_edge_covered edge (given_or o edge) ≡ true
+edge_given edge None outer is h = covered_refl edge
+edge_given edge (Some s) outer (inl same) h = subst (λ o. is_edge_covered edge o ≡ true) (sym same) h
+edge_given edge (Some s) outer (inr none) h = absurd (none-some s (sym none))
+
+-- what is covered by none is none, and so by anything
+covered_first : (edge outer follows : Option Abstract) → is_edge_covered edge outer ≡ true → is_edge_covered edge (given_or outer follows) ≡ true
+covered_first edge (Some s) follows h = h
+covered_first None None follows h = refl
+covered_first (Some s) None follows h = absurd (false≢true h)
+
+noted_below : (notes : Notes) (k : ℕ) (s : Abstract) → note_at notes k ≡ Some s → k < length notes
+noted_below [] k s e = absurd (none-some s e)
+noted_below (first ∷ notes) zero s e = omega arith
+noted_below (first ∷ notes) (suc k) s e = omega (arith, noted_below notes k s e)
+
+module _ (code : List Placed) (notes : Notes) (annotation : IsAnnotation code notes) (proper : AreDerivedProper code (at_targets code notes) (length code)) where
+  abbrev given : ℕ → Option Abstract
+  given = at_targets code notes
+
+  -- both edges of an instruction, in a state within its note
+  module _ (k : ℕ) (placed : Placed) (s : Abstract) (at : slice_get code k ≡ Some placed) (ps : is_proper s ≡ true) (below : is_edge_covered (Some s) (note_at notes k) ≡ true) where
+    passed_within : failed_check placed.instruction s ≡ None
+    passed_within =
+        let outer = covering s (note_at notes k) below in
+        check_monotone placed.instruction s outer.0 outer.2 ps (annotation.proper k outer.0 outer.1) (annotation.checked k placed outer.0 at outer.1)
+
+    falls_within : is_edge_covered (falls_to placed.instruction s) (note_at notes (k + 1)) ≡ true
+    falls_within =
+        let i = placed.instruction in
+        let outer = covering s (note_at notes k) below in
+        let t = outer.0 in
+        let closed = and_parts (is_edge_covered (falls_to i t) (note_at notes (k + 1))) (is_edge_covered (jumps_to i t) (note_of notes (target_of code placed.slot (jump_of i)))) (annotation.closed k placed t at outer.1) in
+        covered_trans (falls_to i s) (falls_to i t) (note_at notes (k + 1)) (falls_monotone i s t outer.2 ps (annotation.proper k t outer.1) (annotation.checked k placed t at outer.1)) closed.0
+
+    jumps_within : is_edge_covered (jumps_to placed.instruction s) (note_of notes (target_of code placed.slot (jump_of placed.instruction))) ≡ true
+    jumps_within =
+        let i = placed.instruction in
+        let outer = covering s (note_at notes k) below in
+        let t = outer.0 in
+        let target = note_of notes (target_of code placed.slot (jump_of i)) in
+        let closed = and_parts (is_edge_covered (falls_to i t) (note_at notes (k + 1))) (is_edge_covered (jumps_to i t) target) (annotation.closed k placed t at outer.1) in
+        covered_trans (jumps_to i s) (jumps_to i t) target (jumps_monotone i s t outer.2 ps (annotation.proper k t outer.1) (annotation.checked k placed t at outer.1)) closed.1
+
+  fallen_within : (k : ℕ) (at : Option Placed) (known : Option Abstract) → slice_get code k ≡ at → ((s : Abstract) → known ≡ Some s → is_proper s ≡ true)
+      → is_edge_covered known (note_at notes k) ≡ true → is_edge_covered (fallen code k at known) (note_at notes (k + 1)) ≡ true
+  fallen_within k None known at ps below = refl
+  fallen_within k (Some placed) None at ps below = refl
+  fallen_within k (Some placed) (Some s) at ps below =
+      let falls = falls_to placed.instruction s in
+      passed_covers (first_of (shape_checks code k placed)) (if_passed (failed_check placed.instruction s) None falls) (note_at notes (k + 1))
+      (passed_covers (failed_check placed.instruction s) falls (note_at notes (k + 1)) (falls_within k placed s at (ps s refl) below))
+
+  -- each state that follows is within the note there
+  pub derived_within : (k : ℕ) → k < length code → is_edge_covered (derived_at code given k) (note_at notes k) ≡ true
+  derived_within zero under =
+      subst (λ o. is_edge_covered o (note_at notes 0) ≡ true) (sym (given_first code given)) (covers_given (given 0) (Some entry_state) (note_at notes 0) (at_cases code notes 0) annotation.start)
+  derived_within (suc k) under =
+      let next : k + 1 ≡ suc k = omega arith in
+      let known = derived_at code given k in
+      let follows = fallen code k (slice_get code k) known in
+      let below : k < length code = omega (arith, under) in
+      let falls = fallen_within k (slice_get code k) known refl (λ s e. proper k s below e) (derived_within k below) in
+      subst (λ o. is_edge_covered o (note_at notes (suc k)) ≡ true) (sym (given_next code given k))
+      (covers_given (given (suc k)) follows (note_at notes (suc k)) (at_cases code notes (suc k)) (subst (λ n. is_edge_covered follows (note_at notes n) ≡ true) next falls))
+
+  -- ---- an annotation
+
+  abbrev states : Notes
+  states = settled code notes
+
+  state_is : (k : ℕ) (s : Abstract) → note_at states k ≡ Some s → (k < length code) × (derived_at code given k ≡ Some s)
+  state_is k s e =
+      let under : k < length code = omega (arith, noted_below states k s e, length-derived code given) in
+      (under, sym (note_derived code given k under) ∙ e)
+
+  module _ (k : ℕ) (placed : Placed) (s : Abstract) (at : slice_get code k ≡ Some placed) (noted : note_at states k ≡ Some s) where
+    ps : is_proper s ≡ true
+    ps =
+        let is = state_is k s noted in
+        proper k s is.0 is.1
+
+    below : is_edge_covered (Some s) (note_at notes k) ≡ true
+    below =
+        let is = state_is k s noted in
+        subst (λ o. is_edge_covered o (note_at notes k) ≡ true) is.1 (derived_within k is.0)
+
+    passed : failed_check placed.instruction s ≡ None
+    passed = passed_within k placed s at ps below
+
+    falls_through : fallen code k (slice_get code k) (derived_at code given k) ≡ falls_to placed.instruction s
+    falls_through =
+        let i = placed.instruction in
+        ap (λ (o : Option Placed). fallen code k o (derived_at code given k)) at
+        ∙ (ap (λ (o : Option Abstract). fallen code k (Some placed) o) (state_is k s noted).1
+        ∙ (ap (λ (failed : Option Check). if_passed failed None (if_passed (failed_check i s) None (falls_to i s))) (annotation.shape k placed at)
+        ∙ ap (λ (failed : Option Check). if_passed failed None (falls_to i s)) passed))
+
+    falls_closed : is_edge_covered (falls_to placed.instruction s) (note_at states (k + 1)) ≡ true
+    falls_closed =
+        let falls = falls_to placed.instruction s in
+        let outer = falls_within k placed s at ps below in
+        let next : suc k ≡ k + 1 = omega arith in
+        elim (cases_lt (k + 1) (length code)) [
+          | inl under ↦
+              let is : derived_at code given (suc k) ≡ given_or (given (suc k)) falls = given_next code given k ∙ ap (λ (o : Option Abstract). given_or (given (suc k)) o) falls_through in
+              let noted_next : note_at states (k + 1) ≡ given_or (given (suc k)) falls = note_derived code given (k + 1) under ∙ (ap (λ (n : ℕ). derived_at code given n) (sym next) ∙ is) in
+              subst (λ o. is_edge_covered falls o ≡ true) (sym noted_next)
+              (edge_given falls (given (suc k)) (note_at notes (suc k)) (at_cases code notes (suc k)) (subst (λ n. is_edge_covered falls (note_at notes n) ≡ true) (sym next) outer))
+          | inr past ↦
+              let none : note_at notes (k + 1) ≡ None = note_at_past notes (k + 1) (omega (arith, past, annotation.long)) in
+              let none_here : note_at states (k + 1) ≡ None = note_at_past states (k + 1) (omega (arith, past, length-derived code given)) in
+              subst (λ o. is_edge_covered falls o ≡ true) (none ∙ sym none_here) outer
+        ]
+
+    target_closed : (t : ℕ) → target_of code placed.slot (jump_of placed.instruction) ≡ Some t → is_edge_covered (jumps_to placed.instruction s) (note_at notes t) ≡ true
+        → is_edge_covered (jumps_to placed.instruction s) (note_at states t) ≡ true
+    target_closed t e outer =
+        let jumps = jumps_to placed.instruction s in
+        elim (cases_lt t (length code)) [
+          | inl under ↦
+              let found = given_at code given t in
+              let all : given t ≡ note_at notes t = cond-true (is_target code t) (note_at notes t) None (target_is code k placed t at e) in
+              let is : note_at states t ≡ given_or (note_at notes t) found.0 = note_derived code given t under ∙ (found.1 ∙ ap (λ (o : Option Abstract). given_or o found.0) all) in
+              subst (λ o. is_edge_covered jumps o ≡ true) (sym is) (covered_first jumps (note_at notes t) found.0 outer)
+          | inr past ↦
+              let none : note_at notes t ≡ None = note_at_past notes t (omega (arith, past, annotation.long)) in
+              let none_here : note_at states t ≡ None = note_at_past states t (omega (arith, past, length-derived code given)) in
+              subst (λ o. is_edge_covered jumps o ≡ true) (none ∙ sym none_here) outer
+        ]
+
+    jumps_closed : (target : Option ℕ) → target_of code placed.slot (jump_of placed.instruction) ≡ target → is_edge_covered (jumps_to placed.instruction s) (note_of notes target) ≡ true
+        → is_edge_covered (jumps_to placed.instruction s) (note_of states target) ≡ true
+    jumps_closed None e outer = outer
+    jumps_closed (Some t) e outer = target_closed t e outer
+
+    closed : are_edges_covered code states k placed s ≡ true
+    closed =
+        and_from _ _ falls_closed
+        (jumps_closed (target_of code placed.slot (jump_of placed.instruction)) refl (jumps_within k placed s at ps below))
+
+  first_covered : is_covered entry_state (note_at states 0) ≡ true
+  first_covered =
+      let under : 0 < length code = omega (arith, annotation.long, covering_length) in
+      let is : note_at states 0 ≡ given_or (given 0) (Some entry_state) = note_derived code given 0 under ∙ given_first code given in
+      subst (λ o. is_covered entry_state o ≡ true) (sym is) (edge_given (Some entry_state) (given 0) (note_at notes 0) (at_cases code notes 0) annotation.start)
+    where
+      covering_length : 0 < length notes
+      covering_length =
+          let outer = covering entry_state (note_at notes 0) annotation.start in
+          noted_below notes 0 outer.0 outer.1
+
+  -- What follows from an annotation's states at jump targets is an annotation.
+  pub settled_annotation : IsAnnotation code (settled code notes)
+  settled_annotation = record {
+    long = length-derived code given;
+    start = first_covered;
+    shape = annotation.shape;
+    checked = λ k placed s at noted. passed k placed s at noted;
+    closed = λ k placed s at noted. closed k placed s at noted;
+    proper = λ k s noted. proper k s (state_is k s noted).0 (state_is k s noted).1;
+  }
+
+-- ---- states with numbers
+
+kept_here : (wanted : Bool) (k : ℕ) (known : Option Abstract) (rest : List (ℕ × Abstract)) → pair_at rest k ≡ None → pair_at (kept_note wanted k known ++ rest) k ≡ cond wanted known None
+kept_here true k (Some s) rest none = cond-true (k == k) (Some s) (pair_at rest k) (eq-eqb k k refl)
+kept_here true k None rest none = none
+kept_here false k known rest none = none
+
+not_eq : (x y : ℕ) → x ≢ y → (x == y) ≡ false
+not_eq x y other = elim (cases_Bool (x == y)) [
+  | inl same ↦ absurd (other (eqb-true x y same))
+  | inr apart ↦ apart
+]
+
+kept_elsewhere : (wanted : Bool) (k : ℕ) (known : Option Abstract) (rest : List (ℕ × Abstract)) (j : ℕ) → k ≢ j → pair_at (kept_note wanted k known ++ rest) j ≡ pair_at rest j
+kept_elsewhere true k (Some s) rest j other = cond-false (k == j) (Some s) (pair_at rest j) (not_eq k j other)
+kept_elsewhere true k None rest j other = refl
+kept_elsewhere false k known rest j other = refl
+
+none_before : (code : List Placed) (k : ℕ) (notes : Notes) (j : ℕ) → j < k → pair_at (kept_from code k notes) j ≡ None
+none_before code k [] j under = refl
+none_before code k (note ∷ notes) j under =
+    let other : k ≢ j = λ same. omega (arith, same, under) in
+    kept_elsewhere (is_target code k) k note (kept_from code (k + 1) notes) j other ∙ none_before code (k + 1) notes j (omega arith)
+
+pair_from : (code : List Placed) (k : ℕ) (notes : Notes) (j : ℕ) → pair_at (kept_from code k notes) (k + j) ≡ cond (is_target code (k + j)) (note_at notes j) None
+pair_from code k [] j = none_either None refl (is_target code (k + j))
+  where
+    none_either : (o : Option Abstract) → o ≡ None → (wanted : Bool) → o ≡ cond wanted o None
+    none_either o e true = refl
+    none_either o e false = e
+pair_from code k (note ∷ notes) zero =
+    let same : k ≡ k + 0 = omega arith in
+    let P : ℕ → Type 0 = λ n. pair_at (kept_from code k (note ∷ notes)) n ≡ cond (is_target code n) note None in
+    subst P same (kept_here (is_target code k) k note (kept_from code (k + 1) notes) (none_before code (k + 1) notes k (omega arith)))
+pair_from code k (note ∷ notes) (suc j) =
+    let other : k ≢ k + suc j = λ same. omega (arith, same) in
+    let next : (k + 1) + j ≡ k + suc j = omega arith in
+    let P : ℕ → Type 0 = λ n. pair_at (kept_from code (k + 1) notes) n ≡ cond (is_target code n) (note_at notes j) None in
+    kept_elsewhere (is_target code k) k note (kept_from code (k + 1) notes) (k + suc j) other ∙ subst P next (pair_from code (k + 1) notes j)
+
+-- those that are kept are those at jump targets
+pub pair_kept : (code : List Placed) (notes : Notes) (k : ℕ) → pair_at (kept_states code notes) k ≡ at_targets code notes k
+unfolding kept_states
+pair_kept code notes k =
+    let same : 0 + k ≡ k = omega arith in
+    let P : ℕ → Type 0 = λ n. pair_at (kept_from code 0 notes) n ≡ cond (is_target code n) (note_at notes k) None in
+    subst P same (pair_from code 0 notes k)
+
+few_more : (wanted : Bool) (k : ℕ) (known : Option Abstract) (kept : List (ℕ × Abstract)) (n : ℕ) → length kept ≤ n → length (kept_note wanted k known ++ kept) ≤ cond wanted 1 0 + n
+few_more true k (Some s) kept n h = omega arith
+few_more true k None kept n h = omega arith
+few_more false k known kept n h = h
+
+few_from : (code : List Placed) (k : ℕ) (rest : List Placed) (notes : Notes) → length notes ≡ length rest → length (kept_from code k notes) ≤ targets_from code k rest
+few_from code k [] [] e = omega arith
+few_from code k [] (first ∷ notes) e = absurd (omega (arith, e))
+few_from code k (placed ∷ rest) [] e = absurd (omega (arith, e))
+few_from code k (placed ∷ rest) (first ∷ notes) e =
+    few_more (is_target code k) k first (kept_from code (k + 1) notes) (targets_from code (k + 1) rest) (few_from code (k + 1) rest notes (omega (arith, e)))
+
+-- one state is kept of a jump target at most
+pub few_kept : (code : List Placed) (notes : Notes) → length notes ≡ length code → length (kept_states code notes) ≤ target_count code
+unfolding kept_states target_count
+few_kept code notes e = few_from code 0 code notes e
+
+-- what follows from the kept states of what follows is the same
+pub settled_again : (code : List Placed) (notes : Notes) → derived code (pair_at (kept_states code (settled code notes))) ≡ settled code notes
+settled_again code notes =
+    let states = settled code notes in
+    let given = at_targets code notes in
+    let other = pair_at (kept_states code states) in
+    let again : (k : ℕ) → k < length code → IsAgain code given other k =
+    λ k under.
+    elim (cases_Bool (is_target code k)) [
+      | inl jumped ↦ inl (pair_kept code states k ∙ cond-true (is_target code k) (note_at states k) None jumped ∙ note_derived code given k under)
+      | inr apart ↦ inr (pair_kept code states k ∙ cond-false (is_target code k) (note_at states k) None apart, cond-false (is_target code k) (note_at notes k) None apart)
+    ] in
+    is_derived code given (derived code other) (length-derived code other) (λ k under. note_derived code other k under ∙ derived_again code given other (length code) again k under)
+
+-- ---- what a verified program keeps
+
+module _ (code : List Placed) (notes states : Notes) (kept : List (ℕ × Abstract)) (regions : List (Option Region × Option Region)) (is : states ≡ settled code notes) (kept_is : kept ≡ kept_states code states) where
+  pub kept_view : derived code (pair_at kept) ≡ settled code notes
+  kept_view = ap (λ (pairs : List (ℕ × Abstract)). derived code (pair_at pairs)) (kept_is ∙ ap (λ (ns : Notes). kept_states code ns) is) ∙ settled_again code notes
+
+  pub verified_from : AreRegions code states regions → IsAnnotation code notes → AreDerivedProper code (at_targets code notes) (length code) → IsVerified code kept regions
+  verified_from regions_are annotation proper =
+      let same : derived code (pair_at kept) ≡ states = kept_view ∙ sym is in
+      let P : Notes → Type 0 = λ ns. IsAnnotation code ns in
+      let Q : Notes → Type 0 = λ ns. AreRegions code ns regions in
+      let R : Notes → Type 0 = λ ns. kept ≡ kept_states code ns in
+      record {
+        annotation = subst P (sym kept_view) (settled_annotation code notes annotation proper);
+        regions_are = subst Q (sym same) regions_are;
+        kept_are = subst R (sym same) kept_is;
+      }
+
+-- the refusal of states with numbers that rise is that of the list that follows from them
+pub pairs_told : (code : List Placed) (pairs : List (ℕ × Abstract)) (all : Notes) (fault : Option VerifyFault) → are_rising 0 (length code) pairs ≡ true → all ≡ derived code (pair_at pairs) → fault_of code all ≡ fault
+    → pairs_fault code pairs ≡ fault
+unfolding pairs_fault
+pairs_told code pairs all fault rising is told =
+    cond-true (are_rising 0 (length code) pairs) (fault_of code (derived code (pair_at pairs))) (Some (record { pc = 0; kind = check.Notes })) rising
+    ∙ (ap (λ (ns : Notes). fault_of code ns) (sym is) ∙ told)
+
+pub unordered_told : (code : List Placed) (pairs : List (ℕ × Abstract)) → are_rising 0 (length code) pairs ≡ false → pairs_fault code pairs ≡ Some (record { pc = 0; kind = check.Notes })
+unfolding pairs_fault
+unordered_told code pairs e = cond-false (are_rising 0 (length code) pairs) (fault_of code (derived code (pair_at pairs))) (Some (record { pc = 0; kind = check.Notes })) e

@@ -1,0 +1,116 @@
+-- The states of a program that follow from those that are given of some instructions.
+use Rattle.std.specs.Prelude.{◌≡◌, ℕ, zero, suc, ◌+◌, ◌<◌, Bool, true, false, ◌==◌, ◌&&◌, nat_lt, nat_le, if◌then◌else◌, List, [], ◌∷◌, ◌++◌, length, slice_get, slice_index_or, Option, Some, None}
+use Rattle.std.specs.List.{list_any}
+use Rattle.machine_spec.specs.declared.instruction.Placed.{Placed}
+use Rattle.machine_spec.specs.Image.{target_of}
+use Rattle.verifier_spec.specs.declared.state.Abstract.{Abstract}
+use Rattle.verifier_spec.specs.declared.fault.{Check.Check, VerifyFault.VerifyFault}
+use Rattle.verifier_spec.specs.States.{is_proper, entry_state}
+use Rattle.machine_spec.specs.Traps.{first_of}
+use Rattle.verifier_spec.specs.Checks.{failed_check, shape_checks, jump_of}
+use Rattle.verifier_spec.specs.Transfer.{falls_to}
+use Rattle.verifier_spec.specs.JoinedStates.{if_passed}
+use Rattle.verifier_spec.specs.Annotation.{Notes, note_at, fault_of}
+
+-- ---- what follows
+
+-- What falls through from instruction number k: nothing where there is none, where it is not reached or where it fails a
+-- check, of its shape or in its state.
+abbrev pub fallen : List Placed → ℕ → Option Placed → Option Abstract → Option Abstract
+fallen code k None s = None
+fallen code k (Some placed) None = None
+fallen code k (Some placed) (Some s) =
+    if_passed (first_of (shape_checks code k placed)) None (if_passed (failed_check placed.instruction s) None (falls_to placed.instruction s))
+
+-- the state that is given of an instruction, or else the one that follows
+abbrev pub given_or : Option Abstract → Option Abstract → Option Abstract
+given_or (Some s) follows = Some s
+given_or None follows = follows
+
+-- The state of an instruction: the given one, or else what falls through from the one before; of the first the entry state.
+unfoldable pub derived_at : List Placed → (ℕ → Option Abstract) → ℕ → Option Abstract
+derived_at code given zero = given_or (given 0) (Some entry_state)
+derived_at code given (suc k) = given_or (given (suc k)) (fallen code k (slice_get code k) (derived_at code given k))
+
+abbrev pub derived_from : List Placed → (ℕ → Option Abstract) → ℕ → List Placed → Notes
+derived_from code given k [] = []
+derived_from code given k (placed ∷ rest) = derived_at code given k ∷ derived_from code given (k + 1) rest
+
+-- those of all instructions
+unfoldable pub derived : List Placed → (ℕ → Option Abstract) → Notes
+derived code given = derived_from code given 0 code
+
+-- ---- jump targets
+
+abbrev pub leads_to : Option ℕ → ℕ → Bool
+leads_to (Some target) k = target == k
+leads_to None k = false
+
+abbrev pub jumps_at : List Placed → ℕ → Placed → Bool
+jumps_at code k placed = leads_to (target_of code placed.slot (jump_of placed.instruction)) k
+
+-- a jump of the code leads to instruction number k
+unfoldable pub is_target : List Placed → ℕ → Bool
+is_target code k = list_any (jumps_at code k) code
+
+-- of a list's notes those at jump targets
+abbrev pub at_targets : List Placed → Notes → ℕ → Option Abstract
+at_targets code notes k = if is_target code k then note_at notes k else None
+
+-- What a verified program has of a list of states: those at jump targets, and what follows from them.
+abbrev pub settled : List Placed → Notes → Notes
+settled code notes = derived code (at_targets code notes)
+
+-- ---- states with the numbers of their instructions
+
+-- the first state with a number
+abbrev pub pair_at : List (ℕ × Abstract) → ℕ → Option Abstract
+pair_at [] k = None
+pair_at (pair ∷ pairs) k = if pair.0 == k then Some pair.1 else pair_at pairs k
+
+-- the state of instruction number k, where it is reached and wanted
+abbrev pub kept_note : Bool → ℕ → Option Abstract → List (ℕ × Abstract)
+kept_note true k (Some s) = (k, s) ∷ []
+kept_note _ _ _ = []
+
+abbrev pub kept_from : List Placed → ℕ → Notes → List (ℕ × Abstract)
+kept_from code k [] = []
+kept_from code k (note ∷ notes) = kept_note (is_target code k) k note ++ kept_from code (k + 1) notes
+
+-- The states at the jump targets that are reached, in order.
+unfoldable pub kept_states : List Placed → Notes → List (ℕ × Abstract)
+kept_states code notes = kept_from code 0 notes
+
+-- how many of the instructions from number k on are jump targets
+abbrev pub targets_from : List Placed → ℕ → List Placed → ℕ
+targets_from code k [] = 0
+targets_from code k (placed ∷ rest) = (if is_target code k then 1 else 0) + targets_from code (k + 1) rest
+
+-- How many different instructions the jumps of a code lead to.
+unfoldable pub target_count : List Placed → ℕ
+target_count code = targets_from code 0 code
+
+-- each number is below a limit and greater than the one before, and the first is at least the least
+abbrev pub are_rising : ℕ → ℕ → List (ℕ × Abstract) → Bool
+are_rising least limit [] = true
+are_rising least limit (pair ∷ pairs) = (nat_lt pair.0 limit && nat_le least pair.0) && are_rising (pair.0 + 1) limit pairs
+
+-- The refusal that is told of states with numbers: at 0, that the numbers don't rise or are past the code's end; else that of
+-- the list that follows from them.
+unfoldable pub pairs_fault : List Placed → List (ℕ × Abstract) → Option VerifyFault
+pairs_fault code pairs = if are_rising 0 (length code) pairs then fault_of code (derived code (pair_at pairs)) else Some (record { pc = 0; kind = Check.Notes })
+
+-- ---- lists by number
+
+-- each note of a list, by its number
+abbrev pub EachIs : Notes → (ℕ → Option Abstract) → Type 0
+EachIs notes note = (j : ℕ) → j < length notes → note_at notes j ≡ note j
+
+-- the states that follow are in their ranges
+abbrev pub AreDerivedProper : List Placed → (ℕ → Option Abstract) → ℕ → Type 0
+AreDerivedProper code given n = (k : ℕ) (s : Abstract) → k < n → derived_at code given k ≡ Some s → is_proper s ≡ true
+
+-- a list says of each instruction whether a jump leads to it
+pub record AreTargets (code : List Placed) (targets : List Bool) : Type 0 where
+  pub long : length targets ≡ length code
+  pub each : (k : ℕ) → k < length code → slice_index_or targets k false ≡ is_target code k
