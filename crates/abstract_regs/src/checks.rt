@@ -247,7 +247,7 @@ fn end_byte(high: i64, offset: i16, size: u8) -> i128
     last + size as i128
 }
 
-/// Whether the bytes at the offset from any place from low to high lie in the first so many.
+/// Whether the bytes at the offset from any place from low to high lie in the first `length` bytes.
 fn is_reach_within(low: i64, high: i64, offset: i16, size: u8, length: u32) -> bool
     ensures { result ≡ (int_le (pos 0) (low +ℤ offset) && int_le ((high +ℤ offset) +ℤ pos size) (pos length)) }
 {

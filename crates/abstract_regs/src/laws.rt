@@ -9,7 +9,7 @@ use crate::State;
 use machine_spec::Instruction;
 
 /// Transfer is sound: where a state whose checks pass holds of the machine's state before a step,
-/// the step's edge brings a state that holds of the machine's state after it.
+/// the step's edge propagates a state that holds of the machine's state after it.
 #[tactic(auto, using(verifier_spec::proofs::Sound::transfer_sound))]
 pub fn transfer_is_sound(state: &State, instruction: Instruction)
     requires { failed_check instruction state.now ≡ None }
@@ -19,7 +19,7 @@ pub fn transfer_is_sound(state: &State, instruction: Instruction)
 }
 
 /// Checks and transfer keep the order: a state within another passes the checks that the other
-/// passes, and each edge brings from it a state within the one from the other, or none.
+/// passes, and each edge propagates from it a state within the one from the other, or none.
 pub fn order_is_kept(inner: &State, outer: &State, instruction: Instruction)
     requires within { is_within inner.now outer.now ≡ true }
     requires passes { failed_check instruction outer.now ≡ None }

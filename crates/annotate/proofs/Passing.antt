@@ -101,7 +101,7 @@ edge_elsewhere j (Some t) state known elsewhere = cond-false (t == j) (joined_no
 
 module _ (code : List Placed) (k : ℕ) (placed : Placed) (at : slice_get code k ≡ Some placed)
     (later : (t : ℕ) → target_of code placed.slot (jump_of placed.instruction) ≡ Some t → k < t) where
-  -- what stands before an instruction stays
+  -- what is known up to an instruction stays
   earlier_stays : (j : ℕ) (own known : Option Abstract) → j ≤ k → with_instruction code j k (Some placed) own known ≡ known
   earlier_stays j None known le = refl
   earlier_stays j (Some s) known le =

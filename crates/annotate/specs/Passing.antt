@@ -10,8 +10,8 @@ use Rattle.verifier_spec.specs.JoinedStates.{known_after}
 abbrev pub EachIs : Notes → (ℕ → Option Abstract) → Type 0
 EachIs notes note = (j : ℕ) → j < length notes → note_at notes j ≡ note j
 
--- After the first k instructions those have their joined states, which are in their ranges, and each later one has what
--- they bring.
+-- After the first k instructions those have their joined states, which are in their ranges, and each later one has what they
+-- propagate.
 pub record IsPassed (code : List Placed) (notes : Notes) (k : ℕ) : Type 0 where
   pub long : length notes ≡ length code
   pub each : EachIs notes (λ j. known_after code (min k j) j)

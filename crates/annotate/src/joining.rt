@@ -39,7 +39,7 @@ fn bring(states: &mut [Option<State>], target: usize, state: State)
     }
 }
 
-/// Joins what an edge brings, if it brings a state and leads to an instruction.
+/// Joins what an edge propagates, if it propagates a state and leads to an instruction.
 fn bring_along(states: &mut [Option<State>], target: Option<usize>, state: Option<State>)
     ensures length { length states.new ≡ length states.old }
     ensures each { EachIs states.new (λ j. with_edge j target state (note_at states.old j)) }
@@ -51,7 +51,7 @@ fn bring_along(states: &mut [Option<State>], target: Option<usize>, state: Optio
     }
 }
 
-/// Joins what both edges of an instruction bring, the one to the next instruction first.
+/// Joins what both edges of an instruction propagate, the one to the next instruction first.
 fn bring_both(code: &Code, states: &mut [Option<State>], k: usize, placed: Placed, state: State)
     requires slot { placed.slot < MAX_SLOTS }
     requires number { k < MAX_SLOTS }
@@ -65,8 +65,8 @@ fn bring_both(code: &Code, states: &mut [Option<State>], k: usize, placed: Place
     bring_along(states, code.target(placed.slot, jump), edges.jump);
 }
 
-/// Passes an instruction with its own note: it brings nothing where it is not reached or fails a
-/// check.
+/// Passes an instruction with its own note: it propagates nothing where it is not reached or fails
+/// a check.
 fn pass_one(
     code: &Code,
     states: &mut [Option<State>],
@@ -110,7 +110,7 @@ fn pass(code: &Code, states: &mut [Option<State>])
 }
 
 /// The joined states of code: at each instruction the least state above all that the edges of
-/// reached instructions before it bring.
+/// reached instructions before it propagate.
 pub fn joined_states(alloc: Global, code: &Code) -> Result<Vec<Option<State>>, AllocError>
     ensures states { IfOk result (λ states. states.items ≡ joined_states code.now) }
     ensures proper { IfOk result (λ _. AreJoinedProper code.now) }

@@ -8,8 +8,8 @@ use std::alloc::Global;
 use verifier_spec::LoadFault;
 
 /// The verified program of an image: its instructions, each with the least abstract state above all
-/// that the edges of reached instructions before it bring. Every image that has an annotation is
-/// accepted, memory aside, and the states are then within those of every annotation.
+/// that the edges of reached instructions before it propagate. Every image that has an annotation
+/// is accepted, memory aside, and the states are then within those of every annotation.
 ///
 /// It fails with the image's first refusal, and then, where there is no annotation, with the first
 /// check that the lowest faulty instruction fails in its joined state; where memory runs out, as

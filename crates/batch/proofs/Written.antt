@@ -76,7 +76,7 @@ covered_is b rs g n old mid new same top count first second =
     let second' : new ≡ mid ++ records_spelling 0 b.records = second ∙ ap (λ (x : List Record). mid ++ records_spelling 0 x) same in
     row old mid new (header_of b (greatest (timestamps b.base_timestamp b.records)) (length b.records)) (records_spelling 0 b.records) first' second' ∙ ap (λ (s : List ℕ). old ++ s) (header_then b)
 
--- what stands before it, with 0 in the place of the checksum
+-- what is before it, with 0 in the place of the checksum
 abbrev pub front_of : Batch → ℕ → List ℕ
 front_of b size = signed w64 b.base_offset ++ (to_be_bytes w32 (size - 12) ++ (signed w32 b.leader_epoch ++ (2 ∷ to_be_bytes w32 0)))
 

@@ -69,7 +69,7 @@ fn in_time(base: i64, records: &[Record]) -> bool
 pub fn fits(batch: &Batch) -> bool
     ensures { IsTrue result ↔ BatchFits «batch».now }
 {
-    // Reading them tells the proof that they are in their types' ranges.
+    // Reading them shows the proof that they are in their types' ranges.
     let _offset = batch.base_offset;
     let _epoch = batch.leader_epoch;
     let _producer = batch.producer_id;

@@ -62,7 +62,7 @@ fn miscounted(bytes: &[u8]) -> bool
     count == 0 || count > MAX_RECORDS || last != count - 1
 }
 
-/// How many records the header tells.
+/// The header's number of records.
 #[tactic(auto, unfolding(wire_spec::specs::BatchReading::count_at))]
 fn count_of(bytes: &[u8]) -> Result<u32, BatchFault>
     requires { 61 ≤ length bytes.now }
@@ -179,9 +179,9 @@ fn batch_of(alloc: Global, mut bytes: Bytes) -> Result<(Batch, usize), BatchFaul
     Ok((batch, size))
 }
 
-/// The batch at the front of the bytes, and how many of them it takes, at least 61. Its keys, values
-/// and headers share the bytes. It fails with the first reason why no batch stands there, in the order
-/// that `BatchFault` tells, or with `Memory` at the first request for memory that is refused.
+/// The batch at the front of the bytes, and how many of them it takes, at least 61. Its keys,
+/// values and headers share the bytes. It fails with the first reason why no batch is there, in the
+/// order that `BatchFault` gives, or with `Memory` at the first request for memory that is refused.
 pub fn decode(alloc: Global, bytes: Bytes) -> Result<(Batch, usize), BatchFault>
     // What is read is spelled so.
     ensures found { IfOk result (λ x. BatchFits x.0 × (x.1 ≤ length bytes) × (take x.1 bytes ≡ batch_spelling x.0)) }

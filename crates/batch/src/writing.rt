@@ -95,7 +95,7 @@ fn put_covered(out: &mut Vec<u8>, batch: &Batch) -> Result<(), AllocError>
     Ok(())
 }
 
-/// Writes the checksum of what stands behind it.
+/// Writes the checksum of what follows it.
 fn seal(out: &mut [u8])
     requires { 21 ≤ length out.old }
     ensures { out.new ≡ take 17 out.old ++ (to_be_bytes w32 (checksum (drop 21 out.old)) ++ drop 21 out.old) }

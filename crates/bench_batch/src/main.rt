@@ -50,7 +50,7 @@ const HEADED: Shape = Shape {
     headers: 4,
 };
 
-/// So many bytes, which are text.
+/// `len` bytes, which are text.
 fn text(alloc: Global, len: usize) -> Result<Bytes, AllocError> {
     let text = vec![in alloc; b'k'; len]?;
     Ok(Bytes::from_vec(text)?)
@@ -131,7 +131,7 @@ fn sum_of_batch(batch: &Batch) -> u64 {
     sum
 }
 
-/// Reads the batch so many times, and sums what was read.
+/// Reads the batch `times` times, and sums what was read.
 fn read_turn(alloc: Global, bytes: &Bytes, times: u32) -> io::Result<u64> {
     let mut sum: u64 = 0;
     for _ in 0..times {
@@ -144,7 +144,7 @@ fn read_turn(alloc: Global, bytes: &Bytes, times: u32) -> io::Result<u64> {
     Ok(sum)
 }
 
-/// Writes the batch so many times, and sums how many bytes there are.
+/// Writes the batch `times` times, and sums how many bytes there are.
 fn write_turn(alloc: Global, batch: &Batch, times: u32) -> io::Result<u64>
     requires { BatchFits batch.now }
 {
@@ -192,7 +192,7 @@ fn shortest_write<R: Clock>(
     Ok((shortest, sum))
 }
 
-/// Prints what a turn took: so many times so many bytes and records.
+/// Prints what a turn took: `times` times `bytes` bytes and `records` records.
 fn show<R: Print>(
     rt: &R,
     name: &str,

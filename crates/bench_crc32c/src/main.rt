@@ -14,7 +14,7 @@ const LEN: usize = 65_536;
 
 const TURNS: u32 = 10;
 
-// Sums the bytes so many times. Each time changes a byte, so that no sum can stand for another.
+// Sums the bytes `times` times. Each time changes a byte, so that no sum can replace another.
 fn turn<F: Fn(&[u8]) -> u32 + Drop>(bytes: &mut [u8], times: u32, checksum: F) -> u32
     requires filled { 0 < length bytes.old }
     requires callable { F.IsAlwaysCallable checksum }

@@ -22,7 +22,7 @@ const PLACE: Place = Place {
     outputs: 1,
 };
 
-/// The text of a program: its head, its body so many times, EXIT.
+/// The text of a program: its head, its body `kind.times` times, EXIT.
 fn text_of(alloc: Global, kind: &Kind) -> Option<String> {
     let mut text = String::from_str(alloc, kind.head).ok()?;
     for _ in 0..kind.times {
@@ -70,7 +70,7 @@ fn code_of(alloc: Global, program: &Verified, record: &Record) -> Option<u64> {
     }
 }
 
-/// The sum of the reject codes on all the records, so many times.
+/// The sum of the reject codes on all the records, `rounds` times.
 fn sum_of(alloc: Global, program: &Verified, records: &[Record], rounds: u32) -> Option<u64> {
     let mut sum: u64 = 0;
     for _ in 0..rounds {
@@ -94,7 +94,7 @@ fn nanos_of<R: Clock>(
     Ok((start.elapsed(rt)?.as_nanos(), sum))
 }
 
-/// Prints how long a program takes for so many rounds of the records.
+/// Prints how long a program takes for `rounds` rounds of the records.
 fn time<R: Print + Clock>(
     rt: &R,
     alloc: Global,

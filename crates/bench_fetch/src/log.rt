@@ -25,7 +25,7 @@ impl Gate for Open {
     }
 }
 
-/// A record with a key of 8 bytes and a value of so many.
+/// A record with a key of 8 bytes and a value of `value` bytes.
 fn record_of(alloc: Global, value: usize) -> Result<Record, AllocError> {
     let key = Bytes::from_vec(vec![in alloc; b'k'; 8]?)?;
     let value = Bytes::from_vec(vec![in alloc; b'v'; value]?)?;

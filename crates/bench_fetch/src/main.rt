@@ -46,7 +46,7 @@ const LARGE: Shape = Shape {
     value: 65_536,
 };
 
-/// Prints what a turn took: so many times so many bytes and rows.
+/// Prints what a turn took: `times` times `bytes` bytes and `rows` rows.
 fn show<R: Print>(
     rt: &R,
     name: &str,

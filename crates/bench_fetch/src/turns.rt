@@ -21,7 +21,7 @@ pub(crate) struct Times {
     pub(crate) rows: usize,
 }
 
-/// Fetches rows so many times.
+/// Fetches rows `turn.times` times.
 fn fetch_turn<Id: Names, C, R: Wait>(
     rt: &R,
     broker: &Broker<Id, C>,
@@ -54,7 +54,7 @@ pub(crate) fn shortest_fetch<Id: Names, C, R: Wait + Clock>(
     Ok(shortest)
 }
 
-/// Copies bytes so many times.
+/// Copies bytes `times` times.
 fn copy_turn(alloc: Global, bytes: &[u8], times: u32) -> io::Result<()> {
     for _ in 0..times {
         let copy = Vec::from_slice(alloc, bytes)?;
@@ -80,7 +80,7 @@ pub(crate) fn shortest_copy<R: Clock>(
     Ok(shortest)
 }
 
-/// Writes a batch so many times.
+/// Writes a batch `times` times.
 fn encode_turn(alloc: Global, batch: &Batch, times: u32) -> io::Result<()>
     requires { BatchFits batch.now }
 {

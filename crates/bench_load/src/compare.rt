@@ -89,7 +89,7 @@ fn join_at(states: &mut [Option<State>], target: Option<usize>, state: Option<St
     }
 }
 
-/// Joins what an instruction's edges bring, where its checks pass.
+/// Joins what an instruction's edges propagate, where its checks pass.
 fn pass_one(code: &Code, states: &mut [Option<State>], k: usize, placed: Placed, state: State)
     requires number { k < MAX_SLOTS }
     requires slot { placed.slot < MAX_SLOTS }

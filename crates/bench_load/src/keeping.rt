@@ -20,7 +20,7 @@ fn image_of(alloc: Global, branches: u32) -> Option<Vec<u8>> {
     }
 }
 
-/// Loads a program so many times and keeps all that is loaded until the last.
+/// Loads a program `count` times and keeps all that is loaded until the last.
 pub(crate) fn keep_all(alloc: Global, branches: u32, count: u32) -> Option<Kept> {
     let image = image_of(alloc, branches)?;
     let mut programs = Vec::new(alloc);

@@ -2,7 +2,7 @@
 //! With no argument it does nothing.
 //!
 //! `random COUNT SEED` makes programs and prints in how many the two differ. `time BRANCHES ROUNDS`
-//! loads a program of that many branches so many times. `keep BRANCHES COUNT` does the same, for 0
+//! loads a program of BRANCHES branches ROUNDS times. `keep BRANCHES COUNT` does the same, for 0
 //! branches in a straight line, and keeps all that is loaded until the end: the process's memory
 //! then says what a program takes.
 #![tactic(auto)]

@@ -80,7 +80,7 @@ fn jump(random: &mut Random, left: u8) -> [u8; 8] {
     [opcode, dst, over, 0, imm, 0, 0, 0]
 }
 
-/// An instruction with so many after it before the last.
+/// An instruction with `left` instructions after it before the last.
 fn instruction(random: &mut Random, left: u8) -> [u8; 8] {
     match random.below(8) {
         0 => by_constant(random),
@@ -111,8 +111,8 @@ pub(crate) fn random_image(alloc: Global, random: &mut Random) -> Option<Vec<u8>
     Some(image)
 }
 
-/// r0 = 0, so many times a jump over a move, 23 moves for each 500 branches, EXIT: 2,048 instructions
-/// with 1,000 branches, 4,096 with 2,000 (and two moves more).
+/// r0 = 0, `branches` times a jump over a move, 23 moves for each 500 branches, EXIT: 2,048
+/// instructions with 1,000 branches, 4,096 with 2,000 (and two moves more).
 pub(crate) fn branching(alloc: Global, branches: u32) -> Option<Vec<u8>> {
     let mut image = Vec::new(alloc);
     image.extend_from_slice(&ZERO).ok()?;
@@ -130,7 +130,7 @@ pub(crate) fn branching(alloc: Global, branches: u32) -> Option<Vec<u8>> {
     Some(image)
 }
 
-/// So many times r0 = 0, EXIT.
+/// `moves` times r0 = 0, EXIT.
 pub(crate) fn straight(alloc: Global, moves: u32) -> Option<Vec<u8>> {
     let mut image = Vec::new(alloc);
     for _ in 0..moves {

@@ -4,7 +4,7 @@ use std::io;
 use std::rt::Clock;
 use std::time::Instant;
 
-/// How many instructions are loaded in the last of so many rounds.
+/// How many instructions are loaded in the last of `rounds` rounds.
 fn load_all(alloc: Global, image: &[u8], rounds: u32) -> usize {
     let mut instructions = 0;
     for _ in 0..rounds {

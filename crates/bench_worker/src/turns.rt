@@ -166,7 +166,7 @@ pub(crate) fn measure_cores<R: Threads + Wait + Clock + Print + Sync>(
     print_cores(rt, 4, four, one)
 }
 
-/// Beside each rate stands how many times that of one input partition it is.
+/// Prints each rate, and beside it how many times that of one input partition it is.
 fn print_cores<R: Print>(rt: &R, inputs: usize, times: Times, one: Times) -> io::Result<()> {
     println!(rt;
         "{inputs} inputs: {:6.3} million records/s, {:5.2} of one; workers alone {:6.3}, {:5.2} of one",

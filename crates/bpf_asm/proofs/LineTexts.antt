@@ -111,7 +111,7 @@ joined_again text (next ∷ texts) are =
     ∙ ap (λ (t : List ℕ). t ∷ map after_spaces (onto_first 32 (slice_split is_comma rest))) (no_spaces text are.0.plain)
     ∙ ap (λ (ts : List (List ℕ)). text ∷ ts) later
 
--- the last operand of some, and what stands before it
+-- the last operand of some, and what is before it
 joined_ends : (front text : List ℕ) (texts : List (List ℕ)) → AreOperands (text ∷ texts) → before_spaces (front ++ joined (text ∷ texts)) ≡ front ++ joined (text ∷ texts)
 joined_ends front text [] are = ends front text are.0
 joined_ends front text (next ∷ texts) are =

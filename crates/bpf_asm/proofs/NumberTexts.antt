@@ -32,7 +32,7 @@ or_other : (a b : Bool) → b ≡ true → (a || b) ≡ true
 or_other true b h = refl
 or_other false b h = h
 
--- 0 stands first only alone
+-- the first digit is 0 only where it is alone
 decimal_natural : (n : ℕ) → n < 2 ^ 64 → ((length (decimal n) == 1) || not (slice_index (decimal n) 0 == 48)) ≡ true
 decimal_natural zero small = ap (λ (ds : List ℕ). (length ds == 1) || not (slice_index ds 0 == 48)) (decimal_digit 0 (omega arith))
 decimal_natural (suc n) small =

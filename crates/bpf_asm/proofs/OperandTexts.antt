@@ -71,7 +71,7 @@ immediate_source z fits = ap (by_first (signed_decimal z)) (other_first z fits) 
 abbrev if_closed : List ℕ → Bool → Result (ℕ × ℤ) LineFault
 if_closed text is = cond is (read_between (drop 1 (take (length text - 1) text))) (Err fault.Operand)
 
--- what stands between brackets is read
+-- what is between brackets is read
 bracketed : (inner : List ℕ) → read_place (91 ∷ (inner ++ 93 ∷ [])) ≡ read_between inner
 bracketed inner =
     let size : length (inner ++ 93 ∷ []) ≡ length inner + 1 = length-append inner (93 ∷ []) in

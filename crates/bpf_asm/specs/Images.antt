@@ -15,15 +15,15 @@ abbrev pub before_bytes : List ℕ → Result (List ℕ) AsmFault → Result (Li
 before_bytes bytes (Ok others) = Ok (bytes ++ others)
 before_bytes bytes (Err f) = Err f
 
--- A line after lines whose image has so many bytes: its own and those of the lines after it. An image has 8 bytes a slot,
--- and at most 4,096 slots.
+-- A line after lines whose image has `size` bytes: its own and those of the lines after it. An image has 8 bytes a slot, and
+-- at most 4,096 slots.
 abbrev pub with_line : ℕ → ℕ → Result (Option Instruction) LineFault → (ℕ → Result (List ℕ) AsmFault) → Result (List ℕ) AsmFault
 with_line number size (Err f) later = Err (at_line number f)
 with_line number size (Ok None) later = later size
 with_line number size (Ok (Some i)) later =
     if nat_le (size + length (spelling i)) (8 * MAX_SLOTS) then before_bytes (spelling i) (later (size + length (spelling i))) else Err (asm.Size number)
 
--- the image of lines, the first with this number and after so many bytes, or the fault of the lowest faulty line
+-- the image of lines, the first with this number and after `size` bytes, or the fault of the lowest faulty line
 abbrev pub lines_image : ℕ → ℕ → List (List ℕ) → Result (List ℕ) AsmFault
 lines_image number size [] = Ok []
 lines_image number size (line ∷ lines) = with_line number size (read_line line) (λ size. lines_image (number + 1) size lines)

@@ -8,7 +8,7 @@ use Rattle.std.specs.Str.Parse.{digits_value}
 abbrev pub is_digits : List ℕ → Bool
 is_digits text = nat_lt 0 (length text) && list_all is_ascii_digit text
 
--- digits of which 0 stands first only alone
+-- digits, of which the first is 0 only where it is alone
 abbrev pub is_natural : List ℕ → Bool
 is_natural text = is_digits text && ((length text == 1) || not (slice_index text 0 == 48))
 
@@ -25,11 +25,11 @@ abbrev pub negative : Option ℕ → Option ℤ
 negative (Some n) = if n == 0 then None else Some (neg_ℤ (pos n))
 negative None = None
 
--- `-` (45) stands before a number that is below 0, and nothing before others
+-- `-` (45) is before a number that is below 0, and nothing is before others
 abbrev pub number_of : List ℕ → Option ℤ
 number_of text = if slice_index text 0 == 45 then negative (natural (drop 1 text)) else positive (natural text)
 
--- `+` (43) stands before a distance, or `-` where it is below 0
+-- `+` (43) is before a distance, or `-` where it is below 0
 abbrev pub distance_of : List ℕ → Option ℤ
 distance_of text =
     if slice_index text 0 == 43 then positive (natural (drop 1 text)) else

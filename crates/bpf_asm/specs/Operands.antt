@@ -59,7 +59,7 @@ source_text (Immediate imm) = signed_decimal imm
 abbrev pub is_sign : ℕ → Bool
 is_sign byte = (byte == 43) || (byte == 45)
 
--- what stands between the brackets: a register up to the sign, and a distance
+-- what is between the brackets: a register up to the sign, and a distance
 abbrev pub read_between : List ℕ → Result (ℕ × ℤ) LineFault
 read_between text = both (read_register (take (position_or_len is_sign text) text)) (read_short (drop (position_or_len is_sign text) text))
 

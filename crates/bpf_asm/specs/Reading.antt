@@ -40,7 +40,7 @@ abbrev pub operands_in : Option (List ℕ) → List (List ℕ)
 operands_in (Some text) = map after_spaces (slice_split is_comma text)
 operands_in None = []
 
--- what stands after the first space of a line, if it has one
+-- what is after the first space of a line, if it has one
 abbrev pub rest_of : List ℕ → Option (List ℕ)
 rest_of line = if nat_lt (position_or_len is_space line) (length line) then Some (after_first is_space line) else None
 

@@ -75,7 +75,7 @@ swapped_text swapped.Bits16 = codes "16"
 swapped_text swapped.Bits32 = codes "32"
 swapped_text swapped.Bits64 = codes "64"
 
--- how many bits are extended stands after a dot
+-- how many bits are extended, after a dot
 abbrev pub extended_text : ExtendedWidth → List ℕ
 extended_text extended.Bits8 = codes ".8"
 extended_text extended.Bits16 = codes ".16"

@@ -53,7 +53,7 @@ impl AsmFault {
     }
 }
 
-/// Which of two faults of a line is told: one of the operands' shapes before one of a register
+/// Which of two faults of a line is reported: one of the operands' shapes before one of a register
 /// before one of a number.
 fn first_fault(one: LineFault, other: LineFault) -> LineFault
     ensures { result ≡ definitions.first_fault one other }
@@ -66,7 +66,7 @@ fn first_fault(one: LineFault, other: LineFault) -> LineFault
     }
 }
 
-/// Two readings of a line, or the fault that is told of the line.
+/// Two readings of a line, or the fault that is reported for the line.
 pub fn both<A: Copy, B: Copy>(
     one: Result<A, LineFault>,
     other: Result<B, LineFault>,

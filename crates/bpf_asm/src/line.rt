@@ -51,7 +51,7 @@ pub fn trimmed(line: &[u8]) -> &[u8]
     before_spaces(after_spaces(line))
 }
 
-/// The word of a line, and what stands after its first space, if it has one.
+/// The word of a line, and what is after its first space, if it has one.
 pub fn word_and_rest(line: &[u8]) -> (&[u8], Option<&[u8]>)
     ensures word { result.0.now ≡ before_first is_space line.now }
     ensures rest { option_map (λ r. r.now) result.1 ≡ rest_of line.now }
@@ -64,7 +64,7 @@ pub fn word_and_rest(line: &[u8]) -> (&[u8], Option<&[u8]>)
     }
 }
 
-/// The first operand of a text, without the spaces before it, and what stands after its comma.
+/// The first operand of a text, without the spaces before it, and what is after its comma.
 fn first(text: &[u8]) -> (&[u8], Option<&[u8]>)
     ensures { operands_in (Some text.now) ≡ result.0.now ∷ operands_in (option_map (λ r. r.now) result.1) }
 {

@@ -28,7 +28,7 @@ pub fn is_digits(text: &[u8]) -> bool
     !text.is_empty() && are_all_digits(text)
 }
 
-/// Whether a text is digits of which 0 stands first only alone.
+/// Whether a text is digits, of which the first is 0 only where it is alone.
 fn is_natural(text: &[u8]) -> bool
     ensures { result ≡ definitions.is_natural text.now }
 {

@@ -63,7 +63,7 @@ bytes_again image slot fits =
     let imm = word_again (byte 4) (byte 5) (byte 6) (byte 7) (fit 4) (fit 5) (fit 6) (fit 7) in
     layout_same (byte 0) _ _ _ _ _ _ registers offset imm
 
--- the bytes of so many slots
+-- the bytes of `count` slots
 abbrev pub slots_bytes : List ℕ → ℕ → ℕ → List ℕ
 slots_bytes image slot zero = []
 slots_bytes image slot (suc count) = slot_bytes image slot ++ slots_bytes image (slot + 1) count

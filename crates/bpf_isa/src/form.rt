@@ -226,7 +226,7 @@ fn extended_by(offset: i16) -> Option<ExtendedWidth>
     }
 }
 
-/// The move that extends so many bits; one of 32 bits extends fewer.
+/// The move that extends `part` bits; one of 32 bits extends fewer.
 fn extending(width: Width, dst: u8, src: u8, part: Option<ExtendedWidth>) -> Option<Instruction>
     ensures { result ≡ definitions.extending width dst src part }
 {
@@ -339,7 +339,7 @@ fn widening(dst: u8, imm: i32, upper: Option<u32>) -> Option<Instruction>
     }
 }
 
-/// A template with these fields in place of its own, if they stand for an instruction.
+/// A template with these fields in place of its own, if they encode an instruction.
 pub fn filled(template: Instruction, fields: SlotFields) -> Option<Instruction>
     ensures { result ≡ definitions.filled template (view fields) }
 {

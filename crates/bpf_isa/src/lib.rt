@@ -1,6 +1,6 @@
 //! Images of programs (RFC 9669, section 3) as instructions, and back.
 //!
-//! An image's instructions are its code: `decode` reads it or tells the first slot that it
+//! An image's instructions are its code: `decode` reads it or reports the first slot that it
 //! refuses, and `encode` gives the one image that has a code.
 #![tactic(auto)]
 

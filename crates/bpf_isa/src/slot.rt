@@ -1,4 +1,4 @@
-//! One slot of an image: its fields, and the instruction that they stand for.
+//! One slot of an image: its fields, and the instruction that they encode.
 
 ghost use Rattle.std.specs.Prelude.{◌≡◌, ◌<◌};
 ghost use Rattle.machine_spec.specs.Image.{slot_count, word_at, upper_at, fields_at, if_filled, read_slot, checked};
@@ -71,8 +71,7 @@ fn fields(image: &[u8], slot: usize) -> SlotFields
     }
 }
 
-/// What the fields of a slot stand for; a 64-bit immediate without an upper half stands for
-/// nothing.
+/// What the fields of a slot encode; a 64-bit immediate without an upper half encodes nothing.
 fn if_filled(
     slot: usize,
     fields: SlotFields,

@@ -187,7 +187,7 @@ near_entry input (suc (suc (suc (suc (suc (suc (suc (suc (suc (suc (suc r)))))))
 
 -- ---- runs
 
--- how far a state is that so many steps lead to
+-- how far a state is that n steps lead to
 pub record IsBounded (program : Program) (n : ℕ) (s : State) : Type 0 where
   pub counted : n ≤ s.slot
   pub within : s.slot ≤ slot_count program.image + 1

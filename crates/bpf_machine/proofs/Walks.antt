@@ -10,7 +10,7 @@ use Rattle.bpf_machine.specs.Views.{stack_of}
 use Rattle.bpf_machine.proofs.Pieces.{get-set_same, get-set_other}
 
 module _ (image : List ℕ) (target : ℕ) where
-  -- whether a walk from a slot on, of at most so many steps, comes to the target
+  -- whether a walk from a slot on, of at most `steps` steps, comes to the target
   abbrev pub comes : ℕ → ℕ → Bool
   comes steps slot = list_any (λ first. first == target) (first_slots_from image steps slot)
 

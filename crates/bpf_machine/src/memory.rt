@@ -16,7 +16,7 @@ use machine_spec::{Direction, Extension, MemoryOperand, Place, Region, STACK_SIZ
 use std::alloc::{AllocError, Global};
 use wire_spec::Record;
 
-/// What a run has at hand: the program's image, the record and where it stands.
+/// What a run has at hand: the program's image, the record and its place.
 #[derive(Drop)]
 pub struct Run<'a> {
     pub alloc: Global,
@@ -25,7 +25,7 @@ pub struct Run<'a> {
     pub place: &'a Place,
 }
 
-/// So many bytes from a place of a region on; the place may lie outside it.
+/// `size` bytes from a place of a region on; the place may lie outside it.
 #[derive(Clone, Copy, Debug, PartialEq, Eq)]
 pub struct Span {
     pub direction: Direction,
@@ -222,7 +222,7 @@ impl<'a> Run<'a> {
         u64::from(low) + 0x1_0000_0000 * u64::from(high)
     }
 
-    /// The number that the bytes from a place on stand for, extended to 64 bits.
+    /// The number that the bytes from a place on encode, extended to 64 bits.
     fn number_at(
         &self,
         stack: &Stack,

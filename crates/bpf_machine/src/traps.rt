@@ -152,7 +152,7 @@ fn has_wrong_condition(condition: Option<Condition>, registers: &[Tagged; REGIST
 
 // ---- memory
 
-/// Whether so many bytes from a place on lie in a region of this length.
+/// Whether `size` bytes from a place on lie in a region of this length.
 fn is_within(start: i128, size: u64, length: usize) -> bool
     ensures { result ≡ definitions.is_within start size length }
 {
@@ -207,7 +207,7 @@ fn is_unset(byte: Option<u8>) -> bool
     }
 }
 
-/// Whether one of so many bytes from a place on is not set.
+/// Whether one of `count` bytes from a place on is not set.
 fn has_unset(stack: &Stack, place: u128, count: u64) -> bool
     requires { place + count < 2 ^ 128 }
     ensures { result ≡ definitions.has_unset (stack_of stack.now) place count }

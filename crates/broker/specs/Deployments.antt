@@ -42,7 +42,7 @@ pub record IsDeployed (input : ℕ) (name : List ℕ) (known : Version) (old : L
   pub item_is : receipt.item ≡ Marked name version image
   pub found : IsFound name known old new (Some (version, image))
 
--- Of a broker with so many input partitions, by a finder that had seen the old versions and has seen the new ones then. The
+-- Of a broker with `inputs` input partitions, by a finder that had seen the old versions and has seen the new ones then. The
 -- first that holds is answered: there is no such partition, the finder gets no reading, it finds none, the log refuses the
 -- mark.
 abbrev pub DeployIs : ℕ → ℕ → List ℕ → Version → List Version → Result (Received × ℕ) BrokerFault → List Version → Type 0

@@ -12,7 +12,7 @@ use Rattle.broker.specs.declared.stepped.Stepped.{Stepped}
 use Rattle.broker.specs.declared.stepped.Stepped.TheVariants.{Added, Nothing}
 
 -- The item is the one that the note knew, if it knew one. It is done now, and the rows that it gives by the program in force
--- for it were added, so many.
+-- for it were added; `count` is their number.
 pub record IsStep (outputs input : ℕ) (old : Content) (note : CellNote) (count : ℕ) (new : Content) : Type 0 where
   pub item : Kept
   pub known : IfSome note.known (λ known. known ≡ item)
@@ -45,7 +45,7 @@ StepIs source old note (Ok (Added count)) new = IsStep source.outputs source.inp
 StepIs source old note (Ok Nothing) new = (new ≡ old) × (done_of old.logs source.input < source.cells → note.known ≡ None)
 StepIs source old note (Err fault) new = (new ≡ old) × IsStepFault source.inputs source.input old fault
 
--- The item where a walk stands is added to a book that waits for it, or memory ran out.
+-- The item at a walk's position is added to a book that waits for it, or memory ran out.
 abbrev pub PutIs : ℕ → Content → Log → Result ℕ BrokerFault → Content → Type 0
 PutIs outputs old walk (Ok count) new =
     (here : List Row) × IsRowsAt walk.partition old.output outputs walk.items (last walk.items) here × (count ≡ length here)

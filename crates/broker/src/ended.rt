@@ -12,7 +12,7 @@ pub enum Until {
 /// How the worker of an input partition ended.
 #[derive(Clone, Copy, Debug, PartialEq, Eq)]
 pub enum Ended {
-    /// So many items are done in every output partition.
+    /// This number of items is done in every output partition.
     Done(usize),
     /// The gate stopped it before it offered this item to this output partition.
     Stopped(usize, usize),

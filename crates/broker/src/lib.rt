@@ -2,8 +2,9 @@
 //! partitions and the catalogue of programs.
 //!
 //! The crate is a thin layer. It finds the partition that is named, and refuses one that isn't
-//! there; what is done to a log, a book or the catalogue stands in the contracts of `part_log`,
-//! `out_book` and `catalogue`. `start` runs a worker for each input partition in a thread of its own.
+//! there; what is done to a log, a book or the catalogue is in the contracts of `part_log`,
+//! `out_book` and `catalogue`. `start` runs a worker for each input partition in a thread of its
+//! own.
 #![tactic(auto)]
 
 mod audit;

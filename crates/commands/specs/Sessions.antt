@@ -19,7 +19,7 @@ use Rattle.report.specs.Texts.{report_text}
 use Rattle.commands.specs.Images.{first_bytes}
 use Rattle.commands.specs.Puts.{put_batch}
 
--- so many input partitions, with so many cells each, and so many output partitions
+-- `inputs` input partitions, with `cells` cells each, and `outputs` output partitions
 pub record IsMade (inputs outputs cells : ℕ) (parts : Layout) : Type 0 where
   pub inputs_are : length parts.cells ≡ inputs
   pub outputs_are : parts.outputs ≡ outputs
@@ -80,13 +80,13 @@ Puts input batch receipt before after =
 abbrev pub Closes : ℕ → Received → Option (List ℕ) → Option (List ℕ) → Type 0
 Closes input receipt before after = IsReceiptOf input Closed receipt × Appends before after (close_line input (length receipt.before.items))
 
--- What an output partition has from a place on, at most so many rows, was printed as one batch.
+-- What an output partition has from a place on, at most `max` rows, was printed as one batch.
 pub record Fetches (outputs output place max : ℕ) (before after : Option (List ℕ)) : Type 0 where
   pub found : Option (List ℕ)
   pub fetched : IsFetch outputs output place max found
   pub printed : Appends before after (fetch_line found)
 
--- The report of a snapshot of so many output and input partitions was printed.
+-- The report of a snapshot of `outputs` output and `inputs` input partitions was printed.
 pub record Reports (outputs inputs : ℕ) (before after : Option (List ℕ)) : Type 0 where
   pub snapshot : Gathered
   pub gathered : IsGathered outputs snapshot

@@ -16,7 +16,7 @@ use Rattle.commands.specs.declared.stop.Stop.TheVariants as stop
 use Rattle.commands.specs.declared.image.Refused.{Refused}
 use Rattle.commands.specs.declared.image.Refused.TheVariants as refused
 
--- a call that the broker refuses; want of memory is told as such
+-- a call that the broker refuses; want of memory is reported as such
 abbrev pub stop_of_broker : BrokerFault → Stop
 stop_of_broker broker.Partition = stop.Broker broker.Partition
 stop_of_broker broker.NoProgram = stop.Broker broker.NoProgram

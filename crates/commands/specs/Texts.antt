@@ -13,7 +13,7 @@ use Rattle.commands.specs.declared.image.Refused.{Refused}
 use Rattle.commands.specs.declared.image.Refused.TheVariants as refused
 use Rattle.commands.specs.Stops.{status_of_refused}
 
--- the refusal of an image that has no code; want of memory is told as such
+-- the refusal of an image that has no code; want of memory is reported as such
 abbrev pub refusal_of : IsaFault → Refused
 refusal_of fault.Size = refused.Image (Isa fault.Size)
 refusal_of (fault.Opcode slot) = refused.Image (Isa (fault.Opcode slot))
@@ -32,7 +32,7 @@ abbrev pub disassembly : List ℕ → Result (List ℕ) Refused
 disassembly image = disassembly_of (read_image image)
 
 -- A call that prints an answer, seen by view, ends with this status: standard output got all of the text, or the refusal was
--- told, unless a file, standard output or memory failed.
+-- reported, unless a file, standard output or memory failed.
 abbrev pub PrintsAs : {X : Type 0} → (X → List ℕ) → Result X Refused → ℕ → Option (List ℕ) → Option (List ℕ) → Type 0
 PrintsAs view (Ok text) status before after = (status ≡ 3) ⊎ ((status ≡ 0) × Appends before after (view text))
 PrintsAs view (Err told) status before after = (status ≡ 3) ⊎ (status ≡ status_of_refused told)
@@ -46,8 +46,8 @@ status_of_fault (asm.Register _) = 1
 status_of_fault (asm.Size _) = 1
 status_of_fault asm.Memory = 3
 
--- A call that writes the image of a text ends with this status: the file has the image, or the text's fault was told, unless
--- a file or memory failed.
+-- A call that writes the image of a text ends with this status: the file has the image, or the text's fault was reported,
+-- unless a file or memory failed.
 abbrev pub WritesAs : Result (List ℕ) AsmFault → ℕ → Option (List ℕ) → Type 0
 WritesAs (Ok image) status file = (status ≡ 3) ⊎ ((status ≡ 0) × IfSome file (λ bytes. bytes ≡ image))
 WritesAs (Err told) status file = (status ≡ 3) ⊎ (status ≡ status_of_fault told)

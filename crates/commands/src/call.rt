@@ -1,4 +1,4 @@
-//! Calls of the program, and what each tells on standard error.
+//! Calls of the program, and what each reports on standard error.
 
 ghost use Rattle.std.specs.Prelude.{◌≡◌, ◌≢◌, ◌≤◌, ◌⊎◌, ℕ, List, Some, Ok, OnOk, IfErr, string_bytes};
 ghost use Rattle.std.specs.IoError.{error_kind};
@@ -42,10 +42,10 @@ const USAGE: u8 = 2;
 /// A file can't be read or written, there is no thread for a worker, or memory ran out.
 const FAILED: u8 = 3;
 
-/// What is told where memory ran out.
+/// What is reported where memory ran out.
 const MEMORY: &str = "memory\n";
 
-/// What is told where there is no thread for a worker.
+/// What is reported where there is no thread for a worker.
 const THREAD: &str = "thread\n";
 
 /// A text on standard error, as far as it can be written.
@@ -69,8 +69,8 @@ fn tell_memory<E: Write>(stderr: &mut E) -> u8
     FAILED
 }
 
-/// Tells why the words of a call could not be had, and answers the status: memory ran out, or a word
-/// is not UTF-8, which no call has.
+/// Reports why the words of a call could not be had, and answers the status: memory ran out, or a
+/// word is not UTF-8, which no call has.
 pub fn tell_no_words<E: Write>(stderr: &mut E, error: &io::Error) -> u8
     ensures memory { error_kind error.now ≡ OutOfMemory → result ≡ 3 }
     ensures no_text { error_kind error.now ≢ OutOfMemory → result ≡ 2 }
@@ -127,15 +127,15 @@ fn file_text(alloc: Global, name: &str) -> Result<String, AllocError> {
     format!(in alloc; "file {name}\n")
 }
 
-/// Tells why a script ended early, and answers the status. Where there is no memory for the text,
-/// that is told.
+/// Reports why a script ended early, and answers the status. Where there is no memory for the text,
+/// that is reported.
 fn tell<E: Write>(alloc: Global, stderr: &mut E, ended: &Ended) -> u8
     ensures { (result ≡ status_of ended.now.stop) ⊎ (result ≡ 3) }
 {
     tell_text(stderr, end_text(alloc, ended), status_of(&ended.stop))
 }
 
-/// Tells that a file can't be read or written, and answers the status.
+/// Reports that a file can't be read or written, and answers the status.
 fn tell_unread<E: Write>(alloc: Global, stderr: &mut E, name: &str, unread: Unread) -> u8
     ensures { result ≡ 3 }
 {

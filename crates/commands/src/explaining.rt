@@ -15,7 +15,7 @@ pub fn refusal_text(alloc: Global, refusal: &Refusal) -> Result<String, AllocErr
     }
 }
 
-/// The status that tells whether a program is refused.
+/// The status that reports whether a program is refused.
 pub fn status_of_explained(explanation: &Explanation) -> u8
     ensures { result ≡ definitions.status_of_explained explanation.now }
 {

@@ -24,7 +24,7 @@ pub enum Refused {
 }
 
 /// The first bytes of a reader, one more than the greatest image has. Whatever follows them, an
-/// image of so many is refused by its size; so a file without end is refused too.
+/// image of `MOST_READ` bytes is refused by its size; so a file without end is refused too.
 fn read_first<R: Read + Drop>(alloc: Global, reader: R) -> Result<Vec<u8>, Unread>
     ensures { (bytes : List ℕ) → R.remaining reader ≡ Some bytes → IfOk result (λ first. first.items ≡ first_bytes bytes) }
 {

@@ -44,7 +44,7 @@ fn first_said(script: &str) -> Option<(u64, &str)> {
     None
 }
 
-/// So many input and output partitions, whose logs have so many cells each.
+/// `inputs` input and `outputs` output partitions, whose logs have `cells` cells each.
 fn parts_of<R: Wait>(
     rt: &R,
     alloc: Global,

@@ -195,7 +195,7 @@ impl<'a, Id: Names + Send + Sync, R: Threads + Wait + Sync> Session<'a, Id, R> {
         }
     }
 
-    /// Deploys a loaded name, and prints where its mark stands. No text that is too long for a name is
+    /// Deploys a loaded name, and prints where its mark is. No text that is too long for a name is
     /// loaded.
     fn deploy<O: Write>(
         &mut self,
@@ -251,7 +251,7 @@ impl<'a, Id: Names + Send + Sync, R: Threads + Wait + Sync> Session<'a, Id, R> {
         self.append(stdout, input, batch)
     }
 
-    /// Appends a batch, and prints where it stands.
+    /// Appends a batch, and prints where it is.
     #[tactic(auto, using(crate::proofs::Written::same_text))]
     fn append<O: Write>(
         &self,
@@ -270,7 +270,7 @@ impl<'a, Id: Names + Send + Sync, R: Threads + Wait + Sync> Session<'a, Id, R> {
         Ok(receipt)
     }
 
-    /// Appends the batches that stand one after the other in some bytes, and returns their receipts.
+    /// Appends the batches that some bytes contain one after the other, and returns their receipts.
     /// Those before a faulty one stay.
     #[tactic(auto, using(crate::proofs::Appended::one_more, crate::proofs::Appended::at_end))]
     fn append_all<O: Write>(

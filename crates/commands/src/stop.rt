@@ -103,8 +103,8 @@ pub fn end_of_all(ended: &[Ended]) -> Result<(), Stop>
     Ok(())
 }
 
-/// The status that tells why a script ended: 1, its line is refused; 3, a file, standard output, a
-/// thread or memory fails.
+/// The status that reports why a script ended: 1, its line is refused; 3, a file, standard output,
+/// a thread or memory fails.
 pub fn status_of(stop: &Stop) -> u8
     ensures { result ≡ status_of stop.now }
 {

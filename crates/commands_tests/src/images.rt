@@ -78,7 +78,8 @@ fn explains_images(rt: HostRuntime) -> Result<(), Fail> {
     Ok(())
 }
 
-/// An image of 4,097 slots is not told from one of which no end is read, and one of 4,096 is.
+/// An image of 4,096 slots and a byte is not distinguished from one of which no end is read, and
+/// one of 4,096 slots is.
 #[test]
 fn reads_one_byte_past_the_greatest_image(rt: HostRuntime) -> Result<(), Fail> {
     let alloc = rt.alloc();

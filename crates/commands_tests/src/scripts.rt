@@ -164,7 +164,7 @@ fn needs_partitions_first(rt: HostRuntime) -> Result<(), Fail> {
     Ok(())
 }
 
-/// A word of so many bytes.
+/// A word that spells `count` bytes.
 fn bytes_word(alloc: Global, count: usize) -> Result<String, Fail> {
     if count == 0 {
         return Ok(String::from_str(alloc, ".")?);

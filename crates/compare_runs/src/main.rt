@@ -70,7 +70,7 @@ impl Counts {
     }
 }
 
-/// Compares so many random programs and records.
+/// Compares random programs and records, `programs` of each.
 fn compared(alloc: Global, programs: u64, seed: u64) -> Result<Counts, AllocError> {
     let mut random = Random::new(seed);
     let mut counts = Counts {

@@ -54,7 +54,7 @@ after-word r i xs h fits =
 
 -- ---- a block
 
--- what stands in front of m coefficients b counts m powers more
+-- what is in front of m coefficients b counts m powers more
 pushed : (n m a b : ℕ) → remainder m (bit_xor (remainder n a) b) ≡ bit_xor (remainder (n + m) a) (remainder m b)
 pushed n m a b =
     remainder-xor m (remainder n a) b ∙ ap (λ q. bit_xor q (remainder m b)) (sym (remainder-add n m a))

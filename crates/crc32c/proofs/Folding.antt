@@ -82,7 +82,7 @@ after_window-next r w x block rest long below is =
 
 -- ---- a block that is taken away
 
--- the place of a block that stands at the window's end, so many blocks before it
+-- the place of a block that is at the window's end, o blocks before it
 put_back : (o j m x : ℕ) → o + j ≡ 208
     → remainder (128 * (209 + m)) (later o (x * 2 ^ (128 * 208))) ≡ remainder (128 * m) (before_end o (remainder 128 x))
 put_back o j m x e =
@@ -149,7 +149,7 @@ after_window-kept w x rest below fits long =
 
 -- ---- the start and the end
 
--- the register stands at the front of a window of nothing else
+-- the register is at the front of a window of nothing else
 pub after_window-start : (r : ℕ) (blocks : List (List ℕ)) → r < 2 ^ 32 → after_window 0 r blocks ≡ after_window r 0 blocks
 unfolding after_window moved
 after_window-start r blocks below =

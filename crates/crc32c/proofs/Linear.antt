@@ -49,7 +49,7 @@ remainder-shifted (suc n) a =
 pub low_and_rest : (n p : ℕ) → p ≡ bit_xor (p / 2 ^ n * 2 ^ n) (p % 2 ^ n)
 low_and_rest n p = sym (shr_split p n) ∙ sym (xor_shifted (p / 2 ^ n) n (p % 2 ^ n) (mod_below p (2 ^ n) (pow_pos n)))
 
--- bits that are added above the n low ones come to stand as they are
+-- bits that are added above the n low ones are added to the remainder as they are
 pub remainder-joined : (n r a b : ℕ) → a < 2 ^ n
     → bit_xor (remainder n (bit_xor r a)) b ≡ remainder n (bit_xor r (b * 2 ^ n + a))
 remainder-joined n r a b h =

@@ -48,7 +48,7 @@ number_l-digit base (suc j) (x ∷ xs) within fits =
     ∙ ap (λ n. n / base ^ j % base) (without_first base x (number_l base xs) fits.0)
     ∙ number_l-digit base j xs (omega arith) fits.1
 
--- a number of so many digits
+-- a number of `length xs` digits
 pub number_l-below : (base : ℕ) (xs : List ℕ) → Each1 (λ x. x < base) xs → number_l base xs < base ^ length xs
 number_l-below base [] fits = rw (pow-zero base) (omega arith)
 number_l-below base (x ∷ xs) fits =

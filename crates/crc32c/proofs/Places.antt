@@ -85,7 +85,7 @@ folded_is place read space block within fits long bytes is r rest =
     ∙ ap (bit_xor sum) (mod-eq_of_lt below ∙ sym is)) in
     after_window-next r (window_at place space) (bit_xor sum read) block rest long below same
 
--- the window one place on, where a block has come to stand behind it
+-- the window one place on, where a block was set behind it
 pub window_at-next : (place x : ℕ) (blocks : List ℕ) → place + 209 < length blocks → Blocks blocks
     → window_at (place + 1) (set blocks (place + 209) x) ≡ later 1 (window_at place blocks) + 2 ^ (128 * 208) * x
 window_at-next place x blocks within fits =

@@ -31,7 +31,7 @@ remainder-sum_of_five n a b c d e =
     ∙ ap (λ s. bit_xor (bit_xor s (remainder n d)) (remainder n e)) (remainder-xor n (bit_xor a b) c)
     ∙ ap (λ s. bit_xor (bit_xor (bit_xor s (remainder n c)) (remainder n d)) (remainder n e)) (remainder-xor n a b)
 
--- what a polynomial leaves so many blocks before the end
+-- what a polynomial leaves `blocks` blocks before the end
 abbrev pub before_end : ℕ → ℕ → ℕ
 before_end blocks p = remainder (128 * blocks) p
 

@@ -1,8 +1,8 @@
 -- Blocks of 16 bytes whose part is moved to the blocks behind them, by a sparse multiple of the generator.
 --
 -- With y = x^128 the generator divides y^209 + y^144 + y^54 + y^39 + y^14 + 1. So a block may be taken away where it is
--- added to the blocks that stand 65, 155, 170, 195 and 209 further on. The window holds the last blocks that were so
--- taken away, as they stood then: a number, the earliest block lowest.
+-- added to the blocks 65, 155, 170, 195 and 209 further on. The window holds the last blocks that were so taken away, as
+-- they were then: a number, the earliest block lowest.
 use Rattle.std.specs.Prelude.{ℕ, ◌*◌, ◌/◌, ◌^◌, List, length, bit_xor}
 use Rattle.std.specs.List.{concat}
 use Rattle.std.specs.Simd.Lanes.{number_l, chunk}
@@ -19,7 +19,7 @@ later blocks window = window / 2 ^ (128 * blocks)
 unfoldable pub moved : ℕ → ℕ
 moved window = sum_of_five window (later 14 window) (later 39 window) (later 54 window) (later 144 window)
 
--- the remainder after more blocks, where that of what stands before them is r, and the window adds to them
+-- the remainder after more blocks, where that of what is before them is r, and the window adds to them
 unfoldable pub after_window : ℕ → ℕ → List (List ℕ) → ℕ
 after_window r window blocks =
     remainder (128 * length blocks) (bit_xor (bit_xor r (moved window)) (number_l 256 (concat blocks)))

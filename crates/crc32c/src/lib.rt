@@ -58,7 +58,7 @@ fn fold_word(word: u32, row: usize) -> u32
         ^ entry(row, word >> 24)
 }
 
-// The remainder after one more block by its words, which each count by what stands behind them.
+// The remainder after one more block by its words, which each count by what follows them.
 #[inline(always)]
 fn after_words(r: u32, words: [u32; 4]) -> u32
     ensures { (block : List ℕ) → length block ≡ 16 → Each1 (λ b. b < 256) block

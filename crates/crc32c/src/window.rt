@@ -1,9 +1,9 @@
 //! Long messages: blocks are taken away over a sparse multiple of the generator.
 //!
-//! With y = x^128 the generator divides y^209 + y^144 + y^54 + y^39 + y^14 + 1. So a block counts as
-//! much as its copies 65, 155, 170, 195 and 209 blocks further on, and five additions take it away.
-//! The tables are left with the last 209 blocks. The window holds the last 209 blocks that were
-//! taken away, as they stood then: each block reads from it what the five before it add.
+//! With y = x^128 the generator divides y^209 + y^144 + y^54 + y^39 + y^14 + 1. So a block counts
+//! as much as its copies 65, 155, 170, 195 and 209 blocks further on, and five additions take it
+//! away. The tables are left with the last 209 blocks. The window holds the last 209 blocks that
+//! were taken away, as they were then: each block reads from it what the five before it add.
 ghost use Rattle.std.specs.Prelude.{◌≡◌, ℕ, ◌+◌, ◌*◌, ◌^◌, ◌<◌, ◌≤◌, List, ◌∷◌, ◌++◌, length, bit_xor, slice_index};
 ghost use Rattle.std.specs.Int.{w128, to_le_bytes};
 ghost use Rattle.std.specs.Simd.Lanes.{Each1, number_l};
@@ -95,7 +95,7 @@ fn after_last(space: &mut [u128; SPACE], blocks: &[[u8; 16]]) -> u32
     r
 }
 
-/// The remainder after 209 blocks or more, where that of what stands before them is `r`.
+/// The remainder after 209 blocks or more, where that of what is before them is `r`.
 pub(crate) fn after_many(r: u32, mut blocks: &[[u8; 16]]) -> u32
     requires { 209 ≤ length blocks.now }
     ensures { result ≡ after_window r 0 blocks.now }

@@ -20,7 +20,7 @@ use Rattle.explain.proofs.Reasoned.{some_map, some_left, some_right, some_then, 
 
 -- ---- a place that is not set
 
--- one of so many places from one on that are not all set
+-- one of `count` places from one on that is not set
 pub record IsUnsetAmong (set : StackSet) (place count : ℕ) : Type 0 where
   pub at : ℕ
   pub low : place ≤ at

@@ -42,7 +42,8 @@ pub(crate) fn record(
     }
 }
 
-/// The key `k` and the value `v`, later than the batch's base timestamp by so many milliseconds.
+/// The key `k` and the value `v`, `timestamp_delta` milliseconds later than the batch's base
+/// timestamp.
 fn short_record(alloc: Global, timestamp_delta: i64) -> Result<Record, AllocError> {
     let key = Bytes::copy_from_slice(alloc, b"k")?;
     let value = Bytes::copy_from_slice(alloc, b"v")?;
@@ -70,7 +71,8 @@ fn one_record(alloc: Global, bytes: usize) -> Result<Records, AllocError> {
     Ok(Records { list })
 }
 
-/// One record with no key and a value of so many bytes. None where it is too long or memory ran out.
+/// One record with no key and a value of `bytes` bytes. None where it is too long or memory ran
+/// out.
 pub(crate) fn one_long(alloc: Global, bytes: usize) -> Option<Batch>
     ensures { IfSome result (λ batch. FitsLog batch) }
 {
@@ -91,7 +93,7 @@ pub(crate) fn forward<Id: Names, H: Wait + Drop, R: Wait>(
     Some(receipt.index())
 }
 
-/// Runs the programs on so many items of input 0, the only input; whether all were done.
+/// Runs the programs on `items` items of input 0, the only input; whether all were done.
 pub(crate) fn drain<Id: Names + Send + Sync, C: Send, R: Threads + Wait + Sync>(
     rt: &R,
     alloc: Global,

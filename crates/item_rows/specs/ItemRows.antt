@@ -26,7 +26,7 @@ pub record AreItemRows (origin : Origin) (image : Option (List ℕ)) (item : Kep
   pub each : (output : ℕ) → output < origin.outputs → IsItemRows origin.input output origin.outputs image origin.offset item (rows_in all output)
   pub fit : (output : ℕ) → output < origin.outputs → All RowFits (rows_in all output)
 
--- no rows in each of so many outputs
+-- no rows in each of `outputs` outputs
 pub record AreEmpty (outputs : ℕ) (all : List (List Row)) : Type 0 where
   pub count : length all ≡ outputs
   pub each : (output : ℕ) → rows_in all output ≡ []

@@ -54,7 +54,7 @@ impl OutputRows {
     }
 }
 
-/// No rows in each of so many output partitions.
+/// No rows in each of `outputs` output partitions.
 #[tactic(auto, using(crate::proofs::RowLaws::empty_more, crate::proofs::RowLaws::empty_none))]
 pub(crate) fn empty(alloc: Global, outputs: usize) -> Result<Vec<OutputRows>, AllocError>
     ensures { IfOk result (λ all. AreEmpty outputs all.items) }

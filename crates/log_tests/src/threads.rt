@@ -193,8 +193,8 @@ fn items_of<Id: Names, C, R: Wait>(
     Some(items)
 }
 
-/// Whether the log has what a thread was told: each batch where its receipt says and with its base,
-/// and so many records in the items that were read.
+/// Whether the log has what a thread reported: each batch where its receipt says and with its base,
+/// and `report.records` records in the items that were read.
 fn is_in(report: &Report, items: &[Taken]) -> bool {
     let told = report.taken.iter().all(|taken| has(items, taken));
     let read = match items.get(report.items) {

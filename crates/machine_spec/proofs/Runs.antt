@@ -48,7 +48,7 @@ run_by on n (Goes s) = on s
 run_by on n (Trapped told) = Some (Stopped told n)
 run_by on n Lost = None
 
--- the end of a run from a state that is reached after n steps, if it has at most so many turns
+-- the end of a run from a state that is reached after n steps, if it has at most `turns` turns
 abbrev run_from : ℕ → Program → Input → ℕ → State → Option End
 run_from zero program input n s = None
 run_from (suc turns) program input n s = run_by (run_from turns program input (n + 1)) n (turn program input s)
@@ -254,7 +254,7 @@ outcomes =
     ∷ (value_part (move_to 2 0) 8, Some (1 ∷ 0 ∷ 0 ∷ 0 ∷ 0 ∷ 0 ∷ 0 ∷ []), Out (Kept []) 7)
     -- mov64 r2, -1: the sum of the place and the length does not wrap
     ∷ (value_part (0xb7 ∷ 2 ∷ 0 ∷ 0 ∷ all_ones) 8, Some (1 ∷ 0 ∷ 0 ∷ 0 ∷ 0 ∷ 0 ∷ 0 ∷ 0 ∷ []), Out (Kept []) 7)
-    -- ld16 r0, [r1+1]; exit: the low byte stands first
+    -- ld16 r0, [r1+1]; exit: the low byte is first
     ∷ (slot 0x69 0x10 1 0 ++ exit, Some (9 ∷ 2 ∷ 1 ∷ []), Out (Rejected 258) 2)
     -- mov64 r3, r1; add64 r3, 2; sub64 r3, 1; ld8 r0, [r3+0]; exit: the value's second byte
     ∷ (slot 0xbf 0x13 0 0 ++ (slot 0x07 3 0 2 ++ (slot 0x17 3 0 1 ++ (slot 0x71 0x30 0 0 ++ exit))), Some (7 ∷ 8 ∷ 9 ∷ []), Out (Rejected 8) 5)
@@ -520,7 +520,7 @@ trapped_runs =
     ∷ (call 9 ++ (move_to 2 0 ++ (move_to 3 1 ++ (slot 0xbf 0x01 0 0 ++ (call 1 ++ exit)))), None, Stopped trap.HelperArgument 4)
     -- mov64 r2, 0; mov64 r3, 1; call 2: and not in the value
     ∷ (move_to 2 0 ++ (move_to 3 1 ++ (call 2 ++ exit)), Some (118 ∷ []), Stopped trap.HelperArgument 2)
-    -- call 9; call 4: the first call has spent r1
+    -- call 9; call 4: the first call has clobbered r1
     ∷ (call 9 ++ (call 4 ++ exit), None, Stopped trap.Unset 1)
     -- mov64 r0, r1; exit
     ∷ (slot 0xbf 0x10 0 0 ++ exit, None, Stopped trap.Exit 1)

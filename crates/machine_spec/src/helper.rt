@@ -51,7 +51,7 @@ pub enum Argument {
 pub struct Signature {
     /// The number that a call names it by.
     pub number: i32,
-    /// Its arguments, which stand in r1 to r5.
+    /// Its arguments, which are in r1 to r5.
     pub arguments: [Argument; 3],
     /// The greatest number that it answers.
     pub greatest: u64,

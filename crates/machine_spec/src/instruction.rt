@@ -123,7 +123,7 @@ pub struct Placed {
 /// Why the plain machine stops without an outcome.
 #[derive(Clone, Copy, Debug, PartialEq, Eq)]
 pub enum Trap {
-    /// K1: no instruction of the profile stands at the slot.
+    /// K1: no instruction of the profile is at the slot.
     Form,
     /// K2: a taken jump goes back, outside the image or into a second slot.
     Jump,
@@ -131,7 +131,7 @@ pub enum Trap {
     RanOff,
     /// K4: a register that is read has no value.
     Unset,
-    /// K5: an address stands where a number is needed, or the other way round.
+    /// K5: an address is used where a number is needed, or the other way round.
     WrongType,
     /// K6: r10 is written.
     Frame,

@@ -2,7 +2,7 @@ use bytes::Bytes;
 use std::marker::Model;
 use wire_spec::Headers;
 
-/// Where a record stands, and how many output partitions there are.
+/// Where a record is, and how many output partitions there are.
 #[derive(Clone, Copy, Debug, PartialEq, Eq)]
 pub struct Place {
     /// The input partition, below 64.

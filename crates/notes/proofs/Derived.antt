@@ -147,7 +147,7 @@ target_is code k placed t at e =
 
 -- ---- within an annotation
 
--- what is brought where a check passes is covered where it is
+-- what an edge propagates where a check passes is covered where the edge is
 pub passed_covers : (failed : Option Check) (edge outer : Option Abstract) → is_edge_covered edge outer ≡ true → is_edge_covered (if_passed failed None edge) outer ≡ true
 passed_covers (Some kind) edge outer h = refl
 passed_covers None edge outer h = h
@@ -372,7 +372,7 @@ pair_kept code notes k =
 few_more : (wanted : Bool) (k : ℕ) (known : Option Abstract) (kept : List (ℕ × Abstract)) (n : ℕ) → length kept ≤ n → length (kept_note wanted k known ++ kept) ≤ cond wanted 1 0 + n
 few_more true k (Some s) kept n h = omega arith
 few_more true k None kept n h = omega arith
-few_more false k known kept n h = h
+few_more false k known kept n h = omega (arith, h)
 
 few_from : (code : List Placed) (k : ℕ) (rest : List Placed) (notes : Notes) → length notes ≡ length rest → length (kept_from code k notes) ≤ targets_from code k rest
 few_from code k [] [] e = omega arith

@@ -1,4 +1,4 @@
--- The order in which an instruction's checks are told: its shape's, its own in its state, and its edges.
+-- The order in which an instruction's checks are reported: its shape's, its own in its state, and its edges.
 use Rattle.std.proofs.Common.{◌≡◌, ℕ, Bool, true, false, if◌then◌else◌, not, refl, List, [], ◌∷◌, ap, ◌∙◌}
 use Rattle.std.specs.Prelude.{Option, Some, None}
 use Rattle.machine_spec.specs.declared.instruction.Placed.{Placed}
@@ -11,7 +11,7 @@ use Rattle.verifier_spec.specs.Checks.{checks, failed_check, shape_checks}
 use Rattle.verifier_spec.specs.Annotation.{Notes, note_at, are_edges_covered, reached_checks, failed_at}
 use Rattle.verifier_spec.proofs.Faults.{first_of-append, first_of-told}
 
--- a failed check of the shape is told
+-- a failed check of the shape is reported
 pub shape_told : (code : List Placed) (notes : Notes) (k : ℕ) (placed : Placed) (kind : Check)
     → first_of (shape_checks code k placed) ≡ Some kind → failed_at code notes k placed ≡ Some kind
 unfolding failed_at
@@ -26,7 +26,7 @@ shape_passed code notes k placed known e n =
     first_of-append (shape_checks code k placed) (reached_checks code notes k placed (note_at notes k)) e
     ∙ ap (λ s. first_of (reached_checks code notes k placed s)) n
 
--- of which its own are told before its edges
+-- of which its own are reported before its edges
 pub check_told : (code : List Placed) (notes : Notes) (k : ℕ) (placed : Placed) (s : Abstract) (kind : Check)
     → failed_check placed.instruction s ≡ Some kind → first_of (reached_checks code notes k placed (Some s)) ≡ Some kind
 unfolding failed_check

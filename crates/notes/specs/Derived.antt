@@ -95,8 +95,8 @@ abbrev pub are_rising : ℕ → ℕ → List (ℕ × Abstract) → Bool
 are_rising least limit [] = true
 are_rising least limit (pair ∷ pairs) = (nat_lt pair.0 limit && nat_le least pair.0) && are_rising (pair.0 + 1) limit pairs
 
--- The refusal that is told of states with numbers: at 0, that the numbers don't rise or are past the code's end; else that of
--- the list that follows from them.
+-- The refusal that is reported for states with numbers: at 0, that the numbers don't rise or are past the code's end; else
+-- that of the list that follows from them.
 unfoldable pub pairs_fault : List Placed → List (ℕ × Abstract) → Option VerifyFault
 pairs_fault code pairs = if are_rising 0 (length code) pairs then fault_of code (derived code (pair_at pairs)) else Some (record { pc = 0; kind = Check.Notes })
 

@@ -8,7 +8,7 @@ use Rattle.verifier_spec.specs.Annotation.{Notes, note_at}
 abbrev pub IsProperAt : Notes → ℕ → Type 0
 IsProperAt notes k = (s : Abstract) → note_at notes k ≡ Some s → is_proper s ≡ true
 
--- those of the first so many instructions are
+-- those of the first n instructions are
 abbrev pub AreProperBelow : Notes → ℕ → Type 0
 AreProperBelow notes n = (k : ℕ) → k < n → IsProperAt notes k
 

@@ -18,7 +18,7 @@ pub fn is_covered(state: &State, outer: Option<&State>) -> bool
     }
 }
 
-/// Whether what an edge brings, if it is taken at all, is covered where it leads.
+/// Whether what an edge propagates, if it is taken at all, is covered where it leads.
 fn is_edge_covered(brought: &Option<State>, outer: Option<&State>) -> bool
     ensures { result ≡ is_edge_covered brought.now (option_copied outer.entry) }
 {

@@ -1,5 +1,5 @@
 //! The checker of annotations: from code and a list of abstract states, one for each reached
-//! instruction, it makes a verified program or tells why the list is no annotation of the code.
+//! instruction, it makes a verified program or reports why the list is no annotation of the code.
 //!
 //! A verified program keeps the states at the targets of jumps; the others follow from them.
 #![tactic(auto)]

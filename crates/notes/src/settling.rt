@@ -33,9 +33,10 @@ fn fallen_from(code: &Code, k: usize, placed: Placed, state: &State) -> Option<S
     ensures fallen { result ≡ fallen code.now k (Some placed) (Some state.now) }
     ensures proper { is_proper state.now ≡ true }
 {
+    let passed = passed_on(placed, state);
     match failed_shape(code, k, placed) {
         Some(_) => None,
-        None => passed_on(placed, state),
+        None => passed,
     }
 }
 

@@ -171,7 +171,7 @@ fn advance<Id: Names>(log: &PartLog<Id>, walk: &mut Walk<Id>) -> bool {
     walk.next(log, &mut note)
 }
 
-/// The rows of the item where a walk stands.
+/// The rows of the item at a walk's position.
 fn processed<Id: Names, R: Print>(
     rt: &R,
     alloc: Global,

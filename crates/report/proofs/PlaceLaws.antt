@@ -1,4 +1,4 @@
--- What stands at each place of a list.
+-- What is at each place of a list.
 use Rattle.std.proofs.Common.{◌≡◌, ℕ, zero, suc, ◌+◌, ◌<◌, ◌≤◌, List, [], ◌∷◌, ◌++◌, length, take, get_or, Some, ⊎_elim, refl, sym, ap, subst, ◌∙◌, arith}
 use native.Mathlib.Decide.{ℕ_discrete}
 use Rattle.std.specs.Prelude.{slice_get}
@@ -110,7 +110,7 @@ least_end outputs n input first all of = record {
     within (holdings ∷ rest) zero input h e = omega arith
     within (holdings ∷ rest) (suc output) input h e = let below = within rest output input h e in omega (arith, below)
 
--- ---- what stands at a place of an output partition's list
+-- ---- what is at a place of an output partition's list
 
 module _ (inputs input k : ℕ) (outputs : List (List Held)) (holdings : List Held) (are : AreOutputs inputs outputs) (lt : k < length outputs) (is : holdings ≡ get_or outputs k holdings) where
   there : slice_get outputs k ≡ Some holdings

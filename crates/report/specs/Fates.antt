@@ -31,7 +31,7 @@ AreItemFates input outputs image offset (Records batch) fates = AreRecordsFates 
 AreItemFates input outputs image offset (Marked name version program) fates = fates ≡ []
 AreItemFates input outputs image offset Closed fates = fates ≡ []
 
--- of the records of the first n items of a log: each record by the program whose mark stands last before it
+-- of the records of the first n items of a log: each record by the program whose mark is the last before it
 abbrev pub AreFatesOf : ℕ → ℕ → List Item → ℕ → List Fate → Type 0
 AreFatesOf input outputs items zero fates = fates ≡ []
 AreFatesOf input outputs items (suc k) fates =

@@ -16,7 +16,7 @@ use std::sync::Wait;
 use std::test::Fail;
 use std::thread::Threads;
 
-/// Takes so many bytes and then fails.
+/// Takes `room` bytes and then fails.
 #[derive(Drop)]
 struct Narrow {
     taken: Vec<u8>,

@@ -6,7 +6,7 @@ use Rattle.log_spec.specs.declared.row.Row.{Row}
 use Rattle.log_spec.specs.Logs.{RowFits}
 use Rattle.row_batch.specs.RowBatches.{record_of, batch_of}
 
--- how many bytes a batch with these records has: 61 stand before them
+-- how many bytes a batch with these records has: 61 are before them
 abbrev pub size_with : List Record → ℕ
 size_with records = 61 + length (records_spelling 0 records)
 
@@ -17,7 +17,7 @@ pub record AreFirst (base : ℕ) (rows : List Row) (records : List Record) : Typ
   pub few_bytes : size_with records ≤ max_batch
   pub full : length records < length rows → max_batch < size_with (map (record_of base) (take (length records + 1) rows))
 
--- the batch of the first so many rows, which fits; with one more it would not
+-- the batch of the first `count` rows, which fits; with one more it would not
 pub record IsFirst (place : ℕ) (rows : List Row) (count : ℕ) (batch : Batch) : Type 0 where
   pub some : 1 ≤ count
   pub there : count ≤ length rows

@@ -26,7 +26,7 @@ batch_of place rows = record {
   records = map (record_of (first_timestamp rows)) rows;
 }
 
--- So many rows from a place on may be in one batch: they are no more than are wanted and there, and their batch has no more
+-- `count` rows from a place on may be in one batch: they are no more than are wanted and there, and their batch has no more
 -- records and bytes than one may have.
 pub record MayTake (rows : List Row) (place max count : ℕ) : Type 0 where
   pub some : 1 ≤ count

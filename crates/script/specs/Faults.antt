@@ -7,7 +7,7 @@ use Rattle.script.specs.declared.command.Command.TheVariants.{Partitions, Load, 
 use Rattle.script.specs.declared.fault.ScriptFault.{ScriptFault}
 use Rattle.script.specs.declared.fault.ScriptFault.TheVariants.{Order, Range}
 
--- `partitions` stands first and once, and a program is deployed after it was loaded
+-- `partitions` is first and occurs once, and a program is deployed after it was loaded
 abbrev pub is_in_order : Command → (has_begun is_loaded : Bool) → Bool
 is_in_order (Partitions inputs outputs cells) has_begun is_loaded = not has_begun
 is_in_order (Load name source) has_begun is_loaded = has_begun

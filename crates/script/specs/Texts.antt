@@ -7,7 +7,7 @@ use Rattle.log_spec.specs.declared.row.Row.{Row}
 abbrev pub hex_glyph : ℕ → ℕ
 hex_glyph digit = if nat_lt digit 10 then 48 + digit else 97 + (digit - 10)
 
--- the high digit stands first
+-- the high digit is first
 abbrev pub byte_text : ℕ → List ℕ
 byte_text byte = hex_glyph (byte / 16) ∷ hex_glyph (byte % 16) ∷ []
 

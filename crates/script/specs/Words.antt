@@ -20,7 +20,7 @@ texts words = map (λ w. w.now) words
 
 -- ---- numbers
 
--- decimal digits, at least one, of which 0 stands first only alone
+-- decimal digits, at least one, of which the first is 0 only where it is alone
 abbrev pub is_number : List ℕ → Bool
 is_number word = nat_lt 0 (length word) && (list_all is_ascii_digit word && ((length word == 1) || not (slice_index word 0 == 48)))
 

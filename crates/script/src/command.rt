@@ -26,7 +26,7 @@ impl Model for FileName {
     ghost view = { λ n. string_bytes n.text };
 }
 
-/// Where the image of a program, or record batches, stand.
+/// Where the image of a program is, or record batches are.
 #[derive(Drop)]
 pub enum Source {
     /// In the line itself.
@@ -35,7 +35,7 @@ pub enum Source {
     File(FileName),
 }
 
-/// What a line asks for. A number past 2^64 - 1 stands as 2^64 - 1.
+/// What a line asks for. A number past 2^64 - 1 is represented as 2^64 - 1.
 #[derive(Drop)]
 pub enum Command {
     /// The numbers of input and output partitions, and how many cells a log has.

@@ -15,7 +15,7 @@ pub enum ScriptFault {
     /// The line is no command.
     #[error("S1 Syntax")]
     Syntax,
-    /// `partitions` is not first or stands twice, or a program is deployed that was not loaded.
+    /// `partitions` is not first or occurs twice, or a program is deployed that was not loaded.
     #[error("S2 Order")]
     Order,
     /// A number or a length is out of its limits.
@@ -32,7 +32,7 @@ fn size(bytes: &Option<Bytes>) -> usize
     }
 }
 
-/// Whether a command may stand here: `partitions` is the first and stands once, and a program is
+/// Whether a command is allowed here: `partitions` is the first and occurs once, and a program is
 /// deployed after it was loaded.
 fn is_in_order(command: &Command, has_begun: bool, is_loaded: bool) -> bool
     ensures { result ≡ is_in_order command.now has_begun is_loaded }

@@ -7,14 +7,14 @@ use bytes::Bytes;
 use log_spec::Row;
 use std::alloc::{AllocError, Global};
 
-/// The line that tells of a load. It fails only where memory runs out.
+/// The line that reports a load. It fails only where memory runs out.
 pub fn load_text(alloc: Global, name: &str, version: u32) -> Result<String, AllocError>
     ensures { IfOk result (λ text. string_bytes text ≡ load_line name.now version) }
 {
     format!(in alloc; "load {name} version {version}\n")
 }
 
-/// The line that tells of a deployment: the mark's index in the input's log. It fails only where
+/// The line that reports a deployment: the mark's index in the input's log. It fails only where
 /// memory runs out.
 pub fn deploy_text(
     alloc: Global,
@@ -28,7 +28,7 @@ pub fn deploy_text(
     format!(in alloc; "deploy {input} index {index} {name} version {version}\n")
 }
 
-/// The line that tells of an appended batch: its index in the input's log, and the offset of its
+/// The line that reports an appended batch: its index in the input's log, and the offset of its
 /// first record. It fails only where memory runs out.
 pub fn append_text(alloc: Global, input: u64, index: usize, base: u64) -> Result<String, AllocError>
     ensures { IfOk result (λ text. string_bytes text ≡ append_line input index base) }
@@ -36,7 +36,7 @@ pub fn append_text(alloc: Global, input: u64, index: usize, base: u64) -> Result
     format!(in alloc; "append {input} index {index} base {base}\n")
 }
 
-/// The line that tells of a closed log: the index of its end. It fails only where memory runs out.
+/// The line that reports a closed log: the index of its end. It fails only where memory runs out.
 pub fn close_text(alloc: Global, input: u64, index: usize) -> Result<String, AllocError>
     ensures { IfOk result (λ text. string_bytes text ≡ close_line input index) }
 {

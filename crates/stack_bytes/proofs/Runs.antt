@@ -27,7 +27,7 @@ no_bit word = or_zero_r word
 pub with_none : (set : StackSet) (place : ℕ) → with_places set place 0 ≡ set
 with_none set place = refl
 
--- so many places and the next one
+-- `count` places and the next one
 next_place : (set : StackSet) (place count : ℕ) → with_places set place (suc count) ≡ with_place (with_places set place count) (place + count)
 next_place set place zero =
     let e : place ≡ place + 0 = omega arith in

@@ -33,7 +33,7 @@ fn is_set(set: &StackSet, place: u64) -> bool
     bit_in(&set.words, place)
 }
 
-/// Whether so many places from one on are all in the set.
+/// Whether `count` places from one on are all in the set.
 #[tactic(auto, using(crate::proofs::Runs::are_set_first, crate::proofs::Runs::are_set_not, crate::proofs::Runs::are_set_none))]
 pub fn contains_all(set: &StackSet, place: u64, count: u128) -> bool
     ensures { result ≡ are_set set.now place count }
@@ -77,7 +77,7 @@ fn words_with(words: &[u64; 8], place: u64) -> [u64; 8]
     ]
 }
 
-/// The set and so many places from one on.
+/// The set and `count` places from one on.
 #[tactic(auto, using(crate::proofs::Runs::with_next, crate::proofs::Runs::with_none))]
 pub fn with_places(set: &StackSet, place: u64, count: u64) -> StackSet
     requires { place + count < 2 ^ 64 }

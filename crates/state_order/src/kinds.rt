@@ -73,7 +73,7 @@ pub fn greatest(state: &Abstract, region: Region) -> u32
     }
 }
 
-/// The numbers that a kind stands for, if it stands for numbers.
+/// The numbers that a kind represents, if it represents numbers.
 #[tactic(auto, using(verifier_spec::proofs::InRange::range_ordered))]
 pub fn range_of(state: &Abstract, kind: Abs) -> Option<Interval>
     ensures range { result ≡ range_of state.now kind }

@@ -24,7 +24,7 @@ fn places(rt: HostRuntime) -> Result<(), Fail> {
         (&[OFFSET, EXIT], "rejected 5 after 2"),
         (&[TIMESTAMP, EXIT], "rejected 1000 after 2"),
         (&[PARTITION, EXIT], "rejected 7 after 2"),
-        // mov64 r0, r1: the call has spent r1
+        // mov64 r0, r1: the call has clobbered r1
         (&[OFFSET, 0xbf10_0000_0000_0000, EXIT], "K4 after 1"),
         // mov64 r6, 4 before the call, mov64 r0, r6 after it
         (
@@ -138,7 +138,7 @@ fn bytes_by_address(rt: HostRuntime) -> Result<(), Fail> {
             "K12 after 3",
         ),
         (&[TO_FIRST, EMIT_VALUE, EXIT], "K12 after 1"),
-        // the first call has spent r2
+        // the first call has clobbered r2
         (&[OFFSET, TO_FIRST, EMIT_VALUE, EXIT], "K4 after 2"),
     ];
     for (slots, want) in cases {

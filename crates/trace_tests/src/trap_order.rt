@@ -1,4 +1,4 @@
-//! Instructions with two faults at once: the first trap in the order is told.
+//! Instructions with two faults at once: the first trap in the order is reported.
 //!
 //! The order is K6, K11, K4, K5, K10, K7, K8, K9, K12, K13, K2. Pairs that no instruction can have
 //! both are left out: a call has none of K6, K5 and K7 to K10, and an access is of one region.
@@ -26,7 +26,7 @@ fn trap_order(rt: HostRuntime) -> Result<(), Fail> {
         (&[0x7b01_0000_0000_0000, EXIT], "K4 after 0"),
         // K4, then K8: stx64 [r10+0], r0 of nothing
         (&[0x7b0a_0000_0000_0000, EXIT], "K4 after 0"),
-        // K4, then K12: a second call, whose r1 is spent
+        // K4, then K12: a second call, whose r1 is clobbered
         (
             &[
                 0xb701_0000_0000_0000,

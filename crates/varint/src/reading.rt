@@ -4,7 +4,7 @@ ghost use Rattle.wire_spec.specs.Varint.{varint, varlong, IsVarint, IsVarlong, u
 
 use wire_spec::VarintFault;
 
-/// The number in groups of seven bits at the front, of at most so many bytes, and how many it takes.
+/// The number in groups of seven bits at the front, of at most `most` bytes, and how many it takes.
 #[inline(always)]
 fn read_groups(bytes: &[u8], most: usize, top: u8) -> Result<(u64, usize), VarintFault>
     requires { ((most ≡ 5) × (top ≡ 15)) ⊎ ((most ≡ 10) × (top ≡ 1)) }

@@ -3,7 +3,7 @@ ghost use Rattle.wire_spec.specs.Varint.{zigzag, groups, varint, varlong};
 
 use std::alloc::AllocError;
 
-/// Writes a number's groups of seven bits at the front, and tells how many bytes they take.
+/// Writes a number's groups of seven bits at the front, and returns how many bytes they take.
 #[inline(always)]
 fn put_groups(number: u64, bytes: &mut [u8; 10]) -> usize
     ensures within { result ≤ 10 }

@@ -1,4 +1,4 @@
--- No refusal is told of a list of abstract states exactly where it is an annotation.
+-- No refusal is reported for a list of abstract states exactly where it is an annotation.
 use Rattle.std.proofs.Common.{◌≡◌, ◌≢◌, ℕ, zero, suc, ◌+◌, Bool, true, false, cond, not, ◌==◌, ◌&&◌, List, [], ◌∷◌, ◌++◌, length, drop, refl, sym, ◌∙◌, subst, inl, inr, arith}
 use Rattle.std.specs.Prelude.{Option, Some, None, slice_get}
 use Rattle.std.specs.List.{list_any}
@@ -16,7 +16,7 @@ use Rattle.verifier_spec.specs.Annotation.{Notes, note_at, is_covered, are_edges
 
 -- ---- lists of checks
 
--- a check that fails is told, and one that doesn't leaves the word to the later ones
+-- a check that fails is reported, and one that doesn't leaves the report to the later ones
 pub if_none : {A : Type 0} (b : Bool) (x : A) (later : Option A) → cond b (Some x) later ≡ None → (b ≡ false) × (later ≡ None)
 if_none true x later h = cc
 if_none false x later h = (refl, h)

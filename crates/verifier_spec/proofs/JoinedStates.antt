@@ -123,7 +123,7 @@ module _ (code : List Placed) where
         subst (λ o. is_edge_covered (jumps_to placed.instruction s) o ≡ true) (sym (next_known t))
         (subst P (sym target) (edge_right t (jumps_to placed.instruction s) fallen))
 
--- ---- the least above what edges bring
+-- ---- the least above what edges propagate
 
 module _ (code : List Placed) (j : ℕ) (outer : Option Abstract) where
   -- both edges of an instruction are within a note where they lead to j
@@ -155,7 +155,7 @@ module _ (code : List Placed) (j : ℕ) (outer : Option Abstract) where
       passed_least k placed s known (failed_check placed.instruction s) refl h (brings placed s at is)
 
   -- What is known of an instruction is within each note that the entry, if it is the first, and all that edges of reached
-  -- instructions bring are within.
+  -- instructions propagate are within.
   pub known_least : (k : ℕ) → is_edge_covered (known_after code 0 j) outer ≡ true
       → ((i : ℕ) (placed : Placed) (s : Abstract) → i < k → slice_get code i ≡ Some placed → known_after code i i ≡ Some s → failed_check placed.instruction s ≡ None
       → BringsWithin i placed s)

@@ -1,5 +1,5 @@
--- Checks and transfer keep the order of states: of two states, one within the other, the first passes each check that
--- the second passes, and what an edge brings from the first is within what it brings from the second.
+-- Checks and transfer keep the order of states: of two states, one within the other, the first passes each check that the
+-- second passes, and what an edge propagates from the first is within what it propagates from the second.
 use Rattle.std.proofs.Common.{◌≡◌, ◌≢◌, ℕ, zero, suc, ◌+◌, ◌-◌, ◌<◌, ◌≤◌, ℤ, pos, negsuc, ◌+ℤ◌, neg_ℤ, ◌≤ℤ◌, Bool, true, false, not, ◌==◌, List, [], ◌∷◌, length, get_or, Option, Some, None, int_le, unsigned_abs, ◌&&◌, ◌||◌, refl, sym, ap, subst, inl, inr, ⊎_elim, arith}
 use Rattle.std.specs.{Ordering.int_eq, List.list_any, List.fold}
 use Rattle.std.proofs.lemmas.Bool.Decides.{Decides-int_eq}

@@ -110,7 +110,7 @@ lengths_limited a region.Stack h = omega arith
 lengths_limited a region.Key h = omega (arith, (proper_parts a h).key_limited)
 lengths_limited a region.Value h = omega (arith, (proper_parts a h).value_limited)
 
--- the numbers that a kind stands for, which are of 64 bits
+-- the numbers that a kind represents, which are of 64 bits
 pub record HasRange (a : Abstract) (kind : Abs) : Type 0 where
   pub range : Interval
   pub is : range_of a kind ≡ Some range

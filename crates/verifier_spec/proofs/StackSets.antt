@@ -62,7 +62,7 @@ place_only : (set : StackSet) (place q : ℕ) → q < 512 → q ≢ place → is
 place_only set place q low apart h =
     eq-eqb _ 1 (left_of_max _ _ _ (bits set place q low) (bit_other place q apart) (eqb-true _ 1 h))
 
--- ---- so many places from one on
+-- ---- `count` places from one on
 
 pub places_kept : (set : StackSet) (from count q : ℕ) → q < 512 → is_set set q ≡ true → is_set (with_places set from count) q ≡ true
 places_kept set from zero q low h = h

@@ -1,4 +1,4 @@
--- A conditional jump brings from a state that is within another what is within what it brings from the other.
+-- A conditional jump propagates from a state that is within another what is within what it propagates from the other.
 use Rattle.std.proofs.Common.{◌≡◌, ℕ, ◌<◌, ◌≤◌, Bool, true, get_or, Option, Some, None, refl, sym, subst, arith}
 use Rattle.std.proofs.lemmas.Bool.{le-leb, and_from, false≢true}
 use Rattle.std.proofs.lemmas.List.{set-get_or}
@@ -142,7 +142,7 @@ module _ (a b : Abstract) (w : IsWithin a b) (pa : is_proper a ≡ true) (pb : i
   range_edge r (Some x) (Some y) (abs.Addr q l' m') (abs.Num l m) range h is pj jk number at inside part = absurd (false≢true jk)
   range_edge r (Some x) (Some y) (abs.Addr q l' m') (abs.Len g) range h is pj jk number at inside part = absurd (false≢true jk)
 
-  -- a conditional jump brings along each edge from the first what is within that from the second
+  -- a conditional jump propagates along each edge from the first what is within that from the second
   pub tested_within : (width : Width) (test : Test) (taken : Bool) (dst : ℕ) (source : Source) → is_within a b ≡ true → is_number_kind (kind_at b dst) ≡ true
       → is_edge_covered (tested a width test taken dst source) (tested b width test taken dst source) ≡ true
   tested_within width test taken dst (Register r) h number = h

@@ -25,7 +25,7 @@ abbrev pub is_covered : Abstract → Option Abstract → Bool
 is_covered s (Some outer) = is_within s outer
 is_covered s None = false
 
--- where an edge brings a state, the instruction that it leads to has one that covers it
+-- where an edge propagates a state, the instruction that it leads to has one that covers it
 abbrev pub is_edge_covered : Option Abstract → Option Abstract → Bool
 is_edge_covered None outer = true
 is_edge_covered (Some s) outer = is_covered s outer
@@ -51,12 +51,12 @@ pub record IsAnnotation (code : List Placed) (notes : Notes) : Type 0 where
   pub shape : (k : ℕ) (placed : Placed) → slice_get code k ≡ Some placed → first_of (shape_checks code k placed) ≡ None
   -- each reached instruction passes its checks
   pub checked : (k : ℕ) (placed : Placed) (s : Abstract) → slice_get code k ≡ Some placed → note_at notes k ≡ Some s → failed_check placed.instruction s ≡ None
-  -- what each of its edges brings is within the state where it leads
+  -- what each of its edges propagates is within the state where it leads
   pub closed : (k : ℕ) (placed : Placed) (s : Abstract) → slice_get code k ≡ Some placed → note_at notes k ≡ Some s → are_edges_covered code notes k placed s ≡ true
   -- each state is in its ranges
   pub proper : (k : ℕ) (s : Abstract) → note_at notes k ≡ Some s → is_proper s ≡ true
 
--- ---- which refusal is told
+-- ---- which refusal is reported
 
 -- of a reached instruction, after the checks of its shape: its checks, then its edges
 abbrev pub reached_checks : List Placed → Notes → ℕ → Placed → Option Abstract → List (Bool × Check)
@@ -76,8 +76,8 @@ abbrev pub fault_from : List Placed → Notes → ℕ → List Placed → Option
 fault_from code notes k [] = None
 fault_from code notes k (placed ∷ rest) = fault_or k (failed_at code notes k placed) (fault_from code notes (k + 1) rest)
 
--- The refusal that is told of a list: at 0, that it has another length than the code or that the entry is not within its
--- first state; else the first failed check of the lowest instruction that fails one.
+-- The refusal that is reported for a list: at 0, that it has another length than the code or that the entry is not within
+-- its first state; else the first failed check of the lowest instruction that fails one.
 unfoldable pub fault_of : List Placed → Notes → Option VerifyFault
 fault_of code notes =
     if (length notes == length code) && is_covered entry_state (note_at notes 0)

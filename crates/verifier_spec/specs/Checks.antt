@@ -1,4 +1,4 @@
--- The checks of an instruction, in the order in which they are told.
+-- The checks of an instruction, in the order in which they are reported.
 use Rattle.std.specs.Prelude.{ℕ, zero, suc, ◌+◌, ◌^◌, ℤ, pos, ◌+ℤ◌, neg_ℤ, Bool, true, false, ◌==◌, ◌&&◌, ◌||◌, not, nat_lt, nat_le, int_lt, int_le, if◌then◌else◌, List, [], ◌∷◌, length, Option, Some, None, is_some, is_none, unsigned_abs}
 use Rattle.std.specs.{List.list_any, Ordering.int_eq}
 use Rattle.machine_spec.specs.declared.limits.TheConstants.{STACK_SIZE}
@@ -82,7 +82,7 @@ abbrev pub reach_of : Option MemoryOperand → Abstract → Option Reach
 reach_of (Some m) s = reach_at m.direction (kind_at s m.base) m.offset m.size
 reach_of None s = None
 
--- all of them lie in the first so many bytes of the region
+-- all of them lie in the first `len` bytes of the region
 abbrev pub is_reach_within : Reach → ℕ → Bool
 is_reach_within reach len = int_le (pos 0) reach.low && int_le (reach.high +ℤ pos reach.size) (pos len)
 
@@ -99,7 +99,7 @@ abbrev pub may_leave_stack : Option Reach → Bool
 may_leave_stack (Some reach) = if is_stack reach.region then not (is_reach_within reach STACK_SIZE) else false
 may_leave_stack None = false
 
--- so many places from one on are all in the set
+-- `count` places from one on are all in the set
 abbrev pub are_set : StackSet → ℕ → ℕ → Bool
 are_set set place zero = true
 are_set set place (suc count) = is_set set place && are_set set (place + 1) count

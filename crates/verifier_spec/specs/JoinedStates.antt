@@ -1,5 +1,5 @@
 -- The joined states of a program: at each instruction the least state above all that the edges of reached instructions
--- before it bring.
+-- before it propagate.
 use Rattle.std.specs.Prelude.{ℕ, zero, suc, ◌+◌, ◌==◌, if◌then◌else◌, List, [], ◌∷◌, slice_get, Option, Some, None}
 use Rattle.machine_spec.specs.declared.instruction.Placed.{Placed}
 use Rattle.machine_spec.specs.Image.{target_of}
@@ -17,7 +17,7 @@ joined_notes None b = b
 joined_notes (Some a) None = Some a
 joined_notes (Some a) (Some b) = Some (joined a b)
 
--- the note of instruction number j after one more edge, which brings a state to its target
+-- the note of instruction number j after one more edge, which propagates a state to its target
 abbrev pub with_edge : ℕ → Option ℕ → Option Abstract → Option Abstract → Option Abstract
 with_edge j None state note = note
 with_edge j (Some target) state note = if target == j then joined_notes note state else note
@@ -32,7 +32,7 @@ abbrev pub if_passed : Option Check → Option Abstract → Option Abstract → 
 if_passed (Some _) known more = known
 if_passed None known more = more
 
--- after instruction number k with its own note: one that is not reached or fails a check brings nothing
+-- after instruction number k with its own note: one that is not reached or fails a check propagates nothing
 abbrev pub with_instruction : List Placed → ℕ → ℕ → Option Placed → Option Abstract → Option Abstract → Option Abstract
 with_instruction code j k None own note = note
 with_instruction code j k (Some placed) None note = note

@@ -26,7 +26,7 @@ greatest s Region.Stack = STACK_SIZE
 greatest s Region.Key = s.key_max
 greatest s Region.Value = s.value_max
 
--- the numbers that a kind stands for, if it stands for numbers
+-- the numbers that a kind represents, if it represents numbers
 abbrev pub range_of : Abstract → Abs → Option Interval
 range_of s (Abs.Num lo hi) = Some (from_to lo hi)
 range_of s (Abs.Len region) = Some (from_to (least s region) (greatest s region))
@@ -70,8 +70,8 @@ same_region Region.Key Region.Key = true
 same_region Region.Value Region.Value = true
 same_region _ _ = false
 
--- One kind is within another: whatever the first stands for in the inner state, the second does. A length is within
--- the numbers that include all that it may be there.
+-- One kind is within another: whatever the first represents in the inner state, the second does. A length is within the
+-- numbers that include all that it may be there.
 abbrev pub is_kind_within : Abstract → Abs → Abs → Bool
 is_kind_within inner _ Abs.None = true
 is_kind_within inner (Abs.Num lo hi) (Abs.Num low high) = nat_le low lo && nat_le hi high

@@ -58,12 +58,12 @@ changed_kind s change kind = on_range (changed_range change) (range_of s kind)
 
 -- ---- memory
 
--- a number of so many bytes; one that is sign-extended may be any
+-- a number of this size; one that is sign-extended may be any
 abbrev pub loaded_kind : Size → Extension → Abs
 loaded_kind size Zero = Abs.Num 0 (2 ^ (8 * byte_count size) - 1)
 loaded_kind size Sign = Abs.Num 0 (2 ^ 64 - 1)
 
--- a place of the stack, or so many from one on, added to a set of them, which has eight words
+-- a place of the stack, or `count` from one on, added to a set of them, which has eight words
 abbrev pub with_place : StackSet → ℕ → StackSet
 with_place set place = record {
   words = map (λ w. bit_or (slice_index set.words w) (if w == place / 64 then 2 ^ (place % 64) else 0)) (0 ∷ 1 ∷ 2 ∷ 3 ∷ 4 ∷ 5 ∷ 6 ∷ 7 ∷ []);

@@ -16,7 +16,8 @@ pub enum Check {
     /// A register that is read may have no value.
     #[error("V4 Unset")]
     Unset,
-    /// An address stands where a number is needed, or the other way round, or could leave its range.
+    /// An address is used where a number is needed, or the other way round, or could leave its
+    /// range.
     #[error("V5 Type")]
     WrongType,
     /// r10 is written.

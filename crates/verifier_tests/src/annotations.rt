@@ -35,7 +35,7 @@ fn state(r0: Abs, value_min: u32, value_max: u32) -> Result<State, Fail> {
     Ok(state.ok_or("the state is in its ranges")?)
 }
 
-/// What the check tells of an image and a list of states.
+/// What the check reports of an image and a list of states.
 fn told(alloc: Global, image: &[u8], notes: &[Option<State>]) -> Result<String, Fail> {
     let code = decode(alloc, image)?;
     let notes = Vec::from_slice(alloc, notes)?;
@@ -93,7 +93,7 @@ fn refuses_lists(rt: HostRuntime) -> Result<(), Fail> {
     let byte = Some(state(Abs::Num(0, 255), 0, 65_536)?);
     let narrow = Some(state(Abs::Num(0, 255), 1, 65_536)?);
     let cases: [(&[u8], &[Option<State>], &str); 8] = [
-        // another length than the code's, told before the missing exit
+        // another length than the code's, reported before the missing exit
         (&ZERO, &[entry], "V15 Notes at 0"),
         (&MOVE, &[], "V15 Notes at 0"),
         // a first state that doesn't cover the entry
@@ -127,7 +127,7 @@ fn refuses_instructions(rt: HostRuntime) -> Result<(), Fail> {
     let zero = Some(state(Abs::Num(0, 0), 0, 65_536)?);
     let byte = Some(state(Abs::Num(0, 255), 0, 65_536)?);
     let cases: [(&[&[u8]], &[Option<State>], &str); 9] = [
-        // where jumps lead and how the code ends, told before an instruction's other checks
+        // where jumps lead and how the code ends, reported before an instruction's other checks
         (&[&FORWARD, &EXIT], &[entry, zero], "V1 JumpTarget at 0"),
         (&[&BACK], &[entry], "V2 BackJump at 0"),
         (&[&LOAD], &[entry], "V3 RunsOff at 0"),

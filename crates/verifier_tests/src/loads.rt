@@ -336,7 +336,7 @@ fn stores(rt: HostRuntime) -> Result<(), Fail> {
     Ok(())
 }
 
-/// Jumps without a condition, 64-bit immediates, and which of two faults is told.
+/// Jumps without a condition, 64-bit immediates, and which of two faults is reported.
 #[test]
 fn jumps_and_wide_numbers(rt: HostRuntime) -> Result<(), Fail> {
     let alloc = rt.alloc();

@@ -339,7 +339,7 @@ fn checks_in_order(rt: HostRuntime) {
     assert_eq!(rt; address.check(Instruction::Exit), Some(Check::Exit));
 }
 
-/// Of two checks that an instruction fails the one before the other is told.
+/// Of two checks that an instruction fails the one before the other is reported.
 #[test]
 fn tells_the_first_of_two_faults(rt: HostRuntime) {
     let entry = State::entry();

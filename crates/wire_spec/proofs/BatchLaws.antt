@@ -174,7 +174,7 @@ covered_fields bytes fits le =
     ∙ ap (λ (r : List ℕ). signed w16 (producer_epoch bytes) ++ r) (signed_field w32 4 (2 ^ 32) wide32 53 57 bytes fits refl (omega arith)
     ∙ ap (λ (r : List ℕ). signed w32 (base_sequence bytes) ++ r) (number_field w32 4 (2 ^ 32) wide32 57 61 bytes fits refl (omega arith))))))))
 
--- what stands before that, and it
+-- what is before that, and it
 enclosed_fields : (bytes : List ℕ) → IsBytes bytes → 61 ≤ length bytes → bytes
     ≡ signed w64 (base_offset bytes) ++ (to_be_bytes w32 (number_at w32 8 bytes) ++ (signed w32 (leader_epoch bytes) ++ (magic bytes ∷ (to_be_bytes w32 (crc bytes) ++ drop 21 bytes))))
 enclosed_fields bytes fits le =
@@ -482,7 +482,7 @@ batch_takes bytes x fits e =
 
 -- ---- What is spelled so is read
 
--- the fields that stand in these bytes
+-- the fields that are in these bytes
 record Stands (b : Batch) (bytes : List ℕ) : Type 0 where
   pub base_offset : base_offset bytes ≡ b.base_offset
   pub size : number_at w32 8 bytes ≡ 9 + length (covered b)

@@ -57,7 +57,7 @@ base_sequence bytes = signed_at w32 53 bytes
 abbrev pub record_count : List ℕ → ℕ
 record_count bytes = number_at w32 57 bytes
 
--- how many bytes a batch of this batchLength has: 12 stand before what it counts
+-- how many bytes a batch of this batchLength has: 12 are before what it counts
 abbrev pub with_front : ℤ → ℕ
 with_front (pos n) = n + 12
 with_front (negsuc n) = 0

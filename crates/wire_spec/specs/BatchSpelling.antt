@@ -48,7 +48,7 @@ covered b =
     ++ (signed w64 b.producer_id ++ (signed w16 b.producer_epoch ++ (signed w32 b.base_sequence
     ++ (to_be_bytes w32 (length b.records) ++ records_spelling 0 b.records)))))))
 
--- what stands before that, and it: baseOffset, batchLength, which counts what follows it,
+-- what is before that, and it: baseOffset, batchLength, which counts what follows it,
 -- partitionLeaderEpoch, magic, crc
 abbrev pub enclosed : Batch → List ℕ → List ℕ
 enclosed b rest =

@@ -16,7 +16,7 @@ unzigzag n = if n % 2 == 0 then pos (n / 2) else negsuc (n / 2)
 
 -- ---- The grammar
 
--- The bytes spell the number. A byte below 128 is the last, and stands for itself. One from 128 on has
+-- The bytes spell the number. A byte below 128 is the last, and represents itself. One from 128 on has
 -- the lowest seven bits, and the bytes after it spell the rest, which isn't 0: so each number has one
 -- spelling, the shortest.
 abbrev pub IsBase128 : List ℕ → ℕ → Type 0
@@ -51,7 +51,7 @@ varlong z = groups 10 (zigzag z)
 
 -- ---- Reading
 
--- the number that groups of seven bits stand for, whatever their top bits are
+-- the number that groups of seven bits encode, whatever their top bits are
 abbrev pub groups_value : List ℕ → ℕ
 groups_value [] = 0
 groups_value (b ∷ bs) = b % 128 + 128 * groups_value bs
@@ -60,8 +60,8 @@ groups_value (b ∷ bs) = b % 128 + 128 * groups_value bs
 abbrev pub last_place : ℕ → List ℕ → Option ℕ
 last_place most bytes = position (λ b. nat_lt b 128) (take most bytes)
 
--- What stands at the front of the bytes, whose last byte has this place: the number and how many bytes
--- it takes, or the first refusal. It may have that many bytes, and then top is the greatest last one.
+-- What is at the front of the bytes, whose last byte has this place: the number and how many bytes it
+-- takes, or the first refusal. It may have that many bytes, and then top is the greatest last one.
 abbrev pub read_to : ℕ → ℕ → List ℕ → Option ℕ → Result (ℕ × ℕ) VarintFault
 read_to most top bytes None = if nat_lt (length bytes) most then Err Short else Err Long
 read_to most top bytes (Some last) =

@@ -45,8 +45,8 @@ pub enum BatchFault {
     /// The number of records is out of range, or lastOffsetDelta is not one less.
     #[error("B7 Count")]
     Count,
-    /// This record, from 0, is none, has another offset delta or runs past the batch; or, where it is
-    /// the number of records, bytes stand after the last one.
+    /// This record, from 0, is none, has another offset delta or runs past the batch; or, where it
+    /// is the number of records, bytes follow the last one.
     #[error("B8 Record record {0}")]
     Record(u32),
     /// A timestamp is out of range, or maxTimestamp is not the greatest.

@@ -18,8 +18,8 @@ fn published_values(rt: HostRuntime) {
     }
 }
 
-// Sums of so many bytes 5a, taken bit by bit by a program of few lines in another language: below the
-// length from which blocks are taken away, at it, and behind it.
+// Sums of strings of bytes 5a, taken bit by bit by a program of few lines in another language:
+// below the length from which blocks are taken away, at it, and behind it.
 #[test]
 fn long_messages(rt: HostRuntime) -> Result<(), AllocError> {
     let bytes = vec![in rt.alloc(); 0x5a; 16_727]?;

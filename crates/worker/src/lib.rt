@@ -1,5 +1,5 @@
 //! What a worker does on its own: it walks over the items of a log, keeping the program in force,
-//! and processes the item where it stands for all output partitions at once. No lock is held.
+//! and processes the item at its position for all output partitions at once. No lock is held.
 #![tactic(auto)]
 
 mod delivery;

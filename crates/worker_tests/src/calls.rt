@@ -98,7 +98,7 @@ pub(crate) fn ends<Id: Names + Send + Sync, C: Send, R: Threads + Wait + Sync, G
     }
 }
 
-/// Whether so many items of an input partition are done in an output partition, and these are the
+/// Whether `done` items of an input partition are done in an output partition, and these are the
 /// rows from there.
 pub(crate) fn has<Id: Names, C, R: Wait>(
     rt: &R,

@@ -54,7 +54,7 @@ fn advance<Id: Names>(log: &PartLog<Id>, walk: &mut Walk<Id>) -> bool {
     walk.next(log, &mut note)
 }
 
-/// Gives a book the rows of the item where a walk stands by value.
+/// Gives a book the rows of the item at a walk's position by value.
 fn hand_over<Id: Names>(
     alloc: Global,
     log: &PartLog<Id>,
@@ -78,7 +78,7 @@ fn hand_over<Id: Names>(
     None
 }
 
-/// Offers the item where a walk stands to a book.
+/// Offers the item at a walk's position to a book.
 fn offer<Id: Names>(
     alloc: Global,
     log: &PartLog<Id>,

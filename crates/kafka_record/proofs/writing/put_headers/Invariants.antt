@@ -4,7 +4,7 @@ use Rattle.wire_spec.specs.RecordSpelling.{header}
 use Rattle.kafka_record.specs.Keeps.{Keeps}
 use Rattle.kafka_record.proofs.writing.put_headers.Given as goal
 
--- The headers so far stand at the end.
+-- The headers so far are at the end.
 abbrev pub invariant-loop-one : goal.invariant-loop-one
 invariant-loop-one l = record {
   written : l.out.items ≡ l.fn.out.items ++ flat_map header (take l.one-index l.headers);
