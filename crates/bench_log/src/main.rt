@@ -61,7 +61,7 @@ fn if_fits(batch: Batch) -> Option<LoggedBatch> {
     }
 }
 
-/// Appends batches of the producer's own until those were `most`, or the log is full; how many
+/// Appends batches of the producer's own until those were `most`, or one is refused; how many
 /// appends that were.
 fn fill<Id: Names, C, R: Wait>(
     rt: &R,

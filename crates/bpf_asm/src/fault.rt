@@ -53,8 +53,8 @@ impl AsmFault {
     }
 }
 
-/// Which of two faults of a line is reported: one of the operands' shapes before one of a register
-/// before one of a number.
+/// Which of two faults of a line is reported: one of the first word before one of the operands'
+/// shapes before one of a register before one of a number.
 fn first_fault(one: LineFault, other: LineFault) -> LineFault
     ensures { result ≡ definitions.first_fault one other }
 {

@@ -1,7 +1,7 @@
 //! Images of programs (RFC 9669, section 3) as instructions, and back.
 //!
-//! An image's instructions are its code: `decode` reads it or reports the first slot that it
-//! refuses, and `encode` gives the one image that has a code.
+//! An image's instructions are its code: `decode` reads it or reports why it refuses it, with the
+//! first slot that is the reason, and `encode` gives the one image that has a code.
 #![tactic(auto)]
 
 mod code;

@@ -1,4 +1,4 @@
--- Forms of instructions as the plain machine's steps tell them apart.
+-- Forms of instructions as the plain machine's steps distinguish them.
 use Rattle.std.specs.Prelude.{◌≡◌, Bool, true, false, Option}
 use Rattle.machine_spec.specs.declared.instruction.Instruction.{Instruction}
 use Rattle.machine_spec.specs.declared.instruction.Instruction.TheVariants.{Move, Compute, Load, Unary, Store, JumpIf, Jump, Wide, Call, Exit}

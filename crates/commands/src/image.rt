@@ -32,7 +32,7 @@ fn read_first<R: Read + Drop>(alloc: Global, reader: R) -> Result<Vec<u8>, Unrea
     read_whole(alloc, &mut first)
 }
 
-/// The image in a named file: its first bytes, as many as tell whether it is too large.
+/// The image in a named file: its first bytes, as many as show whether it is too large.
 pub fn read_image<F: Files>(alloc: Global, files: &mut F, name: &str) -> Result<Vec<u8>, Unread>
     ensures { (bytes : List ℕ) → F.bytes files.old name.now ≡ Some bytes → IfOk result (λ image. image.items ≡ first_bytes bytes) }
 {

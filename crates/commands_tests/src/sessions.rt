@@ -3,7 +3,7 @@
 use crate::shelf::called;
 use std::test::Fail;
 
-/// Scripts that a log or a partition's number ends, with what they print and tell.
+/// Scripts that a log or a partition's number ends, with what they print on both outputs.
 const REFUSED: [(&str, &str, &str); 13] = [
     (
         "partitions 2 1 4\nput 0 0 - -\nclose 0\nput 0 0 - -\n",

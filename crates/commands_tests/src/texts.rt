@@ -45,7 +45,7 @@ fn prints_the_text_of_an_image(rt: HostRuntime) -> Result<(), Fail> {
     Ok(())
 }
 
-/// Calls that print nothing, with what they tell and their status.
+/// Calls that print nothing, with what they write to standard error and their status.
 const REFUSED: [(&[&str], &str, u8); 8] = [
     (&["asm", "faulty", "image"], "line 2: A4 Register\n", 1),
     (&["asm", "binary", "image"], "file binary\n", 3),

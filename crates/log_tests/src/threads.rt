@@ -194,7 +194,7 @@ fn items_of<Id: Names, C, R: Wait>(
 }
 
 /// Whether the log has what a thread reported: each batch where its receipt says and with its base,
-/// and `report.records` records in the items that were read.
+/// and, where an item follows those that were read, `report.records` records in them.
 fn is_in(report: &Report, items: &[Taken]) -> bool {
     let told = report.taken.iter().all(|taken| has(items, taken));
     let read = match items.get(report.items) {
