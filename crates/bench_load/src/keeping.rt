@@ -4,6 +4,7 @@ use std::alloc::Global;
 
 /// What is kept of loaded programs: how many there are, and of how many instructions and states
 /// each is.
+#[derive(Drop)]
 pub(crate) struct Kept {
     pub(crate) programs: usize,
     pub(crate) instructions: usize,

@@ -1,11 +1,7 @@
-//! Tests of the verifier by its public calls: abstract states, annotations, loads.
+//! Tests of the verifier by its public calls: abstract states and annotations.
 #![tactic(auto)]
 
 #[cfg(test)]
 mod annotations;
-#[cfg(test)]
-mod loads;
-#[cfg(test)]
-mod sparse;
 #[cfg(test)]
 mod states;

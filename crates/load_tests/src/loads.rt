@@ -772,10 +772,8 @@ fn after_a_part_is_copied(rt: HostRuntime) -> Result<(), Fail> {
     assert_eq!(rt; verified.code().len(), 6);
     assert_eq!(rt; verified.regions(4).0, Some(Region::Stack));
     assert_eq!(rt; verified.regions(4).1, None);
-    let kind = verified.state(5).map(|s| s.kind(0));
-    assert_eq!(rt; kind, Some(Abs::Num(0, 1)));
-    let spent = verified.state(5).map(|s| s.kind(1));
-    assert_eq!(rt; spent, Some(Abs::None));
+    assert_eq!(rt; kind_of(alloc, &image, 5, 0)?, Some(Abs::Num(0, 1)));
+    assert_eq!(rt; kind_of(alloc, &image, 5, 1)?, Some(Abs::None));
     Ok(())
 }
 

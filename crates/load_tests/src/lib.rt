@@ -1,0 +1,8 @@
+//! Tests of loads by their public calls: which programs are accepted and why others are refused, and
+//! programs by the states of some of their instructions.
+#![tactic(auto)]
+
+#[cfg(test)]
+mod loads;
+#[cfg(test)]
+mod sparse;
