@@ -1,5 +1,5 @@
 -- What a load and a fetch print.
-use Rattle.std.proofs.Common.{◌≡◌, List, ℕ}
+use Rattle.std.proofs.Common.{◌≡◌, List, ℕ, subst}
 use Rattle.std.specs.Prelude.{Option, Ok}
 use Rattle.std.specs.Io.KnownBytes.{Appends}
 use Rattle.script.specs.Texts.{load_line, fetch_line}
@@ -8,9 +8,10 @@ use Rattle.broker.specs.Deployments.{LoadIs}
 use Rattle.broker.specs.Fetches.{IsFetch}
 use Rattle.commands.specs.Sessions.{Loads, Fetches}
 
-pub loads : (name image : List ℕ) (loaded : ℕ × Version) (before after : Option (List ℕ)) → LoadIs name image (Ok loaded) → Appends before after (load_line name loaded.0)
-    → Loads name image before after
-loads name image loaded before after is printed = record { version = loaded.0; known = loaded.1; loaded = is; printed = printed }
+pub loads : (name text image : List ℕ) (loaded : ℕ × Version) (before after : Option (List ℕ)) → LoadIs text image (Ok loaded) → text ≡ name
+    → Appends before after (load_line name loaded.0) → Loads name image before after
+loads name text image loaded before after is same printed =
+    record { version = loaded.0; known = loaded.1; loaded = subst (λ (t : List ℕ). LoadIs t image (Ok loaded)) same is; printed = printed }
 
 pub fetches : (outputs output place max : ℕ) (found : Option (List ℕ)) (before after : Option (List ℕ)) → IsFetch outputs output place max found
     → Appends before after (fetch_line found) → Fetches outputs output place max before after

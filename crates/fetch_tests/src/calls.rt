@@ -118,7 +118,7 @@ pub(crate) fn sizes<Id: Names, C, R: Wait>(
     let bytes = broker.fetch(rt, 0, place, max).ok()??;
     let size = bytes.len();
     let (batch, used) = decode(alloc, Bytes::from_vec(bytes).ok()?).ok()?;
-    if used == size && batch.base_offset as u64 == place as u64 {
+    if used == size && batch.base_offset.cast_unsigned() == place as u64 {
         Some((size, batch.records.list.len()))
     } else {
         None
