@@ -1,9 +1,12 @@
-//! Times the interpreter on programs of one kind of instruction. The argument is how many records
-//! are run; with none the program does nothing.
+//! Times the interpreter. The first argument is how many rounds of records are run; with none the
+//! program does nothing. With a second one, the name of an image's file, it times that program on one
+//! record and on 1,024; else programs of one kind of instruction each.
 #![tactic(auto)]
 
+mod images;
 mod kinds;
 
+use crate::images::time_image;
 use crate::kinds::{ARITHMETIC, Kind, OTHERS, PLAIN};
 use bytes::Bytes;
 use exec::{Headers, Outcome, Place, Record, is_place, is_within_limits, run};
@@ -11,7 +14,7 @@ use notes::Verified;
 use std::alloc::Global;
 use std::rt::Clock;
 use std::time::Instant;
-use std::{env, io};
+use std::{env, fs, io};
 
 const VALUE: &[u8] = b"0123456789012345678901234567890123456789012345678901234567890123";
 
@@ -38,24 +41,34 @@ fn program_of(alloc: Global, kind: &Kind) -> Option<Verified> {
     annotate::load(alloc, &image).ok()
 }
 
-fn record(alloc: Global) -> Option<Record> {
-    Some(Record {
+fn record_of(alloc: Global, value: Bytes) -> Record {
+    Record {
         timestamp_delta: 0,
         key: None,
-        value: Some(Bytes::copy_from_slice(alloc, VALUE).ok()?),
+        value: Some(value),
         headers: Headers {
             list: Vec::new(alloc),
         },
-    })
+    }
 }
 
-fn records(alloc: Global) -> Option<Vec<Record>> {
+/// A record of each value, with no key.
+fn records_of(alloc: Global, values: Vec<Bytes>) -> Option<Vec<Record>> {
     let mut records = Vec::new(alloc);
-    for _ in 0..256 {
-        let record = record(alloc)?;
-        records.push(record).ok()?;
+    for value in values {
+        records.push(record_of(alloc, value)).ok()?;
     }
     Some(records)
+}
+
+/// 256 times the same value.
+fn values(alloc: Global) -> Option<Vec<Bytes>> {
+    let mut values = Vec::new(alloc);
+    for _ in 0..256 {
+        let value = Bytes::copy_from_slice(alloc, VALUE).ok()?;
+        values.push(value).ok()?;
+    }
+    Some(values)
 }
 
 /// The reject code of a program on a record, 0 where it is kept.
@@ -104,8 +117,8 @@ fn time<R: Print + Clock>(
     rounds: u32,
 ) -> io::Result<()> {
     let (nanos, sum) = nanos_of(rt, alloc, program, records, rounds)?;
-    let count = u128::from(rounds.max(1)) * 256;
-    let record = nanos / count;
+    let count = u128::from(rounds).saturating_mul(records.len() as u128);
+    let record = nanos / count.max(1);
     let instruction = record.saturating_mul(100) / program.code().len() as u128;
     println!(rt;
         "{name}: {count} records, {record} ns a record, {instruction} / 100 ns an instruction, sum {sum:?}"
@@ -120,7 +133,8 @@ fn time_program<R: Print + Clock>(
     program: &Verified,
     rounds: u32,
 ) -> io::Result<()> {
-    let Some(records) = records(alloc) else {
+    let made = values(alloc).and_then(|values| records_of(alloc, values));
+    let Some(records) = made else {
         return Ok(());
     };
     for turn in 1..=4 {
@@ -162,10 +176,13 @@ fn time_all<R: Print + Clock>(rt: &R, alloc: Global, rounds: u32) -> io::Result<
 }
 
 fn main(rt: HostRuntime) -> io::Result<()> {
-    let mut arguments = env::args(&rt)?;
-    let _ = arguments.next();
+    let mut arguments = env::args(&rt)?.skip(1);
+    let Some(rounds) = arguments.next() else {
+        return Ok(());
+    };
+    let rounds: u32 = rounds.as_str().parse().unwrap_or(1);
     match arguments.next() {
-        Some(argument) => time_all(&rt, rt.alloc(), argument.as_str().parse().unwrap_or(1)),
-        None => Ok(()),
+        Some(name) => time_image(&rt, rt.alloc(), &fs::read(&rt, name.as_str())?, rounds),
+        None => time_all(&rt, rt.alloc(), rounds),
     }
 }

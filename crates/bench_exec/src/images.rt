@@ -1,0 +1,78 @@
+//! A program of an image, on records with random values.
+
+use crate::{records_of, time};
+use bytes::Bytes;
+use exec::Record;
+use std::alloc::Global;
+use std::io;
+use std::rt::Clock;
+
+/// How many records there are.
+const RECORDS: u64 = 1024;
+
+/// A number of 64 bits that follows from another and looks random (splitmix64).
+fn mixed(number: u64) -> u64 {
+    let sum = number.wrapping_add(0x9e37_79b9_7f4a_7c15);
+    let once = (sum ^ (sum >> 30)).wrapping_mul(0xbf58_476d_1ce4_e5b9);
+    let twice = (once ^ (once >> 27)).wrapping_mul(0x94d0_49bb_1331_11eb);
+    twice ^ (twice >> 31)
+}
+
+/// The value of the record with this number: 64 bytes.
+fn value_of(alloc: Global, record: u64) -> Option<Bytes> {
+    let mut bytes = Vec::new(alloc);
+    for part in 0..8 {
+        let number = mixed(record.wrapping_mul(8).wrapping_add(part));
+        bytes.extend_from_slice(&number.to_le_bytes()).ok()?;
+    }
+    Bytes::from_vec(bytes).ok()
+}
+
+fn values(alloc: Global) -> Option<Vec<Bytes>> {
+    let mut values = Vec::new(alloc);
+    for record in 0..RECORDS {
+        values.push(value_of(alloc, record)?).ok()?;
+    }
+    Some(values)
+}
+
+/// Times a program on one record, and on 1,024 records whose values differ.
+fn time_both<R: Print + Clock>(
+    rt: &R,
+    alloc: Global,
+    image: &[u8],
+    records: &[Record],
+    rounds: u32,
+) -> io::Result<()> {
+    let Ok(program) = annotate::load(alloc, image) else {
+        return println!(rt; "not a program");
+    };
+    for _ in 0..4 {
+        let one = records.get(..1).unwrap_or(records);
+        time(
+            rt,
+            alloc,
+            "one record",
+            &program,
+            one,
+            rounds.saturating_mul(1024),
+        )?;
+        time(rt, alloc, "1,024 records", &program, records, rounds)?;
+    }
+    Ok(())
+}
+
+/// Times the program of an image: four times on one record, and on 1,024 records whose values
+/// differ. It prints nothing where memory runs out.
+pub(crate) fn time_image<R: Print + Clock>(
+    rt: &R,
+    alloc: Global,
+    image: &[u8],
+    rounds: u32,
+) -> io::Result<()> {
+    let made = values(alloc).and_then(|values| records_of(alloc, values));
+    match made {
+        Some(records) => time_both(rt, alloc, image, &records, rounds),
+        None => Ok(()),
+    }
+}
