@@ -3,6 +3,10 @@
 #![tactic(auto)]
 
 #[cfg(test)]
+mod addresses;
+#[cfg(test)]
+mod images;
+#[cfg(test)]
 mod loads;
 #[cfg(test)]
 mod sparse;
