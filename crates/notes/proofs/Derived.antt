@@ -20,7 +20,9 @@ use Rattle.verifier_spec.proofs.JoinedStates.{covered_refl, covered_trans}
 use Rattle.verifier_spec.proofs.Monotone.{check_monotone, falls_monotone, jumps_monotone}
 use Rattle.notes.specs.Derived.{fallen, given_or, derived_at, derived_from, derived, leads_to, jumps_at, is_target, at_targets, settled, pair_at, kept_note, kept_from, kept_states, targets_from, target_count, are_rising, pairs_fault, AreDerivedProper}
 use Rattle.machine_spec.specs.declared.instruction.Region.{Region}
-use Rattle.notes.specs.Regions.{AreRegions, IsVerified}
+use Rattle.predecode.specs.declared.decoded.Decoded.{Decoded}
+use Rattle.notes.specs.Regions.{AreRegions}
+use Rattle.notes.specs.Forms.{AreForms, IsVerified}
 use Rattle.notes.proofs.Lookups.{note_at_past}
 
 -- ---- the list
@@ -402,19 +404,21 @@ settled_again code notes =
 
 -- ---- what a verified program keeps
 
-module _ (code : List Placed) (notes states : Notes) (kept : List (ℕ × Abstract)) (regions : List (Option Region × Option Region)) (is : states ≡ settled code notes) (kept_is : kept ≡ kept_states code states) where
+module _ (code : List Placed) (notes states : Notes) (kept : List (ℕ × Abstract)) (regions : List (Option Region × Option Region)) (forms : List Decoded) (is : states ≡ settled code notes) (kept_is : kept ≡ kept_states code states) where
   pub kept_view : derived code (pair_at kept) ≡ settled code notes
   kept_view = ap (λ (pairs : List (ℕ × Abstract)). derived code (pair_at pairs)) (kept_is ∙ ap (λ (ns : Notes). kept_states code ns) is) ∙ settled_again code notes
 
-  pub verified_from : AreRegions code states regions → IsAnnotation code notes → AreDerivedProper code (at_targets code notes) (length code) → IsVerified code kept regions
-  verified_from regions_are annotation proper =
+  pub verified_from : AreRegions code states regions → AreForms code states forms → IsAnnotation code notes → AreDerivedProper code (at_targets code notes) (length code) → IsVerified code kept regions forms
+  verified_from regions_are forms_are annotation proper =
       let same : derived code (pair_at kept) ≡ states = kept_view ∙ sym is in
       let P : Notes → Type 0 = λ ns. IsAnnotation code ns in
       let Q : Notes → Type 0 = λ ns. AreRegions code ns regions in
+      let F : Notes → Type 0 = λ ns. AreForms code ns forms in
       let R : Notes → Type 0 = λ ns. kept ≡ kept_states code ns in
       record {
         annotation = subst P (sym kept_view) (settled_annotation code notes annotation proper);
         regions_are = subst Q (sym same) regions_are;
+        forms_are = subst F (sym same) forms_are;
         kept_are = subst R (sym same) kept_is;
       }
 

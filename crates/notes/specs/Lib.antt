@@ -1,3 +1,4 @@
 pub mod Derived
 pub mod Regions
+pub mod Forms
 pub mod Proper

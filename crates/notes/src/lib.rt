@@ -6,6 +6,7 @@
 
 mod edges;
 mod faults;
+mod forms;
 mod lookup;
 mod regions;
 mod settling;
