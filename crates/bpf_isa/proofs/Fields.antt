@@ -14,7 +14,6 @@ use Rattle.machine_spec.specs.declared.operation.SwappedWidth.{SwappedWidth}
 use Rattle.machine_spec.specs.declared.operation.SwappedWidth.TheVariants as swapped
 use Rattle.machine_spec.specs.declared.operation.ExtendedWidth.{ExtendedWidth}
 use Rattle.machine_spec.specs.declared.operation.ExtendedWidth.TheVariants as extended
-use Rattle.machine_spec.specs.declared.operation.Change.{Change}
 use Rattle.machine_spec.specs.declared.operation.Change.TheVariants.{Negate, Order, SignExtend}
 use Rattle.machine_spec.specs.declared.instruction.Distance.TheVariants.{Short, Long}
 use Rattle.machine_spec.specs.declared.instruction.Source.{Source}
@@ -22,9 +21,9 @@ use Rattle.machine_spec.specs.declared.instruction.Source.TheVariants.{Register,
 use Rattle.machine_spec.specs.declared.instruction.Instruction.{Instruction}
 use Rattle.machine_spec.specs.declared.instruction.Instruction.TheVariants.{Move, Compute, Load, Unary, Store, JumpIf, Jump, Wide, Call, Exit}
 use Rattle.machine_spec.specs.Arithmetic.{swapped_bits, extended_bits}
-use Rattle.machine_spec.specs.Opcodes.{Fields, Uses, arithmetic_class, operation_code, coded, order_opcode, opcode_of, filled_source, signed_where, selected, extended_by, extending, moving, swapped_by, filled, uses_source, has_signed_form, uses_of}
+use Rattle.machine_spec.specs.Opcodes.{Fields, arithmetic_class, operation_code, coded, order_opcode, opcode_of, filled_source, signed_where, selected, extended_by, extending, moving, swapped_by, filled, uses_source, has_signed_form, uses_of}
 use Rattle.machine_spec.specs.Image.{slots_of}
-use Rattle.bpf_isa.specs.Spelling.{source_register, source_imm, operation_offset, spelled_fields, changed_register}
+use Rattle.bpf_isa.specs.Spelling.{operation_offset, spelled_fields, changed_register}
 use Rattle.bpf_isa.proofs.Cases.{on_choice, HasZeros}
 
 pub record IsSpelled (f : Fields) (i : Instruction) : Type 0 where

@@ -5,3 +5,4 @@ pub mod Bytes
 pub mod Walk
 pub mod Reading
 pub mod Writing
+pub mod SideBySide

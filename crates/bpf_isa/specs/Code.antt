@@ -1,7 +1,14 @@
 -- Code as a list of placed instructions.
-use Rattle.std.specs.Prelude.{◌≡◌, ℕ, ◌<◌, List, slice_index, slice_get, Option, option_and_then}
+use Rattle.std.specs.Prelude.{◌≡◌, ℕ, ◌<◌, List, [], ◌∷◌, slice_index, slice_get, Option, option_and_then}
+use Rattle.machine_spec.specs.declared.instruction.Instruction.{Instruction}
 use Rattle.machine_spec.specs.declared.instruction.Placed.{Placed}
 use Rattle.machine_spec.specs.Image.{IsCodeOf, number_at}
+
+-- each instruction with its slot
+abbrev pub placed_of : List ℕ → List Instruction → List Placed
+placed_of (slot ∷ slots) (instruction ∷ instructions) = record { slot = slot; instruction = instruction } ∷ placed_of slots instructions
+placed_of (slot ∷ slots) [] = []
+placed_of [] instructions = []
 
 -- Each number is a byte's.
 abbrev pub AreBytes : List ℕ → Type 0

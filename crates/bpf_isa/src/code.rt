@@ -3,6 +3,7 @@ ghost use Rattle.machine_spec.specs.Image.{number_at, jump_target, target_of};
 ghost use Rattle.bpf_isa.specs.Code.{HasImage};
 ghost use Rattle.bpf_isa.specs.Spelling.{HasRegisters};
 
+use crate::placed_list::PlacedList;
 use machine_spec::{Instruction, MAX_SLOTS, Placed};
 use std::marker::Model;
 
@@ -10,7 +11,7 @@ use std::marker::Model;
 /// the list of them.
 #[derive(Debug, Drop)]
 pub struct Code {
-    pub(crate) placed: Vec<Placed>,
+    pub(crate) placed: PlacedList,
     /// For each slot the number of the instruction that begins there.
     pub(crate) numbers: Vec<Option<u16>>,
 }
@@ -22,9 +23,9 @@ impl Model for Code {
 
     ghost Value = { List Placed };
 
-    ghost view = { λ c. c.placed.items };
+    ghost view = { λ c. c.placed };
 
-    ghost invariant = { λ c. IsKept c.placed.items c.numbers.items };
+    ghost invariant = { λ c. IsKept c.placed c.numbers.items };
 }
 
 /// The slot that a jump leads to.
@@ -58,7 +59,7 @@ impl Code {
         ensures is_small { result.slot < MAX_SLOTS }
         ensures has_registers { HasRegisters result.instruction }
     {
-        self.placed[k]
+        self.placed.get(k)
     }
 
     /// The instruction with this number, from 0.

@@ -7,6 +7,7 @@ ghost use Rattle.wire_spec.specs.Memory.{AnswersAs};
 ghost use Rattle.bpf_isa.specs.Code.{IsTable};
 
 use crate::code::Code;
+use crate::placed_list::PlacedList;
 use crate::slot;
 use machine_spec::{Instruction, IsaFault, MAX_SLOTS, Placed};
 use std::alloc::{AllocError, Global};
@@ -52,15 +53,16 @@ fn enter(numbers: &mut Vec<Option<u16>>, number: u16, slots: usize) -> Result<()
 
 /// Appends the instruction of the next slots.
 fn push(
-    placed: &mut Vec<Placed>,
+    placed: &mut PlacedList,
     numbers: &mut Vec<Option<u16>>,
     instruction: Instruction,
 ) -> Result<(), AllocError>
-    requires table { IsTable placed.old.items numbers.old.items }
-    requires is_within { length placed.old.items < MAX_SLOTS }
-    ensures code { OnOk result (placed.new.items ≡ placed.old.items ++ record { slot = length numbers.old.items; instruction = instruction } ∷ []) }
+    requires table { IsTable placed.old numbers.old.items }
+    requires is_within { length placed.old ≤ length numbers.old.items }
+    requires is_small { length numbers.old.items < MAX_SLOTS }
+    ensures code { OnOk result (placed.new ≡ placed.old ++ record { slot = length numbers.old.items; instruction = instruction } ∷ []) }
     ensures slots { OnOk result (length numbers.new.items ≡ length numbers.old.items + definitions.slots_of instruction) }
-    ensures table { OnOk result (IsTable placed.new.items numbers.new.items) }
+    ensures table { OnOk result (IsTable placed.new numbers.new.items) }
 {
     let number = placed.len() as u16;
     let slot = numbers.len();
@@ -75,7 +77,7 @@ fn read_code(alloc: Global, image: &[u8]) -> Result<Code, IsaFault>
     ensures { AnswersAs IsaFault.Memory (λ code. code) result (read_slots image.now (first_slots image.now)) }
 {
     let slots = image.len() / 8;
-    let mut placed = Vec::with_capacity(alloc, slots).map_err(|_| IsaFault::Memory)?;
+    let mut placed = PlacedList::with_capacity(alloc, slots).map_err(|_| IsaFault::Memory)?;
     let mut numbers = Vec::with_capacity(alloc, slots).map_err(|_| IsaFault::Memory)?;
     let mut slot = 0;
     while slot < slots {

@@ -11,6 +11,7 @@ mod form;
 mod laws;
 mod lookup;
 mod opcode;
+mod placed_list;
 mod slot;
 
 pub use code::Code;

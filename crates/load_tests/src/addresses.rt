@@ -1,6 +1,8 @@
-use crate::images::{EXIT, ZERO, answer, image_of, kind_of};
+use crate::images::{EXIT, ZERO, check_answer, check_answers, check_kind, image_of};
 use annotate::load;
 use machine_spec::Region;
+use std::alloc::Global;
+use std::process::Abort;
 use std::test::Fail;
 use verifier_spec::Abs;
 
@@ -25,7 +27,6 @@ const SET_FOUR: u64 = 0x620a_f8ff_0000_0000; // st32 [r10-8], 0
 /// Bytes that a helper reads by address lie in the key or the value, or are set in the stack.
 #[test]
 fn bytes_by_address(rt: HostRuntime) -> Result<(), Fail> {
-    let alloc = rt.alloc();
     let cases: [(&[u64], &str); 16] = [
         // the whole value
         (&[LENGTH, VALUE, TO_FIRST, EMIT_VALUE, EXIT], "accepted 5"),
@@ -148,12 +149,7 @@ fn bytes_by_address(rt: HostRuntime) -> Result<(), Fail> {
             "V4 Unset at 2",
         ),
     ];
-    for (slots, want) in cases {
-        let image = image_of(alloc, slots)?;
-        let got = answer(alloc, &image)?;
-        assert_eq!(rt; got.as_str(), want);
-    }
-    Ok(())
+    check_answers(rt.alloc(), &rt, &cases)
 }
 
 const LOAD_VALUE: u64 = 0x8500_0000_0100_0000; // call 1
@@ -286,10 +282,8 @@ const ROOMS: [([u64; 7], &str); 10] = [
 /// Room that a helper writes: its address and its length, and what is known of the stack afterwards.
 #[test]
 fn room_on_the_stack(rt: HostRuntime) -> Result<(), Fail> {
-    let alloc = rt.alloc();
     for (slots, want) in &ROOMS {
-        let got = answer(alloc, &image_of(alloc, slots)?)?;
-        assert_eq!(rt; got.as_str(), *want, "of {slots:?}");
+        check_answer(rt.alloc(), &rt, slots, want)?;
     }
     Ok(())
 }
@@ -297,7 +291,6 @@ fn room_on_the_stack(rt: HostRuntime) -> Result<(), Fail> {
 /// A length that a jump bounds by 512, as the whole stack has, and by 513.
 #[test]
 fn room_of_a_bounded_length(rt: HostRuntime) -> Result<(), Fail> {
-    let alloc = rt.alloc();
     let cases = [
         (0x2502_0500_0002_0000, "accepted 9"), // jgt64 r2, 512, +5
         (0x2502_0500_0102_0000, "V12 HelperArg at 7"), // jgt64 r2, 513, +5
@@ -314,16 +307,13 @@ fn room_of_a_bounded_length(rt: HostRuntime) -> Result<(), Fail> {
             LOAD_VALUE,
             EXIT,
         ];
-        let got = answer(alloc, &image_of(alloc, &slots)?)?;
-        assert_eq!(rt; got.as_str(), want);
+        check_answer(rt.alloc(), &rt, &slots, want)?;
     }
     Ok(())
 }
 
-/// What is known after a load of 4 to 8 bytes to one place: r0 is 0 or 1, four bytes are set.
-#[test]
-fn after_a_part_is_copied(rt: HostRuntime) -> Result<(), Fail> {
-    let alloc = rt.alloc();
+/// Four bytes are set after a load of 4 to 8 bytes to one place.
+fn set_by_a_part(alloc: Global, rt: &impl Abort) -> Result<(), Fail> {
     let cases = [
         (0x61a0_f8ff_0000_0000, "accepted 10"), // ld32 r0, [r10-8]
         (0x71a0_fcff_0000_0000, "V9 StackUnset at 8"), // ld8 r0, [r10-4]
@@ -341,17 +331,31 @@ fn after_a_part_is_copied(rt: HostRuntime) -> Result<(), Fail> {
             last,
             EXIT,
         ];
-        let got = answer(alloc, &image_of(alloc, &slots)?)?;
-        assert_eq!(rt; got.as_str(), want);
+        check_answer(alloc, rt, &slots, want)?;
     }
-    let image = image_of(alloc, &[END, BELOW, FROM_START, EIGHT, LOAD_VALUE, EXIT])?;
-    let verified = load(alloc, &image)?;
+    Ok(())
+}
+
+/// The only bytes that the call takes by address are the stack's.
+fn regions_of_a_part(alloc: Global, rt: &impl Abort, image: &[u8]) -> Result<(), Fail> {
+    let verified = load(alloc, image)?;
     assert_eq!(rt; verified.code().len(), 6);
     assert_eq!(rt; verified.regions(4).0, Some(Region::Stack));
     assert_eq!(rt; verified.regions(4).1, None);
-    assert_eq!(rt; kind_of(alloc, &image, 5, 0)?, Some(Abs::Num(0, 1)));
-    assert_eq!(rt; kind_of(alloc, &image, 5, 1)?, Some(Abs::None));
     Ok(())
+}
+
+/// What is known after a load of 4 to 8 bytes to one place: r0 is 0 or 1, four bytes are set.
+#[test]
+fn after_a_part_is_copied(rt: HostRuntime) -> Result<(), Fail> {
+    set_by_a_part(rt.alloc(), &rt)?;
+    let image = image_of(
+        rt.alloc(),
+        &[END, BELOW, FROM_START, EIGHT, LOAD_VALUE, EXIT],
+    )?;
+    regions_of_a_part(rt.alloc(), &rt, &image)?;
+    check_kind(rt.alloc(), &rt, &image, 5, 0, Abs::Num(0, 1))?;
+    check_kind(rt.alloc(), &rt, &image, 5, 1, Abs::None)
 }
 
 /// Key and value change places, with these instructions for r5, the new value's length, and for r3, the
@@ -372,7 +376,6 @@ fn exchange(value_length: u64, key_length: u64) -> [u64; 8] {
 /// Key and value by address: each of the two is checked.
 #[test]
 fn two_pieces_by_address(rt: HostRuntime) -> Result<(), Fail> {
-    let alloc = rt.alloc();
     // mov64 r5, r4 and mov64 r5, r2; mov64 r3, r2 and mov64 r3, r5
     let cases = [
         (0xbf45_0000_0000_0000, LENGTH, "accepted 8"),
@@ -384,24 +387,26 @@ fn two_pieces_by_address(rt: HostRuntime) -> Result<(), Fail> {
         ),
     ];
     for (value_length, key_length, want) in cases {
-        let image = image_of(alloc, &exchange(value_length, key_length))?;
-        let got = answer(alloc, &image)?;
-        assert_eq!(rt; got.as_str(), want);
+        check_answer(rt.alloc(), &rt, &exchange(value_length, key_length), want)?;
     }
+    Ok(())
+}
+
+/// The call takes bytes of the value and of the key, and the exit none.
+fn regions_of_an_exchange(alloc: Global, rt: &impl Abort, image: &[u8]) -> Result<(), Fail> {
+    let verified = load(alloc, image)?;
+    assert_eq!(rt; verified.code().len(), 8);
+    assert_eq!(rt; verified.regions(6).0, Some(Region::Value));
+    assert_eq!(rt; verified.regions(6).1, Some(Region::Key));
+    assert_eq!(rt; verified.regions(7).0, None);
     Ok(())
 }
 
 /// What is known after an emission by address, and the regions that the interpreter takes.
 #[test]
 fn regions_of_two_pieces(rt: HostRuntime) -> Result<(), Fail> {
-    let alloc = rt.alloc();
-    let image = image_of(alloc, &exchange(0xbf45_0000_0000_0000, LENGTH))?;
-    let verified = load(alloc, &image)?;
-    assert_eq!(rt; verified.code().len(), 8);
-    assert_eq!(rt; verified.regions(6).0, Some(Region::Value));
-    assert_eq!(rt; verified.regions(6).1, Some(Region::Key));
-    assert_eq!(rt; verified.regions(7).0, None);
-    assert_eq!(rt; kind_of(alloc, &image, 7, 0)?, Some(Abs::Num(0, 3)));
-    assert_eq!(rt; kind_of(alloc, &image, 7, 5)?, Some(Abs::None));
-    Ok(())
+    let image = image_of(rt.alloc(), &exchange(0xbf45_0000_0000_0000, LENGTH))?;
+    regions_of_an_exchange(rt.alloc(), &rt, &image)?;
+    check_kind(rt.alloc(), &rt, &image, 7, 0, Abs::Num(0, 3))?;
+    check_kind(rt.alloc(), &rt, &image, 7, 5, Abs::None)
 }

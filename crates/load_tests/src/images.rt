@@ -4,6 +4,7 @@ use annotate::{joined_states, load};
 use bpf_isa::decode;
 use notes::note_at;
 use std::alloc::{AllocError, Global};
+use std::process::Abort;
 use std::test::Fail;
 use verifier_spec::Abs;
 
@@ -21,12 +22,7 @@ pub fn image_of(alloc: Global, slots: &[u64]) -> Result<Vec<u8>, AllocError> {
 }
 
 /// What is known of a register before an instruction, if it is reached.
-pub fn kind_of(
-    alloc: Global,
-    image: &[u8],
-    k: usize,
-    register: usize,
-) -> Result<Option<Abs>, Fail> {
+fn kind_of(alloc: Global, image: &[u8], k: usize, register: usize) -> Result<Option<Abs>, Fail> {
     let states = joined_states(alloc, &decode(alloc, image)?)?;
     Ok(note_at(&states, k).map(|s| s.kind(register)))
 }
@@ -40,4 +36,33 @@ pub fn answer(alloc: Global, image: &[u8]) -> Result<String, AllocError> {
         }
         Err(fault) => format!(in alloc; "{fault}"),
     }
+}
+
+/// The load of an image of these slots answers this.
+pub fn check_answer(alloc: Global, rt: &impl Abort, slots: &[u64], want: &str) -> Result<(), Fail> {
+    let image = image_of(alloc, slots)?;
+    let got = answer(alloc, &image)?;
+    assert_eq!(rt; got.as_str(), want, "of {slots:?}");
+    Ok(())
+}
+
+/// The loads of images of slots answer these texts.
+pub fn check_answers(alloc: Global, rt: &impl Abort, cases: &[(&[u64], &str)]) -> Result<(), Fail> {
+    for (slots, want) in cases {
+        check_answer(alloc, rt, slots, want)?;
+    }
+    Ok(())
+}
+
+/// Before this instruction of an image this is known of a register.
+pub fn check_kind(
+    alloc: Global,
+    rt: &impl Abort,
+    image: &[u8],
+    k: usize,
+    register: usize,
+    want: Abs,
+) -> Result<(), Fail> {
+    assert_eq!(rt; kind_of(alloc, image, k, register)?, Some(want));
+    Ok(())
 }

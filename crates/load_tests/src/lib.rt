@@ -5,6 +5,8 @@
 #[cfg(test)]
 mod addresses;
 #[cfg(test)]
+mod forms;
+#[cfg(test)]
 mod images;
 #[cfg(test)]
 mod loads;

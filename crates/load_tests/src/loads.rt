@@ -1,10 +1,18 @@
-use crate::images::{EXIT, ZERO, answer, image_of, kind_of};
+use crate::images::{EXIT, ZERO, answer, check_answers, check_kind, image_of};
+use std::alloc::Global;
+use std::process::Abort;
 use std::test::Fail;
 use verifier_spec::Abs;
 
+/// An image has a whole number of slots.
+fn part_of_a_slot(alloc: Global, rt: &impl Abort) -> Result<(), Fail> {
+    let got = answer(alloc, &[0; 12])?;
+    assert_eq!(rt; got.as_str(), "I1 Size");
+    Ok(())
+}
+
 #[test]
 fn straight_programs(rt: HostRuntime) -> Result<(), Fail> {
-    let alloc = rt.alloc();
     let cases: [(&[u64], &str); 15] = [
         (&[], "I1 Size"),
         (&[ZERO, EXIT], "accepted 2"),
@@ -22,19 +30,12 @@ fn straight_programs(rt: HostRuntime) -> Result<(), Fail> {
         (&[0x8500_0000_0300_0000, EXIT], "V12 HelperArg at 0"), // call 3
         (&[0xbf10_0000_0000_0000, EXIT], "V13 Exit at 1"), // mov64 r0, r1
     ];
-    for (slots, want) in cases {
-        let image = image_of(alloc, slots)?;
-        let got = answer(alloc, &image)?;
-        assert_eq!(rt; got.as_str(), want);
-    }
-    let got = answer(alloc, &[0; 12])?;
-    assert_eq!(rt; got.as_str(), "I1 Size");
-    Ok(())
+    check_answers(rt.alloc(), &rt, &cases)?;
+    part_of_a_slot(rt.alloc(), &rt)
 }
 
 #[test]
 fn a_test_of_the_length_makes_a_load_safe(rt: HostRuntime) -> Result<(), Fail> {
-    let alloc = rt.alloc();
     const FIRST_BYTE: u64 = 0x7110_0000_0000_0000; // ld8 r0, [r1+0]
     let cases: [(&[u64], &str); 8] = [
         (&[FIRST_BYTE, EXIT], "V7 RecordBounds at 0"),
@@ -113,18 +114,12 @@ fn a_test_of_the_length_makes_a_load_safe(rt: HostRuntime) -> Result<(), Fail> {
             "V7 RecordBounds at 4",
         ),
     ];
-    for (slots, want) in cases {
-        let image = image_of(alloc, slots)?;
-        let got = answer(alloc, &image)?;
-        assert_eq!(rt; got.as_str(), want);
-    }
-    Ok(())
+    check_answers(rt.alloc(), &rt, &cases)
 }
 
 /// Where ways meet, what is known is what all of them know.
 #[test]
 fn branches_that_meet(rt: HostRuntime) -> Result<(), Fail> {
-    let alloc = rt.alloc();
     const KEEP_LENGTH: u64 = 0xbf26_0000_0000_0000; // mov64 r6, r2
     const SHIFT: u64 = 0x6706_0000_1400_0000; // lsh64 r6, 20
     const MOVE_ON: u64 = 0x0f61_0000_0000_0000; // add64 r1, r6
@@ -186,18 +181,12 @@ fn branches_that_meet(rt: HostRuntime) -> Result<(), Fail> {
             "V5 Type at 4",
         ),
     ];
-    for (slots, want) in cases {
-        let image = image_of(alloc, slots)?;
-        let got = answer(alloc, &image)?;
-        assert_eq!(rt; got.as_str(), want);
-    }
-    Ok(())
+    check_answers(rt.alloc(), &rt, &cases)
 }
 
 /// Stack bytes are readable where every way has stored them at one known place.
 #[test]
 fn stores(rt: HostRuntime) -> Result<(), Fail> {
-    let alloc = rt.alloc();
     const READ_LAST: u64 = 0x71a0_ffff_0000_0000; // ld8 r0, [r10-1]
     const WRITE_LAST: u64 = 0x720a_ffff_0000_0000; // st8 [r10-1], 0
     const IF_EMPTY: u64 = 0xa502_0100_0100_0000; // jlt64 r2, 1, +1
@@ -294,18 +283,12 @@ fn stores(rt: HostRuntime) -> Result<(), Fail> {
         // lds8 r0, [r10-1]
         (&[WRITE_LAST, 0x91a0_ffff_0000_0000, EXIT], "accepted 3"),
     ];
-    for (slots, want) in cases {
-        let image = image_of(alloc, slots)?;
-        let got = answer(alloc, &image)?;
-        assert_eq!(rt; got.as_str(), want);
-    }
-    Ok(())
+    check_answers(rt.alloc(), &rt, &cases)
 }
 
 /// Jumps without a condition, 64-bit immediates, and which of two faults is reported.
 #[test]
 fn jumps_and_wide_numbers(rt: HostRuntime) -> Result<(), Fail> {
-    let alloc = rt.alloc();
     const SKIP: u64 = 0x0500_0100_0000_0000; // ja +1
     const LONG_SKIP: u64 = 0x0600_0000_0100_0000; // jal +1
     const FIRST_BYTE: u64 = 0x7110_0000_0000_0000; // ld8 r0, [r1+0]
@@ -342,18 +325,12 @@ fn jumps_and_wide_numbers(rt: HostRuntime) -> Result<(), Fail> {
         (&[0x1506_ffff_0000_0000, EXIT], "V2 BackJump at 0"),
         (&[FIRST_BYTE], "V3 RunsOff at 0"),
     ];
-    for (slots, want) in cases {
-        let image = image_of(alloc, slots)?;
-        let got = answer(alloc, &image)?;
-        assert_eq!(rt; got.as_str(), want);
-    }
-    Ok(())
+    check_answers(rt.alloc(), &rt, &cases)
 }
 
 /// Calls: what they answer, and that they leave r1 to r5 unknown.
 #[test]
 fn calls(rt: HostRuntime) -> Result<(), Fail> {
-    let alloc = rt.alloc();
     let cases: [(&[u64], &str); 5] = [
         // call 7; mov64 r0, r1
         (
@@ -369,17 +346,17 @@ fn calls(rt: HostRuntime) -> Result<(), Fail> {
         (&[0x8500_0000_0900_0000, EXIT], "accepted 2"), // call 9
         (&[0x8500_0000_6300_0000, EXIT], "V11 Helper at 0"), // call 99
     ];
-    for (slots, want) in cases {
-        let image = image_of(alloc, slots)?;
-        let got = answer(alloc, &image)?;
-        assert_eq!(rt; got.as_str(), want);
-    }
-    Ok(())
+    check_answers(rt.alloc(), &rt, &cases)
+}
+
+/// After this call r0 has a number from 0 to this one.
+fn check_number_of(alloc: Global, rt: &impl Abort, call: u64, greatest: u64) -> Result<(), Fail> {
+    let image = image_of(alloc, &[call, EXIT])?;
+    check_kind(alloc, rt, &image, 1, 0, Abs::Num(0, greatest))
 }
 
 #[test]
 fn answers(rt: HostRuntime) -> Result<(), Fail> {
-    let alloc = rt.alloc();
     // call 7, call 8 and call 9
     let cases = [
         (0x8500_0000_0700_0000, 0x3fff_ffff_ffff_ffff),
@@ -387,8 +364,7 @@ fn answers(rt: HostRuntime) -> Result<(), Fail> {
         (0x8500_0000_0900_0000, 63),
     ];
     for (call, greatest) in cases {
-        let image = image_of(alloc, &[call, EXIT])?;
-        assert_eq!(rt; kind_of(alloc, &image, 1, 0)?, Some(Abs::Num(0, greatest)));
+        check_number_of(rt.alloc(), &rt, call, greatest)?;
     }
     Ok(())
 }

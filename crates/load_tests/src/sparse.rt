@@ -4,8 +4,9 @@ use abstract_regs::State;
 use annotate::{joined_states, load};
 use bpf_isa::decode;
 use machine_spec::Region;
-use notes::{Verified, check_sparse, note_at};
+use notes::{check_sparse, note_at};
 use std::alloc::Global;
+use std::process::Abort;
 use std::test::Fail;
 
 /// r0 = 0 and EXIT.
@@ -45,93 +46,101 @@ fn told(alloc: Global, image: &[u8], pairs: &[(usize, State)]) -> Result<String,
     })
 }
 
-fn loaded(alloc: Global, image: &[u8]) -> Result<Verified, Fail> {
-    Ok(load(alloc, image)?)
+/// The check of an image and states with numbers answers this.
+fn check_told(
+    alloc: Global,
+    rt: &impl Abort,
+    image: &[u8],
+    pairs: &[(usize, State)],
+    want: &str,
+) -> Result<(), Fail> {
+    assert_eq!(rt; told(alloc, image, pairs)?.as_str(), want);
+    Ok(())
+}
+
+/// A load of an image keeps this many states.
+fn check_kept(alloc: Global, rt: &impl Abort, image: &[u8], count: usize) -> Result<(), Fail> {
+    assert_eq!(rt; load(alloc, image)?.kept(), count);
+    Ok(())
+}
+
+/// An image has four instructions, and the third has this region first.
+fn check_region(
+    alloc: Global,
+    rt: &impl Abort,
+    image: &[u8],
+    want: Option<Region>,
+) -> Result<(), Fail> {
+    let verified = load(alloc, image)?;
+    assert_eq!(rt; verified.code().len(), 4);
+    assert_eq!(rt; verified.regions(2).0, want);
+    Ok(())
 }
 
 #[test]
 fn loads_keep_the_states_of_jump_targets(rt: HostRuntime) -> Result<(), Fail> {
-    let alloc = rt.alloc();
-    assert_eq!(rt; loaded(alloc, &ZERO)?.kept(), 0);
-    assert_eq!(rt; loaded(alloc, &FIRST_BYTE)?.kept(), 1);
-    assert_eq!(rt; loaded(alloc, &UNREACHED)?.kept(), 1);
-    Ok(())
+    check_kept(rt.alloc(), &rt, &ZERO, 0)?;
+    check_kept(rt.alloc(), &rt, &FIRST_BYTE, 1)?;
+    check_kept(rt.alloc(), &rt, &UNREACHED, 1)
 }
 
 /// An instruction that no jump and no other instruction leads to has no region.
 #[test]
 fn unreached_has_no_region(rt: HostRuntime) -> Result<(), Fail> {
-    let alloc = rt.alloc();
-    let reached = loaded(alloc, &FIRST_BYTE)?;
-    assert_eq!(rt; reached.code().len(), 4);
-    assert_eq!(rt; reached.regions(2).0, Some(Region::Value));
-    let unreached = loaded(alloc, &UNREACHED)?;
-    assert_eq!(rt; unreached.code().len(), 4);
-    assert_eq!(rt; unreached.regions(2).0, None);
-    Ok(())
+    check_region(rt.alloc(), &rt, &FIRST_BYTE, Some(Region::Value))?;
+    check_region(rt.alloc(), &rt, &UNREACHED, None)
 }
 
 #[test]
 fn states_follow_from_those_of_jump_targets(rt: HostRuntime) -> Result<(), Fail> {
-    let alloc = rt.alloc();
-    let last = joined(alloc, &FIRST_BYTE, 3)?;
-    assert_eq!(rt; told(alloc, &FIRST_BYTE, &[(3, last)])?.as_str(), "kept 1");
-    assert_eq!(rt; told(alloc, &FIRST_BYTE, &[])?.as_str(), "V15 Notes at 1");
-    assert_eq!(rt; told(alloc, &ZERO, &[])?.as_str(), "kept 0");
-    Ok(())
+    let last = joined(rt.alloc(), &FIRST_BYTE, 3)?;
+    check_told(rt.alloc(), &rt, &FIRST_BYTE, &[(3, last)], "kept 1")?;
+    check_told(rt.alloc(), &rt, &FIRST_BYTE, &[], "V15 Notes at 1")?;
+    check_told(rt.alloc(), &rt, &ZERO, &[], "kept 0")
 }
 
 /// Nothing follows on an instruction that fails a check: no state covers the first jump's edge.
 #[test]
 fn nothing_follows_on_a_refused_instruction(rt: HostRuntime) -> Result<(), Fail> {
-    let alloc = rt.alloc();
-    let last = joined(alloc, &OUTSIDE, 1)?;
-    assert_eq!(rt; told(alloc, &OUTSIDE, &[])?.as_str(), "V15 Notes at 1");
-    assert_eq!(rt;
-        told(alloc, &OUTSIDE, &[(3, last)])?.as_str(),
-        "V1 JumpTarget at 2"
-    );
-    Ok(())
+    let last = joined(rt.alloc(), &OUTSIDE, 1)?;
+    check_told(rt.alloc(), &rt, &OUTSIDE, &[], "V15 Notes at 1")?;
+    check_told(
+        rt.alloc(),
+        &rt,
+        &OUTSIDE,
+        &[(3, last)],
+        "V1 JumpTarget at 2",
+    )
 }
 
 /// States elsewhere are taken where they are given, and not kept.
 #[test]
 fn states_are_taken_anywhere(rt: HostRuntime) -> Result<(), Fail> {
-    let alloc = rt.alloc();
     let entry = State::entry();
-    let second = joined(alloc, &ZERO, 1)?;
-    assert_eq!(rt;
-        told(alloc, &ZERO, &[(0, entry), (1, second)])?.as_str(),
-        "kept 0"
-    );
-    assert_eq!(rt;
-        told(alloc, &ZERO, &[(0, second)])?.as_str(),
-        "V15 Notes at 0"
-    );
-    assert_eq!(rt;
-        told(alloc, &ZERO, &[(1, entry)])?.as_str(),
-        "V4 Unset at 1"
-    );
-    Ok(())
+    let second = joined(rt.alloc(), &ZERO, 1)?;
+    check_told(rt.alloc(), &rt, &ZERO, &[(0, entry), (1, second)], "kept 0")?;
+    check_told(rt.alloc(), &rt, &ZERO, &[(0, second)], "V15 Notes at 0")?;
+    check_told(rt.alloc(), &rt, &ZERO, &[(1, entry)], "V4 Unset at 1")
 }
 
 /// The numbers rise and are those of instructions.
 #[test]
 fn numbers_rise(rt: HostRuntime) -> Result<(), Fail> {
-    let alloc = rt.alloc();
     let entry = State::entry();
-    let last = joined(alloc, &ZERO, 1)?;
-    assert_eq!(rt;
-        told(alloc, &ZERO, &[(2, last)])?.as_str(),
-        "V15 Notes at 0"
-    );
-    assert_eq!(rt;
-        told(alloc, &ZERO, &[(1, last), (0, entry)])?.as_str(),
-        "V15 Notes at 0"
-    );
-    assert_eq!(rt;
-        told(alloc, &ZERO, &[(1, last), (1, last)])?.as_str(),
-        "V15 Notes at 0"
-    );
-    Ok(())
+    let last = joined(rt.alloc(), &ZERO, 1)?;
+    check_told(rt.alloc(), &rt, &ZERO, &[(2, last)], "V15 Notes at 0")?;
+    check_told(
+        rt.alloc(),
+        &rt,
+        &ZERO,
+        &[(1, last), (0, entry)],
+        "V15 Notes at 0",
+    )?;
+    check_told(
+        rt.alloc(),
+        &rt,
+        &ZERO,
+        &[(1, last), (1, last)],
+        "V15 Notes at 0",
+    )
 }

@@ -1,6 +1,6 @@
 //! Calls of helpers, on a record at offset 5 of partition 7 with timestamp 1000.
 
-use crate::runs::end_of;
+use crate::runs::{Case, all_end_as, each_ends_as};
 use std::test::Fail;
 
 const TO_FIRST: u64 = 0xb701_0000_0000_0000; // mov64 r1, 0
@@ -17,45 +17,37 @@ const PARTITION: u64 = 0x8500_0000_0900_0000; // call 9
 
 const EXIT: u64 = 0x9500_0000_0000_0000;
 
+const PLACES: [(&[u64], &str); 6] = [
+    (&[OFFSET, EXIT], "rejected 5 after 2"),
+    (&[TIMESTAMP, EXIT], "rejected 1000 after 2"),
+    (&[PARTITION, EXIT], "rejected 7 after 2"),
+    // mov64 r0, r1: the call has clobbered r1
+    (&[OFFSET, 0xbf10_0000_0000_0000, EXIT], "K4 after 1"),
+    // mov64 r6, 4 before the call, mov64 r0, r6 after it
+    (
+        &[0xb706_0000_0400_0000, OFFSET, 0xbf60_0000_0000_0000, EXIT],
+        "rejected 4 after 4",
+    ),
+    // call 99
+    (&[0x8500_0000_6300_0000, EXIT], "K11 after 0"),
+];
+
 #[test]
 fn places(rt: HostRuntime) -> Result<(), Fail> {
-    let alloc = rt.alloc();
-    let cases: [(&[u64], &str); 6] = [
-        (&[OFFSET, EXIT], "rejected 5 after 2"),
-        (&[TIMESTAMP, EXIT], "rejected 1000 after 2"),
-        (&[PARTITION, EXIT], "rejected 7 after 2"),
-        // mov64 r0, r1: the call has clobbered r1
-        (&[OFFSET, 0xbf10_0000_0000_0000, EXIT], "K4 after 1"),
-        // mov64 r6, 4 before the call, mov64 r0, r6 after it
-        (
-            &[0xb706_0000_0400_0000, OFFSET, 0xbf60_0000_0000_0000, EXIT],
-            "rejected 4 after 4",
-        ),
-        // call 99
-        (&[0x8500_0000_6300_0000, EXIT], "K11 after 0"),
-    ];
-    for (slots, want) in cases {
-        let end = end_of(alloc, slots, None, 1)?;
-        assert_eq!(rt; end.as_str(), want);
-    }
-    Ok(())
+    all_end_as(&rt, rt.alloc(), None, &PLACES)
 }
+
+const NULL_VALUES: [(&[u64], &str); 4] = [
+    (&[TO_FIRST, EMIT_NULL, EXIT], "kept 1 after 3"),
+    (&[TO_TENTH, EMIT_NULL, EXIT], "rejected 1 after 3"),
+    // r1 is an address
+    (&[EMIT_NULL, EXIT], "K12 after 0"),
+    (&[OFFSET, EMIT_NULL, EXIT], "K4 after 1"),
+];
 
 #[test]
 fn null_values(rt: HostRuntime) -> Result<(), Fail> {
-    let alloc = rt.alloc();
-    let cases: [(&[u64], &str); 4] = [
-        (&[TO_FIRST, EMIT_NULL, EXIT], "kept 1 after 3"),
-        (&[TO_TENTH, EMIT_NULL, EXIT], "rejected 1 after 3"),
-        // r1 is an address
-        (&[EMIT_NULL, EXIT], "K12 after 0"),
-        (&[OFFSET, EMIT_NULL, EXIT], "K4 after 1"),
-    ];
-    for (slots, want) in cases {
-        let end = end_of(alloc, slots, None, 1)?;
-        assert_eq!(rt; end.as_str(), want);
-    }
-    Ok(())
+    all_end_as(&rt, rt.alloc(), None, &NULL_VALUES)
 }
 
 const EMIT_VALUE: u64 = 0x8500_0000_0400_0000; // call 4
@@ -66,146 +58,175 @@ const LENGTH: u64 = 0xbf23_0000_0000_0000; // mov64 r3, r2
 
 const NEXT: u64 = 0x0702_0000_0100_0000; // add64 r2, 1
 
+const BYTES_BY_ADDRESS: [(&[u64], &str); 10] = [
+    (
+        &[LENGTH, VALUE, TO_FIRST, EMIT_VALUE, EXIT],
+        "kept 1 after 5",
+    ),
+    (
+        &[LENGTH, VALUE, TO_TENTH, EMIT_VALUE, EXIT],
+        "rejected 1 after 5",
+    ),
+    // from the second byte on
+    (
+        &[LENGTH, VALUE, NEXT, TO_FIRST, EMIT_VALUE, EXIT],
+        "K12 after 4",
+    ),
+    // no bytes at the value's end, and behind it: mov64 r3, 0
+    (
+        &[
+            0xb703_0000_0000_0000,
+            VALUE,
+            NEXT,
+            TO_FIRST,
+            EMIT_VALUE,
+            EXIT,
+        ],
+        "kept 1 after 6",
+    ),
+    (
+        &[
+            0xb703_0000_0000_0000,
+            VALUE,
+            NEXT,
+            NEXT,
+            TO_FIRST,
+            EMIT_VALUE,
+            EXIT,
+        ],
+        "K12 after 5",
+    ),
+    // the length is not wrapped: mov64 r3, -1
+    (
+        &[
+            0xb703_0000_ffff_ffff,
+            VALUE,
+            NEXT,
+            TO_FIRST,
+            EMIT_VALUE,
+            EXIT,
+        ],
+        "K12 after 4",
+    ),
+    // nor is the address: add64 r2, -1; mov64 r3, 1
+    (
+        &[
+            0xb703_0000_0100_0000,
+            VALUE,
+            0x0702_0000_ffff_ffff,
+            TO_FIRST,
+            EMIT_VALUE,
+            EXIT,
+        ],
+        "K12 after 4",
+    ),
+    // an address where the length is: mov64 r3, r1
+    (
+        &[0xbf13_0000_0000_0000, VALUE, TO_FIRST, EMIT_VALUE, EXIT],
+        "K12 after 3",
+    ),
+    (&[TO_FIRST, EMIT_VALUE, EXIT], "K12 after 1"),
+    // the first call has clobbered r2
+    (&[OFFSET, TO_FIRST, EMIT_VALUE, EXIT], "K4 after 2"),
+];
+
 /// Bytes by address: they lie in their region, which is this record's value, or are set in the stack.
 #[test]
 fn bytes_by_address(rt: HostRuntime) -> Result<(), Fail> {
-    let alloc = rt.alloc();
-    let cases: [(&[u64], &str); 10] = [
-        (
-            &[LENGTH, VALUE, TO_FIRST, EMIT_VALUE, EXIT],
-            "kept 1 after 5",
-        ),
-        (
-            &[LENGTH, VALUE, TO_TENTH, EMIT_VALUE, EXIT],
-            "rejected 1 after 5",
-        ),
-        // from the second byte on
-        (
-            &[LENGTH, VALUE, NEXT, TO_FIRST, EMIT_VALUE, EXIT],
-            "K12 after 4",
-        ),
-        // no bytes at the value's end, and behind it: mov64 r3, 0
-        (
-            &[
-                0xb703_0000_0000_0000,
-                VALUE,
-                NEXT,
-                TO_FIRST,
-                EMIT_VALUE,
-                EXIT,
-            ],
-            "kept 1 after 6",
-        ),
-        (
-            &[
-                0xb703_0000_0000_0000,
-                VALUE,
-                NEXT,
-                NEXT,
-                TO_FIRST,
-                EMIT_VALUE,
-                EXIT,
-            ],
-            "K12 after 5",
-        ),
-        // the length is not wrapped: mov64 r3, -1
-        (
-            &[
-                0xb703_0000_ffff_ffff,
-                VALUE,
-                NEXT,
-                TO_FIRST,
-                EMIT_VALUE,
-                EXIT,
-            ],
-            "K12 after 4",
-        ),
-        // nor is the address: add64 r2, -1; mov64 r3, 1
-        (
-            &[
-                0xb703_0000_0100_0000,
-                VALUE,
-                0x0702_0000_ffff_ffff,
-                TO_FIRST,
-                EMIT_VALUE,
-                EXIT,
-            ],
-            "K12 after 4",
-        ),
-        // an address where the length is: mov64 r3, r1
-        (
-            &[0xbf13_0000_0000_0000, VALUE, TO_FIRST, EMIT_VALUE, EXIT],
-            "K12 after 3",
-        ),
-        (&[TO_FIRST, EMIT_VALUE, EXIT], "K12 after 1"),
-        // the first call has clobbered r2
-        (&[OFFSET, TO_FIRST, EMIT_VALUE, EXIT], "K4 after 2"),
-    ];
-    for (slots, want) in cases {
-        let end = end_of(alloc, slots, Some(b"v"), 1)?;
-        assert_eq!(rt; end.as_str(), want);
-    }
-    Ok(())
+    all_end_as(&rt, rt.alloc(), Some(b"v"), &BYTES_BY_ADDRESS)
 }
+
+const SET_FOUR: u64 = 0x620a_f8ff_0000_0000; // st32 [r10-8], 0
+
+const STACK_BYTES: u64 = 0xbfa2_0000_0000_0000; // mov64 r2, r10
+
+const EIGHT_BEFORE: u64 = 0x0702_0000_f8ff_ffff; // add64 r2, -8
+
+const BYTES_OF_THE_STACK: [(&[u64], &str); 2] = [
+    // mov64 r3, 4
+    (
+        &[
+            SET_FOUR,
+            STACK_BYTES,
+            EIGHT_BEFORE,
+            0xb703_0000_0400_0000,
+            TO_FIRST,
+            EMIT_VALUE,
+            EXIT,
+        ],
+        "kept 1 after 7",
+    ),
+    // mov64 r3, 8
+    (
+        &[
+            SET_FOUR,
+            STACK_BYTES,
+            EIGHT_BEFORE,
+            0xb703_0000_0800_0000,
+            TO_FIRST,
+            EMIT_VALUE,
+            EXIT,
+        ],
+        "K12 after 5",
+    ),
+];
 
 /// Four of the eight bytes are set.
 #[test]
 fn bytes_of_the_stack(rt: HostRuntime) -> Result<(), Fail> {
-    let alloc = rt.alloc();
-    // mov64 r3, 4 and mov64 r3, 8
-    let cases = [
-        (0xb703_0000_0400_0000, "kept 1 after 7"),
-        (0xb703_0000_0800_0000, "K12 after 5"),
-    ];
-    for (length, want) in cases {
-        // st32 [r10-8], 0; mov64 r2, r10; add64 r2, -8
-        let slots = [
-            0x620a_f8ff_0000_0000,
-            0xbfa2_0000_0000_0000,
-            0x0702_0000_f8ff_ffff,
-            length,
-            TO_FIRST,
-            EMIT_VALUE,
-            EXIT,
-        ];
-        let end = end_of(alloc, &slots, None, 1)?;
-        assert_eq!(rt; end.as_str(), want);
-    }
-    Ok(())
+    all_end_as(&rt, rt.alloc(), None, &BYTES_OF_THE_STACK)
 }
 
-/// Key and value change places, with these instructions for r5, the new value's length, and for r3, the
-/// new key's.
-fn exchange(value_length: u64, key_length: u64) -> [u64; 8] {
-    [
-        0xbf36_0000_0000_0000, // mov64 r6, r3
-        value_length,
-        0xbf64_0000_0000_0000, // mov64 r4, r6
-        key_length,
-        VALUE,
-        TO_FIRST,
-        0x8500_0000_0500_0000, // call 5
-        EXIT,
-    ]
-}
+const EMIT: u64 = 0x8500_0000_0500_0000; // call 5
+
+const SAVE_KEY: u64 = 0xbf36_0000_0000_0000; // mov64 r6, r3
+
+const KEY_LENGTH: u64 = 0xbf45_0000_0000_0000; // mov64 r5, r4
+
+const SAVED_KEY: u64 = 0xbf64_0000_0000_0000; // mov64 r4, r6
+
+/// Key and value change places: r5 is the new value's length, and r3 the new key's.
+const TWO_PIECES: [(&[u64], &str); 3] = [
+    (
+        &[
+            SAVE_KEY, KEY_LENGTH, SAVED_KEY, LENGTH, VALUE, TO_FIRST, EMIT, EXIT,
+        ],
+        "kept 1 after 8",
+    ),
+    // mov64 r5, 4: a byte more than the key has
+    (
+        &[
+            SAVE_KEY,
+            0xb705_0000_0400_0000,
+            SAVED_KEY,
+            LENGTH,
+            VALUE,
+            TO_FIRST,
+            EMIT,
+            EXIT,
+        ],
+        "K12 after 6",
+    ),
+    // mov64 r3, 6: a byte more than the value has
+    (
+        &[
+            SAVE_KEY,
+            KEY_LENGTH,
+            SAVED_KEY,
+            0xb703_0000_0600_0000,
+            VALUE,
+            TO_FIRST,
+            EMIT,
+            EXIT,
+        ],
+        "K12 after 6",
+    ),
+];
 
 /// Each of the two pieces is tried.
 #[test]
 fn two_pieces_by_address(rt: HostRuntime) -> Result<(), Fail> {
-    let alloc = rt.alloc();
-    // mov64 r5, r4 and mov64 r5, 4: a byte more than the key has
-    // mov64 r3, r2 and mov64 r3, 6: a byte more than the value has
-    let cases = [
-        (0xbf45_0000_0000_0000, LENGTH, "kept 1 after 8"),
-        (0xb705_0000_0400_0000, LENGTH, "K12 after 6"),
-        (0xbf45_0000_0000_0000, 0xb703_0000_0600_0000, "K12 after 6"),
-    ];
-    for (value_length, key_length, want) in cases {
-        let slots = exchange(value_length, key_length);
-        let end = end_of(alloc, &slots, Some(b"value"), 1)?;
-        assert_eq!(rt; end.as_str(), want);
-    }
-    Ok(())
+    all_end_as(&rt, rt.alloc(), Some(b"value"), &TWO_PIECES)
 }
 
 const LOAD_VALUE: u64 = 0x8500_0000_0100_0000; // call 1
@@ -224,164 +245,168 @@ const EIGHT: u64 = 0xb703_0000_0800_0000; // mov64 r3, 8
 
 const LAST_BYTES: u64 = 0x79a0_f8ff_0000_0000; // ld64 r0, [r10-8]
 
+const FIRST_NUMBER: &[u64] = &[
+    STACK_END,
+    EIGHT_BELOW,
+    FROM_START,
+    EIGHT,
+    LOAD_VALUE,
+    LAST_BYTES,
+    EXIT,
+];
+
+const NUMBER_PAST_ALL: &[u64] = &[
+    STACK_END,
+    EIGHT_BELOW,
+    FROM_PAST_ALL,
+    EIGHT,
+    LOAD_VALUE,
+    LAST_BYTES,
+    EXIT,
+];
+
+const PARTS_OF_THE_VALUE: [Case; 6] = [
+    (
+        FIRST_NUMBER,
+        Some(&[1, 0, 0, 0, 0, 0, 0, 0]),
+        "rejected 1 after 7",
+    ),
+    (FIRST_NUMBER, Some(&[1, 0, 0, 0, 0, 0, 0]), "kept 0 after 7"),
+    (FIRST_NUMBER, None, "kept 0 after 7"),
+    (
+        NUMBER_PAST_ALL,
+        Some(&[1, 0, 0, 0, 0, 0, 0, 0]),
+        "kept 0 after 7",
+    ),
+    (NUMBER_PAST_ALL, Some(&[]), "kept 0 after 7"),
+    (NUMBER_PAST_ALL, None, "kept 0 after 7"),
+];
+
 /// The first eight bytes of the value, or zeros.
 #[test]
 fn parts_of_the_value(rt: HostRuntime) -> Result<(), Fail> {
-    let alloc = rt.alloc();
-    let cases: [(u64, Option<&'static [u8]>, &str); 6] = [
-        (
-            FROM_START,
-            Some(&[1, 0, 0, 0, 0, 0, 0, 0]),
-            "rejected 1 after 7",
-        ),
-        (FROM_START, Some(&[1, 0, 0, 0, 0, 0, 0]), "kept 0 after 7"),
-        (FROM_START, None, "kept 0 after 7"),
-        (
-            FROM_PAST_ALL,
-            Some(&[1, 0, 0, 0, 0, 0, 0, 0]),
-            "kept 0 after 7",
-        ),
-        (FROM_PAST_ALL, Some(&[]), "kept 0 after 7"),
-        (FROM_PAST_ALL, None, "kept 0 after 7"),
-    ];
-    for (at, value, want) in cases {
-        let slots = [
+    each_ends_as(&rt, rt.alloc(), &PARTS_OF_THE_VALUE)
+}
+
+const THREE: u64 = 0xb703_0000_0300_0000; // mov64 r3, 3
+
+const COPIED_BYTE: u64 = 0x71a0_f8ff_0000_0000; // ld8 r0, [r10-8]: the first byte that was copied
+
+const ROOM_FOR_A_PART: [(&[u64], &str); 12] = [
+    (
+        &[
             STACK_END,
             EIGHT_BELOW,
-            at,
-            EIGHT,
-            LOAD_VALUE,
+            FROM_START,
+            THREE,
+            LOAD_KEY,
+            COPIED_BYTE,
+            EXIT,
+        ],
+        "rejected 107 after 7",
+    ),
+    (
+        &[STACK_END, EIGHT_BELOW, FROM_START, EIGHT, LOAD_KEY, EXIT],
+        "rejected 1 after 6",
+    ),
+    // ld64 r0, [r10-8]: five of its bytes are not set
+    (
+        &[
+            STACK_END,
+            EIGHT_BELOW,
+            FROM_START,
+            THREE,
+            LOAD_KEY,
             LAST_BYTES,
             EXIT,
-        ];
-        let end = end_of(alloc, &slots, value, 1)?;
-        assert_eq!(rt; end.as_str(), want);
-    }
-    Ok(())
-}
+        ],
+        "K9 after 5",
+    ),
+    // mov64 r3, 9 passes the end; mov64 r3, 0 is no byte; mov64 r3, -1 is more than there are
+    (
+        &[
+            STACK_END,
+            EIGHT_BELOW,
+            FROM_START,
+            0xb703_0000_0900_0000,
+            LOAD_KEY,
+            EXIT,
+        ],
+        "K12 after 4",
+    ),
+    (
+        &[
+            STACK_END,
+            EIGHT_BELOW,
+            FROM_START,
+            0xb703_0000_0000_0000,
+            LOAD_KEY,
+            EXIT,
+        ],
+        "K12 after 4",
+    ),
+    (
+        &[
+            STACK_END,
+            EIGHT_BELOW,
+            FROM_START,
+            0xb703_0000_ffff_ffff,
+            LOAD_KEY,
+            EXIT,
+        ],
+        "K12 after 4",
+    ),
+    // add64 r1, -520: before the stack
+    (
+        &[
+            STACK_END,
+            0x0701_0000_f8fd_ffff,
+            FROM_START,
+            EIGHT,
+            LOAD_KEY,
+            EXIT,
+        ],
+        "K12 after 4",
+    ),
+    // the value is no room
+    (&[FROM_START, EIGHT, LOAD_KEY, EXIT], "K12 after 2"),
+    // nor is a number: mov64 r1, 0
+    (
+        &[TO_FIRST, FROM_START, EIGHT, LOAD_KEY, EXIT],
+        "K12 after 3",
+    ),
+    // an address as the place: mov64 r2, r10; as the length: mov64 r3, r10
+    (
+        &[
+            STACK_END,
+            EIGHT_BELOW,
+            0xbfa2_0000_0000_0000,
+            EIGHT,
+            LOAD_KEY,
+            EXIT,
+        ],
+        "K12 after 4",
+    ),
+    (
+        &[
+            STACK_END,
+            EIGHT_BELOW,
+            FROM_START,
+            0xbfa3_0000_0000_0000,
+            LOAD_KEY,
+            EXIT,
+        ],
+        "K12 after 4",
+    ),
+    // nothing as the length, where r1 is no address either
+    (
+        &[OFFSET, TO_FIRST, FROM_START, LOAD_KEY, EXIT],
+        "K4 after 3",
+    ),
+];
 
 /// Room for a part: what the key `key` gives, and room that is none.
 #[test]
 fn room_for_a_part(rt: HostRuntime) -> Result<(), Fail> {
-    let alloc = rt.alloc();
-    // ld8 r0, [r10-8]: the first byte that was copied
-    let byte = 0x71a0_f8ff_0000_0000;
-    let three = 0xb703_0000_0300_0000; // mov64 r3, 3
-    let cases: [(&[u64], &str); 12] = [
-        (
-            &[
-                STACK_END,
-                EIGHT_BELOW,
-                FROM_START,
-                three,
-                LOAD_KEY,
-                byte,
-                EXIT,
-            ],
-            "rejected 107 after 7",
-        ),
-        (
-            &[STACK_END, EIGHT_BELOW, FROM_START, EIGHT, LOAD_KEY, EXIT],
-            "rejected 1 after 6",
-        ),
-        // ld64 r0, [r10-8]: five of its bytes are not set
-        (
-            &[
-                STACK_END,
-                EIGHT_BELOW,
-                FROM_START,
-                three,
-                LOAD_KEY,
-                LAST_BYTES,
-                EXIT,
-            ],
-            "K9 after 5",
-        ),
-        // mov64 r3, 9 passes the end; mov64 r3, 0 is no byte; mov64 r3, -1 is more than there are
-        (
-            &[
-                STACK_END,
-                EIGHT_BELOW,
-                FROM_START,
-                0xb703_0000_0900_0000,
-                LOAD_KEY,
-                EXIT,
-            ],
-            "K12 after 4",
-        ),
-        (
-            &[
-                STACK_END,
-                EIGHT_BELOW,
-                FROM_START,
-                0xb703_0000_0000_0000,
-                LOAD_KEY,
-                EXIT,
-            ],
-            "K12 after 4",
-        ),
-        (
-            &[
-                STACK_END,
-                EIGHT_BELOW,
-                FROM_START,
-                0xb703_0000_ffff_ffff,
-                LOAD_KEY,
-                EXIT,
-            ],
-            "K12 after 4",
-        ),
-        // add64 r1, -520: before the stack
-        (
-            &[
-                STACK_END,
-                0x0701_0000_f8fd_ffff,
-                FROM_START,
-                EIGHT,
-                LOAD_KEY,
-                EXIT,
-            ],
-            "K12 after 4",
-        ),
-        // the value is no room
-        (&[FROM_START, EIGHT, LOAD_KEY, EXIT], "K12 after 2"),
-        // nor is a number: mov64 r1, 0
-        (
-            &[TO_FIRST, FROM_START, EIGHT, LOAD_KEY, EXIT],
-            "K12 after 3",
-        ),
-        // an address as the place: mov64 r2, r10; as the length: mov64 r3, r10
-        (
-            &[
-                STACK_END,
-                EIGHT_BELOW,
-                0xbfa2_0000_0000_0000,
-                EIGHT,
-                LOAD_KEY,
-                EXIT,
-            ],
-            "K12 after 4",
-        ),
-        (
-            &[
-                STACK_END,
-                EIGHT_BELOW,
-                FROM_START,
-                0xbfa3_0000_0000_0000,
-                LOAD_KEY,
-                EXIT,
-            ],
-            "K12 after 4",
-        ),
-        // nothing as the length, where r1 is no address either
-        (
-            &[OFFSET, TO_FIRST, FROM_START, LOAD_KEY, EXIT],
-            "K4 after 3",
-        ),
-    ];
-    for (slots, want) in cases {
-        let end = end_of(alloc, slots, Some(b"value"), 1)?;
-        assert_eq!(rt; end.as_str(), want);
-    }
-    Ok(())
+    all_end_as(&rt, rt.alloc(), Some(b"value"), &ROOM_FOR_A_PART)
 }

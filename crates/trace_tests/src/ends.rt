@@ -1,6 +1,7 @@
 //! Outcomes, and numbers of instructions, whose expected values are worked out from RFC 9669.
 
-use crate::runs::{end_of, end_of_bytes};
+use crate::runs::{Case, all_end_as, each_ends_as, end_of_bytes};
+use std::alloc::Global;
 use std::test::Fail;
 
 const ZERO: u64 = 0xb700_0000_0000_0000; // mov64 r0, 0
@@ -22,201 +23,208 @@ const UPPER: u64 = 0x0000_0000_4433_2211;
 
 const MOVE: u64 = 0xbf10_0000_0000_0000; // mov64 r0, r1
 
+// Past the load where the value has no byte: jlt64 r2, 1, +1
+const OVER_EMPTY: &[u64] = &[ZERO, 0xa502_0100_0100_0000, FIRST_BYTE, EXIT];
+
+const ENDS: [Case; 9] = [
+    (&[ZERO, EXIT], Some(b"v"), "kept 0 after 2"),
+    (OVER_EMPTY, Some(&[7]), "rejected 7 after 4"),
+    (OVER_EMPTY, Some(&[]), "kept 0 after 3"),
+    (OVER_EMPTY, None, "kept 0 after 3"),
+    (&[TO_TENTH, EMIT, EXIT], None, "rejected 1 after 3"),
+    // without a second output, and after a jump of 32 bits over an unknown opcode
+    (
+        &[TO_FIRST, 0x0600_0000_0100_0000, u64::MAX, EMIT, EXIT],
+        None,
+        "kept 1 after 4",
+    ),
+    // the null flags, and the lengths of value and key
+    (&[0xbf50_0000_0000_0000, EXIT], None, "rejected 2 after 2"),
+    (
+        &[0xbf20_0000_0000_0000, EXIT],
+        Some(b"12345"),
+        "rejected 5 after 2",
+    ),
+    (&[0xbf40_0000_0000_0000, EXIT], None, "rejected 3 after 2"),
+];
+
 #[test]
 fn ends(rt: HostRuntime) -> Result<(), Fail> {
-    let alloc = rt.alloc();
-    let over_empty: &[u64] = &[ZERO, 0xa502_0100_0100_0000, FIRST_BYTE, EXIT];
-    let cases: [(&[u64], Option<&'static [u8]>, &str); 9] = [
-        (&[ZERO, EXIT], Some(b"v"), "kept 0 after 2"),
-        (over_empty, Some(&[7]), "rejected 7 after 4"),
-        (over_empty, Some(&[]), "kept 0 after 3"),
-        (over_empty, None, "kept 0 after 3"),
-        (&[TO_TENTH, EMIT, EXIT], None, "rejected 1 after 3"),
-        // without a second output, and after a jump of 32 bits over an unknown opcode
-        (
-            &[TO_FIRST, 0x0600_0000_0100_0000, u64::MAX, EMIT, EXIT],
-            None,
-            "kept 1 after 4",
-        ),
-        // the null flags, and the lengths of value and key
-        (&[0xbf50_0000_0000_0000, EXIT], None, "rejected 2 after 2"),
-        (
-            &[0xbf20_0000_0000_0000, EXIT],
-            Some(b"12345"),
-            "rejected 5 after 2",
-        ),
-        (&[0xbf40_0000_0000_0000, EXIT], None, "rejected 3 after 2"),
-    ];
-    for (slots, value, want) in cases {
-        let end = end_of(alloc, slots, value, 1)?;
-        assert_eq!(rt; end.as_str(), want);
-    }
-    Ok(())
+    each_ends_as(&rt, rt.alloc(), &ENDS)
 }
+
+const SEVEN: u64 = 0xb700_0000_0700_0000; // mov64 r0, 7
+
+const MINUS_SEVEN: u64 = 0xb700_0000_f9ff_ffff; // mov64 r0, -7
+
+const FIVE: u64 = 0xb700_0000_0500_0000; // mov64 r0, 5
+
+const LEAST: u64 = 0x1800_0000_0000_0000; // imm64 r0, 2^63
+
+const LEAST_UPPER: u64 = 0x0000_0000_0000_0080;
+
+const ABOVE: u64 = 0x1800_0000_0700_0000; // imm64 r0, 2^32 + 7
+
+const ABOVE_UPPER: u64 = 0x0000_0000_0100_0000;
+
+const BYTE: u64 = 0xb701_0000_8000_0000; // mov64 r1, 128
+
+const SIGN: u64 = 0xb400_0000_0000_0080; // mov32 r0, 0x80000000
+
+const NUMBERS: [(&[u64], &str); 18] = [
+    (&[SEVEN, 0x3700_0000_0000_0000, EXIT], "kept 0 after 3"),
+    (&[SEVEN, 0x9700_0000_0000_0000, EXIT], "rejected 7 after 3"),
+    (
+        &[ABOVE, ABOVE_UPPER, 0x9700_0000_0000_0000, EXIT],
+        "rejected 4294967303 after 3",
+    ),
+    (
+        &[ABOVE, ABOVE_UPPER, 0x9400_0000_0000_0000, EXIT],
+        "rejected 7 after 3",
+    ),
+    (
+        &[LEAST, LEAST_UPPER, 0x3700_0100_ffff_ffff, EXIT],
+        "rejected 9223372036854775808 after 3",
+    ),
+    (
+        &[LEAST, LEAST_UPPER, 0x9700_0100_ffff_ffff, EXIT],
+        "kept 0 after 3",
+    ),
+    (
+        &[MINUS_SEVEN, 0x3700_0100_0200_0000, EXIT],
+        "rejected 18446744073709551613 after 3",
+    ),
+    (
+        &[MINUS_SEVEN, 0x9700_0100_0200_0000, EXIT],
+        "rejected 18446744073709551615 after 3",
+    ),
+    (&[FIVE, 0x3700_0000_ffff_ffff, EXIT], "kept 0 after 3"),
+    (&[FIVE, 0x3400_0000_ffff_ffff, EXIT], "kept 0 after 3"),
+    (
+        &[BYTE, 0xbf10_0800_0000_0000, EXIT],
+        "rejected 18446744073709551488 after 3",
+    ),
+    (
+        &[BYTE, 0xbc10_0800_0000_0000, EXIT],
+        "rejected 4294967168 after 3",
+    ),
+    (
+        &[SIGN, 0xc400_0000_2100_0000, EXIT],
+        "rejected 3221225472 after 3",
+    ),
+    (
+        &[WIDE, UPPER, MOVE, 0xd400_0000_1000_0000, EXIT],
+        "rejected 30600 after 4",
+    ),
+    (
+        &[WIDE, UPPER, MOVE, 0xdc00_0000_1000_0000, EXIT],
+        "rejected 34935 after 4",
+    ),
+    (
+        &[WIDE, UPPER, MOVE, 0xd700_0000_2000_0000, EXIT],
+        "rejected 2289526357 after 4",
+    ),
+    (
+        &[WIDE, UPPER, MOVE, EXIT],
+        "rejected 1234605616436508552 after 3",
+    ),
+    (
+        &[WIDE, UPPER, MOVE, 0x8400_0000_0000_0000, EXIT],
+        "rejected 2862188664 after 4",
+    ),
+];
 
 /// Arithmetic: 7 by 0, the least number by -1, signed division, sign extension, shifts, byte orders.
 #[test]
 fn numbers(rt: HostRuntime) -> Result<(), Fail> {
-    let alloc = rt.alloc();
-    let seven: u64 = 0xb700_0000_0700_0000; // mov64 r0, 7
-    let minus_seven: u64 = 0xb700_0000_f9ff_ffff; // mov64 r0, -7
-    let five: u64 = 0xb700_0000_0500_0000; // mov64 r0, 5
-    let least: u64 = 0x1800_0000_0000_0000; // imm64 r0, 2^63
-    let half: u64 = 0x0000_0000_0000_0080;
-    let above: u64 = 0x1800_0000_0700_0000; // imm64 r0, 2^32 + 7
-    let one: u64 = 0x0000_0000_0100_0000;
-    let byte: u64 = 0xb701_0000_8000_0000; // mov64 r1, 128
-    let sign: u64 = 0xb400_0000_0000_0080; // mov32 r0, 0x80000000
-    let cases: [(&[u64], &str); 18] = [
-        (&[seven, 0x3700_0000_0000_0000, EXIT], "kept 0 after 3"),
-        (&[seven, 0x9700_0000_0000_0000, EXIT], "rejected 7 after 3"),
-        (
-            &[above, one, 0x9700_0000_0000_0000, EXIT],
-            "rejected 4294967303 after 3",
-        ),
-        (
-            &[above, one, 0x9400_0000_0000_0000, EXIT],
-            "rejected 7 after 3",
-        ),
-        (
-            &[least, half, 0x3700_0100_ffff_ffff, EXIT],
-            "rejected 9223372036854775808 after 3",
-        ),
-        (
-            &[least, half, 0x9700_0100_ffff_ffff, EXIT],
-            "kept 0 after 3",
-        ),
-        (
-            &[minus_seven, 0x3700_0100_0200_0000, EXIT],
-            "rejected 18446744073709551613 after 3",
-        ),
-        (
-            &[minus_seven, 0x9700_0100_0200_0000, EXIT],
-            "rejected 18446744073709551615 after 3",
-        ),
-        (&[five, 0x3700_0000_ffff_ffff, EXIT], "kept 0 after 3"),
-        (&[five, 0x3400_0000_ffff_ffff, EXIT], "kept 0 after 3"),
-        (
-            &[byte, 0xbf10_0800_0000_0000, EXIT],
-            "rejected 18446744073709551488 after 3",
-        ),
-        (
-            &[byte, 0xbc10_0800_0000_0000, EXIT],
-            "rejected 4294967168 after 3",
-        ),
-        (
-            &[sign, 0xc400_0000_2100_0000, EXIT],
-            "rejected 3221225472 after 3",
-        ),
-        (
-            &[WIDE, UPPER, MOVE, 0xd400_0000_1000_0000, EXIT],
-            "rejected 30600 after 4",
-        ),
-        (
-            &[WIDE, UPPER, MOVE, 0xdc00_0000_1000_0000, EXIT],
-            "rejected 34935 after 4",
-        ),
-        (
-            &[WIDE, UPPER, MOVE, 0xd700_0000_2000_0000, EXIT],
-            "rejected 2289526357 after 4",
-        ),
-        (
-            &[WIDE, UPPER, MOVE, EXIT],
-            "rejected 1234605616436508552 after 3",
-        ),
-        (
-            &[WIDE, UPPER, MOVE, 0x8400_0000_0000_0000, EXIT],
-            "rejected 2862188664 after 4",
-        ),
-    ];
-    for (slots, want) in cases {
-        let end = end_of(alloc, slots, None, 1)?;
-        assert_eq!(rt; end.as_str(), want);
-    }
-    Ok(())
+    all_end_as(&rt, rt.alloc(), None, &NUMBERS)
 }
+
+const VALUE: &[u8] = &[0xff, 0xfe, 0xfd, 0xfc, 0xfb, 0xfa, 0xf9, 0xf8];
+
+const LOAD: u64 = 0x79a0_f8ff_0000_0000; // ld64 r0, [r10-8]
+
+const ZEROS: u64 = 0x7a0a_f8ff_0000_0000; // st64 [r10-8], 0
+
+const BYTES: [(&[u64], &str); 15] = [
+    (&[0x7110_0100_0000_0000, EXIT], "rejected 254 after 2"),
+    (&[0x6910_0000_0000_0000, EXIT], "rejected 65279 after 2"),
+    (
+        &[0x6110_0000_0000_0000, EXIT],
+        "rejected 4244504319 after 2",
+    ),
+    (
+        &[0x7910_0000_0000_0000, EXIT],
+        "rejected 17940646550795321087 after 2",
+    ),
+    (
+        &[0x9110_0000_0000_0000, EXIT],
+        "rejected 18446744073709551615 after 2",
+    ),
+    (
+        &[0x8910_0000_0000_0000, EXIT],
+        "rejected 18446744073709551359 after 2",
+    ),
+    (
+        &[0x8110_0000_0000_0000, EXIT],
+        "rejected 18446744073659088639 after 2",
+    ),
+    // the key's bytes
+    (&[0x7130_0200_0000_0000, EXIT], "rejected 121 after 2"),
+    // st8, st16, st32 of -1 over zeros, st64 of -2
+    (
+        &[ZEROS, 0x720a_f8ff_ffff_ffff, LOAD, EXIT],
+        "rejected 255 after 4",
+    ),
+    (
+        &[ZEROS, 0x6a0a_f9ff_ffff_ffff, LOAD, EXIT],
+        "rejected 16776960 after 4",
+    ),
+    (
+        &[ZEROS, 0x620a_f8ff_ffff_ffff, LOAD, EXIT],
+        "rejected 4294967295 after 4",
+    ),
+    (
+        &[0x7a0a_f8ff_feff_ffff, LOAD, EXIT],
+        "rejected 18446744073709551614 after 3",
+    ),
+    // stx8, stx32 and stx64 of 0x1122334455667788
+    (
+        &[WIDE, UPPER, ZEROS, 0x731a_f8ff_0000_0000, LOAD, EXIT],
+        "rejected 136 after 5",
+    ),
+    (
+        &[WIDE, UPPER, ZEROS, 0x631a_f8ff_0000_0000, LOAD, EXIT],
+        "rejected 1432778632 after 5",
+    ),
+    (
+        &[WIDE, UPPER, 0x7b1a_f8ff_0000_0000, LOAD, EXIT],
+        "rejected 1234605616436508552 after 4",
+    ),
+];
 
 /// Loads and stores of each size, by the value `ff fe fd fc fb fa f9 f8`.
 #[test]
 fn bytes(rt: HostRuntime) -> Result<(), Fail> {
-    let alloc = rt.alloc();
-    let value: &'static [u8] = &[0xff, 0xfe, 0xfd, 0xfc, 0xfb, 0xfa, 0xf9, 0xf8];
-    let load: u64 = 0x79a0_f8ff_0000_0000; // ld64 r0, [r10-8]
-    let zero: u64 = 0x7a0a_f8ff_0000_0000; // st64 [r10-8], 0
-    let cases: [(&[u64], &str); 15] = [
-        (&[0x7110_0100_0000_0000, EXIT], "rejected 254 after 2"),
-        (&[0x6910_0000_0000_0000, EXIT], "rejected 65279 after 2"),
-        (
-            &[0x6110_0000_0000_0000, EXIT],
-            "rejected 4244504319 after 2",
-        ),
-        (
-            &[0x7910_0000_0000_0000, EXIT],
-            "rejected 17940646550795321087 after 2",
-        ),
-        (
-            &[0x9110_0000_0000_0000, EXIT],
-            "rejected 18446744073709551615 after 2",
-        ),
-        (
-            &[0x8910_0000_0000_0000, EXIT],
-            "rejected 18446744073709551359 after 2",
-        ),
-        (
-            &[0x8110_0000_0000_0000, EXIT],
-            "rejected 18446744073659088639 after 2",
-        ),
-        // the key's bytes
-        (&[0x7130_0200_0000_0000, EXIT], "rejected 121 after 2"),
-        // st8, st16, st32 of -1 over zeros, st64 of -2
-        (
-            &[zero, 0x720a_f8ff_ffff_ffff, load, EXIT],
-            "rejected 255 after 4",
-        ),
-        (
-            &[zero, 0x6a0a_f9ff_ffff_ffff, load, EXIT],
-            "rejected 16776960 after 4",
-        ),
-        (
-            &[zero, 0x620a_f8ff_ffff_ffff, load, EXIT],
-            "rejected 4294967295 after 4",
-        ),
-        (
-            &[0x7a0a_f8ff_feff_ffff, load, EXIT],
-            "rejected 18446744073709551614 after 3",
-        ),
-        // stx8, stx32 and stx64 of 0x1122334455667788
-        (
-            &[WIDE, UPPER, zero, 0x731a_f8ff_0000_0000, load, EXIT],
-            "rejected 136 after 5",
-        ),
-        (
-            &[WIDE, UPPER, zero, 0x631a_f8ff_0000_0000, load, EXIT],
-            "rejected 1432778632 after 5",
-        ),
-        (
-            &[WIDE, UPPER, 0x7b1a_f8ff_0000_0000, load, EXIT],
-            "rejected 1234605616436508552 after 4",
-        ),
-    ];
-    for (slots, want) in cases {
-        let end = end_of(alloc, slots, Some(value), 1)?;
-        assert_eq!(rt; end.as_str(), want);
+    all_end_as(&rt, rt.alloc(), Some(VALUE), &BYTES)
+}
+
+/// The image of a program that emits the record so often.
+fn emitting(alloc: Global, count: usize) -> Result<Vec<u8>, Fail> {
+    let mut image = Vec::new(alloc);
+    for _ in 0..count {
+        image.extend_from_slice(&TO_FIRST.to_be_bytes())?;
+        image.extend_from_slice(&EMIT.to_be_bytes())?;
     }
-    Ok(())
+    image.extend_from_slice(&EXIT.to_be_bytes())?;
+    Ok(image)
 }
 
 #[test]
 fn at_most_sixteen_emissions(rt: HostRuntime) -> Result<(), Fail> {
     let alloc = rt.alloc();
     for (count, want) in [(16, "kept 16 after 33"), (17, "rejected 3 after 35")] {
-        let mut image = Vec::new(alloc);
-        for _ in 0..count {
-            image.extend_from_slice(&TO_FIRST.to_be_bytes())?;
-            image.extend_from_slice(&EMIT.to_be_bytes())?;
-        }
-        image.extend_from_slice(&EXIT.to_be_bytes())?;
-        let end = end_of_bytes(alloc, &image, None, 1)?;
+        let end = end_of_bytes(alloc, &emitting(alloc, count)?, None, 1)?;
         assert_eq!(rt; end.as_str(), want);
     }
     Ok(())

@@ -3,6 +3,7 @@
 use bpf_machine::{End, Headers, Outcome, Place, Record, Trap, trace};
 use bytes::Bytes;
 use std::alloc::Global;
+use std::process::Abort;
 use std::test::Fail;
 
 fn record_of(alloc: Global, value: Option<&'static [u8]>) -> Record {
@@ -70,4 +71,41 @@ pub(crate) fn end_of(
         image.extend_from_slice(&slot.to_be_bytes())?;
     }
     end_of_bytes(alloc, &image, value, outputs)
+}
+
+/// Slots, the record's value, and the program's end on it.
+pub(crate) type Case = (&'static [u64], Option<&'static [u8]>, &'static str);
+
+/// The program of these slots ends like this, where there is one output.
+fn ends_as(
+    rt: &impl Abort,
+    alloc: Global,
+    slots: &[u64],
+    value: Option<&'static [u8]>,
+    want: &str,
+) -> Result<(), Fail> {
+    let end = end_of(alloc, slots, value, 1)?;
+    assert_eq!(rt; end.as_str(), want);
+    Ok(())
+}
+
+/// Each program ends as its case says.
+pub(crate) fn each_ends_as(rt: &impl Abort, alloc: Global, cases: &[Case]) -> Result<(), Fail> {
+    for (slots, value, want) in cases {
+        ends_as(rt, alloc, slots, *value, want)?;
+    }
+    Ok(())
+}
+
+/// Each program ends as its case says, on a record with this value.
+pub(crate) fn all_end_as(
+    rt: &impl Abort,
+    alloc: Global,
+    value: Option<&'static [u8]>,
+    cases: &[(&'static [u64], &'static str)],
+) -> Result<(), Fail> {
+    for (slots, want) in cases {
+        ends_as(rt, alloc, slots, value, want)?;
+    }
+    Ok(())
 }

@@ -1,6 +1,6 @@
 //! Each trap, after the instructions before it.
 
-use crate::runs::{end_of, end_of_bytes};
+use crate::runs::{Case, each_ends_as, end_of_bytes};
 use std::test::Fail;
 
 const ZERO: u64 = 0xb700_0000_0000_0000; // mov64 r0, 0
@@ -11,77 +11,76 @@ const FIRST_BYTE: u64 = 0x7110_0000_0000_0000; // ld8 r0, [r1+0]
 
 const LOAD: u64 = 0x79a0_f8ff_0000_0000; // ld64 r0, [r10-8]
 
+const FAR: u64 = 0x0f61_0000_0000_0000; // add64 r1, r6
+
+const TRAPS: [Case; 25] = [
+    (&[], None, "K3 after 0"),
+    (&[ZERO], None, "K3 after 1"),
+    (&[EXIT], None, "K4 after 0"),
+    (&[0x0500_ffff_0000_0000, EXIT], None, "K2 after 0"),
+    (&[0xb70a_0000_0000_0000, EXIT], None, "K6 after 0"),
+    (&[0x6201_0000_0000_0000, EXIT], Some(b"1234"), "K10 after 0"),
+    (&[FIRST_BYTE, EXIT], None, "K7 after 0"),
+    (&[0xff00_0000_0000_0000], None, "K1 after 0"),
+    // the last byte, and one past it
+    (
+        &[0x7110_0300_0000_0000, EXIT],
+        Some(&[0, 0, 0, 0]),
+        "kept 0 after 2",
+    ),
+    (
+        &[0x7110_0400_0000_0000, EXIT],
+        Some(&[0, 0, 0, 0]),
+        "K7 after 0",
+    ),
+    (
+        &[0x6110_0100_0000_0000, EXIT],
+        Some(&[0, 0, 0, 0]),
+        "K7 after 0",
+    ),
+    (
+        &[0x7110_ffff_0000_0000, EXIT],
+        Some(&[0, 0, 0, 0]),
+        "K7 after 0",
+    ),
+    (&[0x7130_0300_0000_0000, EXIT], None, "K7 after 0"),
+    // the stack: unset, half set, past its ends
+    (&[LOAD, EXIT], None, "K9 after 0"),
+    (&[0x620a_f8ff_0000_0000, LOAD, EXIT], None, "K9 after 1"),
+    (&[0x79a0_f8fd_0000_0000, EXIT], None, "K8 after 0"),
+    (&[0x720a_0000_0000_0000, EXIT], None, "K8 after 0"),
+    // into a second slot, outside the image, of a call with src 1, of an atomic operation
+    (
+        &[0x0500_0100_0000_0000, 0x1800_0000_0000_0000, 0, EXIT],
+        None,
+        "K2 after 0",
+    ),
+    (&[0x0500_0100_0000_0000, EXIT], None, "K2 after 0"),
+    (&[0x8510_0000_0100_0000, EXIT], None, "K1 after 0"),
+    (&[ZERO, 0xdb0a_f8ff_0000_0000, EXIT], None, "K1 after 1"),
+    (&[0x8500_0000_6300_0000, EXIT], None, "K11 after 0"),
+    (&[0x8500_0000_0300_0000, EXIT], None, "K12 after 0"),
+    (&[0xbf10_0000_0000_0000, EXIT], None, "K13 after 1"),
+    // r1 moved by 2^63 - 1 four times, which is -4 where sums wrap, and then its byte 4
+    (
+        &[
+            0x1806_0000_ffff_ffff,
+            0x0000_0000_ffff_ff7f,
+            FAR,
+            FAR,
+            FAR,
+            FAR,
+            0x7110_0400_0000_0000,
+            EXIT,
+        ],
+        Some(b"1234"),
+        "K7 after 5",
+    ),
+];
+
 #[test]
 fn traps(rt: HostRuntime) -> Result<(), Fail> {
-    let alloc = rt.alloc();
-    // r1 moved by 2^63 - 1 four times, which is -4 where sums wrap, and then its byte 4
-    let far: u64 = 0x0f61_0000_0000_0000;
-    let cases: [(&[u64], Option<&'static [u8]>, &str); 24] = [
-        (&[], None, "K3 after 0"),
-        (&[ZERO], None, "K3 after 1"),
-        (&[EXIT], None, "K4 after 0"),
-        (&[0x0500_ffff_0000_0000, EXIT], None, "K2 after 0"),
-        (&[0xb70a_0000_0000_0000, EXIT], None, "K6 after 0"),
-        (&[0x6201_0000_0000_0000, EXIT], Some(b"1234"), "K10 after 0"),
-        (&[FIRST_BYTE, EXIT], None, "K7 after 0"),
-        (&[0xff00_0000_0000_0000], None, "K1 after 0"),
-        // the last byte, and one past it
-        (
-            &[0x7110_0300_0000_0000, EXIT],
-            Some(&[0, 0, 0, 0]),
-            "kept 0 after 2",
-        ),
-        (
-            &[0x7110_0400_0000_0000, EXIT],
-            Some(&[0, 0, 0, 0]),
-            "K7 after 0",
-        ),
-        (
-            &[0x6110_0100_0000_0000, EXIT],
-            Some(&[0, 0, 0, 0]),
-            "K7 after 0",
-        ),
-        (
-            &[0x7110_ffff_0000_0000, EXIT],
-            Some(&[0, 0, 0, 0]),
-            "K7 after 0",
-        ),
-        (&[0x7130_0300_0000_0000, EXIT], None, "K7 after 0"),
-        // the stack: unset, half set, past its ends
-        (&[LOAD, EXIT], None, "K9 after 0"),
-        (&[0x620a_f8ff_0000_0000, LOAD, EXIT], None, "K9 after 1"),
-        (&[0x79a0_f8fd_0000_0000, EXIT], None, "K8 after 0"),
-        (&[0x720a_0000_0000_0000, EXIT], None, "K8 after 0"),
-        // into a second slot, outside the image, of a call with src 1, of an atomic operation
-        (
-            &[0x0500_0100_0000_0000, 0x1800_0000_0000_0000, 0, EXIT],
-            None,
-            "K2 after 0",
-        ),
-        (&[0x0500_0100_0000_0000, EXIT], None, "K2 after 0"),
-        (&[0x8510_0000_0100_0000, EXIT], None, "K1 after 0"),
-        (&[ZERO, 0xdb0a_f8ff_0000_0000, EXIT], None, "K1 after 1"),
-        (&[0x8500_0000_6300_0000, EXIT], None, "K11 after 0"),
-        (&[0x8500_0000_0300_0000, EXIT], None, "K12 after 0"),
-        (&[0xbf10_0000_0000_0000, EXIT], None, "K13 after 1"),
-    ];
-    for (slots, value, want) in cases {
-        let end = end_of(alloc, slots, value, 1)?;
-        assert_eq!(rt; end.as_str(), want);
-    }
-    let wrapping: &[u64] = &[
-        0x1806_0000_ffff_ffff,
-        0x0000_0000_ffff_ff7f,
-        far,
-        far,
-        far,
-        far,
-        0x7110_0400_0000_0000,
-        EXIT,
-    ];
-    let end = end_of(alloc, wrapping, Some(b"1234"), 1)?;
-    assert_eq!(rt; end.as_str(), "K7 after 5");
-    Ok(())
+    each_ends_as(&rt, rt.alloc(), &TRAPS)
 }
 
 /// Bytes after the last whole slot are no slot: running on to them is K3, a jump to them K2.

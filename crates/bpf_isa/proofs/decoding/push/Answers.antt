@@ -1,4 +1,4 @@
-use Rattle.std.proofs.Common.{◌≡◌, length, ap, ◌∙◌, rules}
+use Rattle.std.proofs.Common.{◌≡◌, length, rules}
 use Rattle.bpf_isa.proofs.Reading.{entered, entered_length, table_enter}
 use Rattle.bpf_isa.proofs.decoding.push.Goals as goal
 
@@ -10,6 +10,6 @@ returns-clause-slots c =
 pub returns-clause-table : goal.returns-clause-table
 returns-clause-table c =
     let slot : c.len-slot.result ≡ length c.args.numbers.now.items = search rules in
-    let number : c.len-number.result ≡ length c.args.placed.now.items = search rules in
+    let number : c.len-number.result ≡ length c.args.placed.now = search rules in
     let is : c.enter.new.numbers.items ≡ entered c.args.numbers.now.items c.len-number.result c.slots_of.result = search rules in
-    rw (c.in_ok-push.ensures.items, is, c.slots_of.ensures.is) (table_enter c.args.placed.now.items c.args.numbers.now.items _ _ c.args.instruction c.requires.table slot number)
+    rw (c.in_ok-push.ensures, is, c.slots_of.ensures.is) (table_enter c.args.placed.now c.args.numbers.now.items _ _ c.args.instruction c.requires.table slot number)
