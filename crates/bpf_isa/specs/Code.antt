@@ -1,5 +1,5 @@
 -- Code as a list of placed instructions.
-use Rattle.std.specs.Prelude.{◌≡◌, ℕ, ◌<◌, List, [], ◌∷◌, slice_index, slice_get, Option, option_and_then}
+use Rattle.std.specs.Prelude.{◌≡◌, ℕ, ◌<◌, List, [], ◌∷◌, slice_index, slice_get, Option, option_and_then, map, Some, None, ◌==◌, if◌then◌else◌}
 use Rattle.machine_spec.specs.declared.instruction.Instruction.{Instruction}
 use Rattle.machine_spec.specs.declared.instruction.Placed.{Placed}
 use Rattle.machine_spec.specs.Image.{IsCodeOf, number_at}
@@ -19,6 +19,13 @@ pub record HasImage (code : List Placed) : Type 0 where
   pub image : List ℕ
   pub bytes : AreBytes image
   pub is_code : IsCodeOf image code
+
+-- the number that two bytes of a table stand for
+abbrev pub number_of : ℕ → Option ℕ
+number_of n = if n == 65535 then None else Some n
+
+abbrev pub numbers_of : List ℕ → List (Option ℕ)
+numbers_of numbers = map number_of numbers
 
 -- A table from each slot to the number of the instruction that begins there.
 pub record IsTable (code : List Placed) (numbers : List (Option ℕ)) : Type 0 where

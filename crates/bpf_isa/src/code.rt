@@ -4,6 +4,7 @@ ghost use Rattle.bpf_isa.specs.Code.{HasImage};
 ghost use Rattle.bpf_isa.specs.Spelling.{HasRegisters};
 
 use crate::placed_list::PlacedList;
+use crate::slot_table::SlotTable;
 use machine_spec::{Instruction, MAX_SLOTS, Placed};
 use std::marker::Model;
 
@@ -13,7 +14,7 @@ use std::marker::Model;
 pub struct Code {
     pub(crate) placed: PlacedList,
     /// For each slot the number of the instruction that begins there.
-    pub(crate) numbers: Vec<Option<u16>>,
+    pub(crate) numbers: SlotTable,
 }
 
 impl Model for Code {
@@ -25,7 +26,7 @@ impl Model for Code {
 
     ghost view = { λ c. c.placed };
 
-    ghost invariant = { λ c. IsKept c.placed c.numbers.items };
+    ghost invariant = { λ c. IsKept c.placed c.numbers };
 }
 
 /// The slot that a jump leads to.
@@ -108,9 +109,6 @@ impl Code {
     fn entry(&self, slot: usize) -> Option<usize>
         ensures { result ≡ number_at self.now slot }
     {
-        match self.numbers.get(slot) {
-            Some(Some(number)) => Some(*number as usize),
-            _ => None,
-        }
+        self.numbers.get(slot)
     }
 }

@@ -9,6 +9,7 @@ ghost use Rattle.bpf_isa.specs.Code.{IsTable};
 use crate::code::Code;
 use crate::placed_list::PlacedList;
 use crate::slot;
+use crate::slot_table::SlotTable;
 use machine_spec::{Instruction, IsaFault, MAX_SLOTS, Placed};
 use std::alloc::{AllocError, Global};
 
@@ -41,8 +42,9 @@ fn slots_of(instruction: Instruction) -> usize
 
 /// Appends that the next slot is the first of the instruction with a number, and that no
 /// instruction begins at the slot after it, if it has two.
-fn enter(numbers: &mut Vec<Option<u16>>, number: u16, slots: usize) -> Result<(), AllocError>
-    ensures { OnOk result (numbers.new.items ≡ (numbers.old.items ++ Some number ∷ []) ++ (if slots == 2 then None ∷ [] else [])) }
+fn enter(numbers: &mut SlotTable, number: u16, slots: usize) -> Result<(), AllocError>
+    requires { number < MAX_SLOTS }
+    ensures { OnOk result (numbers.new ≡ (numbers.old ++ Some number ∷ []) ++ (if slots == 2 then None ∷ [] else [])) }
 {
     numbers.push(Some(number))?;
     if slots == 2 {
@@ -54,15 +56,15 @@ fn enter(numbers: &mut Vec<Option<u16>>, number: u16, slots: usize) -> Result<()
 /// Appends the instruction of the next slots.
 fn push(
     placed: &mut PlacedList,
-    numbers: &mut Vec<Option<u16>>,
+    numbers: &mut SlotTable,
     instruction: Instruction,
 ) -> Result<(), AllocError>
-    requires table { IsTable placed.old numbers.old.items }
-    requires is_within { length placed.old ≤ length numbers.old.items }
-    requires is_small { length numbers.old.items < MAX_SLOTS }
-    ensures code { OnOk result (placed.new ≡ placed.old ++ record { slot = length numbers.old.items; instruction = instruction } ∷ []) }
-    ensures slots { OnOk result (length numbers.new.items ≡ length numbers.old.items + definitions.slots_of instruction) }
-    ensures table { OnOk result (IsTable placed.new numbers.new.items) }
+    requires table { IsTable placed.old numbers.old }
+    requires is_within { length placed.old ≤ length numbers.old }
+    requires is_small { length numbers.old < MAX_SLOTS }
+    ensures code { OnOk result (placed.new ≡ placed.old ++ record { slot = length numbers.old; instruction = instruction } ∷ []) }
+    ensures slots { OnOk result (length numbers.new ≡ length numbers.old + definitions.slots_of instruction) }
+    ensures table { OnOk result (IsTable placed.new numbers.new) }
 {
     let number = placed.len() as u16;
     let slot = numbers.len();
@@ -78,7 +80,7 @@ fn read_code(alloc: Global, image: &[u8]) -> Result<Code, IsaFault>
 {
     let slots = image.len() / 8;
     let mut placed = PlacedList::with_capacity(alloc, slots).map_err(|_| IsaFault::Memory)?;
-    let mut numbers = Vec::with_capacity(alloc, slots).map_err(|_| IsaFault::Memory)?;
+    let mut numbers = SlotTable::with_capacity(alloc, slots).map_err(|_| IsaFault::Memory)?;
     let mut slot = 0;
     while slot < slots {
         let instruction = slot::read(image, slot)?;

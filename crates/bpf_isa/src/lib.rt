@@ -13,6 +13,7 @@ mod lookup;
 mod opcode;
 mod placed_list;
 mod slot;
+mod slot_table;
 
 pub use code::Code;
 pub use decoding::decode;

@@ -8,6 +8,7 @@ mod edges;
 mod faults;
 mod forms;
 mod lookup;
+mod region_list;
 mod regions;
 mod settling;
 mod shape;

@@ -10,7 +10,7 @@ use Rattle.bpf_isa.proofs.decoding.read_code.Goals as goal
 pub loop-slot-init : goal.loop-slot-init
 loop-slot-init c =
     let none : c.in_ok-placed.placed ≡ [] = search rules in
-    let numbers : c.in_ok-numbers.numbers.items ≡ [] = search rules in
+    let numbers : c.in_ok-numbers.numbers ≡ [] = search rules in
     rw (none, numbers) (record { slots = refl; few = omega arith; table = table_none; so_far = starts c.args.image.now })
 
 pub returns-in_err-instruction : goal.returns-in_err-instruction
@@ -25,9 +25,9 @@ loop-slot-preserved c =
     let front = c.loop-slot.placed in
     let p : Placed = record { slot = c.loop-slot.slot; instruction = c.in_ok-instruction.instruction } in
     let within : c.loop-slot.slot < slot_count c.args.image.now = c.loop-slot-test.true in
-    let pushed : c.push.new.placed ≡ front ++ record { slot = length c.loop-slot.numbers.items; instruction = c.in_ok-instruction.instruction } ∷ [] = search rules in
-    let slots : length c.push.new.numbers.items ≡ length c.loop-slot.numbers.items + slots_of c.in_ok-instruction.instruction = search rules in
-    let table : IsTable c.push.new.placed c.push.new.numbers.items = search rules in
+    let pushed : c.push.new.placed ≡ front ++ record { slot = length c.loop-slot.numbers; instruction = c.in_ok-instruction.instruction } ∷ [] = search rules in
+    let slots : length c.push.new.numbers ≡ length c.loop-slot.numbers + slots_of c.in_ok-instruction.instruction = search rules in
+    let table : IsTable c.push.new.placed c.push.new.numbers = search rules in
     let code : c.push.new.placed ≡ front ++ p ∷ [] = pushed ∙ ap (λ (slot : ℕ). front ++ record { slot = slot; instruction = c.in_ok-instruction.instruction } ∷ []) c.loop-slot.invariant.slots in
     let longer : length c.push.new.placed ≡ length front + 1 = ap length code ∙ length-append front (p ∷ []) in
     let so_far = goes_on c.args.image.now front c.loop-slot.slot c.in_ok-instruction.instruction _ c.loop-slot.invariant.few within (sym c.in_ok-instruction.ensures) c.loop-slot.invariant.so_far in
@@ -42,4 +42,4 @@ loop-slot-preserved c =
 pub invariant_of-result : goal.invariant_of-result
 invariant_of-result c =
     let past : slot_count c.args.image.now ≤ c.loop-slot.slot = c.loop-slot-test.false in
-    kept c.args.image.now c.loop-slot.placed c.loop-slot.numbers.items (λ i. omega (arith, c.type_inv.image i)) c.requires (is_done c.args.image.now c.loop-slot.placed c.loop-slot.slot _ _ past c.loop-slot.invariant.so_far) c.loop-slot.invariant.table
+    kept c.args.image.now c.loop-slot.placed c.loop-slot.numbers (λ i. omega (arith, c.type_inv.image i)) c.requires (is_done c.args.image.now c.loop-slot.placed c.loop-slot.slot _ _ past c.loop-slot.invariant.so_far) c.loop-slot.invariant.table

@@ -6,9 +6,9 @@ use Rattle.bpf_isa.proofs.decoding.read_code.Given as goal
 
 abbrev pub invariant-loop-slot : goal.invariant-loop-slot
 invariant-loop-slot l = record {
-  slots : length l.numbers.items ≡ l.slot;
+  slots : length l.numbers ≡ l.slot;
   few : length l.placed ≤ l.slot;
-  table : IsTable l.placed l.numbers.items;
+  table : IsTable l.placed l.numbers;
   so_far : with_front l.placed (rest_from l.image (slot_count l.image - length l.placed) l.slot) ≡ read_slots l.image (first_slots l.image);
 }
 

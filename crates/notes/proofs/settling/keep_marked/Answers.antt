@@ -1,6 +1,6 @@
 use Rattle.std.proofs.Common.{ap, ◌∙◌, arith, cond, get_or, false}
 use Rattle.std.specs.Prelude.{None}
-use Rattle.notes.proofs.Steps.{none_done, one_done, old_note, all_done, if_marked}
+use Rattle.notes.proofs.Steps.{none_done, one_done, old_note, if_marked}
 use Rattle.notes.proofs.settling.keep_marked.Goals as goal
 
 pub loop-k-init : goal.loop-k-init
