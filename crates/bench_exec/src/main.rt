@@ -1,6 +1,6 @@
 //! Times the interpreter. The first argument is how many rounds of records are run; with none the
-//! program does nothing. With a second one, the name of an image's file, it times that program on one
-//! record and on 1,024; else programs of one kind of instruction each.
+//! program does nothing. The others are names of images' files: it times each of these programs on one
+//! record and on 1,024. With none it times programs of one kind of instruction each.
 #![tactic(auto)]
 
 mod images;
@@ -118,10 +118,11 @@ fn time<R: Print + Clock>(
 ) -> io::Result<()> {
     let (nanos, sum) = nanos_of(rt, alloc, program, records, rounds)?;
     let count = u128::from(rounds).saturating_mul(records.len() as u128);
-    let record = nanos / count.max(1);
-    let instruction = record.saturating_mul(100) / program.code().len() as u128;
+    let tenths = nanos.saturating_mul(10) / count.max(1);
+    let instruction = tenths.saturating_mul(10) / program.code().len() as u128;
+    let (record, part) = (tenths / 10, tenths % 10);
     println!(rt;
-        "{name}: {count} records, {record} ns a record, {instruction} / 100 ns an instruction, sum {sum:?}"
+        "{name}: {count} records, {record}.{part} ns a record, {instruction} / 100 ns an instruction, sum {sum:?}"
     )
 }
 
@@ -175,14 +176,24 @@ fn time_all<R: Print + Clock>(rt: &R, alloc: Global, rounds: u32) -> io::Result<
     time_kinds(rt, alloc, &OTHERS, rounds)
 }
 
+/// Times the program of an image's file.
+fn time_file(rt: &HostRuntime, name: &str, rounds: u32) -> io::Result<()> {
+    println!(rt; "{name}")?;
+    time_image(rt, rt.alloc(), &fs::read(rt, name)?, rounds)
+}
+
 fn main(rt: HostRuntime) -> io::Result<()> {
     let mut arguments = env::args(&rt)?.skip(1);
     let Some(rounds) = arguments.next() else {
         return Ok(());
     };
     let rounds: u32 = rounds.as_str().parse().unwrap_or(1);
-    match arguments.next() {
-        Some(name) => time_image(&rt, rt.alloc(), &fs::read(&rt, name.as_str())?, rounds),
-        None => time_all(&rt, rt.alloc(), rounds),
+    let Some(first) = arguments.next() else {
+        return time_all(&rt, rt.alloc(), rounds);
+    };
+    time_file(&rt, first.as_str(), rounds)?;
+    for name in arguments {
+        time_file(&rt, name.as_str(), rounds)?;
     }
+    Ok(())
 }

@@ -3,7 +3,7 @@
 use crate::images::{EXIT, ZERO, image_of};
 use annotate::load;
 use machine_spec::{Distance, Instruction, Region, Source, Test, Width};
-use predecode::{Decoded, predecode};
+use predecode::{Decoded, Rare, predecode};
 use std::test::Fail;
 
 /// A load from the value has its region, and the jump over it the number of the exit.
@@ -23,12 +23,56 @@ fn a_program_is_predecoded(rt: HostRuntime) -> Result<(), Fail> {
             [
                 Decoded::Set(0, 0),
                 Decoded::IfLessNumber(2, 1, 1, 3),
-                Decoded::LoadByte(0, 1, 0, Region::Value),
+                Decoded::LoadValueByte(0, 1, 0),
                 Decoded::Exit,
             ]
         )
     );
+    assert!(rt; !verified.stores());
     Ok(())
+}
+
+/// A store and a call of helper 1 or 2 write to the stack, reached or not; a call of helper 3 does not.
+const STORING: [(&[u64], bool); 5] = [
+    (&[ZERO, EXIT], false),
+    (&[0x720a_ffff_0000_0000, ZERO, EXIT], true), // st8 [r10-1], 0
+    (
+        &[ZERO, 0x0500_0100_0000_0000, 0x720a_ffff_0000_0000, EXIT],
+        true,
+    ), // ja +1 over it
+    (&[0xb701_0000_0000_0000, 0x8500_0000_0300_0000, EXIT], false), // mov64 r1, 0; call 3
+    (
+        &[
+            0xbfa1_0000_0000_0000, // mov64 r1, r10
+            0x0701_0000_f8ff_ffff, // add64 r1, -8
+            0xb702_0000_0000_0000, // mov64 r2, 0
+            0xb703_0000_0800_0000, // mov64 r3, 8
+            0x8500_0000_0200_0000, // call 2
+            EXIT,
+        ],
+        true,
+    ),
+];
+
+fn stores(alloc: Global, slots: &[u64]) -> Option<bool> {
+    let image = image_of(alloc, slots).ok()?;
+    let verified = load(alloc, &image).ok()?;
+    Some(verified.stores())
+}
+
+/// The number of the first row that is not as it says.
+fn first_wrong(alloc: Global, rows: &[(&[u64], bool)]) -> Option<usize> {
+    for (k, row) in rows.iter().enumerate() {
+        if stores(alloc, row.0) != Some(row.1) {
+            return Some(k);
+        }
+    }
+    None
+}
+
+#[test]
+fn programs_that_store(rt: HostRuntime) {
+    assert!(rt; first_wrong(rt.alloc(), &STORING).is_none());
 }
 
 /// A number of 64 bits is in two halves; a jump has its target, and a comparison of 32 bits its width.
@@ -36,11 +80,16 @@ fn a_program_is_predecoded(rt: HostRuntime) -> Result<(), Fail> {
 fn single_instructions(rt: HostRuntime) -> Result<(), Fail> {
     let regions = (None, None);
     let wide = predecode(Instruction::Wide(1, 0x1122_3344_5566_7788), regions, 0);
-    assert!(rt; matches!(wide, Decoded::Wide(1, 0x5566_7788, 0x1122_3344)));
+    assert!(rt; matches!(wide, Decoded::Rare(Rare::Wide(1, 0x5566_7788, 0x1122_3344))));
     let jump = predecode(Instruction::Jump(Distance::Short(2)), regions, 9);
-    assert!(rt; matches!(jump, Decoded::Jump(Distance::Short(2), 9)));
+    assert!(rt; matches!(jump, Decoded::Rare(Rare::Jump(9, Distance::Short(2)))));
     let test = Instruction::JumpIf(Width::Bits32, Test::Less, 3, Source::Register(4), 5);
     let test = predecode(test, regions, 7);
-    assert!(rt; matches!(test, Decoded::JumpIf(Width::Bits32, Test::Less, 3, 4, 5, 7)));
+    assert!(rt;
+        matches!(
+            test,
+            Decoded::Rare(Rare::JumpIf(Width::Bits32, Test::Less, 3, 4, 5, 7))
+        )
+    );
     Ok(())
 }

@@ -22,6 +22,7 @@ use Rattle.notes.specs.Derived.{fallen, given_or, derived_at, derived_from, deri
 use Rattle.machine_spec.specs.declared.instruction.Region.{Region}
 use Rattle.predecode.specs.declared.decoded.Decoded.{Decoded}
 use Rattle.notes.specs.Regions.{AreRegions}
+use Rattle.notes.specs.Stores.{stores}
 use Rattle.notes.specs.Forms.{AreForms, IsVerified}
 use Rattle.notes.proofs.Lookups.{note_at_past}
 
@@ -408,8 +409,8 @@ module _ (code : List Placed) (notes states : Notes) (kept : List (ℕ × Abstra
   pub kept_view : derived code (pair_at kept) ≡ settled code notes
   kept_view = ap (λ (pairs : List (ℕ × Abstract)). derived code (pair_at pairs)) (kept_is ∙ ap (λ (ns : Notes). kept_states code ns) is) ∙ settled_again code notes
 
-  pub verified_from : AreRegions code states regions → AreForms code states forms → IsAnnotation code notes → AreDerivedProper code (at_targets code notes) (length code) → IsVerified code kept regions forms
-  verified_from regions_are forms_are annotation proper =
+  pub verified_from : AreRegions code states regions → AreForms code states forms → (writes : Bool) → writes ≡ stores code → IsAnnotation code notes → AreDerivedProper code (at_targets code notes) (length code) → IsVerified code kept regions forms writes
+  verified_from regions_are forms_are writes writes_are annotation proper =
       let same : derived code (pair_at kept) ≡ states = kept_view ∙ sym is in
       let P : Notes → Type 0 = λ ns. IsAnnotation code ns in
       let Q : Notes → Type 0 = λ ns. AreRegions code ns regions in
@@ -420,6 +421,7 @@ module _ (code : List Placed) (notes states : Notes) (kept : List (ℕ × Abstra
         regions_are = subst Q (sym same) regions_are;
         forms_are = subst F (sym same) forms_are;
         kept_are = subst R (sym same) kept_is;
+        writes_are = writes_are;
       }
 
 -- the refusal of states with numbers that rise is that of the list that follows from them

@@ -1,4 +1,5 @@
 pub mod Derived
 pub mod Regions
 pub mod Forms
+pub mod Stores
 pub mod Proper

@@ -12,6 +12,7 @@ mod region_list;
 mod regions;
 mod settling;
 mod shape;
+mod stores;
 mod targets;
 mod verified;
 
