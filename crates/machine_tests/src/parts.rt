@@ -1,17 +1,50 @@
 //! What is asked of the parts of an instruction.
 
 use machine_spec::{Direction, Distance, Operation, Region, Size, Width};
+use std::process::Abort;
+
+const SIZES: [(Size, u8); 2] = [(Size::Half, 2), (Size::Double, 8)];
+
+const DISTANCES: [(Distance, i32); 2] = [
+    (Distance::Short(-1), -1),
+    (Distance::Long(70_000), 70_000),
+];
+
+/// Operations at a width, and whether they move an address.
+const MOVES: [(Operation, Width, bool); 3] = [
+    (Operation::Add, Width::Bits64, true),
+    (Operation::Add, Width::Bits32, false),
+    (Operation::Mul, Width::Bits64, false),
+];
+
+fn sizes_count(rt: &impl Abort, rows: &[(Size, u8)]) {
+    for (size, want) in rows {
+        assert_eq!(rt; size.byte_count(), *want, "{size:?}");
+    }
+}
+
+fn distances_span(rt: &impl Abort, rows: &[(Distance, i32)]) {
+    for (distance, want) in rows {
+        assert_eq!(rt; distance.slots(), *want, "{distance:?}");
+    }
+}
+
+fn operations_move(rt: &impl Abort, rows: &[(Operation, Width, bool)]) {
+    for (operation, width, want) in rows {
+        assert_eq!(rt;
+            operation.moves_address(*width),
+            *want,
+            "{operation:?} {width:?}"
+        );
+    }
+}
 
 #[test]
 fn sizes_and_distances(rt: HostRuntime) {
-    assert_eq!(rt; Size::Half.byte_count(), 2);
-    assert_eq!(rt; Size::Double.byte_count(), 8);
-    assert_eq!(rt; Distance::Short(-1).slots(), -1);
-    assert_eq!(rt; Distance::Long(70_000).slots(), 70_000);
+    sizes_count(&rt, &SIZES);
+    distances_span(&rt, &DISTANCES);
+    operations_move(&rt, &MOVES);
     assert!(rt; Region::Stack.is_stack() && !Region::Key.is_stack());
     assert!(rt; Direction::Read.is_read() && !Direction::Write.is_read());
     assert!(rt; Operation::Sub.is_subtraction() && !Operation::Add.is_subtraction());
-    assert!(rt; Operation::Add.moves_address(Width::Bits64));
-    assert!(rt; !Operation::Add.moves_address(Width::Bits32));
-    assert!(rt; !Operation::Mul.moves_address(Width::Bits64));
 }
