@@ -1,6 +1,7 @@
 use batch::{Batch, BatchFault, decode, encode, fits, share};
 use bytes::Bytes;
-use std::alloc::Global;
+use kafka_record::Record;
+use std::alloc::{AllocError, Global};
 use std::process::Abort;
 use std::test::*;
 
@@ -142,171 +143,295 @@ const LARGE: &[u8] = &[
     0x00, 0x00, 0x00, 0x00, 0x00, 0x00, 0x00, 0x00, 0x00, 0x0f, 0xff, 0xf5,
 ];
 
+/// The batch is written as these bytes.
+fn is_written_as(
+    rt: &impl Abort,
+    alloc: Global,
+    batch: &Batch,
+    bytes: &[u8],
+) -> Result<(), AllocError> {
+    assert!(rt; fits(batch));
+    let out = encode(alloc, batch)?;
+    assert_eq!(rt; out.as_slice(), bytes);
+    Ok(())
+}
+
 /// Reads a batch that begins the bytes, and writes it again.
 fn round_trip(rt: &impl Abort, alloc: Global, bytes: &'static [u8]) -> Result<Batch, Fail> {
     let (batch, used) = decode(alloc, Bytes::from_static(bytes))?;
     assert_eq!(rt; used, bytes.len());
-    assert!(rt; fits(&batch));
-    let out = encode(alloc, &batch)?;
-    assert_eq!(rt; out.as_slice(), bytes);
+    is_written_as(rt, alloc, &batch, bytes)?;
     Ok(batch)
 }
 
-fn fault_of(alloc: Global, bytes: &[u8]) -> Result<Option<BatchFault>, Fail> {
-    let bytes = Bytes::copy_from_slice(alloc, bytes)?;
-    Ok(decode(alloc, bytes).err())
+/// Base offset, leader epoch and base timestamp.
+fn start_of(batch: &Batch) -> (i64, i32, i64) {
+    (batch.base_offset, batch.leader_epoch, batch.base_timestamp)
+}
+
+/// Producer's number and epoch, and base sequence.
+fn producer_of(batch: &Batch) -> (i64, i16, i32) {
+    (batch.producer_id, batch.producer_epoch, batch.base_sequence)
+}
+
+fn count_of(batch: &Batch) -> usize {
+    batch.records.list.len()
+}
+
+/// The bytes are read as a batch with this start, this producer and so many records.
+fn reads_as(
+    rt: &impl Abort,
+    alloc: Global,
+    bytes: &'static [u8],
+    start: (i64, i32, i64),
+    producer: (i64, i16, i32),
+    count: usize,
+) -> Result<(), Fail> {
+    let batch = round_trip(rt, alloc, bytes)?;
+    assert_eq!(rt; start_of(&batch), start);
+    assert_eq!(rt; producer_of(&batch), producer);
+    assert_eq!(rt; count_of(&batch), count);
+    Ok(())
 }
 
 #[test]
 fn one_record(rt: HostRuntime) -> Result<(), Fail> {
-    let batch = round_trip(&rt, rt.alloc(), ONE)?;
     assert_eq!(rt; ONE.len(), 70);
-    assert_eq!(rt;
-        (batch.base_offset, batch.leader_epoch, batch.base_timestamp),
-        (0, 0, 0)
-    );
-    assert_eq!(rt;
-        (batch.producer_id, batch.producer_epoch, batch.base_sequence),
-        (-1, -1, -1)
-    );
-    assert_eq!(rt; batch.records.list.len(), 1);
-    Ok(())
+    reads_as(&rt, rt.alloc(), ONE, (0, 0, 0), (-1, -1, -1), 1)
 }
 
 #[test]
 fn two_records(rt: HostRuntime) -> Result<(), Fail> {
-    let batch = round_trip(&rt, rt.alloc(), TWO)?;
     assert_eq!(rt; TWO.len(), 79);
-    assert_eq!(rt; batch.records.list.len(), 2);
-    Ok(())
+    reads_as(&rt, rt.alloc(), TWO, (0, 0, 0), (-1, -1, -1), 2)
+}
+
+fn has_text(text: &Option<Bytes>, want: Option<&[u8]>) -> bool {
+    match (text, want) {
+        (Some(text), Some(want)) => text.as_slice() == want,
+        (None, None) => true,
+        _ => false,
+    }
+}
+
+fn delta_of(records: &[Record], k: usize) -> Option<i64> {
+    match records.get(k) {
+        Some(record) => Some(record.timestamp_delta),
+        None => None,
+    }
+}
+
+fn has_key(records: &[Record], k: usize, want: Option<&[u8]>) -> bool {
+    match records.get(k) {
+        Some(record) => has_text(&record.key, want),
+        None => false,
+    }
+}
+
+fn has_value(records: &[Record], k: usize, want: Option<&[u8]>) -> bool {
+    match records.get(k) {
+        Some(record) => has_text(&record.value, want),
+        None => false,
+    }
+}
+
+/// Whether there are two headers: one with a null value, and then one with the key `ä`.
+fn has_two_headers(records: &[Record], k: usize) -> bool {
+    match records.get(k) {
+        Some(record) => match record.headers.list.as_slice() {
+            [first, second] => { first.value.is_none() && second.key.as_slice() == "ä".as_bytes() }
+            _ => false,
+        },
+        None => false,
+    }
+}
+
+/// Records by their numbers, and their timestamp deltas.
+const DELTAS: [(usize, i64); 2] = [(1, 5), (2, -1)];
+
+/// Records by their numbers, and their keys.
+const KEYS: [(usize, Option<&[u8]>); 3] = [(1, None), (2, Some(b"")), (3, Some(b"longer key"))];
+
+/// Records by their numbers, and their values.
+const VALUES: [(usize, Option<&[u8]>); 2] = [(1, Some(b"")), (2, None)];
+
+fn deltas_are(rt: &impl Abort, records: &[Record], rows: &[(usize, i64)]) {
+    for (k, want) in rows {
+        assert_eq!(rt; delta_of(records, *k), Some(*want), "record {k}");
+    }
+}
+
+fn keys_are(rt: &impl Abort, records: &[Record], rows: &[(usize, Option<&[u8]>)]) {
+    for (k, want) in rows {
+        assert!(rt; has_key(records, *k, *want), "record {k}");
+    }
+}
+
+fn values_are(rt: &impl Abort, records: &[Record], rows: &[(usize, Option<&[u8]>)]) {
+    for (k, want) in rows {
+        assert!(rt; has_value(records, *k, *want), "record {k}");
+    }
+}
+
+fn four_are_understood(rt: &impl Abort, records: &[Record]) {
+    deltas_are(rt, records, &DELTAS);
+    keys_are(rt, records, &KEYS);
+    values_are(rt, records, &VALUES);
+    assert!(rt; has_two_headers(records, 1));
 }
 
 #[test]
 fn a_client_is_understood(rt: HostRuntime) -> Result<(), Fail> {
-    let batch = round_trip(&rt, rt.alloc(), CLIENT_ONE)?;
-    assert_eq!(rt; batch.base_timestamp, 1_700_000_000_000);
-
-    let batch = round_trip(&rt, rt.alloc(), CLIENT_FOUR)?;
-    assert_eq!(rt;
-        (batch.producer_id, batch.producer_epoch, batch.base_sequence),
-        (4711, 3, 12)
-    );
-    let records = &batch.records.list;
-    assert_eq!(rt; records.len(), 4);
-    assert_eq!(rt; records[1].timestamp_delta, 5);
-    assert!(rt; records[1].key.is_none());
-    assert!(rt; matches!(&records[1].value, Some(value) if value.is_empty()));
-    assert_eq!(rt; records[1].headers.list.len(), 2);
-    assert!(rt; records[1].headers.list[0].value.is_none());
-    assert_eq!(rt; records[1].headers.list[1].key.as_slice(), "ä".as_bytes());
-    assert_eq!(rt; records[2].timestamp_delta, -1);
-    assert!(rt; matches!(&records[2].key, Some(key) if key.is_empty()));
-    assert!(rt; records[2].value.is_none());
-    assert!(rt; matches!(&records[3].key, Some(key) if key.as_slice() == b"longer key".as_slice()));
+    let alloc = rt.alloc();
+    let start = (0, 0, 1_700_000_000_000);
+    reads_as(&rt, alloc, CLIENT_ONE, start, (-1, -1, -1), 1)?;
+    reads_as(&rt, alloc, CLIENT_FOUR, start, (4711, 3, 12), 4)?;
+    let batch = round_trip(&rt, alloc, CLIENT_FOUR)?;
+    four_are_understood(&rt, batch.records.list.as_slice());
     Ok(())
+}
+
+/// How many bytes of `ONE` and `TWO` in a row are read, and as how many records.
+fn read_of_both(alloc: Global) -> Result<(usize, usize), Fail> {
+    let mut bytes = Vec::from_slice(alloc, ONE)?;
+    bytes.extend_from_slice(TWO)?;
+    let (batch, used) = decode(alloc, Bytes::from_vec(bytes)?)?;
+    Ok((used, count_of(&batch)))
 }
 
 #[test]
 fn what_follows_stays(rt: HostRuntime) -> Result<(), Fail> {
-    let mut bytes = Vec::from_slice(rt.alloc(), ONE)?;
-    bytes.extend_from_slice(TWO)?;
-    let (batch, used) = decode(rt.alloc(), Bytes::copy_from_slice(rt.alloc(), &bytes)?)?;
-    assert_eq!(rt; used, 70);
-    assert_eq!(rt; batch.records.list.len(), 1);
+    assert_eq!(rt; read_of_both(rt.alloc())?, (70, 1));
+    Ok(())
+}
+
+fn fault_of(alloc: Global, bytes: &[u8]) -> Result<Option<BatchFault>, AllocError> {
+    let bytes = Bytes::copy_from_slice(alloc, bytes)?;
+    Ok(decode(alloc, bytes).err())
+}
+
+fn is_refused(
+    rt: &impl Abort,
+    alloc: Global,
+    bytes: &[u8],
+    want: BatchFault,
+) -> Result<(), AllocError> {
+    let fault = fault_of(alloc, bytes)?;
+    assert_eq!(rt; fault, Some(want));
     Ok(())
 }
 
 #[test]
 fn changed_bytes(rt: HostRuntime) -> Result<(), Fail> {
-    assert_eq!(rt; fault_of(rt.alloc(), &ONE[..69])?, Some(BatchFault::Short));
-    assert_eq!(rt; fault_of(rt.alloc(), &ONE[..11])?, Some(BatchFault::Short));
-    let mut bytes = Vec::from_slice(rt.alloc(), ONE)?;
+    let alloc = rt.alloc();
+    is_refused(&rt, alloc, &ONE[..69], BatchFault::Short)?;
+    is_refused(&rt, alloc, &ONE[..11], BatchFault::Short)?;
+    let mut bytes = Vec::from_slice(alloc, ONE)?;
     bytes[68] = 0x77;
-    assert_eq!(rt; fault_of(rt.alloc(), &bytes)?, Some(BatchFault::Crc));
+    is_refused(&rt, alloc, &bytes, BatchFault::Crc)?;
     bytes[11] = 48;
-    assert_eq!(rt; fault_of(rt.alloc(), &bytes)?, Some(BatchFault::Length));
+    is_refused(&rt, alloc, &bytes, BatchFault::Length)?;
     Ok(())
 }
 
-#[test]
-fn refusals(rt: HostRuntime) -> Result<(), Fail> {
-    assert_eq!(rt;
-        fault_of(rt.alloc(), SAME_DELTA)?,
-        Some(BatchFault::Record(1))
-    );
-    assert_eq!(rt;
-        fault_of(rt.alloc(), LEFT_OVER)?,
-        Some(BatchFault::Record(1))
-    );
-    assert_eq!(rt; fault_of(rt.alloc(), MISSING)?, Some(BatchFault::Record(2)));
-    assert_eq!(rt;
-        fault_of(rt.alloc(), LATER_MAX)?,
-        Some(BatchFault::Timestamp)
-    );
-    assert_eq!(rt;
-        fault_of(rt.alloc(), BEFORE_ZERO)?,
-        Some(BatchFault::Timestamp)
-    );
-    assert_eq!(rt;
-        fault_of(rt.alloc(), TOO_LATE)?,
-        Some(BatchFault::Timestamp)
-    );
-    assert_eq!(rt;
-        fault_of(rt.alloc(), COMPRESSED)?,
-        Some(BatchFault::Attributes)
-    );
-    assert_eq!(rt; fault_of(rt.alloc(), LAST_DELTA)?, Some(BatchFault::Count));
-    assert_eq!(rt; fault_of(rt.alloc(), NO_RECORD)?, Some(BatchFault::Count));
-    assert_eq!(rt; fault_of(rt.alloc(), OLD)?, Some(BatchFault::Magic));
-    assert_eq!(rt; fault_of(rt.alloc(), LARGE)?, Some(BatchFault::TooLarge));
-    Ok(())
-}
+const REFUSED: [(&[u8], BatchFault); 11] = [
+    (SAME_DELTA, BatchFault::Record(1)),
+    (LEFT_OVER, BatchFault::Record(1)),
+    (MISSING, BatchFault::Record(2)),
+    (LATER_MAX, BatchFault::Timestamp),
+    (BEFORE_ZERO, BatchFault::Timestamp),
+    (TOO_LATE, BatchFault::Timestamp),
+    (COMPRESSED, BatchFault::Attributes),
+    (LAST_DELTA, BatchFault::Count),
+    (NO_RECORD, BatchFault::Count),
+    (OLD, BatchFault::Magic),
+    (LARGE, BatchFault::TooLarge),
+];
 
-#[test]
-fn texts(rt: HostRuntime) -> Result<(), Fail> {
-    let texts = [
-        (BatchFault::Short, "B1 Short"),
-        (BatchFault::Length, "B2 Length"),
-        (BatchFault::TooLarge, "B3 TooLarge"),
-        (BatchFault::Magic, "B4 Magic"),
-        (BatchFault::Crc, "B5 Crc"),
-        (BatchFault::Attributes, "B6 Attributes"),
-        (BatchFault::Count, "B7 Count"),
-        (BatchFault::Record(1), "B8 Record record 1"),
-        (BatchFault::Timestamp, "B9 Timestamp"),
-        (BatchFault::Memory, "B10 Memory"),
-    ];
-    for (fault, text) in texts {
-        assert_eq!(rt; format!(in rt.alloc(); "{fault}")?.as_str(), text);
+fn are_refused(
+    rt: &impl Abort,
+    alloc: Global,
+    rows: &[(&[u8], BatchFault)],
+) -> Result<(), AllocError> {
+    for (bytes, want) in rows {
+        is_refused(rt, alloc, bytes, *want)?;
     }
     Ok(())
 }
 
 #[test]
-fn without_records(rt: HostRuntime) -> Result<(), Fail> {
-    let mut batch = round_trip(&rt, rt.alloc(), ONE)?;
-    batch.base_timestamp = -1;
-    assert!(rt; !fits(&batch));
-    batch.base_timestamp = (1 << 62) - 1;
-    assert!(rt; fits(&batch));
-    batch.records.list.clear();
-    assert!(rt; !fits(&batch));
+fn refusals(rt: HostRuntime) -> Result<(), Fail> {
+    Ok(are_refused(&rt, rt.alloc(), &REFUSED)?)
+}
+
+const TEXTS: [(BatchFault, &str); 10] = [
+    (BatchFault::Short, "B1 Short"),
+    (BatchFault::Length, "B2 Length"),
+    (BatchFault::TooLarge, "B3 TooLarge"),
+    (BatchFault::Magic, "B4 Magic"),
+    (BatchFault::Crc, "B5 Crc"),
+    (BatchFault::Attributes, "B6 Attributes"),
+    (BatchFault::Count, "B7 Count"),
+    (BatchFault::Record(1), "B8 Record record 1"),
+    (BatchFault::Timestamp, "B9 Timestamp"),
+    (BatchFault::Memory, "B10 Memory"),
+];
+
+fn are_shown_as(
+    rt: &impl Abort,
+    alloc: Global,
+    rows: &[(BatchFault, &str)],
+) -> Result<(), AllocError> {
+    for (fault, text) in rows {
+        let shown = format!(in alloc; "{fault}")?;
+        assert_eq!(rt; shown.as_str(), *text);
+    }
     Ok(())
 }
 
 #[test]
-fn another_owner(rt: HostRuntime) -> Result<(), Fail> {
-    let (mut batch, _) = decode(rt.alloc(), Bytes::from_static(CLIENT_FOUR))?;
-    let shared = share(rt.alloc(), &batch)?;
-    assert!(rt; fits(&shared));
-    let out = encode(rt.alloc(), &shared)?;
-    assert_eq!(rt; out.as_slice(), CLIENT_FOUR);
+fn texts(rt: HostRuntime) -> Result<(), Fail> {
+    Ok(are_shown_as(&rt, rt.alloc(), &TEXTS)?)
+}
 
+fn fits_at(batch: &mut Batch, base_timestamp: i64) -> bool {
+    batch.base_timestamp = base_timestamp;
+    fits(batch)
+}
+
+fn fits_without_records(batch: &mut Batch) -> bool {
+    batch.records.list.clear();
+    fits(batch)
+}
+
+#[test]
+fn without_records(rt: HostRuntime) -> Result<(), Fail> {
+    let mut batch = round_trip(&rt, rt.alloc(), ONE)?;
+    assert!(rt; !fits_at(&mut batch, -1));
+    assert!(rt; fits_at(&mut batch, (1 << 62) - 1));
+    assert!(rt; !fits_without_records(&mut batch));
+    Ok(())
+}
+
+fn a_share_is_written_as(rt: &impl Abort, alloc: Global, bytes: &'static [u8]) -> Result<(), Fail> {
+    let (batch, _) = decode(alloc, Bytes::from_static(bytes))?;
+    let shared = share(alloc, &batch)?;
+    Ok(is_written_as(rt, alloc, &shared, bytes)?)
+}
+
+/// A share of a batch with another offset and epoch, which is gone then.
+fn share_of_changed(alloc: Global, bytes: &'static [u8]) -> Result<Batch, Fail> {
+    let (mut batch, _) = decode(alloc, Bytes::from_static(bytes))?;
     batch.base_offset = 42;
     batch.leader_epoch = 9;
-    let shared = share(rt.alloc(), &batch)?;
-    drop(batch);
+    Ok(share(alloc, &batch)?)
+}
+
+#[test]
+fn another_owner(rt: HostRuntime) -> Result<(), Fail> {
+    a_share_is_written_as(&rt, rt.alloc(), CLIENT_FOUR)?;
+    let shared = share_of_changed(rt.alloc(), CLIENT_FOUR)?;
     assert_eq!(rt; (shared.base_offset, shared.leader_epoch), (42, 9));
-    assert_eq!(rt; shared.records.list.len(), 4);
+    assert_eq!(rt; count_of(&shared), 4);
     Ok(())
 }
