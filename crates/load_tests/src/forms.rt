@@ -2,8 +2,9 @@
 
 use crate::images::{EXIT, ZERO, image_of};
 use annotate::load;
-use machine_spec::{Distance, Instruction, Region, Source, Test, Width};
+use machine_spec::{Distance, Instruction, Source, Test, Width};
 use predecode::{Decoded, Rare, predecode};
+use std::alloc::Global;
 use std::test::Fail;
 
 /// A load from the value has its region, and the jump over it the number of the exit.
