@@ -1,8 +1,7 @@
 //! A program of an image, on records with random values.
 
-use crate::{records_of, time};
+use crate::{Fitting, records_of, time};
 use bytes::Bytes;
-use exec::Record;
 use std::alloc::Global;
 use std::io;
 use std::rt::Clock;
@@ -41,7 +40,7 @@ fn time_both<R: Print + Clock>(
     rt: &R,
     alloc: Global,
     image: &[u8],
-    records: &[Record],
+    records: &[Fitting],
     rounds: u32,
 ) -> io::Result<()> {
     let Ok(program) = annotate::load(alloc, image) else {

@@ -12,6 +12,7 @@ use bytes::Bytes;
 use exec::{Headers, Outcome, Place, Record, is_place, is_within_limits, run};
 use notes::Verified;
 use std::alloc::Global;
+use std::marker::Model;
 use std::rt::Clock;
 use std::time::Instant;
 use std::{env, fs, io};
@@ -41,22 +42,46 @@ fn program_of(alloc: Global, kind: &Kind) -> Option<Verified> {
     annotate::load(alloc, &image).ok()
 }
 
-fn record_of(alloc: Global, value: Bytes) -> Record {
-    Record {
+/// A record that a run takes: it is tested once, when it is made.
+#[derive(Drop)]
+struct Fitting {
+    record: Record,
+}
+
+impl Model for Fitting {
+    ghost use Rattle.std.specs.Prelude.{◌≤◌, length};
+    ghost use Rattle.machine_spec.specs.Machine.{bytes_of};
+    ghost use Rattle.wire_spec.specs.declared.limits.TheConstants.{MAX_KEY, MAX_VALUE};
+    ghost use Rattle.wire_spec.specs.declared.record.Record.{Record};
+
+    ghost Value = { Record };
+
+    ghost view = { λ f. f.record };
+
+    ghost invariant = { λ f. (length (bytes_of f.record.key) ≤ MAX_KEY) × (length (bytes_of f.record.value) ≤ MAX_VALUE) };
+}
+
+fn record_of(alloc: Global, value: Bytes) -> Option<Fitting> {
+    let record = Record {
         timestamp_delta: 0,
         key: None,
         value: Some(value),
         headers: Headers {
             list: Vec::new(alloc),
         },
+    };
+    if is_within_limits(&record) {
+        Some(Fitting { record })
+    } else {
+        None
     }
 }
 
 /// A record of each value, with no key.
-fn records_of(alloc: Global, values: Vec<Bytes>) -> Option<Vec<Record>> {
+fn records_of(alloc: Global, values: Vec<Bytes>) -> Option<Vec<Fitting>> {
     let mut records = Vec::new(alloc);
     for value in values {
-        records.push(record_of(alloc, value)).ok()?;
+        records.push(record_of(alloc, value)?).ok()?;
     }
     Some(records)
 }
@@ -72,11 +97,11 @@ fn values(alloc: Global) -> Option<Vec<Bytes>> {
 }
 
 /// The reject code of a program on a record, 0 where it is kept.
-fn code_of(alloc: Global, program: &Verified, record: &Record) -> Option<u64> {
-    if !is_within_limits(record) || !is_place(&PLACE) {
+fn code_of(alloc: Global, program: &Verified, fitting: &Fitting) -> Option<u64> {
+    if !is_place(&PLACE) {
         return None;
     }
-    match run(alloc, program, record, &PLACE) {
+    match run(alloc, program, &fitting.record, &PLACE) {
         Ok(Outcome::Rejected(code)) => Some(code),
         Ok(Outcome::Kept(_)) => Some(0),
         Err(_) => None,
@@ -84,7 +109,7 @@ fn code_of(alloc: Global, program: &Verified, record: &Record) -> Option<u64> {
 }
 
 /// The sum of the reject codes on all the records, `rounds` times.
-fn sum_of(alloc: Global, program: &Verified, records: &[Record], rounds: u32) -> Option<u64> {
+fn sum_of(alloc: Global, program: &Verified, records: &[Fitting], rounds: u32) -> Option<u64> {
     let mut sum: u64 = 0;
     for _ in 0..rounds {
         for record in records {
@@ -99,7 +124,7 @@ fn nanos_of<R: Clock>(
     rt: &R,
     alloc: Global,
     program: &Verified,
-    records: &[Record],
+    records: &[Fitting],
     rounds: u32,
 ) -> io::Result<(u128, Option<u64>)> {
     let start = Instant::now(rt)?;
@@ -113,7 +138,7 @@ fn time<R: Print + Clock>(
     alloc: Global,
     name: &str,
     program: &Verified,
-    records: &[Record],
+    records: &[Fitting],
     rounds: u32,
 ) -> io::Result<()> {
     let (nanos, sum) = nanos_of(rt, alloc, program, records, rounds)?;
