@@ -13,7 +13,7 @@ pub const ZERO: u64 = 0xb700_0000_0000_0000; // mov64 r0, 0
 pub const EXIT: u64 = 0x9500_0000_0000_0000;
 
 /// The bytes of these slots, each written as its eight bytes read from left to right.
-pub fn image_of(alloc: Global, slots: &[u64]) -> Result<Vec<u8>, AllocError> {
+pub(crate) fn image_of(alloc: Global, slots: &[u64]) -> Result<Vec<u8>, AllocError> {
     let mut image = Vec::new(alloc);
     for slot in slots {
         image.extend_from_slice(&slot.to_be_bytes())?;
@@ -28,7 +28,7 @@ fn kind_of(alloc: Global, image: &[u8], k: usize, register: usize) -> Result<Opt
 }
 
 /// What a load answers: how many instructions are accepted, or the fault's text.
-pub fn answer(alloc: Global, image: &[u8]) -> Result<String, AllocError> {
+pub(crate) fn answer(alloc: Global, image: &[u8]) -> Result<String, AllocError> {
     match load(alloc, image) {
         Ok(verified) => {
             let count = verified.code().len();
@@ -39,7 +39,12 @@ pub fn answer(alloc: Global, image: &[u8]) -> Result<String, AllocError> {
 }
 
 /// The load of an image of these slots answers this.
-pub fn check_answer(alloc: Global, rt: &impl Abort, slots: &[u64], want: &str) -> Result<(), Fail> {
+pub(crate) fn check_answer(
+    alloc: Global,
+    rt: &impl Abort,
+    slots: &[u64],
+    want: &str,
+) -> Result<(), Fail> {
     let image = image_of(alloc, slots)?;
     let got = answer(alloc, &image)?;
     assert_eq!(rt; got.as_str(), want, "of {slots:?}");
@@ -47,7 +52,11 @@ pub fn check_answer(alloc: Global, rt: &impl Abort, slots: &[u64], want: &str) -
 }
 
 /// The loads of images of slots answer these texts.
-pub fn check_answers(alloc: Global, rt: &impl Abort, cases: &[(&[u64], &str)]) -> Result<(), Fail> {
+pub(crate) fn check_answers(
+    alloc: Global,
+    rt: &impl Abort,
+    cases: &[(&[u64], &str)],
+) -> Result<(), Fail> {
     for (slots, want) in cases {
         check_answer(alloc, rt, slots, want)?;
     }
@@ -55,7 +64,7 @@ pub fn check_answers(alloc: Global, rt: &impl Abort, cases: &[(&[u64], &str)]) -
 }
 
 /// Before this instruction of an image this is known of a register.
-pub fn check_kind(
+pub(crate) fn check_kind(
     alloc: Global,
     rt: &impl Abort,
     image: &[u8],
