@@ -4,6 +4,7 @@ ghost use Rattle.machine_spec.specs.Arithmetic.{signed};
 ghost use Rattle.machine_spec.specs.Traps.{source_registers, operand_registers, base_registers, condition_registers, argument_registers, arguments_of};
 ghost use Rattle.verifier_spec.specs.Kinds.{kind_at, is_unknown, furthest};
 ghost use Rattle.verifier_spec.specs.Checks.{reads_unknown, is_one_sign, least_displacement, greatest_displacement, can_move, can_compute_kinds, has_wrong_kinds, has_wrong_base_kind, has_wrong_condition_kind, reach_at, reach_of, may_write_record, may_leave_record, may_leave_stack, may_read_unset, named_reach, may_name_wrongly, may_be_wrong_room, is_whole, is_wrong_argument_kind, may_exit_wrongly, failed_check};
+ghost use Rattle.machine_spec.specs.declared.helper.TheConstants.{HELPERS};
 
 use machine_spec::{
     Argument, Condition, Direction, Helper, Instruction, MemoryOperand, Operands, Operation,
@@ -526,7 +527,7 @@ fn may_exit_wrongly(exits: bool, state: &Abstract) -> bool
 /// The first check of an instruction that fails in a state, if one does.
 #[tactic(auto, unfolding(verifier_spec::specs::Checks::failed_check))]
 pub fn failed_check(instruction: Instruction, state: &Abstract) -> Option<Check>
-    ensures { result ≡ failed_check instruction state.now }
+    ensures { result ≡ failed_check HELPERS instruction state.now }
 {
     let summary = Summary::of(instruction);
     if summary.writes_frame() {

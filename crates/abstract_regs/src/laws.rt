@@ -4,6 +4,7 @@ ghost use Rattle.std.specs.Prelude.{◌≡◌, true, None};
 ghost use Rattle.verifier_spec.specs.States.{is_within};
 ghost use Rattle.verifier_spec.specs.Checks.{failed_check};
 ghost use Rattle.verifier_spec.specs.Soundness.{IsSoundAt, KeepsOrder};
+ghost use Rattle.machine_spec.specs.declared.helper.TheConstants.{HELPERS};
 
 use crate::State;
 use machine_spec::Instruction;
@@ -12,7 +13,7 @@ use machine_spec::Instruction;
 /// the step's edge propagates a state that holds of the machine's state after it.
 #[tactic(auto, using(verifier_spec::proofs::Sound::transfer_sound))]
 pub fn transfer_is_sound(state: &State, instruction: Instruction)
-    requires { failed_check instruction state.now ≡ None }
+    requires { failed_check HELPERS instruction state.now ≡ None }
     ensures { IsSoundAt instruction state.now }
 {
     let _failed = state.check(instruction);
@@ -22,8 +23,8 @@ pub fn transfer_is_sound(state: &State, instruction: Instruction)
 /// passes, and each edge propagates from it a state within the one from the other, or none.
 pub fn order_is_kept(inner: &State, outer: &State, instruction: Instruction)
     requires within { is_within inner.now outer.now ≡ true }
-    requires passes { failed_check instruction outer.now ≡ None }
-    ensures { KeepsOrder instruction inner.now outer.now }
+    requires passes { failed_check HELPERS instruction outer.now ≡ None }
+    ensures { KeepsOrder HELPERS instruction inner.now outer.now }
 {
     let _within = inner.within(outer);
 }

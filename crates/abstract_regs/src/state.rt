@@ -5,6 +5,7 @@ ghost use Rattle.verifier_spec.specs.States.{is_proper, is_within, entry_state};
 ghost use Rattle.verifier_spec.specs.Joins.{joined};
 ghost use Rattle.verifier_spec.specs.Checks.{failed_check};
 ghost use Rattle.verifier_spec.specs.Transfer.{falls_to, jumps_to};
+ghost use Rattle.machine_spec.specs.declared.helper.TheConstants.{HELPERS};
 
 use crate::{checks, transfer};
 use machine_spec::{Instruction, Region, STACK_SIZE};
@@ -144,7 +145,7 @@ impl State {
 
     /// The first check of an instruction that fails here, if one does.
     pub fn check(&self, instruction: Instruction) -> Option<Check>
-        ensures failed { result ≡ failed_check instruction self.now }
+        ensures failed { result ≡ failed_check HELPERS instruction self.now }
         ensures proper { is_proper self.now ≡ true }
     {
         checks::failed_check(instruction, &self.inner)
@@ -152,7 +153,7 @@ impl State {
 
     /// What an instruction whose checks pass makes of this state, along each of its edges.
     pub fn transfer(&self, instruction: Instruction) -> Edges
-        requires { failed_check instruction self.now ≡ None }
+        requires { failed_check HELPERS instruction self.now ≡ None }
         ensures next { result.next ≡ falls_to instruction self.now }
         ensures jump { result.jump ≡ jumps_to instruction self.now }
         ensures proper { is_proper self.now ≡ true }

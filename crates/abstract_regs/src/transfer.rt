@@ -8,6 +8,7 @@ ghost use Rattle.machine_spec.specs.Machine.{signature_of, helper_of};
 ghost use Rattle.machine_spec.specs.declared.summary.Direction.TheVariants as direction;
 ghost use Rattle.verifier_spec.specs.Checks.{can_move, can_compute_kinds, source_kind, reach_at, may_leave_stack, named_reach, may_be_wrong_room, is_wrong_argument_kind, failed_check};
 ghost use Rattle.verifier_spec.specs.Transfer.{with_kind, numbers, on_ranges, moved_address, moved_kind, computed_kind, changed_kind, loaded_kind, with_stored, with_room, with_argument, with_length, with_range, narrowed_range, tested, answer_kind, after_call_kinds, called_kinds, met_edge, jump_edge, falls_to, jumps_to};
+ghost use Rattle.machine_spec.specs.declared.helper.TheConstants.{HELPERS};
 
 use crate::checks;
 use machine_spec::{
@@ -230,7 +231,7 @@ fn with_stored(set: &StackSet, base: Abs, offset: i16, size: Size) -> StackSet
 #[tactic(auto, using(crate::proofs::Passes::store_inside, verifier_spec::proofs::InRange::with_set_proper), unfolding(verifier_spec::specs::Transfer::falls_to))]
 fn stored(state: &Abstract, size: Size, base: u8, offset: i16, source: Source) -> Abstract
     requires state { is_proper state.now ≡ true }
-    requires passes { failed_check (Instruction.Store size base offset source) state.now ≡ None }
+    requires passes { failed_check HELPERS (Instruction.Store size base offset source) state.now ≡ None }
     ensures stored { Some result ≡ falls_to (Instruction.Store size base offset source) state.now }
     ensures proper { is_proper result ≡ true }
 {
@@ -454,7 +455,7 @@ fn called(state: &Abstract, helper: Helper) -> Abstract
 /// The state after a call, if a helper has the number.
 fn called_by(state: &Abstract, number: i32) -> Option<Abstract>
     requires state { is_proper state.now ≡ true }
-    requires passes { failed_check (Instruction.Call number) state.now ≡ None }
+    requires passes { failed_check HELPERS (Instruction.Call number) state.now ≡ None }
     ensures called { result ≡ called_kinds (helper_of number) state.now }
     ensures proper { IfSome result (λ s. is_proper s ≡ true) }
 {
@@ -475,7 +476,7 @@ fn computed(
     source: Source,
 ) -> Abstract
     requires state { is_proper state.now ≡ true }
-    requires passes { failed_check (Instruction.Compute width operation register source) state.now ≡ None }
+    requires passes { failed_check HELPERS (Instruction.Compute width operation register source) state.now ≡ None }
     ensures edge { result ≡ with_kind state.now register
         (computed_kind state.now width operation (kind_at state.now register) (source_kind state.now width source)) }
     ensures proper { is_proper result ≡ true }
@@ -494,7 +495,7 @@ fn computed(
 #[tactic(auto, unfolding(verifier_spec::specs::Transfer::falls_to))]
 pub fn falls_to(instruction: Instruction, state: &Abstract) -> Option<Abstract>
     requires state { is_proper state.now ≡ true }
-    requires passes { failed_check instruction state.now ≡ None }
+    requires passes { failed_check HELPERS instruction state.now ≡ None }
     ensures edge { result ≡ falls_to instruction state.now }
     ensures proper { IfSome result (λ s. is_proper s ≡ true) }
 {

@@ -1,10 +1,11 @@
 -- What the loader's parts answer, as the load's answer.
 use Rattle.std.proofs.Common.{◌≡◌, ◌≢◌, ℕ, List, Option, Some, Ok, Err, sym, ap, ◌∙◌}
 use Rattle.std.specs.Prelude.{option_map}
+use Rattle.machine_spec.specs.declared.helper.TheConstants.{HELPERS}
+use Rattle.machine_spec.specs.Image.{program_of, read_image}
 use Rattle.machine_spec.specs.declared.instruction.IsaFault.{IsaFault}
 use Rattle.machine_spec.specs.declared.instruction.IsaFault.TheVariants as isa
 use Rattle.machine_spec.specs.declared.instruction.Placed.{Placed}
-use Rattle.machine_spec.specs.Image.{read_image}
 use Rattle.verifier_spec.specs.declared.fault.VerifyFault.{VerifyFault}
 use Rattle.verifier_spec.specs.Annotation.{Notes, fault_of}
 use Rattle.verifier_spec.specs.JoinedStates.{joined_states}
@@ -15,17 +16,17 @@ not_ok : (code : List Placed) (f : IsaFault) → Ok code ≡ Err f → ⊥
 not_ok code f e = cc
 
 -- an image that does not decode is not accepted
-pub isa_refused : (image : List ℕ) (f : IsaFault) → (f ≢ isa.Memory → read_image image ≡ Err f) → f ≢ isa.Memory → IsRefusedWith image (Isa f)
+pub isa_refused : (image : List ℕ) (f : IsaFault) → (f ≢ isa.Memory → read_image image ≡ Err f) → f ≢ isa.Memory → IsRefusedWith (program_of image) (Isa f)
 unfolding load_fault
 isa_refused image f h ne =
     let read : read_image image ≡ Err f = h ne in
     record {
       not_accepted = λ accepted. not_ok accepted.code f (sym accepted.read ∙ read);
-      fault_is = ap code_fault read;
+      fault_is = ap (code_fault HELPERS) read;
     }
 
-pub noted_fault : (image : List ℕ) (code : List Placed) (notes : Notes) (fault : Option VerifyFault) → read_image image ≡ Ok code → notes ≡ joined_states code → fault_of code notes ≡ fault
-    → load_fault image ≡ option_map Verify fault
+pub noted_fault : (image : List ℕ) (code : List Placed) (notes : Notes) (fault : Option VerifyFault) → read_image image ≡ Ok code → notes ≡ joined_states HELPERS code → fault_of HELPERS code notes ≡ fault
+    → load_fault (program_of image) ≡ option_map Verify fault
 unfolding load_fault
 noted_fault image code notes fault read e h =
-    ap code_fault read ∙ ap (option_map Verify) (ap (λ (ns : Notes). fault_of code ns) (sym e) ∙ h)
+    ap (code_fault HELPERS) read ∙ ap (option_map Verify) (ap (λ (ns : Notes). fault_of HELPERS code ns) (sym e) ∙ h)

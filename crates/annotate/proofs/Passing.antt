@@ -4,6 +4,7 @@ use Rattle.std.proofs.lemmas.Bool.{cond-true, cond-false, cases_eq, eq-eqb, eqb-
 use Rattle.std.proofs.lemmas.Option.{slice_get_within}
 use Rattle.std.specs.Prelude.{IfSome}
 use Rattle.std.proofs.lemmas.List.{length-replicate}
+use Rattle.machine_spec.specs.declared.helper.TheConstants.{HELPERS}
 use Rattle.machine_spec.specs.declared.instruction.Placed.{Placed}
 use Rattle.verifier_spec.specs.declared.state.Abstract.{Abstract}
 use Rattle.verifier_spec.specs.Annotation.{Notes, note_at}
@@ -73,11 +74,11 @@ note_at-replicate zero j = refl
 note_at-replicate (suc n) zero = refl
 note_at-replicate (suc n) (suc j) = note_at-replicate n j
 
-first_note : (code : List Placed) (n j : ℕ) → 0 < n → note_at (set (replicate n None) 0 (Some entry_state)) j ≡ known_after code 0 j
+first_note : (code : List Placed) (n j : ℕ) → 0 < n → note_at (set (replicate n None) 0 (Some entry_state)) j ≡ known_after HELPERS code 0 j
 unfolding known_after
 first_note code n j some = elim (cases_eq j 0) [
   | inl first ↦
-      let P : ℕ → Type 0 = λ i. note_at (set (replicate n None) 0 (Some entry_state)) i ≡ known_after code 0 i in
+      let P : ℕ → Type 0 = λ i. note_at (set (replicate n None) 0 (Some entry_state)) i ≡ known_after HELPERS code 0 i in
       let long : 0 < length (replicate {A = Option Abstract} n None) = omega (arith, length-replicate {A = Option Abstract} n None) in
       subst P (sym first) (note_at-set (replicate n None) 0 (Some entry_state) long)
   | inr later ↦
@@ -90,7 +91,7 @@ first_passed code some = record {
   long = length-set (replicate (length code) None) 0 (Some entry_state) ∙ length-replicate {A = Option Abstract} (length code) None;
   each = λ j under.
       let none : 0 ≡ min 0 j = omega arith in
-      first_note code (length code) j some ∙ ap (λ (k : ℕ). known_after code k j) none;
+      first_note code (length code) j some ∙ ap (λ (k : ℕ). known_after HELPERS code k j) none;
   proper = λ i s under e. absurd (omega (arith, under));
 }
 
@@ -102,7 +103,7 @@ edge_elsewhere j (Some t) state known elsewhere = cond-false (t == j) (joined_no
 module _ (code : List Placed) (k : ℕ) (placed : Placed) (at : slice_get code k ≡ Some placed)
     (later : (t : ℕ) → target_of code placed.slot (jump_of placed.instruction) ≡ Some t → k < t) where
   -- what is known up to an instruction stays
-  earlier_stays : (j : ℕ) (own known : Option Abstract) → j ≤ k → with_instruction code j k (Some placed) own known ≡ known
+  earlier_stays : (j : ℕ) (own known : Option Abstract) → j ≤ k → with_instruction HELPERS code j k (Some placed) own known ≡ known
   earlier_stays j None known le = refl
   earlier_stays j (Some s) known le =
       let target = target_of code placed.slot (jump_of placed.instruction) in
@@ -115,39 +116,39 @@ module _ (code : List Placed) (k : ℕ) (placed : Placed) (at : slice_get code k
       λ t e same.
       let is : k < t = later t e in
       omega (arith, is, same, le) in
-      elim (failed_check placed.instruction s) as (λ failed. if_passed failed known (with_edges code j k placed s known) ≡ known) [
+      elim (failed_check HELPERS placed.instruction s) as (λ failed. if_passed failed known (with_edges code j k placed s known) ≡ known) [
         | Some _ ↦ refl
         | None ↦ edge_elsewhere j target (jumps_to placed.instruction s) fallen further ∙ edge_elsewhere j (Some (k + 1)) (falls_to placed.instruction s) known next
       ]
 
-  later_known : (j : ℕ) → with_instruction code j k (Some placed) (known_after code k k) (known_after code k j) ≡ known_after code (suc k) j
+  later_known : (j : ℕ) → with_instruction HELPERS code j k (Some placed) (known_after HELPERS code k k) (known_after HELPERS code k j) ≡ known_after HELPERS code (suc k) j
   unfolding known_after
-  later_known j = ap (λ (o : Option Placed). with_instruction code j k o (known_after code k k) (known_after code k j)) (sym at)
+  later_known j = ap (λ (o : Option Placed). with_instruction HELPERS code j k o (known_after HELPERS code k k) (known_after HELPERS code k j)) (sym at)
 
   module _ (states next : Notes) (own : Option Abstract) (is_own : own ≡ note_at states k) (passed : IsPassed code states k) (long : length next ≡ length states)
-      (each : EachIs next (λ j. with_instruction code j k (Some placed) own (note_at states j))) (proper : IfSome own (λ s. is_proper s ≡ true)) where
-    own_known : own ≡ known_after code k k
+      (each : EachIs next (λ j. with_instruction HELPERS code j k (Some placed) own (note_at states j))) (proper : IfSome own (λ s. is_proper s ≡ true)) where
+    own_known : own ≡ known_after HELPERS code k k
     own_known =
         let both : min k k ≡ k = omega arith in
         let below : k < length states = omega (arith, slice_get_within code k placed at, passed.long) in
-        is_own ∙ passed.each k below ∙ ap (λ (n : ℕ). known_after code n k) both
+        is_own ∙ passed.each k below ∙ ap (λ (n : ℕ). known_after HELPERS code n k) both
 
-    each_known : (j : ℕ) → j < length next → note_at next j ≡ known_after code (min (k + 1) j) j
+    each_known : (j : ℕ) → j < length next → note_at next j ≡ known_after HELPERS code (min (k + 1) j) j
     each_known j under =
         let below : j < length states = omega (arith, under, long) in
         let one = each j under in
-        let two = ap (λ (note : Option Abstract). with_instruction code j k (Some placed) own note) (passed.each j below) in
+        let two = ap (λ (note : Option Abstract). with_instruction HELPERS code j k (Some placed) own note) (passed.each j below) in
         elim (cases_lt k j) [
           | inl after ↦
               let old : min k j ≡ k = omega (arith, after) in
               let new : suc k ≡ min (k + 1) j = omega (arith, after) in
-              one ∙ two ∙ ap (λ (n : ℕ). with_instruction code j k (Some placed) own (known_after code n j)) old
-              ∙ ap (λ (o : Option Abstract). with_instruction code j k (Some placed) o (known_after code k j)) own_known
+              one ∙ two ∙ ap (λ (n : ℕ). with_instruction HELPERS code j k (Some placed) own (known_after HELPERS code n j)) old
+              ∙ ap (λ (o : Option Abstract). with_instruction HELPERS code j k (Some placed) o (known_after HELPERS code k j)) own_known
               ∙ later_known j
-              ∙ ap (λ (n : ℕ). known_after code n j) new
+              ∙ ap (λ (n : ℕ). known_after HELPERS code n j) new
           | inr before ↦
               let same : min k j ≡ min (k + 1) j = omega (arith, before) in
-              one ∙ two ∙ earlier_stays j own (known_after code (min k j) j) before ∙ ap (λ (n : ℕ). known_after code n j) same
+              one ∙ two ∙ earlier_stays j own (known_after HELPERS code (min k j) j) before ∙ ap (λ (n : ℕ). known_after HELPERS code n j) same
         ]
 
     own_proper : (s : Abstract) → own ≡ Some s → is_proper s ≡ true
@@ -158,18 +159,18 @@ module _ (code : List Placed) (k : ℕ) (placed : Placed) (at : slice_get code k
       long = long ∙ passed.long;
       each = each_known;
       proper = λ i s under e. elim (cases_eq i k) [
-        | inl last ↦ own_proper s (own_known ∙ ap (λ (n : ℕ). known_after code n n) (sym last) ∙ e)
+        | inl last ↦ own_proper s (own_known ∙ ap (λ (n : ℕ). known_after HELPERS code n n) (sym last) ∙ e)
         | inr other ↦ passed.proper i s (omega (arith, under, other)) e
       ];
     }
 
 -- after the whole pass
-pub all_passed : (code : List Placed) (states : Notes) → IsPassed code states (length code) → states ≡ joined_states code
+pub all_passed : (code : List Placed) (states : Notes) → IsPassed code states (length code) → states ≡ joined_states HELPERS code
 all_passed code states passed =
-    same_notes states (joined_states code) (passed.long ∙ sym (length-joined_states code)) (λ j under.
+    same_notes states (joined_states HELPERS code) (passed.long ∙ sym (length-joined_states HELPERS code)) (λ j under.
     let below : j < length code = omega (arith, under, passed.long) in
     let is : min (length code) j ≡ j = omega (arith, below) in
-    passed.each j under ∙ ap (λ (n : ℕ). known_after code n j) is ∙ sym (note_joined code j below))
+    passed.each j under ∙ ap (λ (n : ℕ). known_after HELPERS code n j) is ∙ sym (note_joined HELPERS code j below))
 
-pub passed_all : (code : List Placed) (states : Notes) (k : ℕ) → k ≡ length code → IsPassed code states k → states ≡ joined_states code
+pub passed_all : (code : List Placed) (states : Notes) (k : ℕ) → k ≡ length code → IsPassed code states k → states ≡ joined_states HELPERS code
 passed_all code states k all passed = all_passed code states (subst (λ n. IsPassed code states n) all passed)

@@ -1,7 +1,8 @@
 -- What loading an image answers.
 use Rattle.std.specs.Prelude.{◌≡◌, ◌≢◌, ℕ, true, List, Result, Ok, Err}
+use Rattle.machine_spec.specs.declared.helper.TheConstants.{HELPERS}
+use Rattle.machine_spec.specs.Image.{program_of, read_image, IsCodeOf}
 use Rattle.machine_spec.specs.declared.instruction.IsaFault.TheVariants as isa
-use Rattle.machine_spec.specs.Image.{read_image, IsCodeOf}
 use Rattle.verifier_spec.specs.declared.fault.Check.TheVariants as check
 use Rattle.verifier_spec.specs.Annotation.{Notes, note_at, is_edge_covered, IsAnnotation}
 use Rattle.verifier_spec.specs.JoinedStates.{joined_states}
@@ -15,14 +16,14 @@ use Rattle.verifier_spec.specs.Loading.{IsRefusedWith}
 pub record Accepts (image : List ℕ) (verified : Annotated) : Type 0 where
   pub read : read_image image ≡ Ok verified.code
   pub code : IsCodeOf image verified.code
-  pub notes : verified.notes ≡ joined_states verified.code
-  pub annotation : IsAnnotation verified.code verified.notes
-  pub best : (other : Notes) → IsAnnotation verified.code other → (k : ℕ) → is_edge_covered (note_at verified.notes k) (note_at other k) ≡ true
+  pub notes : verified.notes ≡ joined_states HELPERS verified.code
+  pub annotation : IsAnnotation HELPERS verified.code verified.notes
+  pub best : (other : Notes) → IsAnnotation HELPERS verified.code other → (k : ℕ) → is_edge_covered (note_at verified.notes k) (note_at other k) ≡ true
 
 -- An image with a refusal does not decode to code that has an annotation; nothing is said where memory ran out.
 abbrev pub FaultIs : List ℕ → LoadFault → Type 0
-FaultIs image (Isa fault) = fault ≢ isa.Memory → IsRefusedWith image (Isa fault)
-FaultIs image (Verify fault) = fault.kind ≢ check.Memory → IsRefusedWith image (Verify fault)
+FaultIs image (Isa fault) = fault ≢ isa.Memory → IsRefusedWith (program_of image) (Isa fault)
+FaultIs image (Verify fault) = fault.kind ≢ check.Memory → IsRefusedWith (program_of image) (Verify fault)
 
 -- The refusal is never that a list of states is no annotation.
 abbrev pub IsOfImage : LoadFault → Type 0

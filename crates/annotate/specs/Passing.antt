@@ -1,5 +1,6 @@
 -- What a pass over the first instructions leaves.
 use Rattle.std.specs.Prelude.{◌≡◌, ℕ, ◌<◌, min, true, List, length, Option, Some}
+use Rattle.machine_spec.specs.declared.helper.TheConstants.{HELPERS}
 use Rattle.machine_spec.specs.declared.instruction.Placed.{Placed}
 use Rattle.verifier_spec.specs.declared.state.Abstract.{Abstract}
 use Rattle.verifier_spec.specs.States.{is_proper}
@@ -14,5 +15,5 @@ EachIs notes note = (j : ℕ) → j < length notes → note_at notes j ≡ note 
 -- propagate.
 pub record IsPassed (code : List Placed) (notes : Notes) (k : ℕ) : Type 0 where
   pub long : length notes ≡ length code
-  pub each : EachIs notes (λ j. known_after code (min k j) j)
-  pub proper : (i : ℕ) (s : Abstract) → i < k → known_after code i i ≡ Some s → is_proper s ≡ true
+  pub each : EachIs notes (λ j. known_after HELPERS code (min k j) j)
+  pub proper : (i : ℕ) (s : Abstract) → i < k → known_after HELPERS code i i ≡ Some s → is_proper s ≡ true

@@ -5,6 +5,7 @@ ghost use Rattle.verifier_spec.specs.JoinedStates.{joined_notes, with_edge, with
 ghost use Rattle.verifier_spec.specs.Checks.{failed_check};
 ghost use Rattle.verifier_spec.proofs.BestAnnotation.{AreJoinedProper};
 ghost use Rattle.annotate.specs.Passing.{EachIs, IsPassed};
+ghost use Rattle.machine_spec.specs.declared.helper.TheConstants.{HELPERS};
 
 use abstract_regs::State;
 use bpf_isa::Code;
@@ -55,7 +56,7 @@ fn bring_along(states: &mut [Option<State>], target: Option<usize>, state: Optio
 fn bring_both(code: &Code, states: &mut [Option<State>], k: usize, placed: Placed, state: State)
     requires slot { placed.slot < MAX_SLOTS }
     requires number { k < MAX_SLOTS }
-    requires passes { failed_check placed.instruction state ≡ None }
+    requires passes { failed_check HELPERS placed.instruction state ≡ None }
     ensures length { length states.new ≡ length states.old }
     ensures each { EachIs states.new (λ j. with_edges code.now j k placed state (note_at states.old j)) }
 {
@@ -77,7 +78,7 @@ fn pass_one(
     requires slot { placed.slot < MAX_SLOTS }
     requires number { k < MAX_SLOTS }
     ensures length { length states.new ≡ length states.old }
-    ensures each { EachIs states.new (λ j. with_instruction code.now j k (Some placed) note (note_at states.old j)) }
+    ensures each { EachIs states.new (λ j. with_instruction HELPERS code.now j k (Some placed) note (note_at states.old j)) }
     ensures proper { IfSome note (λ s. is_proper s ≡ true) }
 {
     if let Some(state) = note {
@@ -100,8 +101,8 @@ fn first_states(alloc: Global, len: usize) -> Result<Vec<Option<State>>, AllocEr
 /// One pass in code order, which begins with the entry state alone.
 fn pass(code: &Code, states: &mut [Option<State>])
     requires { states.old ≡ slice_set (replicate (length code.now) None) 0 (Some entry_state) }
-    ensures states { states.new ≡ joined_states code.now }
-    ensures proper { AreJoinedProper code.now }
+    ensures states { states.new ≡ joined_states HELPERS code.now }
+    ensures proper { AreJoinedProper HELPERS code.now }
 {
     for k in 0..code.len() {
         let note = note_of(states, k);
@@ -112,8 +113,8 @@ fn pass(code: &Code, states: &mut [Option<State>])
 /// The joined states of code: at each instruction the least state above all that the edges of
 /// reached instructions before it propagate.
 pub fn joined_states(alloc: Global, code: &Code) -> Result<Vec<Option<State>>, AllocError>
-    ensures states { IfOk result (λ states. states.items ≡ joined_states code.now) }
-    ensures proper { IfOk result (λ _. AreJoinedProper code.now) }
+    ensures states { IfOk result (λ states. states.items ≡ joined_states HELPERS code.now) }
+    ensures proper { IfOk result (λ _. AreJoinedProper HELPERS code.now) }
 {
     let mut states = first_states(alloc, code.len())?;
     pass(code, &mut states);

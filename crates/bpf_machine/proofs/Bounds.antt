@@ -23,6 +23,7 @@ use Rattle.machine_spec.specs.Image.{Program, slot_count, slot_after, first_slot
 use Rattle.machine_spec.specs.Machine.{Input, State, Access, with_register, entry_register, loaded, helper_of, effect_of, after_call, called, landing, after}
 use Rattle.machine_spec.specs.Traps.{is_target}
 use Rattle.machine_spec.specs.Meaning.{Step, Reaches}
+use Rattle.machine_spec.proofs.Helpers.{is_helper}
 use Rattle.bpf_machine.specs.Views.{IsNear}
 use Rattle.bpf_machine.proofs.Rows.{IsFree, is_free, slot_within}
 
@@ -77,7 +78,7 @@ module _ (program : Program) (input : Input) (s : State) (within : s.slot < slot
   goes_further (JumpIf width test dst source offset) other free = goes_if (is_taken width test (s.registers dst) (operand width s.registers source)) offset free.jump
   goes_further (Jump distance) other free = goes_landing (distance_of distance) (not-false _ free.jump)
   goes_further (Wide a b) other free = (omega arith, omega arith)
-  goes_further (Call number) other free = goes_called (helper_of number) free.helper
+  goes_further (Call number) other free = goes_called (helper_of number) (is_helper program.helpers number free.helper)
   goes_further Exit other free = absurd (other refl)
 
 -- ---- addresses

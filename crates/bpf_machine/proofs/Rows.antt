@@ -32,7 +32,7 @@ slot_within program input s e = from (nat_lt s.slot (slot_count program.image)) 
 
 -- what its instruction does is allowed
 pub record IsFree (program : Program) (input : Input) (i : Instruction) (s : State) : Type 0 where
-  pub helper : calls_no_helper (summary_of i).call ≡ false
+  pub helper : calls_no_helper program.helpers (summary_of i).call ≡ false
   pub record_stays : writes_record (access_of (summary_of i).memory s.registers) ≡ false
   pub in_stack : leaves_stack (access_of (summary_of i).memory s.registers) ≡ false
   pub argument : calls_wrongly input (summary_of i).call s ≡ false

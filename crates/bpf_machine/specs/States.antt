@@ -1,12 +1,13 @@
 -- What a run of the plain machine has at hand, and its state, as the definitions of the machine name them.
-use Rattle.machine_spec.specs.Image.{Program}
+use Rattle.machine_spec.specs.Image.{Program, program_of}
 use Rattle.machine_spec.specs.Machine.{Input, State}
 use Rattle.bpf_machine.specs.declared.memory.Run.{Run}
 use Rattle.bpf_machine.specs.declared.machine.Machine.{Machine}
 use Rattle.bpf_machine.specs.Views.{registers_of, stack_of}
 
-abbrev pub program_of : Run → Program
-program_of run = record { image = run.image.now }
+-- the program that is run
+abbrev pub program_run : Run → Program
+program_run run = program_of run.image.now
 
 abbrev pub input_of : Run → Input
 input_of run = record { given = run.given.now; place = run.place.now }

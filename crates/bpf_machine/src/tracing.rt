@@ -1,10 +1,10 @@
 //! Whole runs of the plain machine.
 ghost use Rattle.std.specs.Prelude.{◌≡◌, ℕ, ◌<◌, ◌≤◌, ◌^◌, Some, IfOk};
-ghost use Rattle.machine_spec.specs.Image.{slot_count};
+ghost use Rattle.machine_spec.specs.Image.{program_of, slot_count};
 ghost use Rattle.machine_spec.specs.Meaning.{outcome_of};
 ghost use Rattle.machine_spec.specs.Traps.{trap_at};
 ghost use Rattle.bpf_machine.specs.Views.{value_of, registers_of, IsNear};
-ghost use Rattle.bpf_machine.specs.States.{program_of, input_of, state_of};
+ghost use Rattle.bpf_machine.specs.States.{program_run, input_of, state_of};
 ghost use Rattle.bpf_machine.specs.Ends.{EndsOnlyIn};
 ghost use Rattle.bpf_machine.specs.Advances.{IsFetched, Advances};
 
@@ -52,7 +52,7 @@ impl Machine {
     fn fetched(&self, run: &Run) -> Result<Instruction, Trap>
         requires slot { self.now.slot < 2 ^ 62 }
         requires near { (r : ℕ) → IsNear (registers_of self.now.registers r) }
-        ensures { IsFetched (program_of run.now) (input_of run.now) (state_of self.now) result }
+        ensures { IsFetched (program_run run.now) (input_of run.now) (state_of self.now) result }
     {
         if self.slot >= slot_count(run.image) {
             return Err(Trap::RanOff);
@@ -70,7 +70,7 @@ impl Machine {
     fn advance(&mut self, run: &Run) -> Result<Advance, AllocError>
         requires slot { self.old.slot < 2 ^ 62 }
         requires near { (r : ℕ) → IsNear (registers_of self.old.registers r) }
-        ensures { IfOk result (Advances (program_of run.now) (input_of run.now) (state_of self.old) (state_of self.new)) }
+        ensures { IfOk result (Advances (program_run run.now) (input_of run.now) (state_of self.old) (state_of self.new)) }
     {
         match self.fetched(run) {
             Err(trap) => Ok(Advance::Trapped(trap)),
@@ -95,7 +95,7 @@ pub fn trace(
     given: &Record,
     place: &Place,
 ) -> Result<(End, u64), AllocError>
-    ensures { IfOk result (λ answer. EndsOnlyIn (record { image = image.now })
+    ensures { IfOk result (λ answer. EndsOnlyIn (program_of image.now)
         (record { given = given.now; place = place.now }) answer.0 answer.1) }
 {
     let run = Run {

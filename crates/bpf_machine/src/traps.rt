@@ -6,7 +6,7 @@ ghost use Rattle.machine_spec.specs.Values as values;
 ghost use Rattle.machine_spec.specs.Traps as definitions;
 ghost use Rattle.machine_spec.specs.Traps.{source_registers, operand_registers, base_registers, condition_registers, argument_registers, arguments_of, first_of, traps};
 ghost use Rattle.bpf_machine.specs.Views.{registers_of, stack_of, access_in, IsNear};
-ghost use Rattle.bpf_machine.specs.States.{program_of, input_of, state_of};
+ghost use Rattle.bpf_machine.specs.States.{program_run, input_of, state_of};
 
 use crate::machine::Machine;
 use crate::memory::{Run, Span, named, span_of};
@@ -317,7 +317,7 @@ pub fn jump_target(slot: usize, distance: i32) -> Option<usize>
 }
 
 fn is_target(run: &Run, slot: Option<usize>) -> bool
-    ensures { result ≡ definitions.is_target (program_of run.now) slot }
+    ensures { result ≡ definitions.is_target (program_run run.now) slot }
 {
     match slot {
         Some(slot) => is_first_slot(run.image, slot),
@@ -344,7 +344,7 @@ fn jumps_wrongly(
     machine: &Machine,
 ) -> bool
     requires { machine.now.slot < 2 ^ 62 }
-    ensures { result ≡ definitions.jumps_wrongly (program_of run.now) condition jump (state_of machine.now) }
+    ensures { result ≡ definitions.jumps_wrongly (program_run run.now) condition jump (state_of machine.now) }
 {
     match jump {
         Some(distance) => {
@@ -361,7 +361,7 @@ fn jumps_wrongly(
 pub fn trap_of(run: &Run, summary: Summary, machine: &Machine) -> Option<Trap>
     requires slot { machine.now.slot < 2 ^ 62 }
     requires near { (r : ℕ) → IsNear (registers_of machine.now.registers r) }
-    ensures { result ≡ first_of (traps (program_of run.now) (input_of run.now) summary (state_of machine.now)) }
+    ensures { result ≡ first_of (traps (program_run run.now) (input_of run.now) summary (state_of machine.now)) }
 {
     let registers = &machine.registers;
     let span = span_of(summary.memory, registers);

@@ -1,6 +1,7 @@
 //! Loads of programs into a broker's catalogue.
 
 ghost use Rattle.std.specs.Prelude.{◌≡◌, [], IfOk, IfErr};
+ghost use Rattle.machine_spec.specs.Image.{program_of};
 ghost use Rattle.broker.specs.Deployments.{LoadIs, IsNoReader};
 
 use crate::broker::Broker;
@@ -21,7 +22,7 @@ impl<Id: Names, W: Wait + Drop> Broker<Id, Catalogue<W>> {
         name: &str,
         image: &Bytes,
     ) -> Result<(u32, Known), BrokerFault>
-        ensures { LoadIs name.now image.now result }
+        ensures { LoadIs name.now (program_of image.now) result }
     {
         let mut catalogue = self.catalogue().lock(rt);
         match catalogue.load(alloc, name, image) {

@@ -1,5 +1,6 @@
 -- What a load of the live catalogue is in the core.
 use Rattle.std.specs.Prelude.{◌≡◌, ◌≢◌, ℕ, List, Option, Some, None, Result, Ok, Err}
+use Rattle.machine_spec.specs.Image.{program_of}
 use Rattle.log_spec.specs.declared.event.Event.TheVariants as event
 use Rattle.log_spec.specs.declared.event.Refusal.{Refusal}
 use Rattle.log_spec.specs.declared.event.Reply.TheVariants.{Loaded}
@@ -31,5 +32,5 @@ DoesInCore w name image (Err told) next =
 -- A load over the table of a world does there what the core's event does.
 abbrev pub FollowsCore : Type 0
 FollowsCore =
-    (w : World) (name image : List ℕ) (result : Result (ℕ × Version) CatFault) (next : Table) → Publishes w.table name image result next
+    (w : World) (name image : List ℕ) (result : Result (ℕ × Version) CatFault) (next : Table) → Publishes w.table name (program_of image) result next
     → DoesInCore w name image result next

@@ -1,5 +1,6 @@
 -- Refusals of a load as faults of the catalogue.
 use Rattle.std.specs.Prelude.{ℕ, List, Some}
+use Rattle.machine_spec.specs.Image.{Program}
 use Rattle.log_spec.specs.declared.event.Refusal.{Refusal}
 use Rattle.log_spec.specs.declared.event.Refusal.TheVariants as refusal
 use Rattle.log_spec.specs.Catalogue.{Table, IsLoadRefusal}
@@ -20,13 +21,13 @@ IsOfLoad refusal.LogFull = ⊥
 IsOfLoad refusal.NoItem = ⊥
 
 -- The fault of a load is its first refusal, memory aside. A load never answers NoReader.
-abbrev pub IsFaultOf : Table → List ℕ → List ℕ → CatFault → Type 0
-IsFaultOf table name image fault.Name = IsLoadRefusal table name image (Some refusal.Name)
-IsFaultOf table name image fault.Full = IsLoadRefusal table name image (Some refusal.Full)
-IsFaultOf table name image (fault.Load refused) = IsLoadRefusal table name image (Some (refusal.Load refused))
-IsFaultOf table name image fault.NoReader = ⊥
-IsFaultOf table name image fault.Versions = IsLoadRefusal table name image (Some refusal.Versions)
-IsFaultOf table name image fault.Memory = Unit {0}
+abbrev pub IsFaultOf : Table → List ℕ → Program → CatFault → Type 0
+IsFaultOf table name program fault.Name = IsLoadRefusal table name program (Some refusal.Name)
+IsFaultOf table name program fault.Full = IsLoadRefusal table name program (Some refusal.Full)
+IsFaultOf table name program (fault.Load refused) = IsLoadRefusal table name program (Some (refusal.Load refused))
+IsFaultOf table name program fault.NoReader = ⊥
+IsFaultOf table name program fault.Versions = IsLoadRefusal table name program (Some refusal.Versions)
+IsFaultOf table name program fault.Memory = Unit {0}
 
 -- A find fails where it gets no reading or memory runs out, and for nothing else.
 abbrev pub IsFindFault : CatFault → Type 0

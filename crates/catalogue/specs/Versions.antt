@@ -3,54 +3,55 @@ use Rattle.std.specs.Prelude.{◌≡◌, ◌≢◌, ℕ, ◌≤◌, nat_lt, if�
 use Rattle.std.specs.Str.{bytes_eq}
 use Rattle.std.specs.Arc.{arc_value}
 use Rattle.std.specs.declared.sync.Arc.{Arc}
-use Rattle.log_item.specs.declared.program.Program.{Program}
+use Rattle.machine_spec.specs.Image.{Program}
+use Rattle.log_item.specs.declared.program.Program.{Program as Loaded}
 
--- a version of a name, with the image that was loaded as it
+-- a version of a name, with the program that was loaded as it
 pub record Version : Type 0 where
   pub name : List ℕ
   pub number : ℕ
-  pub image : List ℕ
+  pub program : Program
 
--- a number with a program, as the number and the program's image
-abbrev pub number_and_image : {Z : Type 0} → Option (ℕ × Arc Program Z) → Option (ℕ × List ℕ)
-number_and_image None = None
-number_and_image (Some found) = Some (found.0, arc_value found.1)
+-- a number with a program, as it is seen
+abbrev pub number_and_program : {Z : Type 0} → Option (ℕ × Arc Loaded Z) → Option (ℕ × Program)
+number_and_program None = None
+number_and_program (Some found) = Some (found.0, arc_value found.1)
 
--- the number and the image of a name's version, none where it is another name's
-abbrev pub under_name : Version → List ℕ → Option (ℕ × List ℕ)
-under_name version name = if bytes_eq version.name name then Some (version.number, version.image) else None
+-- the number and the program of a name's version, none where it is another name's
+abbrev pub under_name : Version → List ℕ → Option (ℕ × Program)
+under_name version name = if bytes_eq version.name name then Some (version.number, version.program) else None
 
 -- the same among some versions of different names
-abbrev pub among : List Version → List ℕ → Option (ℕ × List ℕ)
+abbrev pub among : List Version → List ℕ → Option (ℕ × Program)
 among [] name = None
-among (version ∷ versions) name = if bytes_eq version.name name then Some (version.number, version.image) else among versions name
+among (version ∷ versions) name = if bytes_eq version.name name then Some (version.number, version.program) else among versions name
 
 -- the one with the greater number; of two equal ones the first
-abbrev pub newer : Option (ℕ × List ℕ) → Option (ℕ × List ℕ) → Option (ℕ × List ℕ)
+abbrev pub newer : Option (ℕ × Program) → Option (ℕ × Program) → Option (ℕ × Program)
 newer None second = second
 newer (Some first) None = Some first
 newer (Some first) (Some second) = if nat_lt first.0 second.0 then Some second else Some first
 
 -- the later one is no older version than the earlier one
-abbrev pub IsNoOlder : Option (ℕ × List ℕ) → Option (ℕ × List ℕ) → Type 0
+abbrev pub IsNoOlder : Option (ℕ × Program) → Option (ℕ × Program) → Type 0
 IsNoOlder None later = Unit {0}
 IsNoOlder (Some earlier) None = ⊥
 IsNoOlder (Some earlier) (Some later) = earlier.0 ≤ later.0
 
--- what is found is a later version, or this one with its own image; never none
-abbrev pub IsThisOrLater : Version → Option (ℕ × List ℕ) → Type 0
+-- what is found is a later version, or this one with its own program; never none
+abbrev pub IsThisOrLater : Version → Option (ℕ × Program) → Type 0
 IsThisOrLater version None = ⊥
-IsThisOrLater version (Some found) = (version.number ≤ found.0) × (found.0 ≡ version.number → found.1 ≡ version.image)
+IsThisOrLater version (Some found) = (version.number ≤ found.0) × (found.0 ≡ version.number → found.1 ≡ version.program)
 
 -- Finding a name returns the newest of three: the version that the caller knows, the one that the
 -- finder saw last, and the one that it reads now. The finder has then seen what is returned; other
 -- names stay.
-pub record Finds (known : Version) (name : List ℕ) (read : Option (ℕ × List ℕ)) (old new : List Version) (found : Option (ℕ × List ℕ)) : Type 0 where
+pub record Finds (known : Version) (name : List ℕ) (read : Option (ℕ × Program)) (old new : List Version) (found : Option (ℕ × Program)) : Type 0 where
   pub newest : found ≡ newer (newer (under_name known name) (among old name)) read
   pub seen : among new name ≡ found
   pub others : (other : List ℕ) → other ≢ name → among new other ≡ among old other
 
 -- a version of a name is kept in the place of the one before
-pub record Keeps (old new : List Version) (name : List ℕ) (version : ℕ × List ℕ) : Type 0 where
+pub record Keeps (old new : List Version) (name : List ℕ) (version : ℕ × Program) : Type 0 where
   pub kept : among new name ≡ Some version
   pub others : (other : List ℕ) → other ≢ name → among new other ≡ among old other

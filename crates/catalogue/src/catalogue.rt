@@ -1,5 +1,6 @@
 ghost use Rattle.std.specs.Prelude.{◌≡◌, ◌≢◌, [], Some, IfOk, IfErr, OnOk, OnErr};
-ghost use Rattle.log_spec.specs.Catalogue.{images_of};
+ghost use Rattle.machine_spec.specs.Image.{program_of};
+ghost use Rattle.log_spec.specs.Catalogue.{programs_of};
 ghost use Rattle.program_table.specs.Tables.{LatestIs};
 ghost use Rattle.catalogue.specs.Catalogues.{Publishes};
 ghost use Rattle.catalogue.specs.declared.fault.CatFault.TheVariants.{NoReader};
@@ -36,8 +37,8 @@ impl<R: Wait + Drop> Model for Catalogue<R> {
 
 /// The last version of a name that is loaded.
 fn latest_of(table: &Table, name: &Name) -> Result<Known, AllocError>
-    requires { images_of table.now name.now ≢ [] }
-    ensures { IfOk result (λ known. (known.name ≡ name.now) × LatestIs (images_of table.now name.now) (Some (known.number, known.image))) }
+    requires { programs_of table.now name.now ≢ [] }
+    ensures { IfOk result (λ known. (known.name ≡ name.now) × LatestIs (programs_of table.now name.now) (Some (known.number, known.program))) }
 {
     match table.latest(name) {
         Some((version, program)) => {
@@ -69,7 +70,7 @@ impl<R: Wait + Drop> Catalogue<R> {
         name: &str,
         image: &Bytes,
     ) -> Result<(u32, Known), CatFault>
-        ensures { Publishes self.old name.now image.now result self.new }
+        ensures { Publishes self.old name.now (program_of image.now) result self.new }
     {
         match Name::new(name) {
             None => Err(CatFault::Name),
@@ -84,7 +85,7 @@ impl<R: Wait + Drop> Catalogue<R> {
         name: &Name,
         image: &Bytes,
     ) -> Result<(u32, Known), CatFault>
-        ensures { Publishes self.old name.now image.now result self.new }
+        ensures { Publishes self.old name.now (program_of image.now) result self.new }
     {
         let Ok(mut next) = self.writer.published().table.again(alloc) else {
             return Err(CatFault::Memory);

@@ -1,4 +1,5 @@
 ghost use Rattle.std.specs.Prelude.{ℕ, List};
+ghost use Rattle.machine_spec.specs.Image.{Program};
 ghost use Rattle.log_spec.specs.Catalogue.{Table, IsLoadRefusal};
 ghost use Rattle.program_table.specs.Tables.{RefusedAs};
 ghost use Rattle.catalogue.specs.Faults.{IsOfLoad, IsFaultOf};
@@ -33,7 +34,7 @@ pub enum CatFault {
 /// The fault of a load that the table refuses.
 pub fn fault_of(refusal: Refusal) -> CatFault
     requires { IsOfLoad refusal }
-    ensures { (table : Table) (name image : List ℕ) → RefusedAs (IsLoadRefusal table name image) refusal → IsFaultOf table name image result }
+    ensures { (table : Table) (name : List ℕ) (program : Program) → RefusedAs (IsLoadRefusal table name program) refusal → IsFaultOf table name program result }
 {
     match refusal {
         Refusal::Name => CatFault::Name,

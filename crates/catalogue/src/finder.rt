@@ -1,8 +1,9 @@
 ghost use Rattle.std.specs.Prelude.{◌≡◌, ◌≢◌, ◌<◌, List, ℕ, [], length, Option, None, Some, true, take, slice_index_or, option_map, IfOk, IfErr, IfNone, IfSome, OnOk, OnErr};
 ghost use Rattle.std.specs.Arc.{arc_value};
 ghost use Rattle.std.specs.Str.{bytes_eq};
+ghost use Rattle.machine_spec.specs.Image.{Program};
 ghost use Rattle.catalogue.specs.Faults.{IsFindFault};
-ghost use Rattle.catalogue.specs.Versions.{Version, number_and_image, under_name, among, newer, Finds, Keeps, IsNoOlder, IsThisOrLater};
+ghost use Rattle.catalogue.specs.Versions.{Version, number_and_program, under_name, among, newer, Finds, Keeps, IsNoOlder, IsThisOrLater};
 
 use crate::edition::Edition;
 use crate::fault::CatFault;
@@ -91,7 +92,7 @@ fn newer<'a>(
 
 /// Another owner of a version's program.
 fn shared(found: Option<(u32, &Arc<Program>)>) -> Result<Option<(u32, Arc<Program>)>, CatFault>
-    ensures ok { IfOk result (λ copy. number_and_image copy ≡ option_map (λ found. (found.0, arc_value found.1.now)) found.entry) }
+    ensures ok { IfOk result (λ copy. number_and_program copy ≡ option_map (λ found. (found.0, arc_value found.1.now)) found.entry) }
     ensures err { IfErr result IsFindFault }
 {
     match found {
@@ -123,7 +124,7 @@ fn newest(
     read: &Option<(u32, Arc<Program>)>,
     name: &Name,
 ) -> Result<Option<(u32, Arc<Program>)>, CatFault>
-    ensures ok { IfOk result (λ found. number_and_image found ≡ newer (newer (under_name known.now name.now) (among seen.now name.now)) (number_and_image read.now)) }
+    ensures ok { IfOk result (λ found. number_and_program found ≡ newer (newer (under_name known.now name.now) (among seen.now name.now)) (number_and_program read.now)) }
     ensures err { IfErr result IsFindFault }
 {
     let read = match read {
@@ -163,7 +164,7 @@ fn find_newest(
     name: &Name,
     known: &Known,
 ) -> Result<Option<(u32, Arc<Program>)>, CatFault>
-    ensures ok { IfOk result (λ found. Finds known.now name.now (number_and_image read.now) seen.old.items seen.new.items (number_and_image found)) }
+    ensures ok { IfOk result (λ found. Finds known.now name.now (number_and_program read.now) seen.old.items seen.new.items (number_and_program found)) }
     ensures err { OnErr result (seen.new.items ≡ seen.old.items) }
     ensures fault { IfErr result IsFindFault }
 {
@@ -199,8 +200,8 @@ impl Finder {
         name: &Name,
         known: &Known,
     ) -> Result<Option<(u32, Arc<Program>)>, CatFault>
-        ensures found { IfOk result (λ found. (read : Option (ℕ × List ℕ)) × Finds known.now name.now read self.old self.new (number_and_image found)) }
-        ensures known { IfOk result (λ found. known.now.name ≡ name.now → IsThisOrLater known.now (number_and_image found)) }
+        ensures found { IfOk result (λ found. (read : Option (ℕ × Program)) × Finds known.now name.now read self.old self.new (number_and_program found)) }
+        ensures known { IfOk result (λ found. known.now.name ≡ name.now → IsThisOrLater known.now (number_and_program found)) }
         ensures never_back { (other : List ℕ) → IsNoOlder (among self.old other) (among self.new other) }
         ensures err { OnErr result (self.new ≡ self.old) }
         ensures fault { IfErr result IsFindFault }

@@ -9,7 +9,7 @@ use std::alloc::Global;
 use std::marker::Model;
 use std::sync::Arc;
 
-/// A version of a name that was loaded, with its program. Contracts see name, number and image.
+/// A version of a name that was loaded, with its program. Contracts see name, number and program.
 #[derive(Drop)]
 pub struct Known {
     name: Name,
@@ -23,12 +23,12 @@ impl Model for Known {
 
     ghost Value = { Version };
 
-    ghost view = { λ k. record { name = k.name; number = k.version; image = arc_value k.program } };
+    ghost view = { λ k. record { name = k.name; number = k.version; program = arc_value k.program } };
 }
 
 impl Known {
     pub(crate) fn new(name: Name, version: u32, program: Arc<Program>) -> Known
-        ensures { result ≡ record { name = name; number = version; image = arc_value program } }
+        ensures { result ≡ record { name = name; number = version; program = arc_value program } }
     {
         Known {
             name,
@@ -39,7 +39,7 @@ impl Known {
 
     /// Another version of the same name.
     pub(crate) fn renew(&mut self, version: u32, program: Arc<Program>)
-        ensures { self.new ≡ record { name = self.old.name; number = version; image = arc_value program } }
+        ensures { self.new ≡ record { name = self.old.name; number = version; program = arc_value program } }
     {
         self.version = version;
         self.program = program;
@@ -58,7 +58,7 @@ impl Known {
     }
 
     pub fn program(&self) -> &Arc<Program>
-        ensures { arc_value result.now ≡ self.now.image }
+        ensures { arc_value result.now ≡ self.now.program }
     {
         &self.program
     }

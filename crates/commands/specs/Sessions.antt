@@ -3,6 +3,7 @@ use Rattle.std.specs.Prelude.{◌≡◌, ℕ, List, [], ◌∷◌, length, drop,
 use Rattle.std.specs.Io.KnownBytes.{Appends}
 use Rattle.wire_spec.specs.declared.record.Batch.{Batch}
 use Rattle.wire_spec.specs.BatchReading.{batch_at}
+use Rattle.machine_spec.specs.Image.{Program, program_of}
 use Rattle.log_spec.specs.Logs.{Item as Kept, Records, Marked, Closed, records_among}
 use Rattle.part_log.specs.Parts.{Received}
 use Rattle.catalogue.specs.Versions.{Version}
@@ -43,7 +44,7 @@ IsReceiptOf input item receipt = (receipt.before.partition ≡ input) × (receip
 
 -- a receipt of a mark of this version of the name
 abbrev pub IsMark : ℕ → List ℕ → ℕ → Received → Type 0
-IsMark input name version receipt = (image : List ℕ) × IsReceiptOf input (Marked name version image) receipt
+IsMark input name version receipt = (program : Program) × IsReceiptOf input (Marked name version program) receipt
 
 -- These are receipts of the batches that the bytes begin with, one after the other, in the log of this input partition. What
 -- is left of the bytes is the rest.
@@ -62,7 +63,7 @@ IsImageIn files (File name) image = (bytes : List ℕ) → files name ≡ Some b
 pub record Loads (name image : List ℕ) (before after : Option (List ℕ)) : Type 0 where
   pub version : ℕ
   pub known : Version
-  pub loaded : LoadIs name image (Ok (version, known))
+  pub loaded : LoadIs name (program_of image) (Ok (version, known))
   pub printed : Appends before after (load_line name version)
 
 -- A mark of the name was appended to the log of the input partition, and its line was printed between these contents of

@@ -1,6 +1,7 @@
 -- What is explained of an image, from the parts that are found of it.
 use Rattle.std.proofs.Common.{◌≡◌, ℕ, List, Option, Some, None, Ok, sym, ap, ◌∙◌, subst, string_bytes}
 use Rattle.std.specs.Prelude.{option_map, is_some, true, IfSome}
+use Rattle.machine_spec.specs.declared.helper.TheConstants.{HELPERS}
 use Rattle.machine_spec.specs.declared.instruction.Placed.{Placed}
 use Rattle.machine_spec.specs.Image.{read_image, IsCodeOf}
 use Rattle.verifier_spec.specs.declared.fault.VerifyFault.{VerifyFault}
@@ -11,15 +12,15 @@ use Rattle.explain.specs.declared.explanation.{Explanation.Explanation, Refusal.
 use Rattle.explain.specs.Explanations.{IsVerdict, HasReason, listing, refusal_at, Explains}
 use Rattle.explain.proofs.Faulted.{refusal_reasoned}
 
-module _ (image : List ℕ) (code : List Placed) (of : IsCodeOf image code) (read : read_image image ≡ Ok code) (proper : AreJoinedProper code) where
-  has_reason : (fault : Option VerifyFault) → IsVerdict image fault → IfSome (option_map (refusal_at code (joined_states code)) fault) HasReason
+module _ (image : List ℕ) (code : List Placed) (of : IsCodeOf image code) (read : read_image image ≡ Ok code) (proper : AreJoinedProper HELPERS code) where
+  has_reason : (fault : Option VerifyFault) → IsVerdict image fault → IfSome (option_map (refusal_at code (joined_states HELPERS code)) fault) HasReason
   has_reason None verdict = tt
   has_reason (Some f) verdict = refusal_reasoned image code f of read proper verdict
 
-  pub explained : (notes : Notes) (fault : Option VerifyFault) (explanation : Explanation) → notes ≡ joined_states code → IsVerdict image fault
+  pub explained : (notes : Notes) (fault : Option VerifyFault) (explanation : Explanation) → notes ≡ joined_states HELPERS code → IsVerdict image fault
       → string_bytes explanation.lines ≡ listing code notes fault → explanation.refusal ≡ option_map (refusal_at code notes) fault → Explains image explanation
   explained notes fault explanation is verdict lines refusal =
-      let refused : explanation.refusal ≡ option_map (refusal_at code (joined_states code)) fault = refusal ∙ ap (λ (ns : Notes). option_map (refusal_at code ns) fault) is in
+      let refused : explanation.refusal ≡ option_map (refusal_at code (joined_states HELPERS code)) fault = refusal ∙ ap (λ (ns : Notes). option_map (refusal_at code ns) fault) is in
       record {
         code = code;
         read = read;

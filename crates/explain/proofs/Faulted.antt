@@ -3,10 +3,11 @@ use Rattle.std.proofs.Common.{◌≡◌, ◌≢◌, ℕ, suc, ◌+◌, ◌<◌, 
 use Rattle.std.specs.Prelude.{is_some, is_none, option_map, slice_get}
 use Rattle.std.proofs.lemmas.Bool.{cases_Bool, cond-true, cond-false}
 use Rattle.std.proofs.lemmas.Option.{none-some, same_Some, slice_get_within}
+use Rattle.machine_spec.specs.declared.helper.TheConstants.{HELPERS}
+use Rattle.machine_spec.specs.Image.{program_of, read_image, IsCodeOf}
 use Rattle.machine_spec.specs.declared.instruction.Placed.{Placed}
 use Rattle.machine_spec.specs.declared.summary.Summary.{Summary}
 use Rattle.machine_spec.specs.Summaries.{summary_of}
-use Rattle.machine_spec.specs.Image.{read_image, IsCodeOf}
 use Rattle.machine_spec.specs.Machine.{helper_of}
 use Rattle.machine_spec.specs.Traps.{calls_no_helper, helper_called, arguments_of, read_registers, first_of}
 use Rattle.machine_spec.proofs.Slots.{number_of_zero, number_below}
@@ -68,11 +69,11 @@ shape_reasoned code k placed =
       λ _. (λ e. some_map Reason.Back _ (some_map (landing placed.slot) jump (back_some jump e)), λ _. (λ e. refl, λ _. tt)),
     )
 
-called_some : (call : Option ℤ) → calls_no_helper call ≡ true → is_some call ≡ true
+called_some : (call : Option ℤ) → calls_no_helper HELPERS call ≡ true → is_some call ≡ true
 called_some None e = cc
 called_some (Some number) e = refl
 
-state_reasoned : (placed : Placed) (m : Summary) (s : Abstract) → is_proper s ≡ true → AreReasoned (state_reason placed m s) (checks m s)
+state_reasoned : (placed : Placed) (m : Summary) (s : Abstract) → is_proper s ≡ true → AreReasoned (state_reason placed m s) (checks HELPERS m s)
 state_reasoned placed m s proper = (
   λ e. refl,
   λ _. (
@@ -113,7 +114,7 @@ only_notes true kind e = cc
 only_notes false kind e = cc
 
 rows_reasoned : (code : List Placed) (notes : Notes) (k : ℕ) (placed : Placed) (known : Option Abstract) (kind : Check) → ((s : Abstract) → known ≡ Some s → is_proper s ≡ true)
-    → first_of (shape_checks code k placed ++ reached_checks code notes k placed known) ≡ Some kind → kind ≢ Check.Notes → is_some (reason_of placed known kind) ≡ true
+    → first_of (shape_checks code k placed ++ reached_checks HELPERS code notes k placed known) ≡ Some kind → kind ≢ Check.Notes → is_some (reason_of placed known kind) ≡ true
 rows_reasoned code notes k placed None kind proper e other = elim (either (shape_checks code k placed) [] kind e) [
   | inl shape ↦ first_reasoned (shape_reason placed) (shape_checks code k placed) kind (shape_reasoned code k placed) shape
   | inr none ↦ absurd (none-some kind none)
@@ -121,10 +122,10 @@ rows_reasoned code notes k placed None kind proper e other = elim (either (shape
 rows_reasoned code notes k placed (Some s) kind proper e other =
     let m = summary_of placed.instruction in
     let covered = are_edges_covered code notes k placed s in
-    elim (either (shape_checks code k placed) (reached_checks code notes k placed (Some s)) kind e) [
+    elim (either (shape_checks code k placed) (reached_checks HELPERS code notes k placed (Some s)) kind e) [
       | inl shape ↦ first_reasoned (state_reason placed m s) (shape_checks code k placed) kind (shape_reasoned code k placed) shape
-      | inr reached ↦ elim (either (checks m s) ((not covered, Check.Notes) ∷ []) kind reached) [
-        | inl own ↦ first_reasoned (state_reason placed m s) (checks m s) kind (state_reasoned placed m s (proper s refl)) own
+      | inr reached ↦ elim (either (checks HELPERS m s) ((not covered, Check.Notes) ∷ []) kind reached) [
+        | inl own ↦ first_reasoned (state_reason placed m s) (checks HELPERS m s) kind (state_reasoned placed m s (proper s refl)) own
         | inr last ↦ absurd (other (only_notes (not covered) kind last))
       ]
     ]
@@ -132,7 +133,7 @@ rows_reasoned code notes k placed (Some s) kind proper e other =
 -- ---- the fault of a code
 
 module _ (code : List Placed) (notes : Notes) (proper : (k : ℕ) (s : Abstract) → k < length code → note_at notes k ≡ Some s → is_proper s ≡ true) where
-  at_reasoned : (k : ℕ) (placed : Placed) (kind : Check) → slice_get code k ≡ Some placed → failed_at code notes k placed ≡ Some kind → kind ≢ Check.Notes
+  at_reasoned : (k : ℕ) (placed : Placed) (kind : Check) → slice_get code k ≡ Some placed → failed_at HELPERS code notes k placed ≡ Some kind → kind ≢ Check.Notes
       → is_some (placed_reason (slice_get code k) (note_at notes k) kind) ≡ true
   unfolding failed_at
   at_reasoned k placed kind at e other =
@@ -150,19 +151,19 @@ module _ (code : List Placed) (notes : Notes) (proper : (k : ℕ) (s : Abstract)
   or_reasoned k None later f here there e other = there e
 
   from_reasoned : (k : ℕ) (rest : List Placed) (f : VerifyFault) → ((i : ℕ) (placed : Placed) → slice_get rest i ≡ Some placed → slice_get code (k + i) ≡ Some placed)
-      → fault_from code notes k rest ≡ Some f → f.kind ≢ Check.Notes → is_some (reason_at code notes f) ≡ true
+      → fault_from HELPERS code notes k rest ≡ Some f → f.kind ≢ Check.Notes → is_some (reason_at code notes f) ≡ true
   from_reasoned k [] f all e other = absurd (none-some f e)
   from_reasoned k (placed ∷ rest) f all e other =
       let here : k + 0 ≡ k = omega arith in
       let at : slice_get code k ≡ Some placed = subst (λ (n : ℕ). slice_get code n ≡ Some placed) here (all 0 placed refl) in
-      or_reasoned k (failed_at code notes k placed) (fault_from code notes (k + 1) rest) f (λ kind failed named. at_reasoned k placed kind at failed named)
+      or_reasoned k (failed_at HELPERS code notes k placed) (fault_from HELPERS code notes (k + 1) rest) f (λ kind failed named. at_reasoned k placed kind at failed named)
       (λ later. from_reasoned (k + 1) rest f (λ i p q.
       let next : k + suc i ≡ (k + 1) + i = omega arith in
       subst (λ (n : ℕ). slice_get code n ≡ Some p) next (all (suc i) p q))
       later other)
       e other
 
-  code_reasoned : (f : VerifyFault) → fault_of code notes ≡ Some f → f.kind ≢ Check.Notes → is_some (reason_at code notes f) ≡ true
+  code_reasoned : (f : VerifyFault) → fault_of HELPERS code notes ≡ Some f → f.kind ≢ Check.Notes → is_some (reason_at code notes f) ≡ true
   unfolding fault_of
   code_reasoned f e other =
       let start : Bool = (length notes == length code) && is_covered entry_state (note_at notes 0) in
@@ -171,9 +172,9 @@ module _ (code : List Placed) (notes : Notes) (proper : (k : ℕ) (s : Abstract)
         | inl passes ↦ from_reasoned 0 code f (λ i placed at.
             let same : i ≡ 0 + i = omega arith in
             subst (λ (n : ℕ). slice_get code n ≡ Some placed) same at)
-            (sym (cond-true start (fault_from code notes 0 code) (Some notes_fault) passes) ∙ e) other
+            (sym (cond-true start (fault_from HELPERS code notes 0 code) (Some notes_fault) passes) ∙ e) other
         | inr fails ↦
-            let same : notes_fault ≡ f = same_Some notes_fault f (sym (cond-false start (fault_from code notes 0 code) (Some notes_fault) fails) ∙ e) in
+            let same : notes_fault ≡ f = same_Some notes_fault f (sym (cond-false start (fault_from HELPERS code notes 0 code) (Some notes_fault) fails) ∙ e) in
             absurd (other (sym (ap (λ (x : VerifyFault). x.kind) same)))
       ]
 
@@ -183,13 +184,13 @@ verified : (o : Option VerifyFault) (f : VerifyFault) → option_map Verify o �
 verified None f e = cc
 verified (Some g) f e = cc
 
-code_fault_is : (image : List ℕ) (code : List Placed) (f : VerifyFault) → read_image image ≡ Ok code → load_fault image ≡ Some (Verify f) → fault_of code (joined_states code) ≡ Some f
+code_fault_is : (image : List ℕ) (code : List Placed) (f : VerifyFault) → read_image image ≡ Ok code → load_fault (program_of image) ≡ Some (Verify f) → fault_of HELPERS code (joined_states HELPERS code) ≡ Some f
 unfolding load_fault
-code_fault_is image code f read e = verified _ f (sym (ap code_fault read) ∙ e)
+code_fault_is image code f read e = verified _ f (sym (ap (code_fault HELPERS) read) ∙ e)
 
-pub refusal_reasoned : (image : List ℕ) (code : List Placed) (f : VerifyFault) → IsCodeOf image code → read_image image ≡ Ok code → AreJoinedProper code → IsRefusedWith image (Verify f)
-    → is_some (reason_at code (joined_states code) f) ≡ true
+pub refusal_reasoned : (image : List ℕ) (code : List Placed) (f : VerifyFault) → IsCodeOf image code → read_image image ≡ Ok code → AreJoinedProper HELPERS code → IsRefusedWith (program_of image) (Verify f)
+    → is_some (reason_at code (joined_states HELPERS code) f) ≡ true
 refusal_reasoned image code f of read proper refused =
     let fault = code_fault_is image code f read refused.fault_is in
     let some : 0 < length code = number_below code 0 0 (number_of_zero image code of) in
-    code_reasoned code (joined_states code) (λ k s below is. proper k s below (sym (note_joined code k below) ∙ is)) f fault (fault_is_other image code of f some fault)
+    code_reasoned code (joined_states HELPERS code) (λ k s below is. proper k s below (sym (note_joined HELPERS code k below) ∙ is)) f fault (fault_is_other HELPERS image code of f some fault)

@@ -1,8 +1,9 @@
 -- What is explained of an image.
 use Rattle.std.specs.Prelude.{◌≡◌, ◌≢◌, ℕ, ◌+◌, min, List, [], ◌∷◌, ◌++◌, length, Option, Some, None, option_map, is_some, true, Result, Ok, Err, IfSome, codes, string_bytes}
+use Rattle.machine_spec.specs.declared.helper.TheConstants.{HELPERS}
+use Rattle.machine_spec.specs.Image.{program_of, read_image}
 use Rattle.machine_spec.specs.declared.instruction.{IsaFault.IsaFault, Placed.Placed}
 use Rattle.machine_spec.specs.declared.instruction.IsaFault.TheVariants as isa
-use Rattle.machine_spec.specs.Image.{read_image}
 use Rattle.verifier_spec.specs.declared.fault.{VerifyFault.VerifyFault, LoadFault.TheVariants.Verify}
 use Rattle.verifier_spec.specs.Annotation.{Notes}
 use Rattle.verifier_spec.specs.JoinedStates.{joined_states}
@@ -13,8 +14,8 @@ use Rattle.explain.specs.Reasons.{reason_at}
 
 -- An image is accepted, or refused at an instruction with its fault.
 abbrev pub IsVerdict : List ℕ → Option VerifyFault → Type 0
-IsVerdict image None = IsAccepted image
-IsVerdict image (Some fault) = IsRefusedWith image (Verify fault)
+IsVerdict image None = IsAccepted (program_of image)
+IsVerdict image (Some fault) = IsRefusedWith (program_of image) (Verify fault)
 
 -- how many instructions are printed: all, or those up to the refused one
 abbrev pub printed_count : List Placed → Option VerifyFault → ℕ
@@ -42,8 +43,8 @@ pub record Explains (image : List ℕ) (explanation : Explanation) : Type 0 wher
   pub read : read_image image ≡ Ok code
   pub fault : Option VerifyFault
   pub verdict : IsVerdict image fault
-  pub lines : string_bytes explanation.lines ≡ listing code (joined_states code) fault
-  pub refusal : explanation.refusal ≡ option_map (refusal_at code (joined_states code)) fault
+  pub lines : string_bytes explanation.lines ≡ listing code (joined_states HELPERS code) fault
+  pub refusal : explanation.refusal ≡ option_map (refusal_at code (joined_states HELPERS code)) fault
   pub reasoned : IfSome explanation.refusal HasReason
 
 -- One with none has its refusal; nothing is said where memory ran out.

@@ -9,6 +9,7 @@ use Rattle.wire_spec.specs.declared.record.Batch.{Batch}
 use Rattle.machine_spec.specs.declared.outcome.Emission.{Emission}
 use Rattle.machine_spec.specs.declared.outcome.Outcome.{Outcome}
 use Rattle.machine_spec.specs.declared.outcome.Place.{Place}
+use Rattle.machine_spec.specs.Image.{Program}
 use Rattle.machine_spec.specs.Meaning.{Means}
 use Rattle.log_spec.specs.declared.row.Row.{Row}
 use Rattle.log_spec.specs.Logs.{Item as Kept, Records, rows_to, rows_of, row_of, place_of, IsRecordRows, IsRecordsRows, IsItemRows, FitsLog, RowFits}
@@ -77,30 +78,30 @@ emissions_more place number emissions emission one two three count first second 
         ap (λ (rs : List Row). rs ++ later) is ∙ (ap (λ (rs : List Row). rows_to q place 0 emissions ++ rs) are ∙ sym more')
 
 -- the rows of what a run ends with
-pub outcome_rows : (image : List ℕ) (place : Place) (given : Record) (outcome : Outcome) (n : ℕ) (one two : List (List Row)) → Means (record { image = image }) (record { given = given; place = place }) outcome n
-    → Adds one two (λ q here. here ≡ rows_of q place outcome) → Adds one two (λ q here. IsRecordRows q (Some image) place given here)
-outcome_rows image place given outcome n one two means adds =
-    adds_as one two (λ q here. here ≡ rows_of q place outcome) (λ q here. IsRecordRows q (Some image) place given here) adds (λ q here is. (outcome, n, means, is))
+pub outcome_rows : (program : Program) (place : Place) (given : Record) (outcome : Outcome) (n : ℕ) (one two : List (List Row)) → Means program (record { given = given; place = place }) outcome n
+    → Adds one two (λ q here. here ≡ rows_of q place outcome) → Adds one two (λ q here. IsRecordRows q (Some program) place given here)
+outcome_rows program place given outcome n one two means adds =
+    adds_as one two (λ q here. here ≡ rows_of q place outcome) (λ q here. IsRecordRows q (Some program) place given here) adds (λ q here is. (outcome, n, means, is))
 
 -- one more record of a batch
-pub records_more : (input outputs : ℕ) (image : Option (List ℕ)) (batch : Batch) (offset : ℕ) (givens : List Record) (k at : ℕ) (given : Record) (one two three : List (List Row))
+pub records_more : (input outputs : ℕ) (program : Option Program) (batch : Batch) (offset : ℕ) (givens : List Record) (k at : ℕ) (given : Record) (one two three : List (List Row))
     → k < length givens → given ≡ get_or givens k given → at ≡ offset + k
-    → Adds one two (λ q here. IsRecordsRows input q outputs image batch offset (take k givens) here)
-    → Adds two three (λ q here. IsRecordRows q image (place_of input outputs at batch given) given here)
-    → Adds one three (λ q here. IsRecordsRows input q outputs image batch offset (take (k + 1) givens) here)
-records_more input outputs image batch offset givens k at given one two three lt is place first second =
-    adds_then one two three (λ q here. IsRecordsRows input q outputs image batch offset (take k givens) here) (λ q here. IsRecordRows q image (place_of input outputs at batch given) given here)
-    (λ q here. IsRecordsRows input q outputs image batch offset (take (k + 1) givens) here) first second join
+    → Adds one two (λ q here. IsRecordsRows input q outputs program batch offset (take k givens) here)
+    → Adds two three (λ q here. IsRecordRows q program (place_of input outputs at batch given) given here)
+    → Adds one three (λ q here. IsRecordsRows input q outputs program batch offset (take (k + 1) givens) here)
+records_more input outputs program batch offset givens k at given one two three lt is place first second =
+    adds_then one two three (λ q here. IsRecordsRows input q outputs program batch offset (take k givens) here) (λ q here. IsRecordRows q program (place_of input outputs at batch given) given here)
+    (λ q here. IsRecordsRows input q outputs program batch offset (take (k + 1) givens) here) first second join
   where
-    join : (q : ℕ) (here later : List Row) → IsRecordsRows input q outputs image batch offset (take k givens) here → IsRecordRows q image (place_of input outputs at batch given) given later
-        → IsRecordsRows input q outputs image batch offset (take (k + 1) givens) (here ++ later)
+    join : (q : ℕ) (here later : List Row) → IsRecordsRows input q outputs program batch offset (take k givens) here → IsRecordRows q program (place_of input outputs at batch given) given later
+        → IsRecordsRows input q outputs program batch offset (take (k + 1) givens) (here ++ later)
     join q here later before now =
         let count : at ≡ offset + length (take k givens) = omega (arith, length-take k givens) in
-        let now' : IsRecordRows q image (place_of input outputs (offset + length (take k givens)) batch given) given later =
-        subst (λ (o : ℕ). IsRecordRows q image (place_of input outputs o batch given) given later) count now in
+        let now' : IsRecordRows q program (place_of input outputs (offset + length (take k givens)) batch given) given later =
+        subst (λ (o : ℕ). IsRecordRows q program (place_of input outputs o batch given) given later) count now in
         let longer : take (k + 1) givens ≡ take k givens ++ given ∷ [] = take_more givens k given lt ∙ ap (λ (g : Record). take k givens ++ g ∷ []) (sym is) in
-        subst (λ (gs : List Record). IsRecordsRows input q outputs image batch offset gs (here ++ later)) (sym longer)
-        (records-next input q outputs image batch offset (take k givens) given here later before now')
+        subst (λ (gs : List Record). IsRecordsRows input q outputs program batch offset gs (here ++ later)) (sym longer)
+        (records-next input q outputs program batch offset (take k givens) given here later before now')
 
 -- what holds of each element holds of one
 pub each_at : {A : Type 0} (P : A → Type 0) (xs : List A) (k : ℕ) (x : A) → AllByRecursion P xs → k < length xs → x ≡ get_or xs k x → P x
@@ -118,37 +119,37 @@ no_program_rows input output outputs batch offset [] = refl
 no_program_rows input output outputs batch offset (given ∷ givens) = ([], [], refl, no_program_rows input output outputs batch (offset + 1) givens, refl)
 
 -- the program and the item by other names
-pub adds_for : (origin : Origin) (image : Option (List ℕ)) (item : Kept) (image' : Option (List ℕ)) (item' : Kept) (one two : List (List Row)) → image ≡ image' → item ≡ item'
-    → Adds one two (GivesRows origin image item) → Adds one two (GivesRows origin image' item')
-adds_for origin image item image' item' one two same alike adds =
-    subst (λ (i : Option (List ℕ)). Adds one two (GivesRows origin i item')) same (subst (λ (k : Kept). Adds one two (GivesRows origin image k)) alike adds)
+pub adds_for : (origin : Origin) (program : Option Program) (item : Kept) (program' : Option Program) (item' : Kept) (one two : List (List Row)) → program ≡ program' → item ≡ item'
+    → Adds one two (GivesRows origin program item) → Adds one two (GivesRows origin program' item')
+adds_for origin program item program' item' one two same alike adds =
+    subst (λ (p : Option Program). Adds one two (GivesRows origin p item')) same (subst (λ (k : Kept). Adds one two (GivesRows origin program k)) alike adds)
 
 -- no rows, each of which fits
-pub no_rows : (origin : Origin) (image : Option (List ℕ)) (item : Kept) (all : List (List Row)) → ((q : ℕ) → IsItemRows origin.input q origin.outputs image origin.offset item [])
-    → Adds all all (GivesRows origin image item)
-no_rows origin image item all none = adds_none all (GivesRows origin image item) (λ q. record { are = none q; fit = All-nil RowFits })
+pub no_rows : (origin : Origin) (program : Option Program) (item : Kept) (all : List (List Row)) → ((q : ℕ) → IsItemRows origin.input q origin.outputs program origin.offset item [])
+    → Adds all all (GivesRows origin program item)
+no_rows origin program item all none = adds_none all (GivesRows origin program item) (λ q. record { are = none q; fit = All-nil RowFits })
 
 -- the rows of a batch that fits a log
-pub batch_rows : (origin : Origin) (image : Option (List ℕ)) (batch : Batch) (one two : List (List Row)) → FitsLog batch
-    → Adds one two (λ q here. IsRecordsRows origin.input q origin.outputs image batch origin.offset batch.records here) → Adds one two (GivesRows origin image (Records batch))
-batch_rows origin image batch one two fits adds =
-    adds_as one two (λ q here. IsRecordsRows origin.input q origin.outputs image batch origin.offset batch.records here) (GivesRows origin image (Records batch)) adds
-    (λ q here is. record { are = is; fit = batch_rows_fit origin.input q origin.outputs image batch origin.offset here fits is })
+pub batch_rows : (origin : Origin) (program : Option Program) (batch : Batch) (one two : List (List Row)) → FitsLog batch
+    → Adds one two (λ q here. IsRecordsRows origin.input q origin.outputs program batch origin.offset batch.records here) → Adds one two (GivesRows origin program (Records batch))
+batch_rows origin program batch one two fits adds =
+    adds_as one two (λ q here. IsRecordsRows origin.input q origin.outputs program batch origin.offset batch.records here) (GivesRows origin program (Records batch)) adds
+    (λ q here is. record { are = is; fit = batch_rows_fit origin.input q origin.outputs program batch origin.offset here fits is })
 
 -- rows added where there were none
-pub item_rows_are : (origin : Origin) (image : Option (List ℕ)) (item : Kept) (old new : List (List Row)) → AreEmpty origin.outputs old
-    → Adds old new (GivesRows origin image item) → AreItemRows origin image item new
-item_rows_are origin image item old new none adds = record {
+pub item_rows_are : (origin : Origin) (program : Option Program) (item : Kept) (old new : List (List Row)) → AreEmpty origin.outputs old
+    → Adds old new (GivesRows origin program item) → AreItemRows origin program item new
+item_rows_are origin program item old new none adds = record {
   outputs = adds.count ∙ none.count;
   each = λ q lt. (gives q lt).are;
   fit = λ q lt. (gives q lt).fit;
 }
   where
-    gives : (q : ℕ) → q < origin.outputs → GivesRows origin image item q (rows_in new q)
+    gives : (q : ℕ) → q < origin.outputs → GivesRows origin program item q (rows_in new q)
     gives q lt =
         let x = adds.each q (subst (λ (n : ℕ). q < n) (sym none.count) lt) in
         let is : x.0 ≡ rows_in new q = sym (x.2 ∙ ap (λ (rs : List Row). rs ++ x.0) (none.each q)) in
-        subst (GivesRows origin image item q) is x.1
+        subst (GivesRows origin program item q) is x.1
 
 -- ---- lists
 

@@ -1,5 +1,6 @@
 -- The rows of an item in every output partition.
 use Rattle.std.specs.Prelude.{◌≡◌, ℕ, ◌<◌, ◌≤◌, ◌++◌, List, [], length, All, Option, get_or}
+use Rattle.machine_spec.specs.Image.{Program}
 use Rattle.log_spec.specs.declared.row.Row.{Row}
 use Rattle.log_spec.specs.Logs.{Item as Kept, IsItemRows, RowFits}
 use Rattle.item_rows.specs.declared.origin.Origin.{Origin}
@@ -16,14 +17,14 @@ abbrev pub rows_in : List (List Row) → ℕ → List Row
 rows_in all output = get_or all output []
 
 -- the rows that an item gives to an output, each within the limits of a record
-pub record GivesRows (origin : Origin) (image : Option (List ℕ)) (item : Kept) (output : ℕ) (rows : List Row) : Type 0 where
-  pub are : IsItemRows origin.input output origin.outputs image origin.offset item rows
+pub record GivesRows (origin : Origin) (program : Option Program) (item : Kept) (output : ℕ) (rows : List Row) : Type 0 where
+  pub are : IsItemRows origin.input output origin.outputs program origin.offset item rows
   pub fit : All RowFits rows
 
 -- a list for each output has the item's rows there, each within the limits of a record
-pub record AreItemRows (origin : Origin) (image : Option (List ℕ)) (item : Kept) (all : List (List Row)) : Type 0 where
+pub record AreItemRows (origin : Origin) (program : Option Program) (item : Kept) (all : List (List Row)) : Type 0 where
   pub outputs : length all ≡ origin.outputs
-  pub each : (output : ℕ) → output < origin.outputs → IsItemRows origin.input output origin.outputs image origin.offset item (rows_in all output)
+  pub each : (output : ℕ) → output < origin.outputs → IsItemRows origin.input output origin.outputs program origin.offset item (rows_in all output)
   pub fit : (output : ℕ) → output < origin.outputs → All RowFits (rows_in all output)
 
 -- no rows in each of `outputs` outputs

@@ -7,7 +7,7 @@ use Rattle.machine_spec.specs.declared.helper.Argument.{Argument}
 use Rattle.machine_spec.specs.declared.summary.{Direction.TheVariants.Read, Direction.TheVariants.Write, Summary.Summary}
 use Rattle.machine_spec.specs.Values.{Registers}
 use Rattle.machine_spec.specs.Summaries.{summary_of}
-use Rattle.machine_spec.specs.Image.{Program, form_at, IsCodeOf}
+use Rattle.machine_spec.specs.Image.{Program, program_of, form_at, IsCodeOf}
 use Rattle.machine_spec.specs.Machine.{Input, State, Access, access_of, named, byte_in}
 use Rattle.machine_spec.specs.Traps.{helper_called, arguments_of, is_read, trap_at}
 use Rattle.machine_spec.specs.Meaning.{Reaches, Means}
@@ -16,8 +16,8 @@ use Rattle.verifier_spec.specs.Loading.{IsAccepted}
 use Rattle.annotate.specs.Loads.{FaultIs}
 
 -- the program of an image that is accepted, or the image's refusal
-abbrev pub ProgramIs : List ℕ → Result (List ℕ) LoadFault → Type 0
-ProgramIs image (Ok program) = (program ≡ image) × IsAccepted image
+abbrev pub ProgramIs : List ℕ → Result Program LoadFault → Type 0
+ProgramIs image (Ok program) = (program ≡ program_of image) × IsAccepted (program_of image)
 ProgramIs image (Err fault) = FaultIs image fault
 
 -- the bytes that an argument of a helper names, or the room
@@ -40,7 +40,7 @@ ReadsWithin program input s =
     (i : Instruction) (a : Access) (place : ℕ) → form_at program.image s.slot ≡ Some i → IsAccess (summary_of i) s.registers a → is_read a.direction ≡ true
     → place < a.size → (pos 0 ≤ℤ a.start) × IsSome (byte_in input s.stack a.region (unsigned_abs a.start + place))
 
--- The program of an image runs to one outcome on an input: it means that and nothing else, after at most as many
+-- A program runs to one outcome on an input: it means that and nothing else, after at most as many
 -- instructions as it has; no state on the way has a trap, and none reads a byte that is not there.
 pub record RunsSafely (program : Program) (input : Input) (outcome : Outcome) : Type 0 where
   pub code : List Placed

@@ -12,7 +12,8 @@ use std::marker::Model;
 use verifier_spec::LoadFault;
 use wire_spec::Record;
 
-/// A program that the verifier accepted, with its image. A clause sees the image.
+/// A program that the verifier accepted, with its image. A clause sees the program: its image and its
+/// helper table.
 #[derive(Drop)]
 pub struct Program {
     image: Bytes,
@@ -20,12 +21,11 @@ pub struct Program {
 }
 
 impl Model for Program {
-    ghost use Rattle.std.specs.Prelude.{List, ℕ};
-    ghost use Rattle.machine_spec.specs.Image.{IsCodeOf};
+    ghost use Rattle.machine_spec.specs.Image.{Program, program_of, IsCodeOf};
 
-    ghost Value = { List ℕ };
+    ghost Value = { Program };
 
-    ghost view = { λ p. p.image };
+    ghost view = { λ p. program_of p.image };
 
     ghost invariant = { λ p. IsCodeOf p.image p.verified.code };
 }
@@ -47,9 +47,9 @@ impl Program {
     pub fn run(&self, alloc: Global, given: &Record, place: &Place) -> Result<Outcome, AllocError>
         requires limits { IsWithinLimits (record { given = given.now; place = place.now }) }
         requires place { IsPlace place.now }
-        ensures means { IfOk result (λ outcome. (n : ℕ) × Means (record { image = self.now }) (record { given = given.now; place = place.now }) outcome n) }
+        ensures means { IfOk result (λ outcome. (n : ℕ) × Means self.now (record { given = given.now; place = place.now }) outcome n) }
         ensures safe { (outcome : Outcome)
-            × RunsSafely (record { image = self.now }) (record { given = given.now; place = place.now }) outcome
+            × RunsSafely self.now (record { given = given.now; place = place.now }) outcome
             × IfOk result (λ answer. answer ≡ outcome) }
     {
         exec::run(alloc, &self.verified, given, place)

@@ -8,7 +8,7 @@ use Rattle.machine_spec.specs.declared.outcome.Emission.{Emission}
 use Rattle.machine_spec.specs.declared.outcome.Outcome.{Outcome}
 use Rattle.machine_spec.specs.declared.outcome.Outcome.TheVariants.{Kept, Rejected}
 use Rattle.machine_spec.specs.Opcodes.{template_of, is_left_out}
-use Rattle.machine_spec.specs.Image.{Program, form_at, read_slot, read_fields, first_slots}
+use Rattle.machine_spec.specs.Image.{Program, program_of, form_at, read_slot, read_fields, first_slots}
 use Rattle.machine_spec.specs.Summaries.{summary_of}
 use Rattle.machine_spec.specs.Machine.{Input, State, entry, after}
 use Rattle.machine_spec.specs.Traps.{trap_at}
@@ -54,7 +54,7 @@ run_from zero program input n s = None
 run_from (suc turns) program input n s = run_by (run_from turns program input (n + 1)) n (turn program input s)
 
 abbrev pub run : ℕ → List ℕ → Input → Option End
-run turns image input = run_from turns (record { image = image }) input 0 (entry input)
+run turns image input = run_from turns (program_of image) input 0 (entry input)
 
 -- ---- what is computed is what the program means
 
@@ -126,9 +126,9 @@ module _ (program : Program) (input : Input) where
   ends_from (suc turns) n s end chain e =
       ends_as turns n s end chain (λ next reaches later. ends_from turns (n + 1) next end reaches later) (turn program input s) refl e
 
-  -- a computed outcome is the program's meaning, and a computed trap is the one that stops it
-  pub run_ends : (turns : ℕ) (end : End) → run turns program.image input ≡ Some end → IsEnd end
-  run_ends turns end e = ends_from turns 0 (entry input) end refl e
+-- a computed outcome is the program's meaning, and a computed trap is the one that stops it
+pub run_ends : (image : List ℕ) (input : Input) (turns : ℕ) (end : End) → run turns image input ≡ Some end → IsEnd (program_of image) input end
+run_ends image input turns end e = ends_from (program_of image) input turns 0 (entry input) end refl e
 
 -- ---- instructions, as the bytes of their slots
 

@@ -1,8 +1,7 @@
 //! The helpers that a program may call, each in one row (RFC 9669, section 4.3.1). What they do is
 //! defined in `specs/Machine.antt`.
-ghost use Rattle.std.specs.Prelude.{◌≡◌, find};
-ghost use Rattle.std.specs.Ordering.{int_eq};
-ghost use Rattle.machine_spec.specs.Machine.{signature_of, helper_of};
+ghost use Rattle.std.specs.Prelude.{◌≡◌};
+ghost use Rattle.machine_spec.specs.Machine.{signature_of, helper_among, helper_of};
 
 use wire_spec::TIMESTAMP_END;
 
@@ -94,7 +93,7 @@ const NO_ARGUMENTS: [Argument; 3] = [Argument::Nothing, Argument::Nothing, Argum
 
 /// The first of these helpers that has a number.
 fn find_helper(helpers: &[Helper], number: i32) -> Option<Helper>
-    ensures { result ≡ find (λ helper. int_eq (signature_of helper).number number) helpers.now }
+    ensures { result ≡ helper_among helpers.now number }
 {
     for helper in helpers {
         if helper.signature().number == number {

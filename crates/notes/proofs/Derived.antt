@@ -4,6 +4,7 @@ use Rattle.std.specs.Prelude.{slice_get, unwrap_or}
 use Rattle.std.proofs.lemmas.Bool.{cond-true, cond-false, cases_Bool, cases_lt, eq-eqb, eqb-true, and_parts, and_from, false≢true}
 use Rattle.std.proofs.lemmas.Option.{none-some, slice_get_within, unwrap_or-slice_get}
 use Rattle.std.proofs.lemmas.List.Folds.{list_any_at}
+use Rattle.machine_spec.specs.declared.helper.TheConstants.{HELPERS}
 use Rattle.machine_spec.specs.declared.instruction.Placed.{Placed}
 use Rattle.machine_spec.specs.Image.{target_of}
 use Rattle.verifier_spec.specs.declared.state.Abstract.{Abstract}
@@ -177,16 +178,16 @@ noted_below [] k s e = absurd (none-some s e)
 noted_below (first ∷ notes) zero s e = omega arith
 noted_below (first ∷ notes) (suc k) s e = omega (arith, noted_below notes k s e)
 
-module _ (code : List Placed) (notes : Notes) (annotation : IsAnnotation code notes) (proper : AreDerivedProper code (at_targets code notes) (length code)) where
+module _ (code : List Placed) (notes : Notes) (annotation : IsAnnotation HELPERS code notes) (proper : AreDerivedProper code (at_targets code notes) (length code)) where
   abbrev given : ℕ → Option Abstract
   given = at_targets code notes
 
   -- both edges of an instruction, in a state within its note
   module _ (k : ℕ) (placed : Placed) (s : Abstract) (at : slice_get code k ≡ Some placed) (ps : is_proper s ≡ true) (below : is_edge_covered (Some s) (note_at notes k) ≡ true) where
-    passed_within : failed_check placed.instruction s ≡ None
+    passed_within : failed_check HELPERS placed.instruction s ≡ None
     passed_within =
         let outer = covering s (note_at notes k) below in
-        check_monotone placed.instruction s outer.0 outer.2 ps (annotation.proper k outer.0 outer.1) (annotation.checked k placed outer.0 at outer.1)
+        check_monotone HELPERS placed.instruction s outer.0 outer.2 ps (annotation.proper k outer.0 outer.1) (annotation.checked k placed outer.0 at outer.1)
 
     falls_within : is_edge_covered (falls_to placed.instruction s) (note_at notes (k + 1)) ≡ true
     falls_within =
@@ -194,7 +195,7 @@ module _ (code : List Placed) (notes : Notes) (annotation : IsAnnotation code no
         let outer = covering s (note_at notes k) below in
         let t = outer.0 in
         let closed = and_parts (is_edge_covered (falls_to i t) (note_at notes (k + 1))) (is_edge_covered (jumps_to i t) (note_of notes (target_of code placed.slot (jump_of i)))) (annotation.closed k placed t at outer.1) in
-        covered_trans (falls_to i s) (falls_to i t) (note_at notes (k + 1)) (falls_monotone i s t outer.2 ps (annotation.proper k t outer.1) (annotation.checked k placed t at outer.1)) closed.0
+        covered_trans (falls_to i s) (falls_to i t) (note_at notes (k + 1)) (falls_monotone HELPERS i s t outer.2 ps (annotation.proper k t outer.1) (annotation.checked k placed t at outer.1)) closed.0
 
     jumps_within : is_edge_covered (jumps_to placed.instruction s) (note_of notes (target_of code placed.slot (jump_of placed.instruction))) ≡ true
     jumps_within =
@@ -203,7 +204,7 @@ module _ (code : List Placed) (notes : Notes) (annotation : IsAnnotation code no
         let t = outer.0 in
         let target = note_of notes (target_of code placed.slot (jump_of i)) in
         let closed = and_parts (is_edge_covered (falls_to i t) (note_at notes (k + 1))) (is_edge_covered (jumps_to i t) target) (annotation.closed k placed t at outer.1) in
-        covered_trans (jumps_to i s) (jumps_to i t) target (jumps_monotone i s t outer.2 ps (annotation.proper k t outer.1) (annotation.checked k placed t at outer.1)) closed.1
+        covered_trans (jumps_to i s) (jumps_to i t) target (jumps_monotone HELPERS i s t outer.2 ps (annotation.proper k t outer.1) (annotation.checked k placed t at outer.1)) closed.1
 
   fallen_within : (k : ℕ) (at : Option Placed) (known : Option Abstract) → slice_get code k ≡ at → ((s : Abstract) → known ≡ Some s → is_proper s ≡ true)
       → is_edge_covered known (note_at notes k) ≡ true → is_edge_covered (fallen code k at known) (note_at notes (k + 1)) ≡ true
@@ -211,8 +212,8 @@ module _ (code : List Placed) (notes : Notes) (annotation : IsAnnotation code no
   fallen_within k (Some placed) None at ps below = refl
   fallen_within k (Some placed) (Some s) at ps below =
       let falls = falls_to placed.instruction s in
-      passed_covers (first_of (shape_checks code k placed)) (if_passed (failed_check placed.instruction s) None falls) (note_at notes (k + 1))
-      (passed_covers (failed_check placed.instruction s) falls (note_at notes (k + 1)) (falls_within k placed s at (ps s refl) below))
+      passed_covers (first_of (shape_checks code k placed)) (if_passed (failed_check HELPERS placed.instruction s) None falls) (note_at notes (k + 1))
+      (passed_covers (failed_check HELPERS placed.instruction s) falls (note_at notes (k + 1)) (falls_within k placed s at (ps s refl) below))
 
   -- each state that follows is within the note there
   pub derived_within : (k : ℕ) → k < length code → is_edge_covered (derived_at code given k) (note_at notes k) ≡ true
@@ -248,7 +249,7 @@ module _ (code : List Placed) (notes : Notes) (annotation : IsAnnotation code no
         let is = state_is k s noted in
         subst (λ o. is_edge_covered o (note_at notes k) ≡ true) is.1 (derived_within k is.0)
 
-    passed : failed_check placed.instruction s ≡ None
+    passed : failed_check HELPERS placed.instruction s ≡ None
     passed = passed_within k placed s at ps below
 
     falls_through : fallen code k (slice_get code k) (derived_at code given k) ≡ falls_to placed.instruction s
@@ -256,7 +257,7 @@ module _ (code : List Placed) (notes : Notes) (annotation : IsAnnotation code no
         let i = placed.instruction in
         ap (λ (o : Option Placed). fallen code k o (derived_at code given k)) at
         ∙ (ap (λ (o : Option Abstract). fallen code k (Some placed) o) (state_is k s noted).1
-        ∙ (ap (λ (failed : Option Check). if_passed failed None (if_passed (failed_check i s) None (falls_to i s))) (annotation.shape k placed at)
+        ∙ (ap (λ (failed : Option Check). if_passed failed None (if_passed (failed_check HELPERS i s) None (falls_to i s))) (annotation.shape k placed at)
         ∙ ap (λ (failed : Option Check). if_passed failed None (falls_to i s)) passed))
 
     falls_closed : is_edge_covered (falls_to placed.instruction s) (note_at states (k + 1)) ≡ true
@@ -314,7 +315,7 @@ module _ (code : List Placed) (notes : Notes) (annotation : IsAnnotation code no
           noted_below notes 0 outer.0 outer.1
 
   -- What follows from an annotation's states at jump targets is an annotation.
-  pub settled_annotation : IsAnnotation code (settled code notes)
+  pub settled_annotation : IsAnnotation HELPERS code (settled code notes)
   settled_annotation = record {
     long = length-derived code given;
     start = first_covered;
@@ -409,10 +410,10 @@ module _ (code : List Placed) (notes states : Notes) (kept : List (ℕ × Abstra
   pub kept_view : derived code (pair_at kept) ≡ settled code notes
   kept_view = ap (λ (pairs : List (ℕ × Abstract)). derived code (pair_at pairs)) (kept_is ∙ ap (λ (ns : Notes). kept_states code ns) is) ∙ settled_again code notes
 
-  pub verified_from : AreRegions code states regions → AreForms code states forms → (writes : Bool) → writes ≡ stores code → IsAnnotation code notes → AreDerivedProper code (at_targets code notes) (length code) → IsVerified code kept regions forms writes
+  pub verified_from : AreRegions code states regions → AreForms code states forms → (writes : Bool) → writes ≡ stores code → IsAnnotation HELPERS code notes → AreDerivedProper code (at_targets code notes) (length code) → IsVerified code kept regions forms writes
   verified_from regions_are forms_are writes writes_are annotation proper =
       let same : derived code (pair_at kept) ≡ states = kept_view ∙ sym is in
-      let P : Notes → Type 0 = λ ns. IsAnnotation code ns in
+      let P : Notes → Type 0 = λ ns. IsAnnotation HELPERS code ns in
       let Q : Notes → Type 0 = λ ns. AreRegions code ns regions in
       let F : Notes → Type 0 = λ ns. AreForms code ns forms in
       let R : Notes → Type 0 = λ ns. kept ≡ kept_states code ns in
@@ -425,13 +426,13 @@ module _ (code : List Placed) (notes states : Notes) (kept : List (ℕ × Abstra
       }
 
 -- the refusal of states with numbers that rise is that of the list that follows from them
-pub pairs_told : (code : List Placed) (pairs : List (ℕ × Abstract)) (all : Notes) (fault : Option VerifyFault) → are_rising 0 (length code) pairs ≡ true → all ≡ derived code (pair_at pairs) → fault_of code all ≡ fault
+pub pairs_told : (code : List Placed) (pairs : List (ℕ × Abstract)) (all : Notes) (fault : Option VerifyFault) → are_rising 0 (length code) pairs ≡ true → all ≡ derived code (pair_at pairs) → fault_of HELPERS code all ≡ fault
     → pairs_fault code pairs ≡ fault
 unfolding pairs_fault
 pairs_told code pairs all fault rising is told =
-    cond-true (are_rising 0 (length code) pairs) (fault_of code (derived code (pair_at pairs))) (Some (record { pc = 0; kind = check.Notes })) rising
-    ∙ (ap (λ (ns : Notes). fault_of code ns) (sym is) ∙ told)
+    cond-true (are_rising 0 (length code) pairs) (fault_of HELPERS code (derived code (pair_at pairs))) (Some (record { pc = 0; kind = check.Notes })) rising
+    ∙ (ap (λ (ns : Notes). fault_of HELPERS code ns) (sym is) ∙ told)
 
 pub unordered_told : (code : List Placed) (pairs : List (ℕ × Abstract)) → are_rising 0 (length code) pairs ≡ false → pairs_fault code pairs ≡ Some (record { pc = 0; kind = check.Notes })
 unfolding pairs_fault
-unordered_told code pairs e = cond-false (are_rising 0 (length code) pairs) (fault_of code (derived code (pair_at pairs))) (Some (record { pc = 0; kind = check.Notes })) e
+unordered_told code pairs e = cond-false (are_rising 0 (length code) pairs) (fault_of HELPERS code (derived code (pair_at pairs))) (Some (record { pc = 0; kind = check.Notes })) e

@@ -1,6 +1,7 @@
 -- The order in which an instruction's checks are reported: its shape's, its own in its state, and its edges.
 use Rattle.std.proofs.Common.{◌≡◌, ℕ, Bool, true, false, if◌then◌else◌, not, refl, List, [], ◌∷◌, ap, ◌∙◌}
 use Rattle.std.specs.Prelude.{Option, Some, None}
+use Rattle.machine_spec.specs.declared.helper.TheConstants.{HELPERS}
 use Rattle.machine_spec.specs.declared.instruction.Placed.{Placed}
 use Rattle.machine_spec.specs.Summaries.{summary_of}
 use Rattle.machine_spec.specs.Traps.{first_of}
@@ -13,32 +14,32 @@ use Rattle.verifier_spec.proofs.Faults.{first_of-append, first_of-told}
 
 -- a failed check of the shape is reported
 pub shape_told : (code : List Placed) (notes : Notes) (k : ℕ) (placed : Placed) (kind : Check)
-    → first_of (shape_checks code k placed) ≡ Some kind → failed_at code notes k placed ≡ Some kind
+    → first_of (shape_checks code k placed) ≡ Some kind → failed_at HELPERS code notes k placed ≡ Some kind
 unfolding failed_at
-shape_told code notes k placed kind e = first_of-told (shape_checks code k placed) (reached_checks code notes k placed (note_at notes k)) kind e
+shape_told code notes k placed kind e = first_of-told (shape_checks code k placed) (reached_checks HELPERS code notes k placed (note_at notes k)) kind e
 
 -- else the first failed check in the instruction's state
 pub shape_passed : (code : List Placed) (notes : Notes) (k : ℕ) (placed : Placed) (known : Option Abstract)
     → first_of (shape_checks code k placed) ≡ None → note_at notes k ≡ known
-    → failed_at code notes k placed ≡ first_of (reached_checks code notes k placed known)
+    → failed_at HELPERS code notes k placed ≡ first_of (reached_checks HELPERS code notes k placed known)
 unfolding failed_at
 shape_passed code notes k placed known e n =
-    first_of-append (shape_checks code k placed) (reached_checks code notes k placed (note_at notes k)) e
-    ∙ ap (λ s. first_of (reached_checks code notes k placed s)) n
+    first_of-append (shape_checks code k placed) (reached_checks HELPERS code notes k placed (note_at notes k)) e
+    ∙ ap (λ s. first_of (reached_checks HELPERS code notes k placed s)) n
 
 -- of which its own are reported before its edges
 pub check_told : (code : List Placed) (notes : Notes) (k : ℕ) (placed : Placed) (s : Abstract) (kind : Check)
-    → failed_check placed.instruction s ≡ Some kind → first_of (reached_checks code notes k placed (Some s)) ≡ Some kind
+    → failed_check HELPERS placed.instruction s ≡ Some kind → first_of (reached_checks HELPERS code notes k placed (Some s)) ≡ Some kind
 unfolding failed_check
 check_told code notes k placed s kind e =
-    first_of-told (checks (summary_of placed.instruction) s) ((not (are_edges_covered code notes k placed s), check.Notes) ∷ []) kind e
+    first_of-told (checks HELPERS (summary_of placed.instruction) s) ((not (are_edges_covered code notes k placed s), check.Notes) ∷ []) kind e
 
 -- and then an edge that leads where no note covers it
-pub edges_told : (code : List Placed) (notes : Notes) (k : ℕ) (placed : Placed) (s : Abstract) (covered : Bool) → failed_check placed.instruction s ≡ None → are_edges_covered code notes k placed s ≡ covered
-    → first_of (reached_checks code notes k placed (Some s)) ≡ (if covered then None else Some check.Notes)
+pub edges_told : (code : List Placed) (notes : Notes) (k : ℕ) (placed : Placed) (s : Abstract) (covered : Bool) → failed_check HELPERS placed.instruction s ≡ None → are_edges_covered code notes k placed s ≡ covered
+    → first_of (reached_checks HELPERS code notes k placed (Some s)) ≡ (if covered then None else Some check.Notes)
 unfolding failed_check
 edges_told code notes k placed s covered e is =
-    first_of-append (checks (summary_of placed.instruction) s) ((not (are_edges_covered code notes k placed s), check.Notes) ∷ []) e ∙ ap (λ b. first_of ((not b, check.Notes) ∷ [])) is ∙ last covered
+    first_of-append (checks HELPERS (summary_of placed.instruction) s) ((not (are_edges_covered code notes k placed s), check.Notes) ∷ []) e ∙ ap (λ b. first_of ((not b, check.Notes) ∷ [])) is ∙ last covered
   where
     last : (b : Bool) → first_of ((not b, check.Notes) ∷ []) ≡ (if b then None else Some check.Notes)
     last true = refl

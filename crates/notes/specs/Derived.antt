@@ -1,6 +1,7 @@
 -- The states of a program that follow from those that are given of some instructions.
 use Rattle.std.specs.Prelude.{◌≡◌, ℕ, zero, suc, ◌+◌, ◌<◌, Bool, true, false, ◌==◌, ◌&&◌, nat_lt, nat_le, if◌then◌else◌, List, [], ◌∷◌, ◌++◌, length, slice_get, slice_index_or, Option, Some, None}
 use Rattle.std.specs.List.{list_any}
+use Rattle.machine_spec.specs.declared.helper.TheConstants.{HELPERS}
 use Rattle.machine_spec.specs.declared.instruction.Placed.{Placed}
 use Rattle.machine_spec.specs.Image.{target_of}
 use Rattle.verifier_spec.specs.declared.state.Abstract.{Abstract}
@@ -20,7 +21,7 @@ abbrev pub fallen : List Placed → ℕ → Option Placed → Option Abstract �
 fallen code k None s = None
 fallen code k (Some placed) None = None
 fallen code k (Some placed) (Some s) =
-    if_passed (first_of (shape_checks code k placed)) None (if_passed (failed_check placed.instruction s) None (falls_to placed.instruction s))
+    if_passed (first_of (shape_checks code k placed)) None (if_passed (failed_check HELPERS placed.instruction s) None (falls_to placed.instruction s))
 
 -- the state that is given of an instruction, or else the one that follows
 abbrev pub given_or : Option Abstract → Option Abstract → Option Abstract
@@ -98,7 +99,7 @@ are_rising least limit (pair ∷ pairs) = (nat_lt pair.0 limit && nat_le least p
 -- The refusal that is reported for states with numbers: at 0, that the numbers don't rise or are past the code's end; else
 -- that of the list that follows from them.
 unfoldable pub pairs_fault : List Placed → List (ℕ × Abstract) → Option VerifyFault
-pairs_fault code pairs = if are_rising 0 (length code) pairs then fault_of code (derived code (pair_at pairs)) else Some (record { pc = 0; kind = Check.Notes })
+pairs_fault code pairs = if are_rising 0 (length code) pairs then fault_of HELPERS code (derived code (pair_at pairs)) else Some (record { pc = 0; kind = Check.Notes })
 
 -- ---- lists by number
 

@@ -2,6 +2,7 @@ ghost use Rattle.std.specs.Prelude.{◌≡◌, ◌<◌, None};
 ghost use Rattle.std.specs.Option.{option_copied};
 ghost use Rattle.verifier_spec.specs.Checks.{failed_check};
 ghost use Rattle.verifier_spec.specs.Annotation.{is_covered, is_edge_covered, note_of, are_edges_covered};
+ghost use Rattle.machine_spec.specs.declared.helper.TheConstants.{HELPERS};
 
 use crate::lookup::note_at;
 use abstract_regs::State;
@@ -49,7 +50,7 @@ pub fn are_edges_covered(
 ) -> bool
     requires number { k < MAX_SLOTS }
     requires slot { placed.slot < MAX_SLOTS }
-    requires passed { failed_check placed.instruction state.now ≡ None }
+    requires passed { failed_check HELPERS placed.instruction state.now ≡ None }
     ensures { result ≡ are_edges_covered code.now notes.now k placed state.now }
 {
     let edges = state.transfer(placed.instruction);

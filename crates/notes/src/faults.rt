@@ -3,6 +3,7 @@ ghost use Rattle.machine_spec.specs.Traps.{first_of};
 ghost use Rattle.verifier_spec.specs.States.{is_proper, entry_state};
 ghost use Rattle.verifier_spec.specs.Annotation.{note_at, is_covered, reached_checks, failed_at, fault_from, fault_of};
 ghost use Rattle.notes.specs.Proper.{IsProperAt, AreProper, AreProperBelow};
+ghost use Rattle.machine_spec.specs.declared.helper.TheConstants.{HELPERS};
 
 use crate::edges::{are_edges_covered, is_covered};
 use crate::lookup::note_at;
@@ -24,7 +25,7 @@ fn failed_reached(
 ) -> Option<Check>
     requires number { k < MAX_SLOTS }
     requires slot { placed.slot < MAX_SLOTS }
-    ensures failed { result ≡ first_of (reached_checks code.now notes.now k placed (Some state.now)) }
+    ensures failed { result ≡ first_of (reached_checks HELPERS code.now notes.now k placed (Some state.now)) }
     ensures proper { is_proper state.now ≡ true }
 {
     if let Some(check) = state.check(placed.instruction) {
@@ -42,7 +43,7 @@ fn failed_reached(
 fn failed_at(code: &Code, notes: &[Option<State>], k: usize, placed: Placed) -> Option<Check>
     requires number { k < MAX_SLOTS }
     requires slot { placed.slot < MAX_SLOTS }
-    ensures failed { result ≡ failed_at code.now notes.now k placed }
+    ensures failed { result ≡ failed_at HELPERS code.now notes.now k placed }
     ensures proper { IfNone result (IsProperAt notes.now k) }
 {
     if let Some(check) = failed_shape(code, k, placed) {
@@ -56,7 +57,7 @@ fn failed_at(code: &Code, notes: &[Option<State>], k: usize, placed: Placed) -> 
 
 /// The first failed check of the lowest instruction that fails one.
 fn first_fault(code: &Code, notes: &[Option<State>]) -> Option<VerifyFault>
-    ensures fault { result ≡ fault_from code.now notes.now 0 code.now }
+    ensures fault { result ≡ fault_from HELPERS code.now notes.now 0 code.now }
     ensures proper { IfNone result (AreProperBelow notes.now (length code.now)) }
 {
     for k in 0..code.len() {
@@ -77,7 +78,7 @@ fn has_start(code: &Code, notes: &[Option<State>]) -> bool
 /// Why a list of states is no annotation of code, if it is none.
 #[tactic(auto, unfolding(verifier_spec::specs::Annotation::fault_of))]
 pub fn fault_of(code: &Code, notes: &[Option<State>]) -> Option<VerifyFault>
-    ensures fault { result ≡ fault_of code.now notes.now }
+    ensures fault { result ≡ fault_of HELPERS code.now notes.now }
     ensures proper { IfNone result (AreProper notes.now) }
 {
     if !has_start(code, notes) {

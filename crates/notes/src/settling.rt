@@ -6,6 +6,7 @@ ghost use Rattle.verifier_spec.specs.Checks.{failed_check};
 ghost use Rattle.verifier_spec.specs.Transfer.{falls_to};
 ghost use Rattle.verifier_spec.specs.JoinedStates.{if_passed};
 ghost use Rattle.notes.specs.Derived.{fallen, given_or, derived, at_targets, settled, pair_at, are_rising, kept_note, kept_states, EachIs, AreDerivedProper, AreTargets};
+ghost use Rattle.machine_spec.specs.declared.helper.TheConstants.{HELPERS};
 
 use crate::shape::failed_shape;
 use abstract_regs::State;
@@ -41,7 +42,7 @@ fn fallen_from(code: &Code, k: usize, placed: Placed, state: &State) -> Option<S
 }
 
 fn passed_on(placed: Placed, state: &State) -> Option<State>
-    ensures passed { result ≡ if_passed (failed_check placed.instruction state.now) None (falls_to placed.instruction state.now) }
+    ensures passed { result ≡ if_passed (failed_check HELPERS placed.instruction state.now) None (falls_to placed.instruction state.now) }
     ensures proper { is_proper state.now ≡ true }
 {
     match state.check(placed.instruction) {

@@ -3,8 +3,9 @@ ghost use Rattle.std.specs.List.{list_all};
 ghost use Rattle.program_table.specs.declared.table.Entry.{Entry};
 ghost use Rattle.std.specs.Arc.{arc_value};
 ghost use Rattle.std.specs.Str.{bytes_eq};
+ghost use Rattle.machine_spec.specs.Image.{program_of};
 ghost use Rattle.verifier_spec.specs.Loading.{IsAccepted};
-ghost use Rattle.log_spec.specs.Catalogue.{IsImageRefusal, images_of, image_of, has_name, is_name, is_name_byte, with_image};
+ghost use Rattle.log_spec.specs.Catalogue.{IsProgramRefusal, programs_of, program_named, has_name, is_name, is_name_byte, with_program};
 ghost use Rattle.program_table.specs.Tables.{entry_view, table_view, LatestIs, LoadsInto, RefusedAs, version_of};
 ghost use Rattle.annotate.specs.Loads.{FaultIs};
 ghost use Rattle.arrayvec.specs.ArrayVec.{array_vec_len};
@@ -105,7 +106,7 @@ fn place_of(entries: &[Entry], name: &Name) -> Option<usize>
 
 /// The refusal of a load whose image is refused.
 fn refusal_of(fault: LoadFault) -> Refusal
-    ensures { (image : List ℕ) → FaultIs image fault → RefusedAs (IsImageRefusal image) result }
+    ensures { (image : List ℕ) → FaultIs image fault → RefusedAs (IsProgramRefusal (program_of image)) result }
 {
     match fault {
         LoadFault::Isa(IsaFault::Memory) => Refusal::Memory,
@@ -118,9 +119,9 @@ fn refusal_of(fault: LoadFault) -> Refusal
 }
 
 fn program_of(alloc: Global, image: &Bytes) -> Result<Arc<Program>, Refusal>
-    ensures program { IfOk result (λ program. arc_value program ≡ image.now) }
-    ensures accepted { OnOk result (IsAccepted image.now) }
-    ensures refused { IfErr result (λ refused. RefusedAs (IsImageRefusal image.now) refused) }
+    ensures program { IfOk result (λ program. arc_value program ≡ program_of image.now) }
+    ensures accepted { OnOk result (IsAccepted (program_of image.now)) }
+    ensures refused { IfErr result (λ refused. RefusedAs (IsProgramRefusal (program_of image.now)) refused) }
 {
     match Program::new(alloc, image) {
         Err(fault) => Err(refusal_of(fault)),
@@ -153,7 +154,7 @@ fn add_version(
     requires inside { place < length entries.old }
     requires first { has_name (table_view (take place entries.old)) name.now ≡ false }
     requires named { (d : Entry) → bytes_eq (slice_index_or entries.old place d).name name.now ≡ true }
-    ensures { LoadsInto (table_view entries.old) name.now image.now result (table_view entries.new) }
+    ensures { LoadsInto (table_view entries.old) name.now (program_of image.now) result (table_view entries.new) }
 {
     let versions = entries[place].programs.len();
     if versions >= MOST_VERSIONS {
@@ -177,7 +178,7 @@ fn add_name(
 ) -> Result<u32, Refusal>
     requires form { is_name name.now ≡ true }
     requires new { has_name (table_view entries.old.items) name.now ≡ false }
-    ensures { LoadsInto (table_view entries.old.items) name.now image.now result (table_view entries.new.items) }
+    ensures { LoadsInto (table_view entries.old.items) name.now (program_of image.now) result (table_view entries.new.items) }
 {
     if entries.is_full() {
         return Err(Refusal::Full);
@@ -192,7 +193,7 @@ fn add_name(
 }
 
 fn entry_of(alloc: Global, name: &Name, program: Arc<Program>) -> Result<Entry, AllocError>
-    ensures { IfOk result (λ entry. entry_view entry ≡ record { name = name.now; images = arc_value program ∷ [] }) }
+    ensures { IfOk result (λ entry. entry_view entry ≡ record { name = name.now; programs = arc_value program ∷ [] }) }
 {
     let mut programs = Vec::new(alloc);
     programs.push(program)?;
@@ -209,7 +210,7 @@ fn add_entry(
     program: Arc<Program>,
 ) -> Result<(), AllocError>
     requires { array_vec_len entries.old < 64 }
-    ensures ok { OnOk result (table_view entries.new.items ≡ table_view entries.old.items ++ record { name = name.now; images = arc_value program ∷ [] } ∷ []) }
+    ensures ok { OnOk result (table_view entries.new.items ≡ table_view entries.old.items ++ record { name = name.now; programs = arc_value program ∷ [] } ∷ []) }
     ensures err { OnErr result (table_view entries.new.items ≡ table_view entries.old.items) }
 {
     let entry = entry_of(alloc, name, program)?;
@@ -230,7 +231,7 @@ impl Table {
     /// Loads an image under a name, and answers the name's version, from 1. An `Err` changes
     /// nothing.
     pub fn load(&mut self, alloc: Global, name: &Name, image: &Bytes) -> Result<u32, Refusal>
-        ensures { LoadsInto self.old name.now image.now result self.new }
+        ensures { LoadsInto self.old name.now (program_of image.now) result self.new }
     {
         if !has_name_form(name.text.as_str()) {
             return Err(Refusal::Name);
@@ -243,7 +244,7 @@ impl Table {
 
     /// The last version of a name with its program, if the name is loaded.
     pub fn latest(&self, name: &Name) -> Option<(u32, &Arc<Program>)>
-        ensures { LatestIs (images_of self.now name.now) (option_map (λ found. (found.0, arc_value found.1.now)) result) }
+        ensures { LatestIs (programs_of self.now name.now) (option_map (λ found. (found.0, arc_value found.1.now)) result) }
     {
         let entries = self.entries.as_slice();
         match place_of(entries, name) {
@@ -262,7 +263,7 @@ impl Table {
 
     /// The program that was loaded as a version of a name, if one was.
     pub fn version(&self, name: &Name, version: u32) -> Option<&Arc<Program>>
-        ensures { option_map (λ program. arc_value program.now) result ≡ image_of self.now name.now version }
+        ensures { option_map (λ program. arc_value program.now) result ≡ program_named self.now name.now version }
     {
         let entries = self.entries.as_slice();
         match place_of(entries, name) {

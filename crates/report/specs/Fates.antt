@@ -3,6 +3,7 @@ use Rattle.std.specs.Prelude.{◌≡◌, ℕ, zero, suc, ◌+◌, List, [], ◌�
 use Rattle.wire_spec.specs.declared.record.{Record.Record, Batch.Batch}
 use Rattle.machine_spec.specs.declared.outcome.{Outcome.Outcome, Place.Place}
 use Rattle.machine_spec.specs.declared.outcome.Outcome.TheVariants as ending
+use Rattle.machine_spec.specs.Image.{Program}
 use Rattle.machine_spec.specs.Meaning.{Means}
 use Rattle.log_spec.specs.Logs.{Item, Records, Marked, Closed, in_force, offset_of, place_of}
 use Rattle.report.specs.declared.fate.Fate.{Fate}
@@ -14,22 +15,22 @@ fate_of (ending.Kept emissions) = Kept
 fate_of (ending.Rejected code) = Rejected code
 
 -- What becomes of a record by the program in force: that of what the program means on it. Without one no program runs.
-abbrev pub IsFate : Option (List ℕ) → Place → Record → Fate → Type 0
+abbrev pub IsFate : Option Program → Place → Record → Fate → Type 0
 IsFate None place given fate = fate ≡ Unprogrammed
-IsFate (Some image) place given fate = (outcome : Outcome) × (n : ℕ) × Means (record { image = image }) (record { given = given; place = place }) outcome n × (fate ≡ fate_of outcome)
+IsFate (Some program) place given fate = (outcome : Outcome) × (n : ℕ) × Means program (record { given = given; place = place }) outcome n × (fate ≡ fate_of outcome)
 
 -- of a batch's records, in order; each record has the offset after the one before
-abbrev pub AreRecordsFates : ℕ → ℕ → Option (List ℕ) → Batch → ℕ → List Record → List Fate → Type 0
-AreRecordsFates input outputs image batch offset [] fates = fates ≡ []
-AreRecordsFates input outputs image batch offset (given ∷ others) fates =
-    (here : Fate) × (later : List Fate) × IsFate image (place_of input outputs offset batch given) given here
-    × AreRecordsFates input outputs image batch (offset + 1) others later × (fates ≡ here ∷ later)
+abbrev pub AreRecordsFates : ℕ → ℕ → Option Program → Batch → ℕ → List Record → List Fate → Type 0
+AreRecordsFates input outputs program batch offset [] fates = fates ≡ []
+AreRecordsFates input outputs program batch offset (given ∷ others) fates =
+    (here : Fate) × (later : List Fate) × IsFate program (place_of input outputs offset batch given) given here
+    × AreRecordsFates input outputs program batch (offset + 1) others later × (fates ≡ here ∷ later)
 
 -- of an item's records: a mark and the end have none
-abbrev pub AreItemFates : ℕ → ℕ → Option (List ℕ) → ℕ → Item → List Fate → Type 0
-AreItemFates input outputs image offset (Records batch) fates = AreRecordsFates input outputs image batch offset batch.records fates
-AreItemFates input outputs image offset (Marked name version program) fates = fates ≡ []
-AreItemFates input outputs image offset Closed fates = fates ≡ []
+abbrev pub AreItemFates : ℕ → ℕ → Option Program → ℕ → Item → List Fate → Type 0
+AreItemFates input outputs program offset (Records batch) fates = AreRecordsFates input outputs program batch offset batch.records fates
+AreItemFates input outputs program offset (Marked name version marked) fates = fates ≡ []
+AreItemFates input outputs program offset Closed fates = fates ≡ []
 
 -- of the records of the first n items of a log: each record by the program whose mark is the last before it
 abbrev pub AreFatesOf : ℕ → ℕ → List Item → ℕ → List Fate → Type 0

@@ -1,7 +1,7 @@
 //! Counts the records of first items by what became of them.
 
 ghost use Rattle.std.specs.Prelude.{◌≡◌, ◌<◌, ◌≤◌, ◌+◌, ◌^◌, Some, length, slice_get, option_map, IfOk, OnOk};
-ghost use Rattle.log_spec.specs.Logs.{FitsLog, records_in, image_after};
+ghost use Rattle.log_spec.specs.Logs.{FitsLog, records_in, program_after};
 ghost use Rattle.log_item.specs.Items.{item_view};
 ghost use Rattle.item_rows.specs.ItemRows.{IsOrigin};
 ghost use Rattle.report.specs.Fates.{AreRecordsFates, AreItemFates};
@@ -60,7 +60,7 @@ fn item_at<'a, Id: Names, C>(broker: &'a Broker<Id, C>, trail: &Trail<Id>, index
 
 /// The program in force after an item, given that before it.
 fn program_after<'a>(before: Option<&'a Program>, item: &'a Item) -> Option<&'a Program>
-    ensures { option_map (λ p. p.now) result ≡ image_after (option_map (λ p. p.now) before.entry) (item_view item.now) }
+    ensures { option_map (λ p. p.now) result ≡ program_after (option_map (λ p. p.now) before.entry) (item_view item.now) }
 {
     match item {
         Item::Mark { program, .. } => Some(program),

@@ -3,6 +3,7 @@ use Rattle.std.proofs.Common.{◌≡◌, ◌≢◌, ℕ, zero, suc, ◌+◌, ◌
 use Rattle.std.specs.List.{list_any}
 use Rattle.std.proofs.lemmas.Bool.{and_parts, and_from, or_parts, cond-true, cond-false, cases_Bool, cases_lt, eq-eqb, eqb-true, not-false, true≢false, false≢true}
 use Rattle.std.proofs.lemmas.Option.{none-some, slice_get_within}
+use Rattle.machine_spec.specs.declared.helper.Helper.{Helper}
 use Rattle.machine_spec.specs.declared.instruction.Instruction.{Instruction}
 use Rattle.machine_spec.specs.declared.instruction.Instruction.TheVariants.{Move, Compute, Load, Unary, Store, JumpIf, Jump, Wide, Call, Exit}
 use Rattle.machine_spec.specs.declared.instruction.Placed.{Placed}
@@ -25,12 +26,12 @@ use Rattle.verifier_spec.proofs.JoinedStates.{covered_refl, covered_trans, edge_
 use Rattle.verifier_spec.proofs.Monotone.{check_monotone, falls_monotone, jumps_monotone}
 
 -- the joined states are in their ranges
-abbrev pub AreJoinedProper : List Placed → Type 0
-AreJoinedProper code = (k : ℕ) (s : Abstract) → k < length code → known_after code k k ≡ Some s → is_proper s ≡ true
+abbrev pub AreJoinedProper : List Helper → List Placed → Type 0
+AreJoinedProper helpers code = (k : ℕ) (s : Abstract) → k < length code → known_after helpers code k k ≡ Some s → is_proper s ≡ true
 
 -- ---- within every annotation
 
-module _ (code : List Placed) (notes : Notes) (annotation : IsAnnotation code notes) (proper : AreJoinedProper code) where
+module _ (helpers : List Helper) (code : List Placed) (notes : Notes) (annotation : IsAnnotation helpers code notes) (proper : AreJoinedProper helpers code) where
   edges_below : (j k : ℕ) (placed : Placed) (s t : Abstract) (known : Option Abstract) → slice_get code k ≡ Some placed → note_at notes k ≡ Some t → is_proper s ≡ true
       → is_within s t ≡ true → is_edge_covered known (note_at notes j) ≡ true → is_edge_covered (with_edges code j k placed s known) (note_at notes j) ≡ true
   edges_below j k placed s t known at noted ps within h =
@@ -39,36 +40,36 @@ module _ (code : List Placed) (notes : Notes) (annotation : IsAnnotation code no
       let passed = annotation.checked k placed t at noted in
       let pt = annotation.proper k t noted in
       let closed = and_parts (is_edge_covered (falls_to i t) (note_at notes (k + 1))) (is_edge_covered (jumps_to i t) (note_of notes target)) (annotation.closed k placed t at noted) in
-      let falls = covered_trans (falls_to i s) (falls_to i t) (note_at notes (k + 1)) (falls_monotone i s t within ps pt passed) closed.0 in
-      let jumps = covered_trans (jumps_to i s) (jumps_to i t) (note_of notes target) (jumps_monotone i s t within ps pt passed) closed.1 in
+      let falls = covered_trans (falls_to i s) (falls_to i t) (note_at notes (k + 1)) (falls_monotone helpers i s t within ps pt passed) closed.0 in
+      let jumps = covered_trans (jumps_to i s) (jumps_to i t) (note_of notes target) (jumps_monotone helpers i s t within ps pt passed) closed.1 in
       edge_least j target (jumps_to i s) (with_edge j (Some (k + 1)) (falls_to i s) known) (note_at notes j)
       (edge_least j (Some (k + 1)) (falls_to i s) known (note_at notes j) h (λ same. subst (λ o. is_edge_covered (falls_to i s) (note_of notes o) ≡ true) same falls))
       (λ same. subst (λ o. is_edge_covered (jumps_to i s) (note_of notes o) ≡ true) same jumps)
 
-  step_below : (j k : ℕ) (at : Option Placed) (own known : Option Abstract) → slice_get code k ≡ at → known_after code k k ≡ own
+  step_below : (j k : ℕ) (at : Option Placed) (own known : Option Abstract) → slice_get code k ≡ at → known_after helpers code k k ≡ own
       → is_edge_covered own (note_at notes k) ≡ true → is_edge_covered known (note_at notes j) ≡ true
-      → is_edge_covered (with_instruction code j k at own known) (note_at notes j) ≡ true
+      → is_edge_covered (with_instruction helpers code j k at own known) (note_at notes j) ≡ true
   step_below j k None own known at is below h = h
   step_below j k (Some placed) None known at is below h = h
   step_below j k (Some placed) (Some s) known at is below h =
       let outer = covering s (note_at notes k) below in
       let edges = edges_below j k placed s outer.0 known at outer.1 (proper k s (slice_get_within code k placed at) is) outer.2 h in
-      elim (failed_check placed.instruction s) as (λ failed. is_edge_covered (if_passed failed known (with_edges code j k placed s known)) (note_at notes j) ≡ true) [
+      elim (failed_check helpers placed.instruction s) as (λ failed. is_edge_covered (if_passed failed known (with_edges code j k placed s known)) (note_at notes j) ≡ true) [
         | Some _ ↦ h
         | None ↦ edges
       ]
 
-  first_below : (j : ℕ) → is_edge_covered (known_after code 0 j) (note_at notes j) ≡ true
+  first_below : (j : ℕ) → is_edge_covered (known_after helpers code 0 j) (note_at notes j) ≡ true
   unfolding known_after
   first_below j = elim (cases_Bool (j == 0)) [
-    | inl first ↦ subst (λ n. is_edge_covered (known_after code 0 n) (note_at notes n) ≡ true) (sym (eqb-true j 0 first)) annotation.start
+    | inl first ↦ subst (λ n. is_edge_covered (known_after helpers code 0 n) (note_at notes n) ≡ true) (sym (eqb-true j 0 first)) annotation.start
     | inr later ↦ subst (λ o. is_edge_covered o (note_at notes j) ≡ true) (sym (cond-false (j == 0) (Some entry_state) None later)) refl
   ]
 
-  pub known_below : (k j : ℕ) → is_edge_covered (known_after code k j) (note_at notes j) ≡ true
+  pub known_below : (k j : ℕ) → is_edge_covered (known_after helpers code k j) (note_at notes j) ≡ true
   unfolding known_after
   known_below zero j = first_below j
-  known_below (suc k) j = step_below j k (slice_get code k) (known_after code k k) (known_after code k j) refl refl (known_below k k) (known_below k j)
+  known_below (suc k) j = step_below j k (slice_get code k) (known_after helpers code k k) (known_after helpers code k j) refl refl (known_below k k) (known_below k j)
 
 -- ---- which checks a list of checks names
 
@@ -105,9 +106,9 @@ shape_is_other : (code : List Placed) (k : ℕ) (placed : Placed) (kind : Check)
 unfolding is_notes
 shape_is_other code k placed kind e = first_is_other (shape_checks code k placed) kind refl e
 
-check_is_other : (i : Instruction) (s : Abstract) (kind : Check) → first_of (checks (summary_of i) s) ≡ Some kind → is_notes kind ≡ false
+check_is_other : (helpers : List Helper) (i : Instruction) (s : Abstract) (kind : Check) → first_of (checks helpers (summary_of i) s) ≡ Some kind → is_notes kind ≡ false
 unfolding is_notes
-check_is_other i s kind e = first_is_other (checks (summary_of i) s) kind refl e
+check_is_other helpers i s kind e = first_is_other (checks helpers (summary_of i) s) kind refl e
 
 last_holds : (holds : Bool) (kind other : Check) → holds ≡ true → first_of ((not holds, other) ∷ []) ≡ Some kind → is_notes kind ≡ false
 last_holds true kind other h e = absurd (none-some kind e)
@@ -123,12 +124,12 @@ or_is_other k (Some kind) later f here there e =
 or_is_other k None later f here there e = there e
 
 -- the entry state is the first joined state
-start_covered : (code : List Placed) → 0 < length code
-    → ((length (joined_states code) == length code) && is_covered entry_state (note_at (joined_states code) 0)) ≡ true
+start_covered : (helpers : List Helper) (code : List Placed) → 0 < length code
+    → ((length (joined_states helpers code) == length code) && is_covered entry_state (note_at (joined_states helpers code) 0)) ≡ true
 unfolding known_after
-start_covered code some =
+start_covered helpers code some =
     let Q : Option Abstract → Type 0 = λ o. is_covered entry_state o ≡ true in
-    and_from _ _ (eq-eqb _ _ (length-joined_states code)) (subst Q (sym (note_joined code 0 some)) (covered_refl (Some entry_state)))
+    and_from _ _ (eq-eqb _ _ (length-joined_states helpers code)) (subst Q (sym (note_joined helpers code 0 some)) (covered_refl (Some entry_state)))
 
 -- ---- closed under edges
 
@@ -149,7 +150,7 @@ no_jump : (i : Instruction) (s : Abstract) (o : Option Abstract) → jump_of i �
 unfolding jumps_to
 no_jump i s o e = subst (λ (jump : Option ℤ). is_edge_covered (jump_edge (summary_of i).condition jump s) o ≡ true) (sym e) refl
 
-module _ (image : List ℕ) (code : List Placed) (of : IsCodeOf image code) where
+module _ (helpers : List Helper) (image : List ℕ) (code : List Placed) (of : IsCodeOf image code) where
   -- a jump leads further on, to an instruction
   pub target_later : (k : ℕ) (placed : Placed) (jump : Option ℤ) (t : ℕ) → slice_get code k ≡ Some placed → target_of code placed.slot jump ≡ Some t → (k < t) × (t < length code)
   target_later k placed None t at e = absurd (none-some t e)
@@ -157,121 +158,121 @@ module _ (image : List ℕ) (code : List Placed) (of : IsCodeOf image code) wher
       let there = lands code placed.slot offset t e in
       (later_number image code of placed.slot there.to k t (number_of_placed image code of k placed at) there.there there.further, number_below code there.to t there.there)
 
-  module _ (k : ℕ) (placed : Placed) (s : Abstract) (at : slice_get code k ≡ Some placed) (known : known_after code k k ≡ Some s)
-      (passed : failed_check placed.instruction s ≡ None) (shape : first_of (shape_checks code k placed) ≡ None) where
+  module _ (k : ℕ) (placed : Placed) (s : Abstract) (at : slice_get code k ≡ Some placed) (known : known_after helpers code k k ≡ Some s)
+      (passed : failed_check helpers placed.instruction s ≡ None) (shape : first_of (shape_checks code k placed) ≡ None) where
     shapes : (leads_nowhere code placed.slot (jump_of placed.instruction) ≡ false) × (leads_back (jump_of placed.instruction) ≡ false) × (runs_off code k (summary_of placed.instruction) ≡ false)
     shapes =
         none_of_three (leads_nowhere code placed.slot (jump_of placed.instruction)) (leads_back (jump_of placed.instruction)) (runs_off code k (summary_of placed.instruction))
         check.JumpTarget check.BackJump check.RunsOff shape
 
-    falls_closed : is_edge_covered (falls_to placed.instruction s) (note_at (joined_states code) (k + 1)) ≡ true
+    falls_closed : is_edge_covered (falls_to placed.instruction s) (note_at (joined_states helpers code) (k + 1)) ≡ true
     falls_closed =
         let falls = falls_to placed.instruction s in
         let next : suc k ≡ k + 1 = omega arith in
-        let P : ℕ → Type 0 = λ n. is_edge_covered falls (known_after code n (k + 1)) ≡ true in
+        let P : ℕ → Type 0 = λ n. is_edge_covered falls (known_after helpers code n (k + 1)) ≡ true in
         let Q : Option Abstract → Type 0 = λ o. is_edge_covered falls o ≡ true in
         ⊎_elim
-        (λ below. subst Q (sym (note_joined code (k + 1) below)) (subst P next (falls_known code k placed s at known passed)))
+        (λ below. subst Q (sym (note_joined helpers code (k + 1) below)) (subst P next (falls_known helpers code k placed s at known passed)))
         (λ past.
         let last : k + 1 ≡ length code = omega (arith, slice_get_within code k placed at, past) in
-        none_falls placed.instruction s (note_at (joined_states code) (k + 1))
+        none_falls placed.instruction s (note_at (joined_states helpers code) (k + 1))
         (not-false _ (and_second (k + 1 == length code) (not (never_falls (summary_of placed.instruction))) (eq-eqb (k + 1) (length code) last) shapes.2)))
         (cases_lt (k + 1) (length code))
 
     target_closed : (t : ℕ) → target_of code placed.slot (jump_of placed.instruction) ≡ Some t
-        → is_edge_covered (jumps_to placed.instruction s) (note_at (joined_states code) t) ≡ true
+        → is_edge_covered (jumps_to placed.instruction s) (note_at (joined_states helpers code) t) ≡ true
     target_closed t target =
         let jumps = jumps_to placed.instruction s in
         let later = target_later k placed (jump_of placed.instruction) t at target in
         let Q : Option Abstract → Type 0 = λ o. is_edge_covered jumps o ≡ true in
-        subst Q (sym (note_joined code t later.1))
-        (covered_trans jumps (known_after code (suc k) t) (known_after code t t) (jumps_known code k placed s at known passed t target) (grows_to code (suc k) t t (omega (arith, later.0))))
+        subst Q (sym (note_joined helpers code t later.1))
+        (covered_trans jumps (known_after helpers code (suc k) t) (known_after helpers code t t) (jumps_known helpers code k placed s at known passed t target) (grows_to helpers code (suc k) t t (omega (arith, later.0))))
 
     jump_closed : (jump : Option ℤ) → jump_of placed.instruction ≡ jump
-        → is_edge_covered (jumps_to placed.instruction s) (note_of (joined_states code) (target_of code placed.slot jump)) ≡ true
+        → is_edge_covered (jumps_to placed.instruction s) (note_of (joined_states helpers code) (target_of code placed.slot jump)) ≡ true
     jump_closed None is = no_jump placed.instruction s None is
     jump_closed (Some offset) is =
         let nowhere = subst (λ o. leads_nowhere code placed.slot o ≡ false) is shapes.0 in
         let forward = subst (λ o. leads_back o ≡ false) is shapes.1 in
         let target = there (target_of code placed.slot (Some offset)) (sym (cond-false _ _ _ forward) ∙ nowhere) in
-        let Q : Option ℕ → Type 0 = λ o. is_edge_covered (jumps_to placed.instruction s) (note_of (joined_states code) o) ≡ true in
+        let Q : Option ℕ → Type 0 = λ o. is_edge_covered (jumps_to placed.instruction s) (note_of (joined_states helpers code) o) ≡ true in
         subst Q (sym target.1) (target_closed target.0 (subst (λ o. target_of code placed.slot o ≡ Some target.0) (sym is) target.1))
 
-    pub edges_closed : are_edges_covered code (joined_states code) k placed s ≡ true
+    pub edges_closed : are_edges_covered code (joined_states helpers code) k placed s ≡ true
     edges_closed = and_from _ _ falls_closed (jump_closed (jump_of placed.instruction) refl)
 
   -- ---- an annotation where there is one
 
-  module _ (notes : Notes) (annotation : IsAnnotation code notes) (proper : AreJoinedProper code) where
-    joined_passes : (k : ℕ) (placed : Placed) (s : Abstract) → slice_get code k ≡ Some placed → known_after code k k ≡ Some s → failed_check placed.instruction s ≡ None
+  module _ (notes : Notes) (annotation : IsAnnotation helpers code notes) (proper : AreJoinedProper helpers code) where
+    joined_passes : (k : ℕ) (placed : Placed) (s : Abstract) → slice_get code k ≡ Some placed → known_after helpers code k k ≡ Some s → failed_check helpers placed.instruction s ≡ None
     joined_passes k placed s at known =
         let below = slice_get_within code k placed at in
         let Q : Option Abstract → Type 0 = λ o. is_edge_covered o (note_at notes k) ≡ true in
-        let outer = covering s (note_at notes k) (subst Q known (known_below code notes annotation proper k k)) in
-        check_monotone placed.instruction s outer.0 outer.2 (proper k s below known) (annotation.proper k outer.0 outer.1) (annotation.checked k placed outer.0 at outer.1)
+        let outer = covering s (note_at notes k) (subst Q known (known_below helpers code notes annotation proper k k)) in
+        check_monotone helpers placed.instruction s outer.0 outer.2 (proper k s below known) (annotation.proper k outer.0 outer.1) (annotation.checked k placed outer.0 at outer.1)
 
-    instruction_passes : (k : ℕ) (placed : Placed) → slice_get code k ≡ Some placed → Passes code (joined_states code) k placed (note_at (joined_states code) k)
+    instruction_passes : (k : ℕ) (placed : Placed) → slice_get code k ≡ Some placed → Passes helpers code (joined_states helpers code) k placed (note_at (joined_states helpers code) k)
     instruction_passes k placed at =
-        let is = note_joined code k (slice_get_within code k placed at) in
+        let is = note_joined helpers code k (slice_get_within code k placed at) in
         record {
           shape = annotation.shape k placed at;
           checked = λ s noted. joined_passes k placed s at (sym is ∙ noted);
           closed = λ s noted. edges_closed k placed s at (sym is ∙ noted) (joined_passes k placed s at (sym is ∙ noted)) (annotation.shape k placed at);
         }
 
-    none_failed : (i : ℕ) (placed : Placed) → slice_get code i ≡ Some placed → failed_at code (joined_states code) (0 + i) placed ≡ None
+    none_failed : (i : ℕ) (placed : Placed) → slice_get code i ≡ Some placed → failed_at helpers code (joined_states helpers code) (0 + i) placed ≡ None
     none_failed i placed at =
         let same : i ≡ 0 + i = omega arith in
-        let Q : ℕ → Type 0 = λ n. failed_at code (joined_states code) n placed ≡ None in
-        subst Q same (at_passes code (joined_states code) i placed (instruction_passes i placed at))
+        let Q : ℕ → Type 0 = λ n. failed_at helpers code (joined_states helpers code) n placed ≡ None in
+        subst Q same (at_passes helpers code (joined_states helpers code) i placed (instruction_passes i placed at))
 
     -- the joined states have no fault
-    pub no_fault : 0 < length code → fault_of code (joined_states code) ≡ None
+    pub no_fault : 0 < length code → fault_of helpers code (joined_states helpers code) ≡ None
     unfolding fault_of
     no_fault some =
-        let start = start_covered code some in
-        cond-true ((length (joined_states code) == length code) && is_covered entry_state (note_at (joined_states code) 0)) (fault_from code (joined_states code) 0 code)
+        let start = start_covered helpers code some in
+        cond-true ((length (joined_states helpers code) == length code) && is_covered entry_state (note_at (joined_states helpers code) 0)) (fault_from helpers code (joined_states helpers code) 0 code)
         (Some (record { pc = 0; kind = check.Notes })) start
-        ∙ none_from_each code (joined_states code) 0 code none_failed
+        ∙ none_from_each helpers code (joined_states helpers code) 0 code none_failed
 
   -- ---- no refusal of the joined states is that they are no annotation
 
-  reached_is_other : (k : ℕ) (placed : Placed) (note : Option Abstract) (kind : Check) → slice_get code k ≡ Some placed → known_after code k k ≡ note
-      → first_of (shape_checks code k placed) ≡ None → first_of (reached_checks code (joined_states code) k placed note) ≡ Some kind → is_notes kind ≡ false
+  reached_is_other : (k : ℕ) (placed : Placed) (note : Option Abstract) (kind : Check) → slice_get code k ≡ Some placed → known_after helpers code k k ≡ note
+      → first_of (shape_checks code k placed) ≡ None → first_of (reached_checks helpers code (joined_states helpers code) k placed note) ≡ Some kind → is_notes kind ≡ false
   unfolding failed_check
   reached_is_other k placed None kind at known shape e = absurd (none-some kind e)
   reached_is_other k placed (Some s) kind at known shape e =
-      let rows = checks (summary_of placed.instruction) s in
-      let closed = are_edges_covered code (joined_states code) k placed s in
-      either_is_other rows ((not closed, check.Notes) ∷ []) (first_of rows) kind refl (check_is_other placed.instruction s)
+      let rows = checks helpers (summary_of placed.instruction) s in
+      let closed = are_edges_covered code (joined_states helpers code) k placed s in
+      either_is_other rows ((not closed, check.Notes) ∷ []) (first_of rows) kind refl (check_is_other helpers placed.instruction s)
       (λ passed last. last_holds closed kind check.Notes (edges_closed k placed s at known passed shape) last) e
 
-  failed_is_other : (k : ℕ) (placed : Placed) (kind : Check) → slice_get code k ≡ Some placed → failed_at code (joined_states code) k placed ≡ Some kind → is_notes kind ≡ false
+  failed_is_other : (k : ℕ) (placed : Placed) (kind : Check) → slice_get code k ≡ Some placed → failed_at helpers code (joined_states helpers code) k placed ≡ Some kind → is_notes kind ≡ false
   unfolding failed_at
   failed_is_other k placed kind at e =
-      let note = note_at (joined_states code) k in
-      let is = note_joined code k (slice_get_within code k placed at) in
-      either_is_other (shape_checks code k placed) (reached_checks code (joined_states code) k placed note) (first_of (shape_checks code k placed)) kind refl
+      let note = note_at (joined_states helpers code) k in
+      let is = note_joined helpers code k (slice_get_within code k placed at) in
+      either_is_other (shape_checks code k placed) (reached_checks helpers code (joined_states helpers code) k placed note) (first_of (shape_checks code k placed)) kind refl
       (shape_is_other code k placed) (λ shape reached. reached_is_other k placed note kind at (sym is) shape reached) e
 
   from_is_other : (k : ℕ) (rest : List Placed) (f : VerifyFault) → ((i : ℕ) (placed : Placed) → slice_get rest i ≡ Some placed → slice_get code (k + i) ≡ Some placed)
-      → fault_from code (joined_states code) k rest ≡ Some f → is_notes f.kind ≡ false
+      → fault_from helpers code (joined_states helpers code) k rest ≡ Some f → is_notes f.kind ≡ false
   from_is_other k [] f all e = absurd (none-some f e)
   from_is_other k (placed ∷ rest) f all e =
       let here : k + 0 ≡ k = omega arith in
       let at : slice_get code k ≡ Some placed = subst (λ n. slice_get code n ≡ Some placed) here (all 0 placed refl) in
-      or_is_other k (failed_at code (joined_states code) k placed) (fault_from code (joined_states code) (k + 1) rest) f (λ kind failed. failed_is_other k placed kind at failed)
+      or_is_other k (failed_at helpers code (joined_states helpers code) k placed) (fault_from helpers code (joined_states helpers code) (k + 1) rest) f (λ kind failed. failed_is_other k placed kind at failed)
       (from_is_other (k + 1) rest f (λ i p q.
       let next : k + suc i ≡ (k + 1) + i = omega arith in
       subst (λ n. slice_get code n ≡ Some p) next (all (suc i) p q)))
       e
 
-  pub fault_is_other : (f : VerifyFault) → 0 < length code → fault_of code (joined_states code) ≡ Some f → f.kind ≢ check.Notes
+  pub fault_is_other : (f : VerifyFault) → 0 < length code → fault_of helpers code (joined_states helpers code) ≡ Some f → f.kind ≢ check.Notes
   unfolding fault_of is_notes
   fault_is_other f some e is =
       let notes_fault : VerifyFault = record { pc = 0; kind = check.Notes } in
-      let started = cond-true ((length (joined_states code) == length code) && is_covered entry_state (note_at (joined_states code) 0)) (fault_from code (joined_states code) 0 code)
-      (Some notes_fault) (start_covered code some) in
+      let started = cond-true ((length (joined_states helpers code) == length code) && is_covered entry_state (note_at (joined_states helpers code) 0)) (fault_from helpers code (joined_states helpers code) 0 code)
+      (Some notes_fault) (start_covered helpers code some) in
       let other : is_notes f.kind ≡ false =
       from_is_other 0 code f (λ i placed at.
       let same : i ≡ 0 + i = omega arith in

@@ -1,6 +1,7 @@
 -- The joined states: they are within every annotation's, and an annotation themselves where there is one.
 use Rattle.std.proofs.Common.{◌≡◌, ℕ, zero, suc, ◌+◌, ◌<◌, ◌≤◌, true, false, cond, ◌==◌, List, [], ◌∷◌, length, slice_get, Option, Some, None, refl, sym, ap, ◌∙◌, subst, inl, inr, arith}
 use Rattle.std.proofs.lemmas.Bool.{cond-true, cond-false, cases_Bool, cases_eq, eq-eqb, eqb-true, false≢true}
+use Rattle.machine_spec.specs.declared.helper.Helper.{Helper}
 use Rattle.machine_spec.specs.declared.instruction.Placed.{Placed}
 use Rattle.machine_spec.specs.Image.{target_of}
 use Rattle.verifier_spec.specs.declared.state.Abstract.{Abstract}
@@ -66,48 +67,48 @@ edge_least j (Some target) state known outer h g =
 
 -- ---- what is known grows
 
-module _ (code : List Placed) where
-  with_grows : (j k : ℕ) (at : Option Placed) (own note : Option Abstract) → is_edge_covered note (with_instruction code j k at own note) ≡ true
+module _ (helpers : List Helper) (code : List Placed) where
+  with_grows : (j k : ℕ) (at : Option Placed) (own note : Option Abstract) → is_edge_covered note (with_instruction helpers code j k at own note) ≡ true
   with_grows j k None own note = covered_refl note
   with_grows j k (Some placed) None note = covered_refl note
   with_grows j k (Some placed) (Some s) note =
       let target = target_of code placed.slot (jump_of placed.instruction) in
       let fallen = with_edge j (Some (k + 1)) (falls_to placed.instruction s) note in
-      elim (failed_check placed.instruction s) as (λ failed. is_edge_covered note (if_passed failed note (with_edges code j k placed s note)) ≡ true) [
+      elim (failed_check helpers placed.instruction s) as (λ failed. is_edge_covered note (if_passed failed note (with_edges code j k placed s note)) ≡ true) [
         | Some _ ↦ covered_refl note
         | None ↦
             covered_trans note fallen (with_edges code j k placed s note) (edge_left j (Some (k + 1)) (falls_to placed.instruction s) note)
             (edge_left j target (jumps_to placed.instruction s) fallen)
       ]
 
-  grows : (k j : ℕ) → is_edge_covered (known_after code k j) (known_after code (suc k) j) ≡ true
+  grows : (k j : ℕ) → is_edge_covered (known_after helpers code k j) (known_after helpers code (suc k) j) ≡ true
   unfolding known_after
-  grows k j = with_grows j k (slice_get code k) (known_after code k k) (known_after code k j)
+  grows k j = with_grows j k (slice_get code k) (known_after helpers code k k) (known_after helpers code k j)
 
-  pub grows_to : (m k j : ℕ) → m ≤ k → is_edge_covered (known_after code m j) (known_after code k j) ≡ true
+  pub grows_to : (m k j : ℕ) → m ≤ k → is_edge_covered (known_after helpers code m j) (known_after helpers code k j) ≡ true
   grows_to m zero j le =
       let same : m ≡ 0 = omega arith in
-      subst (λ n. is_edge_covered (known_after code n j) (known_after code 0 j) ≡ true) (sym same) (covered_refl (known_after code 0 j))
+      subst (λ n. is_edge_covered (known_after helpers code n j) (known_after helpers code 0 j) ≡ true) (sym same) (covered_refl (known_after helpers code 0 j))
   grows_to m (suc k) j le = elim (cases_eq m (suc k)) [
-    | inl same ↦ subst (λ n. is_edge_covered (known_after code n j) (known_after code (suc k) j) ≡ true) (sym same) (covered_refl (known_after code (suc k) j))
-    | inr other ↦ covered_trans (known_after code m j) (known_after code k j) (known_after code (suc k) j) (grows_to m k j (omega arith)) (grows k j)
+    | inl same ↦ subst (λ n. is_edge_covered (known_after helpers code n j) (known_after helpers code (suc k) j) ≡ true) (sym same) (covered_refl (known_after helpers code (suc k) j))
+    | inr other ↦ covered_trans (known_after helpers code m j) (known_after helpers code k j) (known_after helpers code (suc k) j) (grows_to m k j (omega arith)) (grows k j)
   ]
 
   -- ---- an instruction whose checks pass
 
-  module _ (k : ℕ) (placed : Placed) (s : Abstract) (at : slice_get code k ≡ Some placed) (note : known_after code k k ≡ Some s) (passed : failed_check placed.instruction s ≡ None) where
-    pub next_known : (j : ℕ) → known_after code (suc k) j ≡ with_edges code j k placed s (known_after code k j)
+  module _ (k : ℕ) (placed : Placed) (s : Abstract) (at : slice_get code k ≡ Some placed) (note : known_after helpers code k k ≡ Some s) (passed : failed_check helpers placed.instruction s ≡ None) where
+    pub next_known : (j : ℕ) → known_after helpers code (suc k) j ≡ with_edges code j k placed s (known_after helpers code k j)
     unfolding known_after
     next_known j =
-        let before = known_after code k j in
-        ap (λ (o : Option Placed). with_instruction code j k o (known_after code k k) before) at
-        ∙ (ap (λ (own : Option Abstract). with_instruction code j k (Some placed) own before) note
+        let before = known_after helpers code k j in
+        ap (λ (o : Option Placed). with_instruction helpers code j k o (known_after helpers code k k) before) at
+        ∙ (ap (λ (own : Option Abstract). with_instruction helpers code j k (Some placed) own before) note
         ∙ ap (λ (failed : Option Check). if_passed failed before (with_edges code j k placed s before)) passed)
 
-    pub falls_known : is_edge_covered (falls_to placed.instruction s) (known_after code (suc k) (k + 1)) ≡ true
+    pub falls_known : is_edge_covered (falls_to placed.instruction s) (known_after helpers code (suc k) (k + 1)) ≡ true
     falls_known =
         let j = k + 1 in
-        let before = known_after code k j in
+        let before = known_after helpers code k j in
         let fallen = with_edge j (Some j) (falls_to placed.instruction s) before in
         let target = target_of code placed.slot (jump_of placed.instruction) in
         subst (λ o. is_edge_covered (falls_to placed.instruction s) o ≡ true) (sym (next_known j))
@@ -115,9 +116,9 @@ module _ (code : List Placed) where
         (edge_left j target (jumps_to placed.instruction s) fallen))
 
     pub jumps_known : (t : ℕ) → target_of code placed.slot (jump_of placed.instruction) ≡ Some t
-        → is_edge_covered (jumps_to placed.instruction s) (known_after code (suc k) t) ≡ true
+        → is_edge_covered (jumps_to placed.instruction s) (known_after helpers code (suc k) t) ≡ true
     jumps_known t target =
-        let before = known_after code k t in
+        let before = known_after helpers code k t in
         let fallen = with_edge t (Some (k + 1)) (falls_to placed.instruction s) before in
         let P : Option ℕ → Type 0 = λ o. is_edge_covered (jumps_to placed.instruction s) (with_edge t o (jumps_to placed.instruction s) fallen) ≡ true in
         subst (λ o. is_edge_covered (jumps_to placed.instruction s) o ≡ true) (sym (next_known t))
@@ -125,7 +126,7 @@ module _ (code : List Placed) where
 
 -- ---- the least above what edges propagate
 
-module _ (code : List Placed) (j : ℕ) (outer : Option Abstract) where
+module _ (helpers : List Helper) (code : List Placed) (j : ℕ) (outer : Option Abstract) where
   -- both edges of an instruction are within a note where they lead to j
   pub record BringsWithin (k : ℕ) (placed : Placed) (s : Abstract) : Type 0 where
     pub falls : k + 1 ≡ j → is_edge_covered (falls_to placed.instruction s) outer ≡ true
@@ -140,53 +141,53 @@ module _ (code : List Placed) (j : ℕ) (outer : Option Abstract) where
       brings.falls same))
       brings.jumps
 
-  passed_least : (k : ℕ) (placed : Placed) (s : Abstract) (known : Option Abstract) (failed : Option Check) → failed_check placed.instruction s ≡ failed
-      → is_edge_covered known outer ≡ true → (failed_check placed.instruction s ≡ None → BringsWithin k placed s)
+  passed_least : (k : ℕ) (placed : Placed) (s : Abstract) (known : Option Abstract) (failed : Option Check) → failed_check helpers placed.instruction s ≡ failed
+      → is_edge_covered known outer ≡ true → (failed_check helpers placed.instruction s ≡ None → BringsWithin k placed s)
       → is_edge_covered (if_passed failed known (with_edges code j k placed s known)) outer ≡ true
   passed_least k placed s known (Some _) is h brings = h
   passed_least k placed s known None is h brings = edges_least k placed s known h (brings is)
 
-  instruction_least : (k : ℕ) (at : Option Placed) (own known : Option Abstract) → slice_get code k ≡ at → known_after code k k ≡ own → is_edge_covered known outer ≡ true
-      → ((placed : Placed) (s : Abstract) → slice_get code k ≡ Some placed → known_after code k k ≡ Some s → failed_check placed.instruction s ≡ None → BringsWithin k placed s)
-      → is_edge_covered (with_instruction code j k at own known) outer ≡ true
+  instruction_least : (k : ℕ) (at : Option Placed) (own known : Option Abstract) → slice_get code k ≡ at → known_after helpers code k k ≡ own → is_edge_covered known outer ≡ true
+      → ((placed : Placed) (s : Abstract) → slice_get code k ≡ Some placed → known_after helpers code k k ≡ Some s → failed_check helpers placed.instruction s ≡ None → BringsWithin k placed s)
+      → is_edge_covered (with_instruction helpers code j k at own known) outer ≡ true
   instruction_least k None own known at is h brings = h
   instruction_least k (Some placed) None known at is h brings = h
   instruction_least k (Some placed) (Some s) known at is h brings =
-      passed_least k placed s known (failed_check placed.instruction s) refl h (brings placed s at is)
+      passed_least k placed s known (failed_check helpers placed.instruction s) refl h (brings placed s at is)
 
   -- What is known of an instruction is within each note that the entry, if it is the first, and all that edges of reached
   -- instructions propagate are within.
-  pub known_least : (k : ℕ) → is_edge_covered (known_after code 0 j) outer ≡ true
-      → ((i : ℕ) (placed : Placed) (s : Abstract) → i < k → slice_get code i ≡ Some placed → known_after code i i ≡ Some s → failed_check placed.instruction s ≡ None
+  pub known_least : (k : ℕ) → is_edge_covered (known_after helpers code 0 j) outer ≡ true
+      → ((i : ℕ) (placed : Placed) (s : Abstract) → i < k → slice_get code i ≡ Some placed → known_after helpers code i i ≡ Some s → failed_check helpers placed.instruction s ≡ None
       → BringsWithin i placed s)
-      → is_edge_covered (known_after code k j) outer ≡ true
+      → is_edge_covered (known_after helpers code k j) outer ≡ true
   unfolding known_after
   known_least zero first brings = first
   known_least (suc k) first brings =
-      instruction_least k (slice_get code k) (known_after code k k) (known_after code k j) refl refl
+      instruction_least k (slice_get code k) (known_after helpers code k k) (known_after helpers code k j) refl refl
       (known_least k first (λ i placed s under. brings i placed s (omega (arith, under)))) (λ placed s. brings k placed s (omega arith))
 
 -- ---- the list of them
 
-pub length-states_from : (code : List Placed) (k : ℕ) (rest : List Placed) → length (states_from code k rest) ≡ length rest
-length-states_from code k [] = refl
-length-states_from code k (placed ∷ rest) = ap (λ (n : ℕ). suc n) (length-states_from code (k + 1) rest)
+pub length-states_from : (helpers : List Helper) (code : List Placed) (k : ℕ) (rest : List Placed) → length (states_from helpers code k rest) ≡ length rest
+length-states_from helpers code k [] = refl
+length-states_from helpers code k (placed ∷ rest) = ap (λ (n : ℕ). suc n) (length-states_from helpers code (k + 1) rest)
 
-note_from : (code : List Placed) (k : ℕ) (rest : List Placed) (j : ℕ) → j < length rest → note_at (states_from code k rest) j ≡ known_after code (k + j) (k + j)
-note_from code k [] j under = absurd (omega arith)
-note_from code k (placed ∷ rest) zero under =
+note_from : (helpers : List Helper) (code : List Placed) (k : ℕ) (rest : List Placed) (j : ℕ) → j < length rest → note_at (states_from helpers code k rest) j ≡ known_after helpers code (k + j) (k + j)
+note_from helpers code k [] j under = absurd (omega arith)
+note_from helpers code k (placed ∷ rest) zero under =
     let at : k ≡ k + 0 = omega arith in
-    ap (λ (n : ℕ). known_after code n n) at
-note_from code k (placed ∷ rest) (suc j) under =
+    ap (λ (n : ℕ). known_after helpers code n n) at
+note_from helpers code k (placed ∷ rest) (suc j) under =
     let at : (k + 1) + j ≡ k + suc j = omega arith in
-    note_from code (k + 1) rest j (omega arith) ∙ ap (λ (n : ℕ). known_after code n n) at
+    note_from helpers code (k + 1) rest j (omega arith) ∙ ap (λ (n : ℕ). known_after helpers code n n) at
 
-pub length-joined_states : (code : List Placed) → length (joined_states code) ≡ length code
+pub length-joined_states : (helpers : List Helper) (code : List Placed) → length (joined_states helpers code) ≡ length code
 unfolding joined_states
-length-joined_states code = length-states_from code 0 code
+length-joined_states helpers code = length-states_from helpers code 0 code
 
-pub note_joined : (code : List Placed) (j : ℕ) → j < length code → note_at (joined_states code) j ≡ known_after code j j
+pub note_joined : (helpers : List Helper) (code : List Placed) (j : ℕ) → j < length code → note_at (joined_states helpers code) j ≡ known_after helpers code j j
 unfolding joined_states
-note_joined code j under =
+note_joined helpers code j under =
     let at : 0 + j ≡ j = omega arith in
-    note_from code 0 code j under ∙ ap (λ (n : ℕ). known_after code n n) at
+    note_from helpers code 0 code j under ∙ ap (λ (n : ℕ). known_after helpers code n n) at

@@ -337,8 +337,8 @@ module _ (a b : Abstract) (w : IsWithin a b) (pa : is_proper a ≡ true) (pb : i
   exit_kept false c = refl
   exit_kept true c = not_from_true _ (number_within a (kind_at a 0) (kind_at b 0) (kind_within a b w pb 0) (not-false _ c))
 
-  passes_kept : (m : Summary) → Passes m b → Passes m a
-  passes_kept m p = record {
+  passes_kept : (helpers : List Helper) (m : Summary) → Passes helpers m b → Passes helpers m a
+  passes_kept helpers m p = record {
     frame = p.frame;
     helper = p.helper;
     unset = unset_kept m p.unset;
@@ -443,55 +443,55 @@ module _ (a b : Abstract) (w : IsWithin a b) (pa : is_proper a ≡ true) (pb : i
         set = arguments_set (signature_of helper).arguments c a.set b.set w.set;
       })
 
-  falls_kept : (i : Instruction) → is_within a b ≡ true → Passes (summary_of i) b → is_edge_covered (falls_to i a) (falls_to i b) ≡ true
+  falls_kept : (helpers : List Helper) (i : Instruction) → is_within a b ≡ true → Passes helpers (summary_of i) b → is_edge_covered (falls_to i a) (falls_to i b) ≡ true
   unfolding falls_to
-  falls_kept (Move Bits64 dst source) h p = set_edge dst (source_kind a Bits64 source) (source_kind b Bits64 source) (source_within a b Bits64 source w pb)
-  falls_kept (Move Bits32 dst source) h p =
+  falls_kept helpers (Move Bits64 dst source) h p = set_edge dst (source_kind a Bits64 source) (source_kind b Bits64 source) (source_within a b Bits64 source w pb)
+  falls_kept helpers (Move Bits32 dst source) h p =
       let j = source_kind a Bits32 source in
       let k = source_kind b Bits32 source in
       let ranges = ranges_within a b (narrower a b w) pa pb j k (source_proper a Bits32 source pa) (source_proper b Bits32 source pb) (source_within a b Bits32 source w pb) (not-false _ p.operands) in
       set_edge dst (moved_kind a Bits32 j) (moved_kind b Bits32 k) (low_half_within a b j k ranges)
-  falls_kept (Compute width operation dst source) h p =
+  falls_kept helpers (Compute width operation dst source) h p =
       set_edge dst _ _
       (computed_within a b (narrower a b w) pa pb width operation (kind_at a dst) (source_kind a width source) (source_kind b width source) (proper_kind a dst pa) (source_proper a width source pa) (source_proper b width source pb) (source_within a b width source w pb)
       (kind_at b dst) (proper_kind b dst pb) (kind_within a b w pb dst) (not-false _ p.operands))
-  falls_kept (Unary change dst src) h p =
+  falls_kept helpers (Unary change dst src) h p =
       let ranges = ranges_within a b (narrower a b w) pa pb (kind_at a src) (kind_at b src) (proper_kind a src pa) (proper_kind b src pb) (kind_within a b w pb src) (not-false _ p.operands) in
       set_edge dst (changed_kind a change (kind_at a src)) (changed_kind b change (kind_at b src)) (changed_within a b change (kind_at a src) (kind_at b src) ranges)
-  falls_kept (Load size extension dst base offset) h p = set_edge dst (loaded_kind size extension) (loaded_kind size extension) (loaded_kept size extension)
-  falls_kept (Store size base offset source) h p = store_edge size base offset (not-false _ p.base)
-  falls_kept (JumpIf width test dst source offset) h p = tested_within a b w pa pb width test false dst source h (and_parts _ _ (not-false _ p.condition)).0
-  falls_kept (Jump distance) h p = refl
-  falls_kept (Wide dst number) h p = set_edge dst (abs.Num number number) (abs.Num number number) (number_kept a number number)
-  falls_kept (Call number) h p = call_edge (helper_of number) p.argument
-  falls_kept Exit h p = refl
+  falls_kept helpers (Load size extension dst base offset) h p = set_edge dst (loaded_kind size extension) (loaded_kind size extension) (loaded_kept size extension)
+  falls_kept helpers (Store size base offset source) h p = store_edge size base offset (not-false _ p.base)
+  falls_kept helpers (JumpIf width test dst source offset) h p = tested_within a b w pa pb width test false dst source h (and_parts _ _ (not-false _ p.condition)).0
+  falls_kept helpers (Jump distance) h p = refl
+  falls_kept helpers (Wide dst number) h p = set_edge dst (abs.Num number number) (abs.Num number number) (number_kept a number number)
+  falls_kept helpers (Call number) h p = call_edge (helper_of number) p.argument
+  falls_kept helpers Exit h p = refl
 
   edge_kept : (condition : Option Condition) (jump : Option ℤ) → is_within a b ≡ true → has_wrong_condition_kind condition b ≡ false → is_edge_covered (jump_edge condition jump a) (jump_edge condition jump b) ≡ true
   edge_kept condition None h c = refl
   edge_kept None (Some offset) h c = h
   edge_kept (Some k) (Some offset) h c = tested_within a b w pa pb k.width k.test true k.dst k.source h (and_parts _ _ (not-false _ c)).0
 
-  jumps_kept : (i : Instruction) → is_within a b ≡ true → Passes (summary_of i) b → is_edge_covered (jumps_to i a) (jumps_to i b) ≡ true
+  jumps_kept : (helpers : List Helper) (i : Instruction) → is_within a b ≡ true → Passes helpers (summary_of i) b → is_edge_covered (jumps_to i a) (jumps_to i b) ≡ true
   unfolding jumps_to
-  jumps_kept i h p = edge_kept (summary_of i).condition (summary_of i).jump h p.condition
+  jumps_kept helpers i h p = edge_kept (summary_of i).condition (summary_of i).jump h p.condition
 
 -- ---- the order is kept
 
-pub check_monotone : (i : Instruction) (a b : Abstract) → is_within a b ≡ true → is_proper a ≡ true → is_proper b ≡ true → failed_check i b ≡ None → failed_check i a ≡ None
-check_monotone i a b h pa pb pass = failed_from i a (passes_kept a b (within_parts a b h) pa pb (summary_of i) (passes i b pass))
+pub check_monotone : (helpers : List Helper) (i : Instruction) (a b : Abstract) → is_within a b ≡ true → is_proper a ≡ true → is_proper b ≡ true → failed_check helpers i b ≡ None → failed_check helpers i a ≡ None
+check_monotone helpers i a b h pa pb pass = failed_from helpers i a (passes_kept a b (within_parts a b h) pa pb helpers (summary_of i) (passes helpers i b pass))
 
-pub falls_monotone : (i : Instruction) (a b : Abstract) → is_within a b ≡ true → is_proper a ≡ true → is_proper b ≡ true → failed_check i b ≡ None
+pub falls_monotone : (helpers : List Helper) (i : Instruction) (a b : Abstract) → is_within a b ≡ true → is_proper a ≡ true → is_proper b ≡ true → failed_check helpers i b ≡ None
     → is_edge_covered (falls_to i a) (falls_to i b) ≡ true
-falls_monotone i a b h pa pb pass = falls_kept a b (within_parts a b h) pa pb i h (passes i b pass)
+falls_monotone helpers i a b h pa pb pass = falls_kept a b (within_parts a b h) pa pb helpers i h (passes helpers i b pass)
 
-pub jumps_monotone : (i : Instruction) (a b : Abstract) → is_within a b ≡ true → is_proper a ≡ true → is_proper b ≡ true → failed_check i b ≡ None
+pub jumps_monotone : (helpers : List Helper) (i : Instruction) (a b : Abstract) → is_within a b ≡ true → is_proper a ≡ true → is_proper b ≡ true → failed_check helpers i b ≡ None
     → is_edge_covered (jumps_to i a) (jumps_to i b) ≡ true
-jumps_monotone i a b h pa pb pass = jumps_kept a b (within_parts a b h) pa pb i h (passes i b pass)
+jumps_monotone helpers i a b h pa pb pass = jumps_kept a b (within_parts a b h) pa pb helpers i h (passes helpers i b pass)
 
 -- Checks and transfer keep the order at each instruction whose checks pass in the outer state.
-pub order_kept : (i : Instruction) (a b : Abstract) → is_within a b ≡ true → is_proper a ≡ true → is_proper b ≡ true → failed_check i b ≡ None → KeepsOrder i a b
-order_kept i a b h pa pb pass = record {
-  checks = check_monotone i a b h pa pb pass;
-  falls = falls_monotone i a b h pa pb pass;
-  jumps = jumps_monotone i a b h pa pb pass;
+pub order_kept : (helpers : List Helper) (i : Instruction) (a b : Abstract) → is_within a b ≡ true → is_proper a ≡ true → is_proper b ≡ true → failed_check helpers i b ≡ None → KeepsOrder helpers i a b
+order_kept helpers i a b h pa pb pass = record {
+  checks = check_monotone helpers i a b h pa pb pass;
+  falls = falls_monotone helpers i a b h pa pb pass;
+  jumps = jumps_monotone helpers i a b h pa pb pass;
 }

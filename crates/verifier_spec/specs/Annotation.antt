@@ -1,5 +1,6 @@
 -- Annotations: lists of abstract states that are closed under a program's edges and pass its checks.
 use Rattle.std.specs.Prelude.{◌≡◌, ℕ, zero, suc, ◌+◌, Bool, true, false, ◌==◌, ◌&&◌, not, if◌then◌else◌, List, [], ◌∷◌, ◌++◌, length, slice_get, Option, Some, None}
+use Rattle.machine_spec.specs.declared.helper.Helper.{Helper}
 use Rattle.machine_spec.specs.declared.instruction.Placed.{Placed}
 use Rattle.machine_spec.specs.Summaries.{summary_of}
 use Rattle.machine_spec.specs.Image.{target_of}
@@ -41,8 +42,8 @@ are_edges_covered code notes k placed s =
     is_edge_covered (falls_to placed.instruction s) (note_at notes (k + 1))
     && is_edge_covered (jumps_to placed.instruction s) (note_of notes (target_of code placed.slot (jump_of placed.instruction)))
 
--- A list of abstract states is an annotation of a code.
-pub record IsAnnotation (code : List Placed) (notes : Notes) : Type 0 where
+-- A list of abstract states is an annotation of a code that may call the helpers of a table.
+pub record IsAnnotation (helpers : List Helper) (code : List Placed) (notes : Notes) : Type 0 where
   -- it has a note for each instruction
   pub long : length notes ≡ length code
   -- the state that every run begins in is within the first
@@ -50,7 +51,7 @@ pub record IsAnnotation (code : List Placed) (notes : Notes) : Type 0 where
   -- jumps lead forward to instructions, and the last instruction is an EXIT or a jump without a condition
   pub shape : (k : ℕ) (placed : Placed) → slice_get code k ≡ Some placed → first_of (shape_checks code k placed) ≡ None
   -- each reached instruction passes its checks
-  pub checked : (k : ℕ) (placed : Placed) (s : Abstract) → slice_get code k ≡ Some placed → note_at notes k ≡ Some s → failed_check placed.instruction s ≡ None
+  pub checked : (k : ℕ) (placed : Placed) (s : Abstract) → slice_get code k ≡ Some placed → note_at notes k ≡ Some s → failed_check helpers placed.instruction s ≡ None
   -- what each of its edges propagates is within the state where it leads
   pub closed : (k : ℕ) (placed : Placed) (s : Abstract) → slice_get code k ≡ Some placed → note_at notes k ≡ Some s → are_edges_covered code notes k placed s ≡ true
   -- each state is in its ranges
@@ -59,27 +60,27 @@ pub record IsAnnotation (code : List Placed) (notes : Notes) : Type 0 where
 -- ---- which refusal is reported
 
 -- of a reached instruction, after the checks of its shape: its checks, then its edges
-abbrev pub reached_checks : List Placed → Notes → ℕ → Placed → Option Abstract → List (Bool × Check)
-reached_checks code notes k placed None = []
-reached_checks code notes k placed (Some s) = checks (summary_of placed.instruction) s ++ (not (are_edges_covered code notes k placed s), Check.Notes) ∷ []
+abbrev pub reached_checks : List Helper → List Placed → Notes → ℕ → Placed → Option Abstract → List (Bool × Check)
+reached_checks helpers code notes k placed None = []
+reached_checks helpers code notes k placed (Some s) = checks helpers (summary_of placed.instruction) s ++ (not (are_edges_covered code notes k placed s), Check.Notes) ∷ []
 
 -- the first check that instruction number k fails
-unfoldable pub failed_at : List Placed → Notes → ℕ → Placed → Option Check
-failed_at code notes k placed = first_of (shape_checks code k placed ++ reached_checks code notes k placed (note_at notes k))
+unfoldable pub failed_at : List Helper → List Placed → Notes → ℕ → Placed → Option Check
+failed_at helpers code notes k placed = first_of (shape_checks code k placed ++ reached_checks helpers code notes k placed (note_at notes k))
 
 abbrev pub fault_or : ℕ → Option Check → Option VerifyFault → Option VerifyFault
 fault_or k (Some kind) later = Some (record { pc = k; kind = kind })
 fault_or k None later = later
 
 -- the refusal of the lowest instruction from number k on that fails a check
-abbrev pub fault_from : List Placed → Notes → ℕ → List Placed → Option VerifyFault
-fault_from code notes k [] = None
-fault_from code notes k (placed ∷ rest) = fault_or k (failed_at code notes k placed) (fault_from code notes (k + 1) rest)
+abbrev pub fault_from : List Helper → List Placed → Notes → ℕ → List Placed → Option VerifyFault
+fault_from helpers code notes k [] = None
+fault_from helpers code notes k (placed ∷ rest) = fault_or k (failed_at helpers code notes k placed) (fault_from helpers code notes (k + 1) rest)
 
 -- The refusal that is reported for a list: at 0, that it has another length than the code or that the entry is not within
 -- its first state; else the first failed check of the lowest instruction that fails one.
-unfoldable pub fault_of : List Placed → Notes → Option VerifyFault
-fault_of code notes =
+unfoldable pub fault_of : List Helper → List Placed → Notes → Option VerifyFault
+fault_of helpers code notes =
     if (length notes == length code) && is_covered entry_state (note_at notes 0)
-    then fault_from code notes 0 code
+    then fault_from helpers code notes 0 code
     else Some (record { pc = 0; kind = Check.Notes })

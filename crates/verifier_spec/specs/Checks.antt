@@ -4,7 +4,7 @@ use Rattle.std.specs.{List.list_any, Ordering.int_eq}
 use Rattle.machine_spec.specs.declared.limits.TheConstants.{STACK_SIZE}
 use Rattle.machine_spec.specs.declared.instruction.{Region.Region, Size.Size, Source.Source, Source.TheVariants.Register, Source.TheVariants.Immediate, Instruction.Instruction, Placed.Placed}
 use Rattle.machine_spec.specs.declared.operation.{Width.Width, Width.TheVariants.Bits64, Operation.Operation}
-use Rattle.machine_spec.specs.declared.helper.Argument.{Argument}
+use Rattle.machine_spec.specs.declared.helper.{Helper.Helper, Argument.Argument}
 use Rattle.machine_spec.specs.declared.summary.{Operands.Operands, Direction.Direction, MemoryOperand.MemoryOperand, Condition.Condition, Summary.Summary}
 use Rattle.machine_spec.specs.Summaries.{summary_of}
 use Rattle.machine_spec.specs.Image.{target_of}
@@ -153,10 +153,10 @@ may_exit_wrongly false s = false
 
 -- ---- which check
 
-abbrev pub checks : Summary → Abstract → List (Bool × Check)
-checks m s =
+abbrev pub checks : List Helper → Summary → Abstract → List (Bool × Check)
+checks helpers m s =
     (writes_frame m.writes, Check.Frame)
-    ∷ (calls_no_helper m.call, Check.Helper)
+    ∷ (calls_no_helper helpers m.call, Check.Helper)
     ∷ (reads_unknown m s, Check.Unset)
     ∷ (has_wrong_kinds m.takes s, Check.WrongType)
     ∷ (has_wrong_base_kind m.memory s, Check.WrongType)
@@ -169,9 +169,9 @@ checks m s =
     ∷ (may_exit_wrongly m.exits s, Check.Exit)
     ∷ []
 
--- the first check that fails, if one does
-unfoldable pub failed_check : Instruction → Abstract → Option Check
-failed_check i s = first_of (checks (summary_of i) s)
+-- the first check that fails in a program with a helper table, if one does
+unfoldable pub failed_check : List Helper → Instruction → Abstract → Option Check
+failed_check helpers i s = first_of (checks helpers (summary_of i) s)
 
 -- ---- the checks of every instruction, reached or not
 

@@ -1,6 +1,7 @@
 -- The joined states of a program: at each instruction the least state above all that the edges of reached instructions
 -- before it propagate.
 use Rattle.std.specs.Prelude.{ℕ, zero, suc, ◌+◌, ◌==◌, if◌then◌else◌, List, [], ◌∷◌, slice_get, Option, Some, None}
+use Rattle.machine_spec.specs.declared.helper.Helper.{Helper}
 use Rattle.machine_spec.specs.declared.instruction.Placed.{Placed}
 use Rattle.machine_spec.specs.Image.{target_of}
 use Rattle.verifier_spec.specs.declared.state.Abstract.{Abstract}
@@ -33,21 +34,21 @@ if_passed (Some _) known more = known
 if_passed None known more = more
 
 -- after instruction number k with its own note: one that is not reached or fails a check propagates nothing
-abbrev pub with_instruction : List Placed → ℕ → ℕ → Option Placed → Option Abstract → Option Abstract → Option Abstract
-with_instruction code j k None own note = note
-with_instruction code j k (Some placed) None note = note
-with_instruction code j k (Some placed) (Some s) note = if_passed (failed_check placed.instruction s) note (with_edges code j k placed s note)
+abbrev pub with_instruction : List Helper → List Placed → ℕ → ℕ → Option Placed → Option Abstract → Option Abstract → Option Abstract
+with_instruction helpers code j k None own note = note
+with_instruction helpers code j k (Some placed) None note = note
+with_instruction helpers code j k (Some placed) (Some s) note = if_passed (failed_check helpers placed.instruction s) note (with_edges code j k placed s note)
 
 -- The note of instruction number j after the edges of the first instructions, of as many as the first number says. At
 -- first the entry state is known and no other.
-unfoldable pub known_after : List Placed → ℕ → ℕ → Option Abstract
-known_after code zero j = if j == 0 then Some entry_state else None
-known_after code (suc k) j = with_instruction code j k (slice_get code k) (known_after code k k) (known_after code k j)
+unfoldable pub known_after : List Helper → List Placed → ℕ → ℕ → Option Abstract
+known_after helpers code zero j = if j == 0 then Some entry_state else None
+known_after helpers code (suc k) j = with_instruction helpers code j k (slice_get code k) (known_after helpers code k k) (known_after helpers code k j)
 
 -- each instruction's note after all instructions before it
-abbrev pub states_from : List Placed → ℕ → List Placed → Notes
-states_from code k [] = []
-states_from code k (placed ∷ rest) = known_after code k k ∷ states_from code (k + 1) rest
+abbrev pub states_from : List Helper → List Placed → ℕ → List Placed → Notes
+states_from helpers code k [] = []
+states_from helpers code k (placed ∷ rest) = known_after helpers code k k ∷ states_from helpers code (k + 1) rest
 
-unfoldable pub joined_states : List Placed → Notes
-joined_states code = states_from code 0 code
+unfoldable pub joined_states : List Helper → List Placed → Notes
+joined_states helpers code = states_from helpers code 0 code

@@ -1,6 +1,7 @@
 -- What the checks and the transfer of an instruction promise: soundness against the machine, and that they keep the
 -- order of abstract states.
-use Rattle.std.specs.Prelude.{◌≡◌, ℕ, ◌<◌, Bool, true, false, ◌&&◌, Option, Some, None, is_some}
+use Rattle.std.specs.Prelude.{◌≡◌, ℕ, ◌<◌, Bool, true, false, ◌&&◌, List, Option, Some, None, is_some}
+use Rattle.machine_spec.specs.declared.helper.Helper.{Helper}
 use Rattle.machine_spec.specs.declared.instruction.Instruction.{Instruction}
 use Rattle.machine_spec.specs.Summaries.{summary_of}
 use Rattle.machine_spec.specs.Image.{Program, form_at}
@@ -35,7 +36,7 @@ pub record IsSoundAt (i : Instruction) (a : Abstract) : Type 0 where
 
 -- The order of two abstract states is kept at an instruction: the inner one passes the checks, and each edge propagates from
 -- it a state within the one that it propagates from the outer one, or none.
-pub record KeepsOrder (i : Instruction) (inner outer : Abstract) : Type 0 where
-  pub checks : failed_check i inner ≡ None
+pub record KeepsOrder (helpers : List Helper) (i : Instruction) (inner outer : Abstract) : Type 0 where
+  pub checks : failed_check helpers i inner ≡ None
   pub falls : is_edge_covered (falls_to i inner) (falls_to i outer) ≡ true
   pub jumps : is_edge_covered (jumps_to i inner) (jumps_to i outer) ≡ true

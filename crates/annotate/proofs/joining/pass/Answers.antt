@@ -1,4 +1,5 @@
 use Rattle.std.proofs.Common.{sym, subst, arith}
+use Rattle.machine_spec.specs.declared.helper.TheConstants.{HELPERS}
 use Rattle.verifier_spec.specs.Annotation.{Notes}
 use Rattle.verifier_spec.specs.Checks.{jump_of}
 use Rattle.verifier_spec.proofs.BestAnnotation.{target_later}
@@ -16,7 +17,7 @@ loop-k-preserved c =
     let placed = c.get.result in
     let at = c.get.ensures.is_at in
     let image = c.len-k-end.ensures.has_image in
-    passed_next code c.loop-k.k placed at (λ t e. (target_later image.image code image.is_code c.loop-k.k placed (jump_of placed.instruction) t at e).0)
+    passed_next code c.loop-k.k placed at (λ t e. (target_later HELPERS image.image code image.is_code c.loop-k.k placed (jump_of placed.instruction) t at e).0)
     c.loop-k.states c.pass_one.new.states c.note_of-note.result c.note_of-note.ensures c.loop-k.invariant c.pass_one.ensures.length c.pass_one.ensures.each c.pass_one.ensures.proper
 
 pub returns-clause-states : goal.returns-clause-states

@@ -1,4 +1,5 @@
 use Rattle.std.proofs.Common.{refl, sym, subst, ◌≡◌, ◌≢◌, ◌∙◌}
+use Rattle.machine_spec.specs.declared.helper.TheConstants.{HELPERS}
 use Rattle.verifier_spec.specs.declared.fault.Check.TheVariants as check
 use Rattle.verifier_spec.specs.Run.{Annotated}
 use Rattle.verifier_spec.specs.Annotation.{Notes, IsAnnotation}
@@ -32,6 +33,6 @@ returns-in-Ok-check-clause-answer c =
       read = c.in-Ok.ensures.exact;
       code = c.in-Ok.ensures.is_code;
       notes = refl;
-      annotation = subst (λ (ns : Notes). IsAnnotation code ns) joined.states c.in-Ok-check.ensures.annotated;
-      best = joined_best code (joined_states code) refl joined.proper;
+      annotation = subst (λ (ns : Notes). IsAnnotation HELPERS code ns) joined.states c.in-Ok-check.ensures.annotated;
+      best = joined_best code (joined_states HELPERS code) refl joined.proper;
     })

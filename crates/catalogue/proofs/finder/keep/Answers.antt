@@ -12,7 +12,7 @@ returns-in-Some-clause-ok c =
     let bytes : bytes_eq (get_or seen k before).name name ≡ true = search rules in
     let named : after.name ≡ name =
     ap (λ (v : Version). v.name) c.renew.ensures ∙ (ap (λ (v : Version). v.name) c.index_mut.ensures.value ∙ same_bytes (get_or seen k before).name name bytes) in
-    subst (λ (v : Version). Keeps seen (set seen k after) name (v.number, v.image)) c.renew.ensures
+    subst (λ (v : Version). Keeps seen (set seen k after) name (v.number, v.program)) c.renew.ensures
     (keeps-set seen k before after name (search rules) (search rules) bytes named)
 
 pub returns-in_ok-push-in-None-clause-ok : goal.returns-in_ok-push-in-None-clause-ok
@@ -21,5 +21,5 @@ returns-in_ok-push-in-None-clause-ok c =
     let named : kept.name ≡ name = ap (λ (v : Version). v.name) c.new.ensures ∙ c.again.ensures in
     let pushed : c.push.new.self.items ≡ seen ++ kept ∷ [] = search rules in
     subst (λ (new : List Version). Keeps seen new name (c.args.version, arc_value c.args.program)) (sym pushed)
-    (subst (λ (v : Version). Keeps seen (seen ++ kept ∷ []) name (v.number, v.image)) c.new.ensures
+    (subst (λ (v : Version). Keeps seen (seen ++ kept ∷ []) name (v.number, v.program)) c.new.ensures
     (keeps-push seen kept name (search rules) named))

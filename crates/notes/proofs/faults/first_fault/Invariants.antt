@@ -1,10 +1,11 @@
 use Rattle.std.proofs.Common.{◌≡◌, drop}
+use Rattle.machine_spec.specs.declared.helper.TheConstants.{HELPERS}
 use Rattle.verifier_spec.specs.Annotation.{fault_from}
 use Rattle.notes.specs.Proper.{AreProperBelow}
 use Rattle.notes.proofs.faults.first_fault.Given as goal
 
 abbrev pub invariant-loop-k : goal.invariant-loop-k
 invariant-loop-k l = record {
-  rest : fault_from l.code l.notes 0 l.code ≡ fault_from l.code l.notes l.k (drop l.k l.code);
+  rest : fault_from HELPERS l.code l.notes 0 l.code ≡ fault_from HELPERS l.code l.notes l.k (drop l.k l.code);
   proper : AreProperBelow l.notes l.k;
 }

@@ -1,6 +1,6 @@
-use Rattle.std.proofs.Common.{◌≡◌, ℕ, List, IfOk, subst}
+use Rattle.std.proofs.Common.{◌≡◌, ℕ, IfOk, subst}
 use Rattle.machine_spec.specs.declared.outcome.Outcome.{Outcome}
-use Rattle.machine_spec.specs.Image.{Program}
+use Rattle.machine_spec.specs.Image.{Program, program_of}
 use Rattle.machine_spec.specs.Machine.{Input}
 use Rattle.machine_spec.specs.Meaning.{Means}
 use Rattle.log_item.specs.Programs.{RunsSafely}
@@ -9,16 +9,16 @@ use Rattle.log_item.proofs.program.Program.run.Goals as goal
 
 pub returns-clause-means : goal.returns-clause-means
 returns-clause-means c =
-    let program : Program = record { image = c.self.inside.image } in
+    let program : Program = program_of c.self.inside.image in
     let input : Input = record { given = c.args.given.now; place = c.args.place.now } in
-    let ran = c.run.ensures program c.self.invariant in
+    let ran = c.run.ensures c.self.inside.image c.self.invariant in
     let means = run_means program input c.self.inside.verified.code c.self.inside.verified.notes ran.0 ran.1 c.run.result ran.2 in
-    subst (λ (image : List ℕ). IfOk c.run.result (λ (o : Outcome). (n : ℕ) × Means (record { image = image }) input o n)) c.self.view_is means
+    subst (λ (p : Program). IfOk c.run.result (λ (o : Outcome). (n : ℕ) × Means p input o n)) c.self.view_is means
 
 pub returns-clause-safe : goal.returns-clause-safe
 returns-clause-safe c =
-    let program : Program = record { image = c.self.inside.image } in
+    let program : Program = program_of c.self.inside.image in
     let input : Input = record { given = c.args.given.now; place = c.args.place.now } in
-    let ran = c.run.ensures program c.self.invariant in
+    let ran = c.run.ensures c.self.inside.image c.self.invariant in
     let safe = run_safe program input c.self.inside.verified.code c.self.inside.verified.notes ran.0 ran.1 c.self.invariant in
-    (ran.0, subst (λ (image : List ℕ). RunsSafely (record { image = image }) input ran.0) c.self.view_is safe, ran.2)
+    (ran.0, subst (λ (p : Program). RunsSafely p input ran.0) c.self.view_is safe, ran.2)
