@@ -3,8 +3,7 @@ use Rattle.std.specs.Prelude.{ℕ, zero, suc, ◌-◌, ◌^◌, Bool, ◌==◌, 
 use Rattle.std.specs.{List.list_all, List.list_any, Str.bytes_eq}
 use Rattle.machine_spec.specs.Image.{Program}
 use Rattle.verifier_spec.specs.Loading.{IsAccepted, IsRefusedWith}
-use Rattle.log_spec.specs.declared.event.Refusal.{Refusal}
-use Rattle.log_spec.specs.declared.limits.TheConstants.{MAX_NAME}
+use Rattle.log_spec.specs.declared.{event.Refusal.Refusal, limits.TheConstants.MAX_NAME}
 
 -- a name, and the programs that were accepted under it, oldest first: version v is number v - 1
 pub record Entry : Type 0 where

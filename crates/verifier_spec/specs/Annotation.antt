@@ -1,12 +1,10 @@
 -- Annotations: lists of abstract states that are closed under a program's edges and pass its checks.
 use Rattle.std.specs.Prelude.{◌≡◌, ℕ, zero, suc, ◌+◌, Bool, true, false, ◌==◌, ◌&&◌, not, if◌then◌else◌, List, [], ◌∷◌, ◌++◌, length, slice_get, Option, Some, None}
-use Rattle.machine_spec.specs.declared.helper.Helper.{Helper}
-use Rattle.machine_spec.specs.declared.instruction.Placed.{Placed}
+use Rattle.machine_spec.specs.declared.{helper.Helper.Helper, instruction.Placed.Placed}
 use Rattle.machine_spec.specs.Summaries.{summary_of}
 use Rattle.machine_spec.specs.Image.{target_of}
 use Rattle.machine_spec.specs.Traps.{first_of}
-use Rattle.verifier_spec.specs.declared.state.Abstract.{Abstract}
-use Rattle.verifier_spec.specs.declared.fault.{Check.Check, VerifyFault.VerifyFault}
+use Rattle.verifier_spec.specs.declared.{state.Abstract.Abstract, fault.Check.Check, fault.VerifyFault.VerifyFault}
 use Rattle.verifier_spec.specs.States.{is_within, is_proper, entry_state}
 use Rattle.verifier_spec.specs.Checks.{checks, failed_check, shape_checks, jump_of}
 use Rattle.verifier_spec.specs.Transfer.{falls_to, jumps_to}

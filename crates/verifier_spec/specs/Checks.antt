@@ -1,19 +1,15 @@
 -- The checks of an instruction, in the order in which they are reported.
 use Rattle.std.specs.Prelude.{ℕ, zero, suc, ◌+◌, ◌^◌, ℤ, pos, ◌+ℤ◌, neg_ℤ, Bool, true, false, ◌==◌, ◌&&◌, ◌||◌, not, nat_lt, nat_le, int_lt, int_le, if◌then◌else◌, List, [], ◌∷◌, length, Option, Some, None, is_some, is_none, unsigned_abs}
 use Rattle.std.specs.{List.list_any, Ordering.int_eq}
-use Rattle.machine_spec.specs.declared.limits.TheConstants.{STACK_SIZE}
+use Rattle.machine_spec.specs.declared.{limits.TheConstants.STACK_SIZE, helper.Helper.Helper, helper.Argument.Argument, operation.Width.Width, operation.Width.TheVariants.Bits64, operation.Operation.Operation}
 use Rattle.machine_spec.specs.declared.instruction.{Region.Region, Size.Size, Source.Source, Source.TheVariants.Register, Source.TheVariants.Immediate, Instruction.Instruction, Placed.Placed}
-use Rattle.machine_spec.specs.declared.operation.{Width.Width, Width.TheVariants.Bits64, Operation.Operation}
-use Rattle.machine_spec.specs.declared.helper.{Helper.Helper, Argument.Argument}
 use Rattle.machine_spec.specs.declared.summary.{Operands.Operands, Direction.Direction, MemoryOperand.MemoryOperand, Condition.Condition, Summary.Summary}
 use Rattle.machine_spec.specs.Summaries.{summary_of}
 use Rattle.machine_spec.specs.Image.{target_of}
 use Rattle.machine_spec.specs.Arithmetic.{signed}
 use Rattle.machine_spec.specs.Values.{immediate, moves_address, is_subtraction, byte_count}
 use Rattle.machine_spec.specs.Traps.{writes_frame, calls_no_helper, helper_called, arguments_of, read_registers, is_read, is_stack, first_of}
-use Rattle.verifier_spec.specs.declared.interval.Interval.{Interval}
-use Rattle.verifier_spec.specs.declared.state.{Abs.Abs, StackSet.StackSet, Abstract.Abstract}
-use Rattle.verifier_spec.specs.declared.fault.Check.{Check}
+use Rattle.verifier_spec.specs.declared.{interval.Interval.Interval, state.Abs.Abs, state.StackSet.StackSet, state.Abstract.Abstract, fault.Check.Check}
 use Rattle.verifier_spec.specs.Kinds.{is_set, kind_at, least, range_of, is_unknown, is_number_kind, is_address_kind, furthest, same_region}
 
 -- an immediate is the one number that it is

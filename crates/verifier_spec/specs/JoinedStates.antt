@@ -1,11 +1,9 @@
 -- The joined states of a program: at each instruction the least state above all that the edges of reached instructions
 -- before it propagate.
 use Rattle.std.specs.Prelude.{ℕ, zero, suc, ◌+◌, ◌==◌, if◌then◌else◌, List, [], ◌∷◌, slice_get, Option, Some, None}
-use Rattle.machine_spec.specs.declared.helper.Helper.{Helper}
-use Rattle.machine_spec.specs.declared.instruction.Placed.{Placed}
+use Rattle.machine_spec.specs.declared.{helper.Helper.Helper, instruction.Placed.Placed}
 use Rattle.machine_spec.specs.Image.{target_of}
-use Rattle.verifier_spec.specs.declared.state.Abstract.{Abstract}
-use Rattle.verifier_spec.specs.declared.fault.Check.{Check}
+use Rattle.verifier_spec.specs.declared.{state.Abstract.Abstract, fault.Check.Check}
 use Rattle.verifier_spec.specs.States.{entry_state}
 use Rattle.verifier_spec.specs.Checks.{failed_check, jump_of}
 use Rattle.verifier_spec.specs.Transfer.{falls_to, jumps_to}

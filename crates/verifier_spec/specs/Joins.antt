@@ -1,8 +1,7 @@
 -- The join of two abstract states: the least state that both are within.
 use Rattle.std.specs.Prelude.{min, max, bit_and, if◌then◌else◌, List, [], ◌∷◌, Option, Some}
 use Rattle.std.specs.Int.{int_min, int_max}
-use Rattle.verifier_spec.specs.declared.interval.Interval.{Interval}
-use Rattle.verifier_spec.specs.declared.state.{Abs.Abs, Abstract.Abstract}
+use Rattle.verifier_spec.specs.declared.{interval.Interval.Interval, state.Abs.Abs, state.Abstract.Abstract}
 use Rattle.verifier_spec.specs.Kinds.{range_of, same_region}
 
 -- the least interval that contains two; nothing is known where one of them is no number

@@ -1,10 +1,8 @@
 -- Abstract values of registers: their ranges and their order.
 use Rattle.std.specs.Prelude.{ℕ, ◌/◌, ◌%◌, ◌^◌, pos, neg_ℤ, Bool, true, false, ◌==◌, ◌&&◌, nat_lt, nat_le, int_le, slice_index, slice_index_or, Option, Some, None}
 use Rattle.std.specs.Int.{bit_at}
-use Rattle.machine_spec.specs.declared.limits.TheConstants.{STACK_SIZE}
-use Rattle.machine_spec.specs.declared.instruction.Region.{Region}
-use Rattle.verifier_spec.specs.declared.interval.Interval.{Interval}
-use Rattle.verifier_spec.specs.declared.state.{Abs.Abs, StackSet.StackSet, Abstract.Abstract}
+use Rattle.machine_spec.specs.declared.{limits.TheConstants.STACK_SIZE, instruction.Region.Region}
+use Rattle.verifier_spec.specs.declared.{interval.Interval.Interval, state.Abs.Abs, state.StackSet.StackSet, state.Abstract.Abstract}
 use Rattle.verifier_spec.specs.Intervals.{from_to}
 
 -- a place of the stack is in a set

@@ -1,7 +1,6 @@
 -- Which programs are accepted, and the fault that names why another one is not.
 use Rattle.std.specs.Prelude.{◌≡◌, List, Option, Some, option_map, Result, Ok, Err}
-use Rattle.machine_spec.specs.declared.helper.Helper.{Helper}
-use Rattle.machine_spec.specs.declared.instruction.{IsaFault.IsaFault, Placed.Placed}
+use Rattle.machine_spec.specs.declared.{helper.Helper.Helper, instruction.IsaFault.IsaFault, instruction.Placed.Placed}
 use Rattle.machine_spec.specs.Image.{Program, read_image}
 use Rattle.verifier_spec.specs.declared.fault.LoadFault.{LoadFault, TheVariants.Isa, TheVariants.Verify}
 use Rattle.verifier_spec.specs.Annotation.{Notes, IsAnnotation, fault_of}

@@ -2,8 +2,7 @@
 use Rattle.std.specs.Prelude.{ℕ, zero, suc, pos, Bool, true, ◌==◌, ◌&&◌, ◌||◌, not, nat_le, [], ◌∷◌, length}
 use Rattle.std.specs.List.{list_all}
 use Rattle.wire_spec.specs.declared.limits.TheConstants.{MAX_KEY, MAX_VALUE}
-use Rattle.machine_spec.specs.declared.limits.TheConstants.{STACK_SIZE}
-use Rattle.machine_spec.specs.declared.instruction.Region.{Region}
+use Rattle.machine_spec.specs.declared.{limits.TheConstants.STACK_SIZE, instruction.Region.Region}
 use Rattle.verifier_spec.specs.declared.state.{Abs.Abs, StackSet.StackSet, Abstract.Abstract}
 use Rattle.verifier_spec.specs.Kinds.{is_set, kind_at, is_proper_kind, is_kind_within}
 

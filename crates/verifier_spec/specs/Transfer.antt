@@ -4,14 +4,12 @@ use Rattle.std.specs.{Ordering.int_eq, List.fold}
 use Rattle.machine_spec.specs.declared.operation.{Width.Width, Width.TheVariants.Bits32, Width.TheVariants.Bits64, Operation.Operation, Change.Change, Test.Test}
 use Rattle.machine_spec.specs.declared.instruction.{Region.Region, Size.Size, Extension.Extension, Extension.TheVariants.Zero, Extension.TheVariants.Sign, Source.Source, Source.TheVariants.Register, Source.TheVariants.Immediate, Instruction.Instruction}
 use Rattle.machine_spec.specs.declared.instruction.Instruction.TheVariants.{Move, Compute, Load, Unary, Store, JumpIf, Jump, Wide, Call, Exit}
-use Rattle.machine_spec.specs.declared.helper.{Helper.Helper, Argument.Argument}
-use Rattle.machine_spec.specs.declared.summary.{Direction.TheVariants.Write, Condition.Condition}
+use Rattle.machine_spec.specs.declared.{helper.Helper.Helper, helper.Argument.Argument, summary.Direction.TheVariants.Write, summary.Condition.Condition}
 use Rattle.machine_spec.specs.Summaries.{summary_of}
 use Rattle.machine_spec.specs.Values.{immediate, byte_count}
 use Rattle.machine_spec.specs.Machine.{signature_of, helper_of}
 use Rattle.machine_spec.specs.Traps.{is_stack}
-use Rattle.verifier_spec.specs.declared.interval.Interval.{Interval}
-use Rattle.verifier_spec.specs.declared.state.{Abs.Abs, StackSet.StackSet, Abstract.Abstract}
+use Rattle.verifier_spec.specs.declared.{interval.Interval.Interval, state.Abs.Abs, state.StackSet.StackSet, state.Abstract.Abstract}
 use Rattle.verifier_spec.specs.Intervals.{from_to, cut, result_range, changed_range, narrowed}
 use Rattle.verifier_spec.specs.Kinds.{kind_at, range_of}
 use Rattle.verifier_spec.specs.Checks.{source_kind, least_displacement, greatest_displacement, Reach, reach_at}
