@@ -128,6 +128,8 @@ module _ (input : Input) (a b : Abstract) (s : State) (w : IsWithin a b) (p : is
 
   pub within_stands : StandsFor input b s
   within_stands = record {
+    given = h.given;
+    bytes = h.bytes;
     registers = register_stands;
     key_min = omega (arith, w.key_min, h.key_min);
     key_max = omega (arith, w.key_max, h.key_max);

@@ -1,6 +1,6 @@
 -- What the checks and the transfer of an instruction promise: soundness against the machine, and that they keep the
 -- order of abstract states.
-use Rattle.std.specs.Prelude.{◌≡◌, ℕ, ◌<◌, Bool, true, false, ◌&&◌, List, Option, Some, None, is_some}
+use Rattle.std.specs.Prelude.{◌≡◌, Bool, true, false, ◌&&◌, List, Option, Some, None, is_some}
 use Rattle.machine_spec.specs.declared.{helper.Helper.Helper, instruction.Instruction.Instruction}
 use Rattle.machine_spec.specs.Summaries.{summary_of}
 use Rattle.machine_spec.specs.Image.{Program, form_at}
@@ -12,11 +12,7 @@ use Rattle.verifier_spec.specs.States.{is_proper}
 use Rattle.verifier_spec.specs.Checks.{failed_check}
 use Rattle.verifier_spec.specs.Transfer.{falls_to, jumps_to}
 use Rattle.verifier_spec.specs.Annotation.{is_edge_covered}
-use Rattle.verifier_spec.specs.StandsFor.{StandsFor, IsInput}
-
--- the stack's bytes are bytes
-pub record AreBytes (s : State) : Type 0 where
-  pub bytes : (place b : ℕ) → s.stack place ≡ Some b → b < 256
+use Rattle.verifier_spec.specs.StandsFor.{StandsFor}
 
 -- a state takes the jump that an instruction is
 abbrev pub takes_jump : Instruction → State → Bool
@@ -30,7 +26,7 @@ edge_of false i a = falls_to i a
 -- Transfer is sound at an instruction: where an abstract state holds of the machine's before a step, the edge of that step
 -- propagates an abstract state, which is in its ranges and holds of the machine's after the step.
 pub record IsSoundAt (i : Instruction) (a : Abstract) : Type 0 where
-  pub edge : (program : Program) (input : Input) (before next : State) → IsInput input → AreBytes before → StandsFor input a before → form_at program.image before.slot ≡ Some i → Step program input before next
+  pub edge : (program : Program) (input : Input) (before next : State) → StandsFor input a before → form_at program.image before.slot ≡ Some i → Step program input before next
       → (b : Abstract) × (edge_of (takes_jump i before) i a ≡ Some b) × StandsFor input b next × (is_proper b ≡ true)
 
 -- The order of two abstract states is kept at an instruction: the inner one passes the checks, and each edge propagates from
