@@ -1,8 +1,8 @@
 //! Random numbers, programs and records.
 //!
 //! A program is made of pieces that mostly load: arithmetic, loads behind a test of the length,
-//! stores with loads of what they wrote, jumps over a piece, 64-bit immediates and calls, some of
-//! which emit bytes of the record or the stack by address, or copy a part of the record to the stack.
+//! stores with loads of what they wrote, jumps over a piece, bytes of the value with a jump on them,
+//! 64-bit immediates and calls, some of which emit bytes of the record or the stack by address, or copy a part of the record to the stack.
 
 ghost use Rattle.std.specs.Prelude.{◌<◌};
 
@@ -243,6 +243,23 @@ impl Random {
         Ok(())
     }
 
+    /// A byte of the value, behind a test of the length, and a jump on it over a piece. Where the value
+    /// is too short, the jump tests what the byte's register had.
+    fn push_byte_jump(&mut self, alloc: Global, image: &mut Vec<u8>) -> Result<(), AllocError> {
+        let mut piece = Vec::new(alloc);
+        self.push_piece(&mut piece)?;
+        let slots = (piece.len() / 8 % 8) as i16;
+        let offset = self.below(12) as i16;
+        let dst = self.register();
+        let test = self.byte_of(&TESTS);
+        let imm = self.below(257) as i32;
+        image.extend_from_slice(&slot(0xa5, 2, 0, 1, i32::from(offset) + 1))?;
+        image.extend_from_slice(&slot(0x71, dst, 1, offset, 0))?;
+        image.extend_from_slice(&slot(test | 5, dst, 0, slots, imm))?;
+        image.extend_from_slice(&piece)?;
+        Ok(())
+    }
+
     /// A call with an output in r1.
     fn push_call(&mut self, image: &mut Vec<u8>, number: i32) -> Result<(), AllocError> {
         let out = self.below(3) as i32;
@@ -389,10 +406,10 @@ impl Random {
         }
         let pieces = 1 + self.below(24);
         for _ in 0..pieces {
-            if self.below(3) == 0 {
-                self.push_jump(alloc, &mut image)?;
-            } else {
-                self.push_piece(&mut image)?;
+            match self.below(9) {
+                0..=2 => self.push_jump(alloc, &mut image)?,
+                3 => self.push_byte_jump(alloc, &mut image)?,
+                _ => self.push_piece(&mut image)?,
             }
         }
         self.push_end(&mut image)?;

@@ -3,7 +3,7 @@
 use crate::images::{EXIT, ZERO, image_of};
 use annotate::load;
 use machine_spec::{Distance, Instruction, Source, Test, Width};
-use predecode::{Decoded, Rare, predecode};
+use predecode::{Decoded, Rare, paired, predecode};
 use std::alloc::Global;
 use std::test::Fail;
 
@@ -93,4 +93,54 @@ fn single_instructions(rt: HostRuntime) -> Result<(), Fail> {
         )
     );
     Ok(())
+}
+
+/// The range of bytes of which a test against a number holds, as one form of a load and a jump has it.
+fn range_of(test: Test, constant: i32) -> Option<(u8, u8)> {
+    let jump = Instruction::JumpIf(Width::Bits64, test, 3, Source::Immediate(constant), 4);
+    match paired(Decoded::LoadValueByte(3, 1, 7), jump, 9) {
+        Decoded::ByteIn(_, _, low, span, _, _, _, _, _) => Some((low, span)),
+        _ => None,
+    }
+}
+
+/// A test, its number, and the first byte of which it holds with how many more there are.
+const RANGES: [(Test, i32, Option<(u8, u8)>); 14] = [
+    (Test::Equal, 65, Some((65, 0))),
+    (Test::NotEqual, 65, Some((66, 254))),
+    (Test::NotEqual, 255, Some((0, 254))),
+    (Test::Greater, 65, Some((66, 189))),
+    (Test::Greater, 255, None),
+    (Test::GreaterOrEqual, 65, Some((65, 190))),
+    (Test::GreaterOrEqual, 0, Some((0, 255))),
+    (Test::Less, 65, Some((0, 64))),
+    (Test::Less, 0, None),
+    (Test::LessOrEqual, 65, Some((0, 65))),
+    (Test::Less, 256, None),
+    (Test::NotEqual, -1, None),
+    (Test::AnyBit, 1, None),
+    (Test::SignedLess, 65, None),
+];
+
+/// The number of the first row that is not as it says.
+fn first_other_range(rows: &[(Test, i32, Option<(u8, u8)>)]) -> Option<usize> {
+    for (k, row) in rows.iter().enumerate() {
+        if range_of(row.0, row.1) != row.2 {
+            return Some(k);
+        }
+    }
+    None
+}
+
+/// A load of a byte and a jump on it are one where the bytes that take the jump are a range; a jump on
+/// another register stays by itself.
+#[test]
+fn a_load_and_its_jump_are_one(rt: HostRuntime) {
+    assert!(rt; first_other_range(&RANGES).is_none());
+    let jump = Instruction::JumpIf(Width::Bits64, Test::Equal, 4, Source::Immediate(65), 4);
+    let first = paired(Decoded::LoadValueByte(3, 1, 7), jump, 9);
+    assert!(rt; matches!(first, Decoded::LoadValueByte(3, 1, 7)));
+    let jump = Instruction::JumpIf(Width::Bits64, Test::Equal, 3, Source::Immediate(65), 4);
+    let both = paired(Decoded::LoadValueByte(3, 1, 7), jump, 9);
+    assert!(rt; matches!(both, Decoded::ByteIn(3, 1, 65, 0, Test::Equal, 65, 7, 4, 9)));
 }
