@@ -7,7 +7,7 @@ use Rattle.machine_spec.specs.declared.instruction.IsaFault.{IsaFault}
 use Rattle.machine_spec.specs.declared.instruction.IsaFault.TheVariants as isa
 use Rattle.machine_spec.specs.declared.instruction.Placed.{Placed}
 use Rattle.verifier_spec.specs.declared.fault.VerifyFault.{VerifyFault}
-use Rattle.verifier_spec.specs.Annotation.{Notes, fault_of}
+use Rattle.verifier_spec.specs.Annotation.{Claims, fault_of}
 use Rattle.verifier_spec.specs.JoinedStates.{joined_states}
 use Rattle.verifier_spec.specs.declared.fault.LoadFault.TheVariants.{Isa, Verify}
 use Rattle.verifier_spec.specs.Loading.{load_fault, code_fault, IsRefusedWith}
@@ -25,8 +25,8 @@ isa_refused image f h ne =
       fault_is = ap (code_fault HELPERS) read;
     }
 
-pub noted_fault : (image : List ℕ) (code : List Placed) (notes : Notes) (fault : Option VerifyFault) → read_image image ≡ Ok code → notes ≡ joined_states HELPERS code → fault_of HELPERS code notes ≡ fault
+pub claimed_fault : (image : List ℕ) (code : List Placed) (claims : Claims) (fault : Option VerifyFault) → read_image image ≡ Ok code → claims ≡ joined_states HELPERS code → fault_of HELPERS code claims ≡ fault
     → load_fault (program_of image) ≡ option_map Verify fault
 unfolding load_fault
-noted_fault image code notes fault read e h =
-    ap (code_fault HELPERS) read ∙ ap (option_map Verify) (ap (λ (ns : Notes). fault_of HELPERS code ns) (sym e) ∙ h)
+claimed_fault image code claims fault read e h =
+    ap (code_fault HELPERS) read ∙ ap (option_map Verify) (ap (λ (ns : Claims). fault_of HELPERS code ns) (sym e) ∙ h)

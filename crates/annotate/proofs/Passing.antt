@@ -1,4 +1,4 @@
--- Lists of notes, and what one instruction of a pass changes.
+-- Lists of claims, and what one instruction of a pass changes.
 use Rattle.std.proofs.Common.{◌≡◌, ◌≢◌, ℕ, zero, suc, ◌+◌, ◌<◌, ◌≤◌, min, true, false, ◌==◌, List, [], ◌∷◌, length, get_or, set, slice_get, replicate, Option, Some, None, refl, sym, ap, ◌∙◌, subst, inl, inr, arith, length-set}
 use Rattle.std.proofs.lemmas.Bool.{cond-true, cond-false, cases_eq, eq-eqb, eqb-true, cases_Bool, cases_lt}
 use Rattle.std.proofs.lemmas.Option.{slice_get_within}
@@ -7,41 +7,41 @@ use Rattle.std.proofs.lemmas.List.{length-replicate}
 use Rattle.machine_spec.specs.declared.helper.TheConstants.{HELPERS}
 use Rattle.machine_spec.specs.declared.instruction.Placed.{Placed}
 use Rattle.verifier_spec.specs.declared.state.Abstract.{Abstract}
-use Rattle.verifier_spec.specs.Annotation.{Notes, note_at}
-use Rattle.verifier_spec.specs.JoinedStates.{joined_notes, with_edge, with_edges, if_passed, with_instruction, known_after, joined_states}
+use Rattle.verifier_spec.specs.Annotation.{Claims, claim_at}
+use Rattle.verifier_spec.specs.JoinedStates.{joined_claims, with_edge, with_edges, if_passed, with_instruction, known_after, joined_states}
 use Rattle.verifier_spec.specs.States.{is_proper, entry_state}
 use Rattle.verifier_spec.specs.Checks.{failed_check, jump_of}
 use Rattle.verifier_spec.specs.Transfer.{falls_to, jumps_to}
 use Rattle.machine_spec.specs.Image.{target_of}
-use Rattle.verifier_spec.proofs.JoinedStates.{length-joined_states, note_joined}
+use Rattle.verifier_spec.proofs.JoinedStates.{length-joined_states, claim_joined}
 use Rattle.annotate.specs.Passing.{EachIs, IsPassed}
 
-pub note_at-get_or : (notes : Notes) (k : ℕ) (d : Option Abstract) → k < length notes → note_at notes k ≡ get_or notes k d
-note_at-get_or [] k d lt = absurd (omega arith)
-note_at-get_or (first ∷ notes) zero d lt = refl
-note_at-get_or (first ∷ notes) (suc k) d lt =
-    let below : k < length notes = omega arith in
-    note_at-get_or notes k d below
+pub claim_at-get_or : (claims : Claims) (k : ℕ) (d : Option Abstract) → k < length claims → claim_at claims k ≡ get_or claims k d
+claim_at-get_or [] k d lt = absurd (omega arith)
+claim_at-get_or (first ∷ claims) zero d lt = refl
+claim_at-get_or (first ∷ claims) (suc k) d lt =
+    let below : k < length claims = omega arith in
+    claim_at-get_or claims k d below
 
-pub note_at-set : (notes : Notes) (k : ℕ) (new : Option Abstract) → k < length notes → note_at (set notes k new) k ≡ new
-note_at-set [] k new lt = absurd (omega arith)
-note_at-set (first ∷ notes) zero new lt = refl
-note_at-set (first ∷ notes) (suc k) new lt = note_at-set notes k new (omega arith)
+pub claim_at-set : (claims : Claims) (k : ℕ) (new : Option Abstract) → k < length claims → claim_at (set claims k new) k ≡ new
+claim_at-set [] k new lt = absurd (omega arith)
+claim_at-set (first ∷ claims) zero new lt = refl
+claim_at-set (first ∷ claims) (suc k) new lt = claim_at-set claims k new (omega arith)
 
-pub note_at-set_other : (notes : Notes) (k j : ℕ) (new : Option Abstract) → j ≢ k → note_at (set notes k new) j ≡ note_at notes j
-note_at-set_other [] k j new other = refl
-note_at-set_other (first ∷ notes) zero zero new other = absurd (other refl)
-note_at-set_other (first ∷ notes) zero (suc j) new other = refl
-note_at-set_other (first ∷ notes) (suc k) zero new other = refl
-note_at-set_other (first ∷ notes) (suc k) (suc j) new other = note_at-set_other notes k j new (λ same. other (ap (λ (n : ℕ). suc n) same))
+pub claim_at-set_other : (claims : Claims) (k j : ℕ) (new : Option Abstract) → j ≢ k → claim_at (set claims k new) j ≡ claim_at claims j
+claim_at-set_other [] k j new other = refl
+claim_at-set_other (first ∷ claims) zero zero new other = absurd (other refl)
+claim_at-set_other (first ∷ claims) zero (suc j) new other = refl
+claim_at-set_other (first ∷ claims) (suc k) zero new other = refl
+claim_at-set_other (first ∷ claims) (suc k) (suc j) new other = claim_at-set_other claims k j new (λ same. other (ap (λ (n : ℕ). suc n) same))
 
-pub same_notes : (a b : Notes) → length a ≡ length b → ((j : ℕ) → j < length a → note_at a j ≡ note_at b j) → a ≡ b
-same_notes [] [] long each = refl
-same_notes [] (y ∷ b) long each = absurd (omega arith)
-same_notes (x ∷ a) [] long each = absurd (omega arith)
-same_notes (x ∷ a) (y ∷ b) long each =
+pub same_claims : (a b : Claims) → length a ≡ length b → ((j : ℕ) → j < length a → claim_at a j ≡ claim_at b j) → a ≡ b
+same_claims [] [] long each = refl
+same_claims [] (y ∷ b) long each = absurd (omega arith)
+same_claims (x ∷ a) [] long each = absurd (omega arith)
+same_claims (x ∷ a) (y ∷ b) long each =
     let first : x ≡ y = each 0 (omega arith) in
-    let rest : a ≡ b = same_notes a b (omega arith) (λ j under. each (suc j) (omega arith)) in
+    let rest : a ≡ b = same_claims a b (omega arith) (λ j under. each (suc j) (omega arith)) in
     cc
 
 not_eq : (x y : ℕ) → x ≢ y → (x == y) ≡ false
@@ -50,39 +50,39 @@ not_eq x y other = elim (cases_Bool (x == y)) [
   | inr apart ↦ apart
 ]
 
-other_note : (notes : Notes) (k : ℕ) (s : Abstract) (j : ℕ) → j ≢ k → with_edge j (Some k) (Some s) (note_at notes j) ≡ note_at notes j
-other_note notes k s j other =
+other_claim : (claims : Claims) (k : ℕ) (s : Abstract) (j : ℕ) → j ≢ k → with_edge j (Some k) (Some s) (claim_at claims j) ≡ claim_at claims j
+other_claim claims k s j other =
     elim (cases_Bool (k == j)) [
       | inl same ↦ absurd (other (sym (eqb-true k j same)))
-      | inr apart ↦ cond-false (k == j) (joined_notes (note_at notes j) (Some s)) (note_at notes j) apart
+      | inr apart ↦ cond-false (k == j) (joined_claims (claim_at claims j) (Some s)) (claim_at claims j) apart
     ]
 
--- one note joined
-pub brought : (notes : Notes) (k : ℕ) (s new : Abstract) → k < length notes → Some new ≡ joined_notes (note_at notes k) (Some s)
-    → (j : ℕ) → note_at (set notes k (Some new)) j ≡ with_edge j (Some k) (Some s) (note_at notes j)
-brought notes k s new inside is j = elim (cases_eq j k) [
+-- one claim joined
+pub brought : (claims : Claims) (k : ℕ) (s new : Abstract) → k < length claims → Some new ≡ joined_claims (claim_at claims k) (Some s)
+    → (j : ℕ) → claim_at (set claims k (Some new)) j ≡ with_edge j (Some k) (Some s) (claim_at claims j)
+brought claims k s new inside is j = elim (cases_eq j k) [
   | inl same ↦
-      let P : ℕ → Type 0 = λ n. note_at (set notes k (Some new)) n ≡ with_edge n (Some k) (Some s) (note_at notes n) in
-      subst P (sym same) (note_at-set notes k (Some new) inside ∙ is ∙ sym (cond-true (k == k) (joined_notes (note_at notes k) (Some s)) (note_at notes k) (eq-eqb k k refl)))
-  | inr other ↦ note_at-set_other notes k j (Some new) other ∙ sym (other_note notes k s j other)
+      let P : ℕ → Type 0 = λ n. claim_at (set claims k (Some new)) n ≡ with_edge n (Some k) (Some s) (claim_at claims n) in
+      subst P (sym same) (claim_at-set claims k (Some new) inside ∙ is ∙ sym (cond-true (k == k) (joined_claims (claim_at claims k) (Some s)) (claim_at claims k) (eq-eqb k k refl)))
+  | inr other ↦ claim_at-set_other claims k j (Some new) other ∙ sym (other_claim claims k s j other)
 ]
 
 -- ---- the pass
 
-pub note_at-replicate : (n j : ℕ) → note_at (replicate n None) j ≡ None
-note_at-replicate zero j = refl
-note_at-replicate (suc n) zero = refl
-note_at-replicate (suc n) (suc j) = note_at-replicate n j
+pub claim_at-replicate : (n j : ℕ) → claim_at (replicate n None) j ≡ None
+claim_at-replicate zero j = refl
+claim_at-replicate (suc n) zero = refl
+claim_at-replicate (suc n) (suc j) = claim_at-replicate n j
 
-first_note : (code : List Placed) (n j : ℕ) → 0 < n → note_at (set (replicate n None) 0 (Some entry_state)) j ≡ known_after HELPERS code 0 j
+first_claim : (code : List Placed) (n j : ℕ) → 0 < n → claim_at (set (replicate n None) 0 (Some entry_state)) j ≡ known_after HELPERS code 0 j
 unfolding known_after
-first_note code n j some = elim (cases_eq j 0) [
+first_claim code n j some = elim (cases_eq j 0) [
   | inl first ↦
-      let P : ℕ → Type 0 = λ i. note_at (set (replicate n None) 0 (Some entry_state)) i ≡ known_after HELPERS code 0 i in
+      let P : ℕ → Type 0 = λ i. claim_at (set (replicate n None) 0 (Some entry_state)) i ≡ known_after HELPERS code 0 i in
       let long : 0 < length (replicate {A = Option Abstract} n None) = omega (arith, length-replicate {A = Option Abstract} n None) in
-      subst P (sym first) (note_at-set (replicate n None) 0 (Some entry_state) long)
+      subst P (sym first) (claim_at-set (replicate n None) 0 (Some entry_state) long)
   | inr later ↦
-      note_at-set_other (replicate n None) 0 j (Some entry_state) later ∙ note_at-replicate n j
+      claim_at-set_other (replicate n None) 0 j (Some entry_state) later ∙ claim_at-replicate n j
       ∙ sym (cond-false (j == 0) (Some entry_state) None (not_eq j 0 later))
 ]
 
@@ -91,14 +91,14 @@ first_passed code some = record {
   long = length-set (replicate (length code) None) 0 (Some entry_state) ∙ length-replicate {A = Option Abstract} (length code) None;
   each = λ j under.
       let none : 0 ≡ min 0 j = omega arith in
-      first_note code (length code) j some ∙ ap (λ (k : ℕ). known_after HELPERS code k j) none;
+      first_claim code (length code) j some ∙ ap (λ (k : ℕ). known_after HELPERS code k j) none;
   proper = λ i s under e. absurd (omega (arith, under));
 }
 
 -- an edge that leads elsewhere changes nothing
-edge_elsewhere : (j : ℕ) (target : Option ℕ) (state note : Option Abstract) → ((t : ℕ) → target ≡ Some t → t ≢ j) → with_edge j target state note ≡ note
+edge_elsewhere : (j : ℕ) (target : Option ℕ) (state claim : Option Abstract) → ((t : ℕ) → target ≡ Some t → t ≢ j) → with_edge j target state claim ≡ claim
 edge_elsewhere j None state known elsewhere = refl
-edge_elsewhere j (Some t) state known elsewhere = cond-false (t == j) (joined_notes known state) known (not_eq t j (elsewhere t refl))
+edge_elsewhere j (Some t) state known elsewhere = cond-false (t == j) (joined_claims known state) known (not_eq t j (elsewhere t refl))
 
 module _ (code : List Placed) (k : ℕ) (placed : Placed) (at : slice_get code k ≡ Some placed)
     (later : (t : ℕ) → target_of code placed.slot (jump_of placed.instruction) ≡ Some t → k < t) where
@@ -125,19 +125,19 @@ module _ (code : List Placed) (k : ℕ) (placed : Placed) (at : slice_get code k
   unfolding known_after
   later_known j = ap (λ (o : Option Placed). with_instruction HELPERS code j k o (known_after HELPERS code k k) (known_after HELPERS code k j)) (sym at)
 
-  module _ (states next : Notes) (own : Option Abstract) (is_own : own ≡ note_at states k) (passed : IsPassed code states k) (long : length next ≡ length states)
-      (each : EachIs next (λ j. with_instruction HELPERS code j k (Some placed) own (note_at states j))) (proper : IfSome own (λ s. is_proper s ≡ true)) where
+  module _ (states next : Claims) (own : Option Abstract) (is_own : own ≡ claim_at states k) (passed : IsPassed code states k) (long : length next ≡ length states)
+      (each : EachIs next (λ j. with_instruction HELPERS code j k (Some placed) own (claim_at states j))) (proper : IfSome own (λ s. is_proper s ≡ true)) where
     own_known : own ≡ known_after HELPERS code k k
     own_known =
         let both : min k k ≡ k = omega arith in
         let below : k < length states = omega (arith, slice_get_within code k placed at, passed.long) in
         is_own ∙ passed.each k below ∙ ap (λ (n : ℕ). known_after HELPERS code n k) both
 
-    each_known : (j : ℕ) → j < length next → note_at next j ≡ known_after HELPERS code (min (k + 1) j) j
+    each_known : (j : ℕ) → j < length next → claim_at next j ≡ known_after HELPERS code (min (k + 1) j) j
     each_known j under =
         let below : j < length states = omega (arith, under, long) in
         let one = each j under in
-        let two = ap (λ (note : Option Abstract). with_instruction HELPERS code j k (Some placed) own note) (passed.each j below) in
+        let two = ap (λ (claim : Option Abstract). with_instruction HELPERS code j k (Some placed) own claim) (passed.each j below) in
         elim (cases_lt k j) [
           | inl after ↦
               let old : min k j ≡ k = omega (arith, after) in
@@ -165,12 +165,12 @@ module _ (code : List Placed) (k : ℕ) (placed : Placed) (at : slice_get code k
     }
 
 -- after the whole pass
-pub all_passed : (code : List Placed) (states : Notes) → IsPassed code states (length code) → states ≡ joined_states HELPERS code
+pub all_passed : (code : List Placed) (states : Claims) → IsPassed code states (length code) → states ≡ joined_states HELPERS code
 all_passed code states passed =
-    same_notes states (joined_states HELPERS code) (passed.long ∙ sym (length-joined_states HELPERS code)) (λ j under.
+    same_claims states (joined_states HELPERS code) (passed.long ∙ sym (length-joined_states HELPERS code)) (λ j under.
     let below : j < length code = omega (arith, under, passed.long) in
     let is : min (length code) j ≡ j = omega (arith, below) in
-    passed.each j under ∙ ap (λ (n : ℕ). known_after HELPERS code n j) is ∙ sym (note_joined HELPERS code j below))
+    passed.each j under ∙ ap (λ (n : ℕ). known_after HELPERS code n j) is ∙ sym (claim_joined HELPERS code j below))
 
-pub passed_all : (code : List Placed) (states : Notes) (k : ℕ) → k ≡ length code → IsPassed code states k → states ≡ joined_states HELPERS code
+pub passed_all : (code : List Placed) (states : Claims) (k : ℕ) → k ≡ length code → IsPassed code states k → states ≡ joined_states HELPERS code
 passed_all code states k all passed = all_passed code states (subst (λ n. IsPassed code states n) all passed)

@@ -4,7 +4,7 @@ use Rattle.machine_spec.specs.declared.helper.TheConstants.{HELPERS}
 use Rattle.machine_spec.specs.Image.{program_of, read_image, IsCodeOf}
 use Rattle.machine_spec.specs.declared.instruction.IsaFault.TheVariants as isa
 use Rattle.verifier_spec.specs.declared.fault.Check.TheVariants as check
-use Rattle.verifier_spec.specs.Annotation.{Notes, note_at, is_edge_covered, IsAnnotation}
+use Rattle.verifier_spec.specs.Annotation.{Claims, claim_at, is_edge_covered, IsAnnotation}
 use Rattle.verifier_spec.specs.JoinedStates.{joined_states}
 use Rattle.verifier_spec.specs.Run.{Annotated}
 use Rattle.verifier_spec.specs.declared.fault.LoadFault.{LoadFault}
@@ -16,9 +16,9 @@ use Rattle.verifier_spec.specs.Loading.{IsRefusedWith}
 pub record Accepts (image : List ℕ) (verified : Annotated) : Type 0 where
   pub read : read_image image ≡ Ok verified.code
   pub code : IsCodeOf image verified.code
-  pub notes : verified.notes ≡ joined_states HELPERS verified.code
-  pub annotation : IsAnnotation HELPERS verified.code verified.notes
-  pub best : (other : Notes) → IsAnnotation HELPERS verified.code other → (k : ℕ) → is_edge_covered (note_at verified.notes k) (note_at other k) ≡ true
+  pub claims : verified.claims ≡ joined_states HELPERS verified.code
+  pub annotation : IsAnnotation HELPERS verified.code verified.claims
+  pub best : (other : Claims) → IsAnnotation HELPERS verified.code other → (k : ℕ) → is_edge_covered (claim_at verified.claims k) (claim_at other k) ≡ true
 
 -- An image with a refusal does not decode to code that has an annotation; nothing is said where memory ran out.
 abbrev pub FaultIs : List ℕ → LoadFault → Type 0

@@ -4,16 +4,16 @@ use Rattle.machine_spec.specs.declared.helper.TheConstants.{HELPERS}
 use Rattle.machine_spec.specs.declared.instruction.Placed.{Placed}
 use Rattle.verifier_spec.specs.declared.state.Abstract.{Abstract}
 use Rattle.verifier_spec.specs.States.{is_proper}
-use Rattle.verifier_spec.specs.Annotation.{Notes, note_at}
+use Rattle.verifier_spec.specs.Annotation.{Claims, claim_at}
 use Rattle.verifier_spec.specs.JoinedStates.{known_after}
 
--- each note of a list, by its number
-abbrev pub EachIs : Notes → (ℕ → Option Abstract) → Type 0
-EachIs notes note = (j : ℕ) → j < length notes → note_at notes j ≡ note j
+-- each claim of a list, by its number
+abbrev pub EachIs : Claims → (ℕ → Option Abstract) → Type 0
+EachIs claims claim = (j : ℕ) → j < length claims → claim_at claims j ≡ claim j
 
 -- After the first k instructions those have their joined states, which are in their ranges, and each later one has what they
 -- propagate.
-pub record IsPassed (code : List Placed) (notes : Notes) (k : ℕ) : Type 0 where
-  pub long : length notes ≡ length code
-  pub each : EachIs notes (λ j. known_after HELPERS code (min k j) j)
+pub record IsPassed (code : List Placed) (claims : Claims) (k : ℕ) : Type 0 where
+  pub long : length claims ≡ length code
+  pub each : EachIs claims (λ j. known_after HELPERS code (min k j) j)
   pub proper : (i : ℕ) (s : Abstract) → i < k → known_after HELPERS code i i ≡ Some s → is_proper s ≡ true

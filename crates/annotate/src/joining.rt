@@ -1,7 +1,7 @@
 ghost use Rattle.std.specs.Prelude.{◌≡◌, ◌<◌, true, length, IfOk, IfSome, slice_set, replicate, Some, None};
 ghost use Rattle.verifier_spec.specs.States.{is_proper, entry_state};
-ghost use Rattle.verifier_spec.specs.Annotation.{note_at};
-ghost use Rattle.verifier_spec.specs.JoinedStates.{joined_notes, with_edge, with_edges, with_instruction, known_after, joined_states};
+ghost use Rattle.verifier_spec.specs.Annotation.{claim_at};
+ghost use Rattle.verifier_spec.specs.JoinedStates.{joined_claims, with_edge, with_edges, with_instruction, known_after, joined_states};
 ghost use Rattle.verifier_spec.specs.Checks.{failed_check};
 ghost use Rattle.verifier_spec.proofs.BestAnnotation.{AreJoinedProper};
 ghost use Rattle.annotate.specs.Passing.{EachIs, IsPassed};
@@ -13,16 +13,16 @@ use machine_spec::{MAX_SLOTS, Placed, Summary};
 use std::alloc::{AllocError, Global};
 
 /// The state of an instruction, if it is reached.
-fn note_of(states: &[Option<State>], k: usize) -> Option<State>
+fn claim_of(states: &[Option<State>], k: usize) -> Option<State>
     requires { k < length states.now }
-    ensures { result ≡ note_at states.now k }
+    ensures { result ≡ claim_at states.now k }
 {
     states[k]
 }
 
 /// The least state above what is known of an instruction, if anything, and one more state.
-fn joined_note(known: Option<State>, state: State) -> State
-    ensures { Some result ≡ joined_notes known (Some state) }
+fn joined_claim(known: Option<State>, state: State) -> State
+    ensures { Some result ≡ joined_claims known (Some state) }
 {
     match known {
         Some(known) => known.join(&state),
@@ -33,17 +33,17 @@ fn joined_note(known: Option<State>, state: State) -> State
 /// Joins a state to what is known of an instruction, if there is an instruction with this number.
 fn bring(states: &mut [Option<State>], target: usize, state: State)
     ensures length { length states.new ≡ length states.old }
-    ensures each { EachIs states.new (λ j. with_edge j (Some target) (Some state) (note_at states.old j)) }
+    ensures each { EachIs states.new (λ j. with_edge j (Some target) (Some state) (claim_at states.old j)) }
 {
     if target < states.len() {
-        states[target] = Some(joined_note(note_of(states, target), state));
+        states[target] = Some(joined_claim(claim_of(states, target), state));
     }
 }
 
 /// Joins what an edge propagates, if it propagates a state and leads to an instruction.
 fn bring_along(states: &mut [Option<State>], target: Option<usize>, state: Option<State>)
     ensures length { length states.new ≡ length states.old }
-    ensures each { EachIs states.new (λ j. with_edge j target state (note_at states.old j)) }
+    ensures each { EachIs states.new (λ j. with_edge j target state (claim_at states.old j)) }
 {
     if let Some(target) = target
         && let Some(state) = state
@@ -58,7 +58,7 @@ fn bring_both(code: &Code, states: &mut [Option<State>], k: usize, placed: Place
     requires number { k < MAX_SLOTS }
     requires passes { failed_check HELPERS placed.instruction state ≡ None }
     ensures length { length states.new ≡ length states.old }
-    ensures each { EachIs states.new (λ j. with_edges code.now j k placed state (note_at states.old j)) }
+    ensures each { EachIs states.new (λ j. with_edges code.now j k placed state (claim_at states.old j)) }
 {
     let edges = state.transfer(placed.instruction);
     bring_along(states, Some(k + 1), edges.next);
@@ -66,22 +66,22 @@ fn bring_both(code: &Code, states: &mut [Option<State>], k: usize, placed: Place
     bring_along(states, code.target(placed.slot, jump), edges.jump);
 }
 
-/// Passes an instruction with its own note: it propagates nothing where it is not reached or fails
+/// Passes an instruction with its own claim: it propagates nothing where it is not reached or fails
 /// a check.
 fn pass_one(
     code: &Code,
     states: &mut [Option<State>],
     k: usize,
     placed: Placed,
-    note: Option<State>,
+    claim: Option<State>,
 )
     requires slot { placed.slot < MAX_SLOTS }
     requires number { k < MAX_SLOTS }
     ensures length { length states.new ≡ length states.old }
-    ensures each { EachIs states.new (λ j. with_instruction HELPERS code.now j k (Some placed) note (note_at states.old j)) }
-    ensures proper { IfSome note (λ s. is_proper s ≡ true) }
+    ensures each { EachIs states.new (λ j. with_instruction HELPERS code.now j k (Some placed) claim (claim_at states.old j)) }
+    ensures proper { IfSome claim (λ s. is_proper s ≡ true) }
 {
-    if let Some(state) = note {
+    if let Some(state) = claim {
         if state.check(placed.instruction).is_none() {
             bring_both(code, states, k, placed, state);
         }
@@ -105,8 +105,8 @@ fn pass(code: &Code, states: &mut [Option<State>])
     ensures proper { AreJoinedProper HELPERS code.now }
 {
     for k in 0..code.len() {
-        let note = note_of(states, k);
-        pass_one(code, states, k, code.get(k), note);
+        let claim = claim_of(states, k);
+        pass_one(code, states, k, code.get(k), claim);
     }
 }
 

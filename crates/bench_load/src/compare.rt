@@ -185,7 +185,7 @@ fn refuses_wider(
     }
 }
 
-fn note(tally: &mut Tally, agrees: Option<bool>) {
+fn claim(tally: &mut Tally, agrees: Option<bool>) {
     match agrees {
         None => count(&mut tally.out_of_memory),
         Some(true) => {}
@@ -202,11 +202,11 @@ fn compare_refused(
 ) {
     count(&mut tally.refused);
     let agrees = agrees_refused(alloc, image, random, fault);
-    note(tally, agrees);
+    claim(tally, agrees);
     for _ in 0..WIDENINGS {
         count(&mut tally.widened);
         let agrees = refuses_wider(alloc, image, random, fault);
-        note(tally, agrees);
+        claim(tally, agrees);
     }
 }
 
@@ -220,7 +220,7 @@ pub(crate) fn compare_one(alloc: Global, random: &mut Random, tally: &mut Tally)
         Ok(verified) => {
             count(&mut tally.accepted);
             let agrees = agrees_accepted(alloc, &image, random, &verified);
-            note(tally, agrees);
+            claim(tally, agrees);
         }
         Err(LoadFault::Verify(fault)) => compare_refused(alloc, &image, random, tally, fault),
         Err(LoadFault::Isa(_)) => count(&mut tally.differ),

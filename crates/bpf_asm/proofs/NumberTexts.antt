@@ -9,7 +9,7 @@ use Rattle.std.specs.Str.Parse.{AllDigits, digits_value}
 use Rattle.std.proofs.lemmas.Bool.{and_from, le-leb, lt-ltb, ne_eqb}
 use Rattle.std.proofs.lemmas.Fmt.{decimal_is_IsNumeral, decimal_digit, first_decimal}
 use Rattle.std.proofs.lemmas.Str.Parse.{digit_from_value, digit_at}
-use Rattle.bpf_asm.specs.Numbers.{is_digits, is_natural, natural, positive, negative, number_of, distance_of, distance_text}
+use Rattle.bpf_asm.specs.Numbers.{is_digits, is_natural, natural, positive, negative, written_number, distance_of, distance_text}
 
 -- ---- digits
 
@@ -56,7 +56,7 @@ Fits m (negsuc n) = n < m
 abbrev signed_by : List ℕ → Bool → Option ℤ
 signed_by text minus = cond minus (negative (natural (drop 1 text))) (positive (natural text))
 
-pub natural_again : (n : ℕ) → n < 2 ^ 64 → number_of (decimal n) ≡ Some (pos n)
+pub natural_again : (n : ℕ) → n < 2 ^ 64 → written_number (decimal n) ≡ Some (pos n)
 natural_again n small =
     let none : (slice_index (decimal n) 0 == 45) ≡ false = ne_eqb (get_or (decimal n) 0 0) 45 (λ e. omega (arith, e, (decimal_first n small).0)) in
     ap (signed_by (decimal n)) none ∙ ap positive (natural_decimal n small)
@@ -64,7 +64,7 @@ natural_again n small =
 negative_some : (n : ℕ) → negative (Some (suc n)) ≡ Some (negsuc n)
 negative_some n = ap (λ (b : Bool). cond b None (Some (negsuc n))) (ne_eqb (suc n) 0 (λ e. omega (arith, e)))
 
-pub number_again : (m : ℕ) (z : ℤ) → m < 2 ^ 64 → Fits m z → number_of (signed_decimal z) ≡ Some z
+pub number_again : (m : ℕ) (z : ℤ) → m < 2 ^ 64 → Fits m z → written_number (signed_decimal z) ≡ Some z
 number_again m (pos n) below fits = natural_again n (omega arith)
 number_again m (negsuc n) below fits = ap negative (natural_decimal (suc n) (omega arith)) ∙ negative_some n
 

@@ -26,8 +26,8 @@ negative (Some n) = if n == 0 then None else Some (neg_ℤ (pos n))
 negative None = None
 
 -- `-` (45) is before a number that is below 0, and nothing is before others
-abbrev pub number_of : List ℕ → Option ℤ
-number_of text = if slice_index text 0 == 45 then negative (natural (drop 1 text)) else positive (natural text)
+abbrev pub written_number : List ℕ → Option ℤ
+written_number text = if slice_index text 0 == 45 then negative (natural (drop 1 text)) else positive (natural text)
 
 -- `+` (43) is before a distance, or `-` where it is below 0
 abbrev pub distance_of : List ℕ → Option ℤ

@@ -7,7 +7,7 @@ use Rattle.machine_spec.specs.declared.instruction.Source.TheVariants.{Register,
 use Rattle.bpf_asm.specs.declared.fault.LineFault.{LineFault}
 use Rattle.bpf_asm.specs.declared.fault.LineFault.TheVariants as fault
 use Rattle.bpf_asm.specs.Faults.{both, read_as}
-use Rattle.bpf_asm.specs.Numbers.{is_digits, natural, number_of, distance_of, distance_text, is_in}
+use Rattle.bpf_asm.specs.Numbers.{is_digits, natural, written_number, distance_of, distance_text, is_in}
 
 -- ---- registers
 
@@ -31,11 +31,11 @@ ranged low high None = Err fault.Operand
 
 -- a signed number of 32 bits
 abbrev pub read_immediate : List ℕ → Result ℤ LineFault
-read_immediate text = ranged (neg_ℤ (pos (2 ^ 31))) (pos (2 ^ 31 - 1)) (number_of text)
+read_immediate text = ranged (neg_ℤ (pos (2 ^ 31))) (pos (2 ^ 31 - 1)) (written_number text)
 
 -- a number of 64 bits
 abbrev pub read_wide : List ℕ → Result ℕ LineFault
-read_wide text = read_as unsigned_abs (ranged (pos 0) (pos (2 ^ 64 - 1)) (number_of text))
+read_wide text = read_as unsigned_abs (ranged (pos 0) (pos (2 ^ 64 - 1)) (written_number text))
 
 -- a distance of 16 bits
 abbrev pub read_short : List ℕ → Result ℤ LineFault

@@ -90,7 +90,7 @@ fn negative(number: Option<u128>) -> Option<i128>
 
 /// The number that a text spells, if it spells one.
 pub fn number(text: &[u8]) -> Option<i128>
-    ensures { result ≡ definitions.number_of text.now }
+    ensures { result ≡ definitions.written_number text.now }
 {
     if text.first() == Some(&b'-') {
         negative(natural(&text[1..]))

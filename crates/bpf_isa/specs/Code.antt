@@ -21,11 +21,11 @@ pub record HasImage (code : List Placed) : Type 0 where
   pub is_code : IsCodeOf image code
 
 -- the number that two bytes of a table stand for
-abbrev pub number_of : ℕ → Option ℕ
-number_of n = if n == 65535 then None else Some n
+abbrev pub entry_number : ℕ → Option ℕ
+entry_number n = if n == 65535 then None else Some n
 
-abbrev pub numbers_of : List ℕ → List (Option ℕ)
-numbers_of numbers = map number_of numbers
+abbrev pub entry_numbers : List ℕ → List (Option ℕ)
+entry_numbers numbers = map entry_number numbers
 
 -- A table from each slot to the number of the instruction that begins there.
 pub record IsTable (code : List Placed) (numbers : List (Option ℕ)) : Type 0 where

@@ -1,5 +1,5 @@
 ghost use Rattle.std.specs.Prelude.{◌≡◌, ◌<◌, ◌++◌, [], ◌∷◌, length, slice_get, option_and_then, IfOk, IfSome, OnOk};
-ghost use Rattle.bpf_isa.specs.Code.{number_of};
+ghost use Rattle.bpf_isa.specs.Code.{entry_number};
 
 use machine_spec::MAX_SLOTS;
 use std::alloc::{AllocError, Global};
@@ -17,15 +17,15 @@ pub struct SlotTable {
 
 impl Model for SlotTable {
     ghost use Rattle.std.specs.Prelude.{ℕ, List, Option};
-    ghost use Rattle.bpf_isa.specs.Code.{numbers_of};
+    ghost use Rattle.bpf_isa.specs.Code.{entry_numbers};
 
     ghost Value = { List (Option ℕ) };
 
-    ghost view = { λ t. numbers_of t.numbers.items };
+    ghost view = { λ t. entry_numbers t.numbers.items };
 }
 
 fn number_in(number: u16) -> Option<usize>
-    ensures { result ≡ number_of number }
+    ensures { result ≡ entry_number number }
 {
     if number == NO_NUMBER {
         None

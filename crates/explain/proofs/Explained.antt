@@ -5,7 +5,7 @@ use Rattle.machine_spec.specs.declared.helper.TheConstants.{HELPERS}
 use Rattle.machine_spec.specs.declared.instruction.Placed.{Placed}
 use Rattle.machine_spec.specs.Image.{read_image, IsCodeOf}
 use Rattle.verifier_spec.specs.declared.fault.VerifyFault.{VerifyFault}
-use Rattle.verifier_spec.specs.Annotation.{Notes}
+use Rattle.verifier_spec.specs.Annotation.{Claims}
 use Rattle.verifier_spec.specs.JoinedStates.{joined_states}
 use Rattle.verifier_spec.proofs.BestAnnotation.{AreJoinedProper}
 use Rattle.explain.specs.declared.explanation.{Explanation.Explanation, Refusal.Refusal}
@@ -17,16 +17,16 @@ module _ (image : List ℕ) (code : List Placed) (of : IsCodeOf image code) (rea
   has_reason None verdict = tt
   has_reason (Some f) verdict = refusal_reasoned image code f of read proper verdict
 
-  pub explained : (notes : Notes) (fault : Option VerifyFault) (explanation : Explanation) → notes ≡ joined_states HELPERS code → IsVerdict image fault
-      → string_bytes explanation.lines ≡ listing code notes fault → explanation.refusal ≡ option_map (refusal_at code notes) fault → Explains image explanation
-  explained notes fault explanation is verdict lines refusal =
-      let refused : explanation.refusal ≡ option_map (refusal_at code (joined_states HELPERS code)) fault = refusal ∙ ap (λ (ns : Notes). option_map (refusal_at code ns) fault) is in
+  pub explained : (claims : Claims) (fault : Option VerifyFault) (explanation : Explanation) → claims ≡ joined_states HELPERS code → IsVerdict image fault
+      → string_bytes explanation.lines ≡ listing code claims fault → explanation.refusal ≡ option_map (refusal_at code claims) fault → Explains image explanation
+  explained claims fault explanation is verdict lines refusal =
+      let refused : explanation.refusal ≡ option_map (refusal_at code (joined_states HELPERS code)) fault = refusal ∙ ap (λ (ns : Claims). option_map (refusal_at code ns) fault) is in
       record {
         code = code;
         read = read;
         fault = fault;
         verdict = verdict;
-        lines = lines ∙ ap (λ (ns : Notes). listing code ns fault) is;
+        lines = lines ∙ ap (λ (ns : Claims). listing code ns fault) is;
         refusal = refused;
         reasoned = subst (λ (r : Option Refusal). IfSome r HasReason) (sym refused) (has_reason fault verdict);
       }

@@ -16,10 +16,10 @@ use Rattle.verifier_spec.specs.declared.fault.{Check.Check, VerifyFault.VerifyFa
 use Rattle.verifier_spec.specs.Kinds.{kind_at, is_unknown}
 use Rattle.verifier_spec.specs.States.{is_proper, entry_state}
 use Rattle.verifier_spec.specs.Checks.{checks, shape_checks, leads_nowhere, leads_back, jump_of}
-use Rattle.verifier_spec.specs.Annotation.{Notes, note_at, is_covered, are_edges_covered, reached_checks, failed_at, fault_or, fault_from, fault_of}
+use Rattle.verifier_spec.specs.Annotation.{Claims, claim_at, is_covered, are_edges_covered, reached_checks, failed_at, fault_or, fault_from, fault_of}
 use Rattle.verifier_spec.specs.JoinedStates.{known_after, joined_states}
 use Rattle.verifier_spec.specs.Loading.{load_fault, code_fault, IsRefusedWith}
-use Rattle.verifier_spec.proofs.JoinedStates.{note_joined}
+use Rattle.verifier_spec.proofs.JoinedStates.{claim_joined}
 use Rattle.verifier_spec.proofs.BestAnnotation.{AreJoinedProper, fault_is_other}
 use Rattle.explain.specs.declared.reason.Reason.{Reason}
 use Rattle.explain.specs.Reasons.{landing, outside_record, shape_reason, state_reason, reason_of, placed_reason, reason_at}
@@ -109,72 +109,72 @@ state_reasoned placed m s proper = (
   ),
 )
 
-only_notes : (b : Bool) (kind : Check) → first_of ((b, Check.Notes) ∷ []) ≡ Some kind → kind ≡ Check.Notes
-only_notes true kind e = cc
-only_notes false kind e = cc
+only_claims : (b : Bool) (kind : Check) → first_of ((b, Check.Notes) ∷ []) ≡ Some kind → kind ≡ Check.Notes
+only_claims true kind e = cc
+only_claims false kind e = cc
 
-rows_reasoned : (code : List Placed) (notes : Notes) (k : ℕ) (placed : Placed) (known : Option Abstract) (kind : Check) → ((s : Abstract) → known ≡ Some s → is_proper s ≡ true)
-    → first_of (shape_checks code k placed ++ reached_checks HELPERS code notes k placed known) ≡ Some kind → kind ≢ Check.Notes → is_some (reason_of placed known kind) ≡ true
-rows_reasoned code notes k placed None kind proper e other = elim (either (shape_checks code k placed) [] kind e) [
+rows_reasoned : (code : List Placed) (claims : Claims) (k : ℕ) (placed : Placed) (known : Option Abstract) (kind : Check) → ((s : Abstract) → known ≡ Some s → is_proper s ≡ true)
+    → first_of (shape_checks code k placed ++ reached_checks HELPERS code claims k placed known) ≡ Some kind → kind ≢ Check.Notes → is_some (reason_of placed known kind) ≡ true
+rows_reasoned code claims k placed None kind proper e other = elim (either (shape_checks code k placed) [] kind e) [
   | inl shape ↦ first_reasoned (shape_reason placed) (shape_checks code k placed) kind (shape_reasoned code k placed) shape
   | inr none ↦ absurd (none-some kind none)
 ]
-rows_reasoned code notes k placed (Some s) kind proper e other =
+rows_reasoned code claims k placed (Some s) kind proper e other =
     let m = summary_of placed.instruction in
-    let covered = are_edges_covered code notes k placed s in
-    elim (either (shape_checks code k placed) (reached_checks HELPERS code notes k placed (Some s)) kind e) [
+    let covered = are_edges_covered code claims k placed s in
+    elim (either (shape_checks code k placed) (reached_checks HELPERS code claims k placed (Some s)) kind e) [
       | inl shape ↦ first_reasoned (state_reason placed m s) (shape_checks code k placed) kind (shape_reasoned code k placed) shape
       | inr reached ↦ elim (either (checks HELPERS m s) ((not covered, Check.Notes) ∷ []) kind reached) [
         | inl own ↦ first_reasoned (state_reason placed m s) (checks HELPERS m s) kind (state_reasoned placed m s (proper s refl)) own
-        | inr last ↦ absurd (other (only_notes (not covered) kind last))
+        | inr last ↦ absurd (other (only_claims (not covered) kind last))
       ]
     ]
 
 -- ---- the fault of a code
 
-module _ (code : List Placed) (notes : Notes) (proper : (k : ℕ) (s : Abstract) → k < length code → note_at notes k ≡ Some s → is_proper s ≡ true) where
-  at_reasoned : (k : ℕ) (placed : Placed) (kind : Check) → slice_get code k ≡ Some placed → failed_at HELPERS code notes k placed ≡ Some kind → kind ≢ Check.Notes
-      → is_some (placed_reason (slice_get code k) (note_at notes k) kind) ≡ true
+module _ (code : List Placed) (claims : Claims) (proper : (k : ℕ) (s : Abstract) → k < length code → claim_at claims k ≡ Some s → is_proper s ≡ true) where
+  at_reasoned : (k : ℕ) (placed : Placed) (kind : Check) → slice_get code k ≡ Some placed → failed_at HELPERS code claims k placed ≡ Some kind → kind ≢ Check.Notes
+      → is_some (placed_reason (slice_get code k) (claim_at claims k) kind) ≡ true
   unfolding failed_at
   at_reasoned k placed kind at e other =
-      ap (λ (p : Option Placed). is_some (placed_reason p (note_at notes k) kind)) at
-      ∙ rows_reasoned code notes k placed (note_at notes k) kind (λ s is. proper k s (slice_get_within code k placed at) is) e other
+      ap (λ (p : Option Placed). is_some (placed_reason p (claim_at claims k) kind)) at
+      ∙ rows_reasoned code claims k placed (claim_at claims k) kind (λ s is. proper k s (slice_get_within code k placed at) is) e other
 
   or_reasoned : (k : ℕ) (failed : Option Check) (later : Option VerifyFault) (f : VerifyFault)
-      → ((kind : Check) → failed ≡ Some kind → kind ≢ Check.Notes → is_some (placed_reason (slice_get code k) (note_at notes k) kind) ≡ true)
-      → (later ≡ Some f → is_some (reason_at code notes f) ≡ true) → fault_or k failed later ≡ Some f → f.kind ≢ Check.Notes → is_some (reason_at code notes f) ≡ true
+      → ((kind : Check) → failed ≡ Some kind → kind ≢ Check.Notes → is_some (placed_reason (slice_get code k) (claim_at claims k) kind) ≡ true)
+      → (later ≡ Some f → is_some (reason_at code claims f) ≡ true) → fault_or k failed later ≡ Some f → f.kind ≢ Check.Notes → is_some (reason_at code claims f) ≡ true
   or_reasoned k (Some kind) later f here there e other =
       let mine : VerifyFault = record { pc = k; kind = kind } in
       let same : mine ≡ f = same_Some mine f e in
       let mine_other : kind ≢ Check.Notes = subst (λ (x : VerifyFault). x.kind ≢ Check.Notes) (sym same) other in
-      subst (λ (x : VerifyFault). is_some (reason_at code notes x) ≡ true) same (here kind refl mine_other)
+      subst (λ (x : VerifyFault). is_some (reason_at code claims x) ≡ true) same (here kind refl mine_other)
   or_reasoned k None later f here there e other = there e
 
   from_reasoned : (k : ℕ) (rest : List Placed) (f : VerifyFault) → ((i : ℕ) (placed : Placed) → slice_get rest i ≡ Some placed → slice_get code (k + i) ≡ Some placed)
-      → fault_from HELPERS code notes k rest ≡ Some f → f.kind ≢ Check.Notes → is_some (reason_at code notes f) ≡ true
+      → fault_from HELPERS code claims k rest ≡ Some f → f.kind ≢ Check.Notes → is_some (reason_at code claims f) ≡ true
   from_reasoned k [] f all e other = absurd (none-some f e)
   from_reasoned k (placed ∷ rest) f all e other =
       let here : k + 0 ≡ k = omega arith in
       let at : slice_get code k ≡ Some placed = subst (λ (n : ℕ). slice_get code n ≡ Some placed) here (all 0 placed refl) in
-      or_reasoned k (failed_at HELPERS code notes k placed) (fault_from HELPERS code notes (k + 1) rest) f (λ kind failed named. at_reasoned k placed kind at failed named)
+      or_reasoned k (failed_at HELPERS code claims k placed) (fault_from HELPERS code claims (k + 1) rest) f (λ kind failed named. at_reasoned k placed kind at failed named)
       (λ later. from_reasoned (k + 1) rest f (λ i p q.
       let next : k + suc i ≡ (k + 1) + i = omega arith in
       subst (λ (n : ℕ). slice_get code n ≡ Some p) next (all (suc i) p q))
       later other)
       e other
 
-  code_reasoned : (f : VerifyFault) → fault_of HELPERS code notes ≡ Some f → f.kind ≢ Check.Notes → is_some (reason_at code notes f) ≡ true
+  code_reasoned : (f : VerifyFault) → fault_of HELPERS code claims ≡ Some f → f.kind ≢ Check.Notes → is_some (reason_at code claims f) ≡ true
   unfolding fault_of
   code_reasoned f e other =
-      let start : Bool = (length notes == length code) && is_covered entry_state (note_at notes 0) in
-      let notes_fault : VerifyFault = record { pc = 0; kind = Check.Notes } in
+      let start : Bool = (length claims == length code) && is_covered entry_state (claim_at claims 0) in
+      let claims_fault : VerifyFault = record { pc = 0; kind = Check.Notes } in
       elim (cases_Bool start) [
         | inl passes ↦ from_reasoned 0 code f (λ i placed at.
             let same : i ≡ 0 + i = omega arith in
             subst (λ (n : ℕ). slice_get code n ≡ Some placed) same at)
-            (sym (cond-true start (fault_from HELPERS code notes 0 code) (Some notes_fault) passes) ∙ e) other
+            (sym (cond-true start (fault_from HELPERS code claims 0 code) (Some claims_fault) passes) ∙ e) other
         | inr fails ↦
-            let same : notes_fault ≡ f = same_Some notes_fault f (sym (cond-false start (fault_from HELPERS code notes 0 code) (Some notes_fault) fails) ∙ e) in
+            let same : claims_fault ≡ f = same_Some claims_fault f (sym (cond-false start (fault_from HELPERS code claims 0 code) (Some claims_fault) fails) ∙ e) in
             absurd (other (sym (ap (λ (x : VerifyFault). x.kind) same)))
       ]
 
@@ -193,4 +193,4 @@ pub refusal_reasoned : (image : List ℕ) (code : List Placed) (f : VerifyFault)
 refusal_reasoned image code f of read proper refused =
     let fault = code_fault_is image code f read refused.fault_is in
     let some : 0 < length code = number_below code 0 0 (number_of_zero image code of) in
-    code_reasoned code (joined_states HELPERS code) (λ k s below is. proper k s below (sym (note_joined HELPERS code k below) ∙ is)) f fault (fault_is_other HELPERS image code of f some fault)
+    code_reasoned code (joined_states HELPERS code) (λ k s below is. proper k s below (sym (claim_joined HELPERS code k below) ∙ is)) f fault (fault_is_other HELPERS image code of f some fault)

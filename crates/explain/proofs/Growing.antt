@@ -4,7 +4,7 @@ use Rattle.std.specs.Prelude.{slice_get, Option, Some}
 use Rattle.std.proofs.lemmas.List.{append-nil}
 use Rattle.machine_spec.specs.declared.instruction.Placed.{Placed}
 use Rattle.verifier_spec.specs.declared.state.Abstract.{Abstract}
-use Rattle.verifier_spec.specs.Annotation.{Notes, note_at}
+use Rattle.verifier_spec.specs.Annotation.{Claims, claim_at}
 use Rattle.explain.specs.Texts.{texts_below, lines_of, lines_at}
 
 pub none_yet : (start : List ℕ) (text : ℕ → List ℕ) → start ≡ start ++ texts_below 0 text
@@ -19,7 +19,7 @@ pub one_more : (start all more : List ℕ) (k : ℕ) (text : ℕ → List ℕ) �
 one_more start all more k text so pushed =
     pushed ∙ ap (λ (t : List ℕ). t ++ text k) so ∙ append_assoc start (texts_below k text) (text k) ∙ ap (λ (t : List ℕ). start ++ t) (sym (next_text k text))
 
-pub same_lines : (code : List Placed) (notes : Notes) (k : ℕ) (placed : Placed) (known : Option Abstract) → slice_get code k ≡ Some placed → known ≡ note_at notes k
-    → lines_of k (Some placed) known ≡ lines_at code notes k
-same_lines code notes k placed known at is =
-    ap (λ (n : Option Abstract). lines_of k (Some placed) n) is ∙ ap (λ (p : Option Placed). lines_of k p (note_at notes k)) (sym at)
+pub same_lines : (code : List Placed) (claims : Claims) (k : ℕ) (placed : Placed) (known : Option Abstract) → slice_get code k ≡ Some placed → known ≡ claim_at claims k
+    → lines_of k (Some placed) known ≡ lines_at code claims k
+same_lines code claims k placed known at is =
+    ap (λ (n : Option Abstract). lines_of k (Some placed) n) is ∙ ap (λ (p : Option Placed). lines_of k p (claim_at claims k)) (sym at)

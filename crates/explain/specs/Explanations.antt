@@ -5,7 +5,7 @@ use Rattle.machine_spec.specs.Image.{program_of, read_image}
 use Rattle.machine_spec.specs.declared.instruction.{IsaFault.IsaFault, Placed.Placed}
 use Rattle.machine_spec.specs.declared.instruction.IsaFault.TheVariants as isa
 use Rattle.verifier_spec.specs.declared.fault.{VerifyFault.VerifyFault, LoadFault.TheVariants.Verify}
-use Rattle.verifier_spec.specs.Annotation.{Notes}
+use Rattle.verifier_spec.specs.Annotation.{Claims}
 use Rattle.verifier_spec.specs.JoinedStates.{joined_states}
 use Rattle.verifier_spec.specs.Loading.{IsAccepted, IsRefusedWith}
 use Rattle.explain.specs.declared.explanation.{Explanation.Explanation, Refusal.Refusal}
@@ -27,11 +27,11 @@ abbrev pub end_of : Option VerifyFault → List ℕ
 end_of None = codes "ok" ++ 10 ∷ []
 end_of (Some fault) = []
 
-abbrev pub listing : List Placed → Notes → Option VerifyFault → List ℕ
-listing code notes fault = texts_below (printed_count code fault) (lines_at code notes) ++ end_of fault
+abbrev pub listing : List Placed → Claims → Option VerifyFault → List ℕ
+listing code claims fault = texts_below (printed_count code fault) (lines_at code claims) ++ end_of fault
 
-abbrev pub refusal_at : List Placed → Notes → VerifyFault → Refusal
-refusal_at code notes fault = record { fault = fault; reason = reason_at code notes fault }
+abbrev pub refusal_at : List Placed → Claims → VerifyFault → Refusal
+refusal_at code claims fault = record { fault = fault; reason = reason_at code claims fault }
 
 -- what a refusal is about is there
 abbrev pub HasReason : Refusal → Type 0

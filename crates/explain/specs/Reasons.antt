@@ -14,7 +14,7 @@ use Rattle.verifier_spec.specs.declared.state.{Abs.Abs, StackSet.StackSet, Abstr
 use Rattle.verifier_spec.specs.declared.fault.{Check.Check, VerifyFault.VerifyFault}
 use Rattle.verifier_spec.specs.Kinds.{kind_at, least, range_of, is_unknown, is_number_kind, is_address_kind}
 use Rattle.verifier_spec.specs.Checks.{source_kind, is_one_sign, least_displacement, greatest_displacement, Reach, reach_of, are_set, is_wrong_argument_kind}
-use Rattle.verifier_spec.specs.Annotation.{Notes, note_at}
+use Rattle.verifier_spec.specs.Annotation.{Claims, claim_at}
 use Rattle.explain.specs.declared.reason.{Reached.Reached, Reason.Reason}
 
 -- ---- jumps
@@ -174,5 +174,5 @@ placed_reason (Some placed) known check = reason_of placed known check
 placed_reason None known check = None
 
 -- what a fault of code with these states is about
-abbrev pub reason_at : List Placed → Notes → VerifyFault → Option Reason
-reason_at code notes fault = placed_reason (slice_get code fault.pc) (note_at notes fault.pc) fault.kind
+abbrev pub reason_at : List Placed → Claims → VerifyFault → Option Reason
+reason_at code claims fault = placed_reason (slice_get code fault.pc) (claim_at claims fault.pc) fault.kind

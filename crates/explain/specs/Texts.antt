@@ -7,7 +7,7 @@ use Rattle.machine_spec.specs.declared.instruction.{Region.Region, Placed.Placed
 use Rattle.verifier_spec.specs.declared.state.{Abs.Abs, StackSet.StackSet, Abstract.Abstract}
 use Rattle.verifier_spec.specs.Kinds.{kind_at, is_unknown}
 use Rattle.verifier_spec.specs.Checks.{are_set}
-use Rattle.verifier_spec.specs.Annotation.{Notes, note_at}
+use Rattle.verifier_spec.specs.Annotation.{Claims, claim_at}
 use Rattle.bpf_asm.specs.Numbers.{distance_text}
 use Rattle.bpf_asm.specs.Writing.{line_text}
 
@@ -83,18 +83,18 @@ abbrev pub state_text : Abstract → List ℕ
 state_text s = registers_text s ++ (length_text Region.Key s.key_min s.key_max MAX_KEY ++ (length_text Region.Value s.value_min s.value_max MAX_VALUE ++ stack_text s.set))
 
 -- what is known before an instruction, which may be unreached
-abbrev pub note_text : Option Abstract → List ℕ
-note_text (Some s) = state_text s
-note_text None = codes "  unreached" ++ 10 ∷ []
+abbrev pub claim_text : Option Abstract → List ℕ
+claim_text (Some s) = state_text s
+claim_text None = codes "  unreached" ++ 10 ∷ []
 
 -- `3 slot 4: exit`
 abbrev pub instruction_text : ℕ → Placed → List ℕ
 instruction_text k placed = decimal k ++ (codes " slot " ++ (decimal placed.slot ++ (codes ": " ++ line_text placed.instruction)))
 
 abbrev pub lines_of : ℕ → Option Placed → Option Abstract → List ℕ
-lines_of k (Some placed) known = instruction_text k placed ++ note_text known
+lines_of k (Some placed) known = instruction_text k placed ++ claim_text known
 lines_of k None known = []
 
 -- the lines of instruction number k
-abbrev pub lines_at : List Placed → Notes → ℕ → List ℕ
-lines_at code notes k = lines_of k (slice_get code k) (note_at notes k)
+abbrev pub lines_at : List Placed → Claims → ℕ → List ℕ
+lines_at code claims k = lines_of k (slice_get code k) (claim_at claims k)

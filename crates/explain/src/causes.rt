@@ -12,7 +12,7 @@ use crate::registers::unknown_register;
 use abstract_regs::State;
 use bpf_isa::Code;
 use machine_spec::{Placed, Summary};
-use notes::note_at;
+use notes::claim_at;
 use state_order::kinds;
 use verifier_spec::{Abstract, Check, VerifyFault};
 
@@ -119,10 +119,10 @@ fn state_reason(placed: Placed, state: &Abstract, check: Check) -> Option<Reason
     }
 }
 
-fn reason_of(placed: Placed, note: Option<&State>, check: Check) -> Option<Reason>
-    ensures { result ≡ definitions.reason_of placed (option_copied note.entry) check }
+fn reason_of(placed: Placed, claim: Option<&State>, check: Check) -> Option<Reason>
+    ensures { result ≡ definitions.reason_of placed (option_copied claim.entry) check }
 {
-    match note {
+    match claim {
         Some(state) => state_reason(placed, state.as_abstract(), check),
         None => shape_reason(placed, check),
     }
@@ -133,7 +133,7 @@ pub fn reason_at(code: &Code, states: &[Option<State>], fault: VerifyFault) -> O
     ensures { result ≡ definitions.reason_at code.now states.now fault }
 {
     if fault.pc < code.len() {
-        reason_of(code.get(fault.pc), note_at(states, fault.pc), fault.kind)
+        reason_of(code.get(fault.pc), claim_at(states, fault.pc), fault.kind)
     } else {
         None
     }

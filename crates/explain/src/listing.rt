@@ -10,7 +10,7 @@ use abstract_regs::State;
 use bpf_asm::push_line;
 use bpf_isa::Code;
 use machine_spec::{Placed, Region, STACK_SIZE};
-use notes::note_at;
+use notes::claim_at;
 use stack_bytes::contains_all;
 use state_order::kinds::is_unknown;
 use std::alloc::AllocError;
@@ -141,10 +141,10 @@ fn push_state(text: &mut String, state: &State) -> Result<(), AllocError>
     push_stack(text, &known.set)
 }
 
-fn push_note(text: &mut String, note: Option<&State>) -> Result<(), AllocError>
-    ensures { OnOk result (string_bytes text.new ≡ string_bytes text.old ++ definitions.note_text (option_copied note.entry)) }
+fn push_claim(text: &mut String, claim: Option<&State>) -> Result<(), AllocError>
+    ensures { OnOk result (string_bytes text.new ≡ string_bytes text.old ++ definitions.claim_text (option_copied claim.entry)) }
 {
-    match note {
+    match claim {
         Some(state) => push_state(text, state),
         None => text.push_str("  unreached\n"),
     }
@@ -163,12 +163,12 @@ fn push_lines(
     text: &mut String,
     k: usize,
     placed: Placed,
-    note: Option<&State>,
+    claim: Option<&State>,
 ) -> Result<(), AllocError>
-    ensures { OnOk result (string_bytes text.new ≡ string_bytes text.old ++ definitions.lines_of k (Some placed) (option_copied note.entry)) }
+    ensures { OnOk result (string_bytes text.new ≡ string_bytes text.old ++ definitions.lines_of k (Some placed) (option_copied claim.entry)) }
 {
     push_instruction(text, k, placed)?;
-    push_note(text, note)
+    push_claim(text, claim)
 }
 
 /// Appends the lines of a program's first instructions.
@@ -182,7 +182,7 @@ pub fn push_first(
     ensures { OnOk result (string_bytes text.new ≡ string_bytes text.old ++ texts_below count (definitions.lines_at code.now states.now)) }
 {
     for k in 0..count {
-        push_lines(text, k, code.get(k), note_at(states, k))?;
+        push_lines(text, k, code.get(k), claim_at(states, k))?;
     }
     Ok(())
 }

@@ -2,7 +2,7 @@
 
 use annotate::{joined_states, load};
 use bpf_isa::decode;
-use notes::note_at;
+use notes::claim_at;
 use std::alloc::{AllocError, Global};
 use std::process::Abort;
 use std::test::Fail;
@@ -24,7 +24,7 @@ pub(crate) fn image_of(alloc: Global, slots: &[u64]) -> Result<Vec<u8>, AllocErr
 /// What is known of a register before an instruction, if it is reached.
 fn kind_of(alloc: Global, image: &[u8], k: usize, register: usize) -> Result<Option<Abs>, Fail> {
     let states = joined_states(alloc, &decode(alloc, image)?)?;
-    Ok(note_at(&states, k).map(|s| s.kind(register)))
+    Ok(claim_at(&states, k).map(|s| s.kind(register)))
 }
 
 /// What a load answers: how many instructions are accepted, or the fault's text.

@@ -4,7 +4,7 @@ use abstract_regs::State;
 use annotate::{joined_states, load};
 use bpf_isa::decode;
 use machine_spec::Region;
-use notes::{check_sparse, note_at};
+use notes::{check_sparse, claim_at};
 use std::alloc::Global;
 use std::process::Abort;
 use std::test::Fail;
@@ -33,7 +33,7 @@ const OUTSIDE: [u8; 32] = [
 /// The joined state of an instruction that is reached.
 fn joined(alloc: Global, image: &[u8], k: usize) -> Result<State, Fail> {
     let states = joined_states(alloc, &decode(alloc, image)?)?;
-    Ok(*note_at(&states, k).ok_or("it is reached")?)
+    Ok(*claim_at(&states, k).ok_or("it is reached")?)
 }
 
 /// What the check answers of an image and states with numbers.

@@ -6,43 +6,43 @@ use Rattle.machine_spec.specs.declared.helper.TheConstants.{HELPERS}
 use Rattle.machine_spec.specs.declared.instruction.Placed.{Placed}
 use Rattle.verifier_spec.specs.declared.fault.Check.{Check}
 use Rattle.verifier_spec.specs.declared.fault.VerifyFault.{VerifyFault}
-use Rattle.verifier_spec.specs.Annotation.{Notes, note_at, failed_at, fault_or, fault_from}
+use Rattle.verifier_spec.specs.Annotation.{Claims, claim_at, failed_at, fault_or, fault_from}
 use Rattle.verifier_spec.proofs.Faults.{fault_from-drop, none_fault_or}
 use Rattle.notes.specs.Proper.{IsProperAt, AreProperBelow, AreProper}
-use Rattle.notes.proofs.Lookups.{note_at_past}
+use Rattle.notes.proofs.Lookups.{claim_at_past}
 
 -- the refusal of an instruction that fails a check
-pub told_here : (code : List Placed) (notes : Notes) (k : ℕ) (placed : Placed) (kind : Check) → slice_get code k ≡ Some placed
-    → failed_at HELPERS code notes k placed ≡ Some kind → fault_from HELPERS code notes k (drop k code) ≡ Some (record { pc = k; kind = kind })
-told_here code notes k placed kind at fails =
-    fault_from-drop HELPERS code notes code k placed at
-    ∙ ap (λ failed. fault_or k failed (fault_from HELPERS code notes (k + 1) (drop (k + 1) code))) fails
+pub told_here : (code : List Placed) (claims : Claims) (k : ℕ) (placed : Placed) (kind : Check) → slice_get code k ≡ Some placed
+    → failed_at HELPERS code claims k placed ≡ Some kind → fault_from HELPERS code claims k (drop k code) ≡ Some (record { pc = k; kind = kind })
+told_here code claims k placed kind at fails =
+    fault_from-drop HELPERS code claims code k placed at
+    ∙ ap (λ failed. fault_or k failed (fault_from HELPERS code claims (k + 1) (drop (k + 1) code))) fails
 
 -- one that fails none leaves the word to the later ones
-pub passed_here : (code : List Placed) (notes : Notes) (k : ℕ) (placed : Placed) → slice_get code k ≡ Some placed
-    → failed_at HELPERS code notes k placed ≡ None → fault_from HELPERS code notes k (drop k code) ≡ fault_from HELPERS code notes (k + 1) (drop (k + 1) code)
-passed_here code notes k placed at passes =
-    fault_from-drop HELPERS code notes code k placed at
-    ∙ none_fault_or k (failed_at HELPERS code notes k placed) (fault_from HELPERS code notes (k + 1) (drop (k + 1) code)) passes
+pub passed_here : (code : List Placed) (claims : Claims) (k : ℕ) (placed : Placed) → slice_get code k ≡ Some placed
+    → failed_at HELPERS code claims k placed ≡ None → fault_from HELPERS code claims k (drop k code) ≡ fault_from HELPERS code claims (k + 1) (drop (k + 1) code)
+passed_here code claims k placed at passes =
+    fault_from-drop HELPERS code claims code k placed at
+    ∙ none_fault_or k (failed_at HELPERS code claims k placed) (fault_from HELPERS code claims (k + 1) (drop (k + 1) code)) passes
 
 drop_all : {A : Type 0} (xs : List A) → drop (length xs) xs ≡ []
 drop_all [] = refl
 drop_all (x ∷ xs) = drop_all xs
 
 -- past the last there is none
-pub none_past : (code : List Placed) (notes : Notes) → fault_from HELPERS code notes (length code) (drop (length code) code) ≡ None
-none_past code notes = ap (fault_from HELPERS code notes (length code)) (drop_all code)
+pub none_past : (code : List Placed) (claims : Claims) → fault_from HELPERS code claims (length code) (drop (length code) code) ≡ None
+none_past code claims = ap (fault_from HELPERS code claims (length code)) (drop_all code)
 
-pub proper_more : (notes : Notes) (k : ℕ) → AreProperBelow notes k → IsProperAt notes k → AreProperBelow notes (k + 1)
-proper_more notes k below here = below_more (IsProperAt notes) k below here
+pub proper_more : (claims : Claims) (k : ℕ) → AreProperBelow claims k → IsProperAt claims k → AreProperBelow claims (k + 1)
+proper_more claims k below here = below_more (IsProperAt claims) k below here
 
 -- all states are in their ranges where those of as many instructions as the list has are
-pub proper_all : (notes : Notes) (n : ℕ) → length notes ≡ n → AreProperBelow notes n → AreProper notes
-proper_all notes n long below k s e =
+pub proper_all : (claims : Claims) (n : ℕ) → length claims ≡ n → AreProperBelow claims n → AreProper claims
+proper_all claims n long below k s e =
     elim (cases_lt k n) [
       | inl inside ↦ below k inside s e
       | inr past ↦
-          let none : note_at notes k ≡ None = note_at_past notes k (omega arith) in
+          let none : claim_at claims k ≡ None = claim_at_past claims k (omega arith) in
           absurd (cc)
     ]
 
@@ -51,8 +51,8 @@ none_then : {T : Type 0} (r : Option T) {P Q : Type 0} → IfNone r P → (P →
 none_then None h f = f h
 none_then (Some x) h f = tt
 
-pub proper_started : (notes : Notes) (n : ℕ) (covers : Bool) (told : Option VerifyFault) → ((length notes == n) && covers) ≡ true
-    → IfNone told (AreProperBelow notes n) → IfNone told (AreProper notes)
-proper_started notes n covers told started below =
-    let long : length notes ≡ n = eqb-true (length notes) n (and_parts (length notes == n) covers started).0 in
-    none_then told below (proper_all notes n long)
+pub proper_started : (claims : Claims) (n : ℕ) (covers : Bool) (told : Option VerifyFault) → ((length claims == n) && covers) ≡ true
+    → IfNone told (AreProperBelow claims n) → IfNone told (AreProper claims)
+proper_started claims n covers told started below =
+    let long : length claims ≡ n = eqb-true (length claims) n (and_parts (length claims == n) covers started).0 in
+    none_then told below (proper_all claims n long)

@@ -11,8 +11,8 @@ use Rattle.machine_spec.specs.Image.{target_of}
 use Rattle.verifier_spec.specs.declared.state.Abstract.{Abstract}
 use Rattle.verifier_spec.specs.States.{is_proper, entry_state}
 use Rattle.verifier_spec.specs.Checks.{jump_of}
-use Rattle.verifier_spec.specs.Annotation.{Notes, note_at}
-use Rattle.notes.specs.Derived.{fallen, given_or, derived_at, leads_to, jumps_at, is_target, at_targets, pair_at, kept_note, kept_from, kept_states, EachIs, AreDerivedProper, AreTargets}
+use Rattle.verifier_spec.specs.Annotation.{Claims, claim_at}
+use Rattle.notes.specs.Derived.{fallen, given_or, derived_at, leads_to, jumps_at, is_target, at_targets, pair_at, kept_claim, kept_from, kept_states, EachIs, AreDerivedProper, AreTargets}
 use Rattle.notes.proofs.Derived.{given_first, given_next, read_placed}
 
 -- ---- marks
@@ -83,63 +83,63 @@ all_marked code marks k all done = record {
   each = λ j under. done.each j under ∙ ap (λ (xs : List Placed). list_any (jumps_at code j) xs) (ap (λ (n : ℕ). take n code) all ∙ take_all code);
 }
 
--- ---- one note after another
+-- ---- one claim after another
 
-pub note_at-set : (notes : Notes) (k : ℕ) (new : Option Abstract) → k < length notes → note_at (set notes k new) k ≡ new
-note_at-set [] k new lt = absurd (omega arith)
-note_at-set (first ∷ notes) zero new lt = refl
-note_at-set (first ∷ notes) (suc k) new lt = note_at-set notes k new (omega arith)
+pub claim_at-set : (claims : Claims) (k : ℕ) (new : Option Abstract) → k < length claims → claim_at (set claims k new) k ≡ new
+claim_at-set [] k new lt = absurd (omega arith)
+claim_at-set (first ∷ claims) zero new lt = refl
+claim_at-set (first ∷ claims) (suc k) new lt = claim_at-set claims k new (omega arith)
 
-note_at-set_other : (notes : Notes) (k j : ℕ) (new : Option Abstract) → j ≢ k → note_at (set notes k new) j ≡ note_at notes j
-note_at-set_other [] k j new other = refl
-note_at-set_other (first ∷ notes) zero zero new other = absurd (other refl)
-note_at-set_other (first ∷ notes) zero (suc j) new other = refl
-note_at-set_other (first ∷ notes) (suc k) zero new other = refl
-note_at-set_other (first ∷ notes) (suc k) (suc j) new other = note_at-set_other notes k j new (λ same. other (ap (λ (n : ℕ). suc n) same))
+claim_at-set_other : (claims : Claims) (k j : ℕ) (new : Option Abstract) → j ≢ k → claim_at (set claims k new) j ≡ claim_at claims j
+claim_at-set_other [] k j new other = refl
+claim_at-set_other (first ∷ claims) zero zero new other = absurd (other refl)
+claim_at-set_other (first ∷ claims) zero (suc j) new other = refl
+claim_at-set_other (first ∷ claims) (suc k) zero new other = refl
+claim_at-set_other (first ∷ claims) (suc k) (suc j) new other = claim_at-set_other claims k j new (λ same. other (ap (λ (n : ℕ). suc n) same))
 
--- The first k notes are new ones, the others as they were.
-pub record AreDone (old notes : Notes) (new : ℕ → Option Abstract) (k : ℕ) : Type 0 where
-  pub long : length notes ≡ length old
-  pub done : (j : ℕ) → j < k → note_at notes j ≡ new j
-  pub left : (j : ℕ) → k ≤ j → note_at notes j ≡ note_at old j
+-- The first k claims are new ones, the others as they were.
+pub record AreDone (old claims : Claims) (new : ℕ → Option Abstract) (k : ℕ) : Type 0 where
+  pub long : length claims ≡ length old
+  pub done : (j : ℕ) → j < k → claim_at claims j ≡ new j
+  pub left : (j : ℕ) → k ≤ j → claim_at claims j ≡ claim_at old j
 
-pub none_done : (old : Notes) (new : ℕ → Option Abstract) → AreDone old old new 0
+pub none_done : (old : Claims) (new : ℕ → Option Abstract) → AreDone old old new 0
 none_done old new = record { long = refl; done = λ j under. absurd (omega (arith, under)); left = λ j from. refl }
 
-pub one_done : (old notes : Notes) (new : ℕ → Option Abstract) (k : ℕ) (note : Option Abstract) → k < length old → note ≡ new k → AreDone old notes new k → AreDone old (set notes k note) new (k + 1)
-one_done old notes new k note inside is before = record {
-  long = length-set notes k note ∙ before.long;
+pub one_done : (old claims : Claims) (new : ℕ → Option Abstract) (k : ℕ) (claim : Option Abstract) → k < length old → claim ≡ new k → AreDone old claims new k → AreDone old (set claims k claim) new (k + 1)
+one_done old claims new k claim inside is before = record {
+  long = length-set claims k claim ∙ before.long;
   done = λ j under. elim (cases_eq j k) [
     | inl same ↦
-        let P : ℕ → Type 0 = λ n. note_at (set notes k note) n ≡ new n in
-        let here : k < length notes = omega (arith, inside, before.long) in
-        subst P (sym same) (note_at-set notes k note here ∙ is)
-    | inr other ↦ note_at-set_other notes k j note other ∙ before.done j (omega (arith, under, other))
+        let P : ℕ → Type 0 = λ n. claim_at (set claims k claim) n ≡ new n in
+        let here : k < length claims = omega (arith, inside, before.long) in
+        subst P (sym same) (claim_at-set claims k claim here ∙ is)
+    | inr other ↦ claim_at-set_other claims k j claim other ∙ before.done j (omega (arith, under, other))
   ];
   left = λ j from.
       let other : j ≢ k = λ same. omega (arith, from, same) in
-      note_at-set_other notes k j note other ∙ before.left j (omega (arith, from));
+      claim_at-set_other claims k j claim other ∙ before.left j (omega (arith, from));
 }
 
 -- those of marked instructions
-abbrev pub if_marked : List Bool → Notes → ℕ → Option Abstract
-if_marked marks notes j = cond (get_or marks j false) (note_at notes j) None
+abbrev pub if_marked : List Bool → Claims → ℕ → Option Abstract
+if_marked marks claims j = cond (get_or marks j false) (claim_at claims j) None
 
 -- ---- what follows
 
 -- what follows has come to instruction k
-pub record HasFollowed (code : List Placed) (old : Notes) (follows : Option Abstract) (k : ℕ) : Type 0 where
-  pub next : derived_at code (note_at old) k ≡ given_or (note_at old k) follows
-  pub proper : AreDerivedProper code (note_at old) k
+pub record HasFollowed (code : List Placed) (old : Claims) (follows : Option Abstract) (k : ℕ) : Type 0 where
+  pub next : derived_at code (claim_at old) k ≡ given_or (claim_at old k) follows
+  pub proper : AreDerivedProper code (claim_at old) k
 
-pub follows_first : (code : List Placed) (old : Notes) → HasFollowed code old (Some entry_state) 0
-follows_first code old = record { next = given_first code (note_at old); proper = λ k s under e. absurd (omega (arith, under)) }
+pub follows_first : (code : List Placed) (old : Claims) → HasFollowed code old (Some entry_state) 0
+follows_first code old = record { next = given_first code (claim_at old); proper = λ k s under e. absurd (omega (arith, under)) }
 
-pub follows_more : (code : List Placed) (old : Notes) (follows state falls : Option Abstract) (k : ℕ) (placed : Placed) → slice_get code k ≡ Some placed
-    → state ≡ given_or (note_at old k) follows → falls ≡ fallen code k (Some placed) state → ((s : Abstract) → state ≡ Some s → is_proper s ≡ true)
+pub follows_more : (code : List Placed) (old : Claims) (follows state falls : Option Abstract) (k : ℕ) (placed : Placed) → slice_get code k ≡ Some placed
+    → state ≡ given_or (claim_at old k) follows → falls ≡ fallen code k (Some placed) state → ((s : Abstract) → state ≡ Some s → is_proper s ≡ true)
     → HasFollowed code old follows k → HasFollowed code old falls (k + 1)
 follows_more code old follows state falls k placed at state_is falls_is proper before =
-    let given = note_at old in
+    let given = claim_at old in
     let here : derived_at code given k ≡ state = before.next ∙ sym state_is in
     let one : suc k ≡ k + 1 = omega arith in
     let P : ℕ → Type 0 = λ n. derived_at code given n ≡ given_or (given n) falls in
@@ -171,8 +171,8 @@ take_more (x ∷ xs) (suc k) d under =
     let next : suc (k + 1) ≡ suc k + 1 = omega arith in
     subst (λ n. take n (x ∷ xs) ≡ take (suc k) (x ∷ xs) ++ (get_or (x ∷ xs) (suc k) d ∷ [])) next (ap (λ ys. x ∷ ys) (take_more xs k d (omega arith)))
 
-pub put_more : (pairs : List (ℕ × Abstract)) (states more : Notes) (k : ℕ) (pair : ℕ × Abstract) → k < length pairs → pair ≡ get_or pairs k pair → length more ≡ length states
-    → EachIs more (λ j. given_or (note_at states j) (cond (pair.0 == j) (Some pair.1) None)) → EachIs states (pair_at (take k pairs)) → EachIs more (pair_at (take (k + 1) pairs))
+pub put_more : (pairs : List (ℕ × Abstract)) (states more : Claims) (k : ℕ) (pair : ℕ × Abstract) → k < length pairs → pair ≡ get_or pairs k pair → length more ≡ length states
+    → EachIs more (λ j. given_or (claim_at states j) (cond (pair.0 == j) (Some pair.1) None)) → EachIs states (pair_at (take k pairs)) → EachIs more (pair_at (take (k + 1) pairs))
 put_more pairs states more k pair under is long each before = λ j inside.
     let P : (ℕ × Abstract) → Type 0 = λ p. pair_at (take k pairs ++ p ∷ []) j ≡ given_or (pair_at (take k pairs) j) (cond (pair.0 == j) (Some pair.1) None) in
     let last = subst P is (pair_at-append (take k pairs) pair j) in
@@ -180,27 +180,27 @@ put_more pairs states more k pair under is long each before = λ j inside.
     ∙ (ap (λ (o : Option Abstract). given_or o (cond (pair.0 == j) (Some pair.1) None)) (before j (omega (arith, inside, long)))
     ∙ (sym last ∙ ap (λ (xs : List (ℕ × Abstract)). pair_at xs j) (sym (take_more pairs k pair under))))
 
-pub put_one : (states : Notes) (pair : ℕ × Abstract) (new : Option Abstract) → pair.0 < length states → new ≡ given_or (note_at states pair.0) (Some pair.1)
-    → EachIs (set states pair.0 new) (λ j. given_or (note_at states j) (cond (pair.0 == j) (Some pair.1) None))
+pub put_one : (states : Claims) (pair : ℕ × Abstract) (new : Option Abstract) → pair.0 < length states → new ≡ given_or (claim_at states pair.0) (Some pair.1)
+    → EachIs (set states pair.0 new) (λ j. given_or (claim_at states j) (cond (pair.0 == j) (Some pair.1) None))
 put_one states pair new inside is = λ j under. elim (cases_eq j pair.0) [
   | inl same ↦
-      let P : ℕ → Type 0 = λ n. note_at (set states pair.0 new) n ≡ given_or (note_at states n) (cond (pair.0 == n) (Some pair.1) None) in
+      let P : ℕ → Type 0 = λ n. claim_at (set states pair.0 new) n ≡ given_or (claim_at states n) (cond (pair.0 == n) (Some pair.1) None) in
       subst P (sym same)
-      (note_at-set states pair.0 new inside
-      ∙ (is ∙ ap (λ (o : Option Abstract). given_or (note_at states pair.0) o) (sym (cond-true (pair.0 == pair.0) (Some pair.1) None (eq-eqb pair.0 pair.0 refl)))))
+      (claim_at-set states pair.0 new inside
+      ∙ (is ∙ ap (λ (o : Option Abstract). given_or (claim_at states pair.0) o) (sym (cond-true (pair.0 == pair.0) (Some pair.1) None (eq-eqb pair.0 pair.0 refl)))))
   | inr other ↦
-      note_at-set_other states pair.0 j new other
-      ∙ (given_none (note_at states j) ∙ ap (λ (o : Option Abstract). given_or (note_at states j) o) (sym (cond-false (pair.0 == j) (Some pair.1) None (apart pair.0 j other))))
+      claim_at-set_other states pair.0 j new other
+      ∙ (given_none (claim_at states j) ∙ ap (λ (o : Option Abstract). given_or (claim_at states j) o) (sym (cond-false (pair.0 == j) (Some pair.1) None (apart pair.0 j other))))
 ]
   where
     given_none : (o : Option Abstract) → o ≡ given_or o None
     given_none None = refl
     given_none (Some s) = refl
 
-pub put_none : (states : Notes) (pair : ℕ × Abstract) → length states ≤ pair.0 → EachIs states (λ j. given_or (note_at states j) (cond (pair.0 == j) (Some pair.1) None))
+pub put_none : (states : Claims) (pair : ℕ × Abstract) → length states ≤ pair.0 → EachIs states (λ j. given_or (claim_at states j) (cond (pair.0 == j) (Some pair.1) None))
 put_none states pair past = λ j under.
     let other : j ≢ pair.0 = λ same. omega (arith, past, under, same) in
-    given_none (note_at states j) ∙ ap (λ (o : Option Abstract). given_or (note_at states j) o) (sym (cond-false (pair.0 == j) (Some pair.1) None (apart pair.0 j other)))
+    given_none (claim_at states j) ∙ ap (λ (o : Option Abstract). given_or (claim_at states j) o) (sym (cond-false (pair.0 == j) (Some pair.1) None (apart pair.0 j other)))
   where
     given_none : (o : Option Abstract) → o ≡ given_or o None
     given_none None = refl
@@ -208,68 +208,68 @@ put_none states pair past = λ j under.
 
 -- ---- kept states
 
-pub note_at-get_or : (notes : Notes) (k : ℕ) (d : Option Abstract) → k < length notes → note_at notes k ≡ get_or notes k d
-note_at-get_or [] k d lt = absurd (omega arith)
-note_at-get_or (first ∷ notes) zero d lt = refl
-note_at-get_or (first ∷ notes) (suc k) d lt = note_at-get_or notes k d (omega arith)
+pub claim_at-get_or : (claims : Claims) (k : ℕ) (d : Option Abstract) → k < length claims → claim_at claims k ≡ get_or claims k d
+claim_at-get_or [] k d lt = absurd (omega arith)
+claim_at-get_or (first ∷ claims) zero d lt = refl
+claim_at-get_or (first ∷ claims) (suc k) d lt = claim_at-get_or claims k d (omega arith)
 
-pub kept_more : (code : List Placed) (notes : Notes) (k : ℕ) (wanted : Bool) (note : Option Abstract) → k < length notes → wanted ≡ is_target code k → note ≡ get_or notes k note
-    → kept_from code k (drop k notes) ≡ kept_note wanted k note ++ kept_from code (k + 1) (drop (k + 1) notes)
-kept_more code notes k wanted note under is read =
-    let P : Option Abstract → Type 0 = λ o. kept_from code k (drop k notes) ≡ kept_note (is_target code k) k o ++ kept_from code (k + 1) (drop (k + 1) notes) in
-    let Q : Bool → Type 0 = λ b. kept_from code k (drop k notes) ≡ kept_note b k note ++ kept_from code (k + 1) (drop (k + 1) notes) in
-    subst Q (sym is) (subst P (sym read) (ap (λ (ns : Notes). kept_from code k ns) (drop_more notes k note under)))
+pub kept_more : (code : List Placed) (claims : Claims) (k : ℕ) (wanted : Bool) (claim : Option Abstract) → k < length claims → wanted ≡ is_target code k → claim ≡ get_or claims k claim
+    → kept_from code k (drop k claims) ≡ kept_claim wanted k claim ++ kept_from code (k + 1) (drop (k + 1) claims)
+kept_more code claims k wanted claim under is read =
+    let P : Option Abstract → Type 0 = λ o. kept_from code k (drop k claims) ≡ kept_claim (is_target code k) k o ++ kept_from code (k + 1) (drop (k + 1) claims) in
+    let Q : Bool → Type 0 = λ b. kept_from code k (drop k claims) ≡ kept_claim b k claim ++ kept_from code (k + 1) (drop (k + 1) claims) in
+    subst Q (sym is) (subst P (sym read) (ap (λ (ns : Claims). kept_from code k ns) (drop_more claims k claim under)))
 
--- a note that was not reached yet is the old one
-pub old_note : (old notes : Notes) (new : ℕ → Option Abstract) (k : ℕ) → AreDone old notes new k → note_at notes k ≡ note_at old k
-old_note old notes new k done = done.left k (omega arith)
+-- a claim that was not reached yet is the old one
+pub old_claim : (old claims : Claims) (new : ℕ → Option Abstract) (k : ℕ) → AreDone old claims new k → claim_at claims k ≡ claim_at old k
+old_claim old claims new k done = done.left k (omega arith)
 
--- all notes are new ones
-pub all_done : (old notes : Notes) (new : ℕ → Option Abstract) (k : ℕ) → k ≡ length old → AreDone old notes new k → EachIs notes new
-all_done old notes new k all done = λ j under. done.done j (omega (arith, all, under, done.long))
+-- all claims are new ones
+pub all_done : (old claims : Claims) (new : ℕ → Option Abstract) (k : ℕ) → k ≡ length old → AreDone old claims new k → EachIs claims new
+all_done old claims new k all done = λ j under. done.done j (omega (arith, all, under, done.long))
 
 -- one more in place of the old one
-pub more_done : (old notes more : Notes) (new : ℕ → Option Abstract) (k : ℕ) (note : Option Abstract) → k < length old → more ≡ set notes k note → note ≡ new k → AreDone old notes new k → AreDone old more new (k + 1)
-more_done old notes more new k note inside set_is is before = subst (λ (ns : Notes). AreDone old ns new (k + 1)) (sym set_is) (one_done old notes new k note inside is before)
+pub more_done : (old claims more : Claims) (new : ℕ → Option Abstract) (k : ℕ) (claim : Option Abstract) → k < length old → more ≡ set claims k claim → claim ≡ new k → AreDone old claims new k → AreDone old more new (k + 1)
+more_done old claims more new k claim inside set_is is before = subst (λ (ns : Claims). AreDone old ns new (k + 1)) (sym set_is) (one_done old claims new k claim inside is before)
 
 -- what an instruction has after one step of the derivation
-pub followed_note : (code : List Placed) (old notes : Notes) (k : ℕ) (follows : Option Abstract) → AreDone old notes (derived_at code (note_at old)) k → HasFollowed code old follows k
-    → given_or (note_at notes k) follows ≡ derived_at code (note_at old) k
-followed_note code old notes k follows done followed =
-    ap (λ (o : Option Abstract). given_or o follows) (old_note old notes (derived_at code (note_at old)) k done) ∙ sym followed.next
+pub followed_claim : (code : List Placed) (old claims : Claims) (k : ℕ) (follows : Option Abstract) → AreDone old claims (derived_at code (claim_at old)) k → HasFollowed code old follows k
+    → given_or (claim_at claims k) follows ≡ derived_at code (claim_at old) k
+followed_claim code old claims k follows done followed =
+    ap (λ (o : Option Abstract). given_or o follows) (old_claim old claims (derived_at code (claim_at old)) k done) ∙ sym followed.next
 
 -- nothing is put at first
-pub none_put : (states : Notes) → states ≡ replicate (length states) None → EachIs states (pair_at [])
-none_put states e = λ j under. ap (λ (ns : Notes). note_at ns j) e ∙ none_there (length states) j
+pub none_put : (states : Claims) → states ≡ replicate (length states) None → EachIs states (pair_at [])
+none_put states e = λ j under. ap (λ (ns : Claims). claim_at ns j) e ∙ none_there (length states) j
   where
-    none_there : (n j : ℕ) → note_at (replicate n None) j ≡ None
+    none_there : (n j : ℕ) → claim_at (replicate n None) j ≡ None
     none_there zero j = refl
     none_there (suc n) zero = refl
     none_there (suc n) (suc j) = none_there n j
 
 -- ---- kept states, one after another
 
-pub kept_step : (code : List Placed) (notes : Notes) (k : ℕ) (wanted : Bool) (note : Option Abstract) (old more : List (ℕ × Abstract)) → k < length notes → wanted ≡ is_target code k → note ≡ note_at notes k
-    → more ≡ old ++ kept_note wanted k note → old ++ kept_from code k (drop k notes) ≡ kept_from code 0 notes → more ++ kept_from code (k + 1) (drop (k + 1) notes) ≡ kept_from code 0 notes
-kept_step code notes k wanted note old more under is read pushed before =
-    let rest = kept_from code (k + 1) (drop (k + 1) notes) in
+pub kept_step : (code : List Placed) (claims : Claims) (k : ℕ) (wanted : Bool) (claim : Option Abstract) (old more : List (ℕ × Abstract)) → k < length claims → wanted ≡ is_target code k → claim ≡ claim_at claims k
+    → more ≡ old ++ kept_claim wanted k claim → old ++ kept_from code k (drop k claims) ≡ kept_from code 0 claims → more ++ kept_from code (k + 1) (drop (k + 1) claims) ≡ kept_from code 0 claims
+kept_step code claims k wanted claim old more under is read pushed before =
+    let rest = kept_from code (k + 1) (drop (k + 1) claims) in
     ap (λ (xs : List (ℕ × Abstract)). xs ++ rest) pushed
-    ∙ (append_assoc old (kept_note wanted k note) rest
-    ∙ (ap (λ (xs : List (ℕ × Abstract)). old ++ xs) (sym (kept_more code notes k wanted note under is (read ∙ note_at-get_or notes k note under))) ∙ before))
+    ∙ (append_assoc old (kept_claim wanted k claim) rest
+    ∙ (ap (λ (xs : List (ℕ × Abstract)). old ++ xs) (sym (kept_more code claims k wanted claim under is (read ∙ claim_at-get_or claims k claim under))) ∙ before))
 
 drop_all : {A : Type 0} (xs : List A) → drop (length xs) xs ≡ []
 drop_all [] = refl
 drop_all (x ∷ xs) = drop_all xs
 
-pub kept_all : (code : List Placed) (notes : Notes) (k : ℕ) (kept : List (ℕ × Abstract)) → k ≡ length notes → kept ++ kept_from code k (drop k notes) ≡ kept_from code 0 notes → kept ≡ kept_states code notes
+pub kept_all : (code : List Placed) (claims : Claims) (k : ℕ) (kept : List (ℕ × Abstract)) → k ≡ length claims → kept ++ kept_from code k (drop k claims) ≡ kept_from code 0 claims → kept ≡ kept_states code claims
 unfolding kept_states
-kept_all code notes k kept all done =
-    let none : drop k notes ≡ [] = ap (λ (n : ℕ). drop n notes) all ∙ drop_all notes in
-    let P : Notes → Type 0 = λ ns. kept ++ kept_from code k ns ≡ kept_from code 0 notes in
+kept_all code claims k kept all done =
+    let none : drop k claims ≡ [] = ap (λ (n : ℕ). drop n claims) all ∙ drop_all claims in
+    let P : Claims → Type 0 = λ ns. kept ++ kept_from code k ns ≡ kept_from code 0 claims in
     sym (append-nil kept) ∙ subst P none done
 
 -- what is given after the marked states are left
-pub marked_given : (code : List Placed) (targets : List Bool) (old notes : Notes) → AreTargets code targets → length old ≡ length code → length notes ≡ length old → EachIs notes (if_marked targets old)
-    → (k : ℕ) → k < length code → note_at notes k ≡ at_targets code old k
-marked_given code targets old notes are long same each k under =
-    each k (omega (arith, under, long, same)) ∙ ap (λ (b : Bool). cond b (note_at old k) None) (are.each k under)
+pub marked_given : (code : List Placed) (targets : List Bool) (old claims : Claims) → AreTargets code targets → length old ≡ length code → length claims ≡ length old → EachIs claims (if_marked targets old)
+    → (k : ℕ) → k < length code → claim_at claims k ≡ at_targets code old k
+marked_given code targets old claims are long same each k under =
+    each k (omega (arith, under, long, same)) ∙ ap (λ (b : Bool). cond b (claim_at old k) None) (are.each k under)

@@ -11,7 +11,7 @@ use Rattle.machine_spec.specs.Traps.{first_of}
 use Rattle.verifier_spec.specs.Checks.{failed_check, shape_checks, jump_of}
 use Rattle.verifier_spec.specs.Transfer.{falls_to}
 use Rattle.verifier_spec.specs.JoinedStates.{if_passed}
-use Rattle.verifier_spec.specs.Annotation.{Notes, note_at, fault_of}
+use Rattle.verifier_spec.specs.Annotation.{Claims, claim_at, fault_of}
 
 -- ---- what follows
 
@@ -33,12 +33,12 @@ unfoldable pub derived_at : List Placed → (ℕ → Option Abstract) → ℕ �
 derived_at code given zero = given_or (given 0) (Some entry_state)
 derived_at code given (suc k) = given_or (given (suc k)) (fallen code k (slice_get code k) (derived_at code given k))
 
-abbrev pub derived_from : List Placed → (ℕ → Option Abstract) → ℕ → List Placed → Notes
+abbrev pub derived_from : List Placed → (ℕ → Option Abstract) → ℕ → List Placed → Claims
 derived_from code given k [] = []
 derived_from code given k (placed ∷ rest) = derived_at code given k ∷ derived_from code given (k + 1) rest
 
 -- those of all instructions
-unfoldable pub derived : List Placed → (ℕ → Option Abstract) → Notes
+unfoldable pub derived : List Placed → (ℕ → Option Abstract) → Claims
 derived code given = derived_from code given 0 code
 
 -- ---- jump targets
@@ -54,13 +54,13 @@ jumps_at code k placed = leads_to (target_of code placed.slot (jump_of placed.in
 unfoldable pub is_target : List Placed → ℕ → Bool
 is_target code k = list_any (jumps_at code k) code
 
--- of a list's notes those at jump targets
-abbrev pub at_targets : List Placed → Notes → ℕ → Option Abstract
-at_targets code notes k = if is_target code k then note_at notes k else None
+-- of a list's claims those at jump targets
+abbrev pub at_targets : List Placed → Claims → ℕ → Option Abstract
+at_targets code claims k = if is_target code k then claim_at claims k else None
 
 -- What a verified program has of a list of states: those at jump targets, and what follows from them.
-abbrev pub settled : List Placed → Notes → Notes
-settled code notes = derived code (at_targets code notes)
+abbrev pub settled : List Placed → Claims → Claims
+settled code claims = derived code (at_targets code claims)
 
 -- ---- states with the numbers of their instructions
 
@@ -70,17 +70,17 @@ pair_at [] k = None
 pair_at (pair ∷ pairs) k = if pair.0 == k then Some pair.1 else pair_at pairs k
 
 -- the state of instruction number k, where it is reached and wanted
-abbrev pub kept_note : Bool → ℕ → Option Abstract → List (ℕ × Abstract)
-kept_note true k (Some s) = (k, s) ∷ []
-kept_note _ _ _ = []
+abbrev pub kept_claim : Bool → ℕ → Option Abstract → List (ℕ × Abstract)
+kept_claim true k (Some s) = (k, s) ∷ []
+kept_claim _ _ _ = []
 
-abbrev pub kept_from : List Placed → ℕ → Notes → List (ℕ × Abstract)
+abbrev pub kept_from : List Placed → ℕ → Claims → List (ℕ × Abstract)
 kept_from code k [] = []
-kept_from code k (note ∷ notes) = kept_note (is_target code k) k note ++ kept_from code (k + 1) notes
+kept_from code k (claim ∷ claims) = kept_claim (is_target code k) k claim ++ kept_from code (k + 1) claims
 
 -- The states at the jump targets that are reached, in order.
-unfoldable pub kept_states : List Placed → Notes → List (ℕ × Abstract)
-kept_states code notes = kept_from code 0 notes
+unfoldable pub kept_states : List Placed → Claims → List (ℕ × Abstract)
+kept_states code claims = kept_from code 0 claims
 
 -- how many of the instructions from number k on are jump targets
 abbrev pub targets_from : List Placed → ℕ → List Placed → ℕ
@@ -103,9 +103,9 @@ pairs_fault code pairs = if are_rising 0 (length code) pairs then fault_of HELPE
 
 -- ---- lists by number
 
--- each note of a list, by its number
-abbrev pub EachIs : Notes → (ℕ → Option Abstract) → Type 0
-EachIs notes note = (j : ℕ) → j < length notes → note_at notes j ≡ note j
+-- each claim of a list, by its number
+abbrev pub EachIs : Claims → (ℕ → Option Abstract) → Type 0
+EachIs claims claim = (j : ℕ) → j < length claims → claim_at claims j ≡ claim j
 
 -- the states that follow are in their ranges
 abbrev pub AreDerivedProper : List Placed → (ℕ → Option Abstract) → ℕ → Type 0

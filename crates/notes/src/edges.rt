@@ -1,10 +1,10 @@
 ghost use Rattle.std.specs.Prelude.{◌≡◌, ◌<◌, None};
 ghost use Rattle.std.specs.Option.{option_copied};
 ghost use Rattle.verifier_spec.specs.Checks.{failed_check};
-ghost use Rattle.verifier_spec.specs.Annotation.{is_covered, is_edge_covered, note_of, are_edges_covered};
+ghost use Rattle.verifier_spec.specs.Annotation.{is_covered, is_edge_covered, claim_of, are_edges_covered};
 ghost use Rattle.machine_spec.specs.declared.helper.TheConstants.{HELPERS};
 
-use crate::lookup::note_at;
+use crate::lookup::claim_at;
 use abstract_regs::State;
 use bpf_isa::Code;
 use machine_spec::{MAX_SLOTS, Placed, Summary};
@@ -30,11 +30,11 @@ fn is_edge_covered(brought: &Option<State>, outer: Option<&State>) -> bool
 }
 
 /// The state of an instruction, by its number if it has one.
-fn note_of(notes: &[Option<State>], number: Option<usize>) -> Option<&State>
-    ensures { option_copied result ≡ note_of notes.now number }
+fn claim_of(claims: &[Option<State>], number: Option<usize>) -> Option<&State>
+    ensures { option_copied result ≡ claim_of claims.now number }
 {
     match number {
-        Some(k) => note_at(notes, k),
+        Some(k) => claim_at(claims, k),
         None => None,
     }
 }
@@ -43,7 +43,7 @@ fn note_of(notes: &[Option<State>], number: Option<usize>) -> Option<&State>
 /// checks pass.
 pub fn are_edges_covered(
     code: &Code,
-    notes: &[Option<State>],
+    claims: &[Option<State>],
     k: usize,
     placed: Placed,
     state: &State,
@@ -51,11 +51,11 @@ pub fn are_edges_covered(
     requires number { k < MAX_SLOTS }
     requires slot { placed.slot < MAX_SLOTS }
     requires passed { failed_check HELPERS placed.instruction state.now ≡ None }
-    ensures { result ≡ are_edges_covered code.now notes.now k placed state.now }
+    ensures { result ≡ are_edges_covered code.now claims.now k placed state.now }
 {
     let edges = state.transfer(placed.instruction);
-    let next = note_at(notes, k + 1);
+    let next = claim_at(claims, k + 1);
     let jump = Summary::of(placed.instruction).jump;
-    let target = note_of(notes, code.target(placed.slot, jump));
+    let target = claim_of(claims, code.target(placed.slot, jump));
     is_edge_covered(&edges.next, next) && is_edge_covered(&edges.jump, target)
 }

@@ -16,6 +16,6 @@ mod stores;
 mod targets;
 mod verified;
 
-pub use lookup::note_at;
+pub use lookup::claim_at;
 pub use verified::{Verified, check, check_sparse};
 pub use verifier_spec::{Check, VerifyFault};

@@ -1,16 +1,16 @@
 ghost use Rattle.std.specs.Prelude.{◌≡◌};
 ghost use Rattle.std.specs.Option.{option_copied};
-ghost use Rattle.verifier_spec.specs.Annotation.{note_at};
+ghost use Rattle.verifier_spec.specs.Annotation.{claim_at};
 
 use abstract_regs::State;
 
 /// The state of an instruction, by its number from 0, if it is there and reached.
-#[tactic(auto, using(crate::proofs::Lookups::note_at_listed, crate::proofs::Lookups::note_at_past))]
-pub fn note_at(notes: &[Option<State>], k: usize) -> Option<&State>
-    ensures { option_copied result ≡ note_at notes.now k }
+#[tactic(auto, using(crate::proofs::Lookups::claim_at_listed, crate::proofs::Lookups::claim_at_past))]
+pub fn claim_at(claims: &[Option<State>], k: usize) -> Option<&State>
+    ensures { option_copied result ≡ claim_at claims.now k }
 {
-    if k < notes.len() {
-        notes[k].as_ref()
+    if k < claims.len() {
+        claims[k].as_ref()
     } else {
         None
     }

@@ -1,11 +1,11 @@
 ghost use Rattle.std.specs.Prelude.{◌≡◌, ℕ, ◌<◌, ◌++◌, true, false, if◌then◌else◌, length, Some, None, IfSome, IfOk, OnOk};
 ghost use Rattle.std.specs.Prelude.{slice_index_or, slice_set, replicate, ◌==◌};
 ghost use Rattle.verifier_spec.specs.States.{is_proper};
-ghost use Rattle.verifier_spec.specs.Annotation.{note_at};
+ghost use Rattle.verifier_spec.specs.Annotation.{claim_at};
 ghost use Rattle.verifier_spec.specs.Checks.{failed_check};
 ghost use Rattle.verifier_spec.specs.Transfer.{falls_to};
 ghost use Rattle.verifier_spec.specs.JoinedStates.{if_passed};
-ghost use Rattle.notes.specs.Derived.{fallen, given_or, derived, at_targets, settled, pair_at, are_rising, kept_note, kept_states, EachIs, AreDerivedProper, AreTargets};
+ghost use Rattle.notes.specs.Derived.{fallen, given_or, derived, at_targets, settled, pair_at, are_rising, kept_claim, kept_states, EachIs, AreDerivedProper, AreTargets};
 ghost use Rattle.machine_spec.specs.declared.helper.TheConstants.{HELPERS};
 
 use crate::shape::failed_shape;
@@ -54,7 +54,7 @@ fn passed_on(placed: Placed, state: &State) -> Option<State>
 /// The state of an instruction, if it is there.
 fn state_of(states: &[Option<State>], k: usize) -> Option<State>
     requires { k < length states.now }
-    ensures { result ≡ note_at states.now k }
+    ensures { result ≡ claim_at states.now k }
 {
     states[k]
 }
@@ -68,17 +68,17 @@ fn given_or(given: Option<State>, follows: Option<State>) -> Option<State>
     }
 }
 
-fn if_marked(mark: bool, note: Option<State>) -> Option<State>
-    ensures { result ≡ (if mark then note else None) }
+fn if_marked(mark: bool, claim: Option<State>) -> Option<State>
+    ensures { result ≡ (if mark then claim else None) }
 {
-    if mark { note } else { None }
+    if mark { claim } else { None }
 }
 
 /// Leaves the states of the marked instructions.
 fn keep_marked(marks: &[bool], states: &mut [Option<State>])
     requires { length marks.now ≡ length states.old }
     ensures length { length states.new ≡ length states.old }
-    ensures each { EachIs states.new (λ k. if slice_index_or marks.now k false then note_at states.old k else None) }
+    ensures each { EachIs states.new (λ k. if slice_index_or marks.now k false then claim_at states.old k else None) }
 {
     for k in 0..states.len() {
         states[k] = if_marked(marks[k], state_of(states, k));
@@ -96,9 +96,9 @@ fn follow(
     requires within { k < length states.old }
     requires number { k < MAX_SLOTS }
     requires slot { placed.slot < MAX_SLOTS }
-    ensures states { states.new ≡ slice_set states.old k (given_or (note_at states.old k) follows) }
-    ensures fallen { result ≡ fallen code.now k (Some placed) (given_or (note_at states.old k) follows) }
-    ensures proper { IfSome (given_or (note_at states.old k) follows) (λ s. is_proper s ≡ true) }
+    ensures states { states.new ≡ slice_set states.old k (given_or (claim_at states.old k) follows) }
+    ensures fallen { result ≡ fallen code.now k (Some placed) (given_or (claim_at states.old k) follows) }
+    ensures proper { IfSome (given_or (claim_at states.old k) follows) (λ s. is_proper s ≡ true) }
 {
     states[k] = given_or(state_of(states, k), follows);
     fallen(code, k, placed, state_of(states, k))
@@ -107,8 +107,8 @@ fn follow(
 /// Gives each instruction without a state the one that follows from those before it.
 fn derive(code: &Code, states: &mut [Option<State>])
     requires { length states.old ≡ length code.now }
-    ensures states { states.new ≡ derived code.now (note_at states.old) }
-    ensures proper { AreDerivedProper code.now (note_at states.old) (length code.now) }
+    ensures states { states.new ≡ derived code.now (claim_at states.old) }
+    ensures proper { AreDerivedProper code.now (claim_at states.old) (length code.now) }
 {
     let mut follows = Some(State::entry());
     for k in 0..code.len() {
@@ -148,7 +148,7 @@ pub fn settled_states(
 /// Gives the instruction with a number a state, if there is one that has none.
 fn put(states: &mut [Option<State>], pair: (usize, State))
     ensures length { length states.new ≡ length states.old }
-    ensures each { EachIs states.new (λ k. given_or (note_at states.old k) (if pair.0 == k then Some pair.1 else None)) }
+    ensures each { EachIs states.new (λ k. given_or (claim_at states.old k) (if pair.0 == k then Some pair.1 else None)) }
 {
     if pair.0 < states.len() {
         states[pair.0] = given_or(state_of(states, pair.0), Some(pair.1));
@@ -207,11 +207,11 @@ fn push_kept(
     kept: &mut Vec<(usize, State)>,
     mark: bool,
     k: usize,
-    note: Option<State>,
+    claim: Option<State>,
 ) -> Result<(), AllocError>
-    ensures { OnOk result (kept.new.items ≡ kept.old.items ++ kept_note mark k note) }
+    ensures { OnOk result (kept.new.items ≡ kept.old.items ++ kept_claim mark k claim) }
 {
-    if let Some(state) = note {
+    if let Some(state) = claim {
         if mark {
             kept.push((k, state))?;
         }

@@ -13,7 +13,7 @@ use Rattle.verifier_spec.specs.declared.fault.Check.TheVariants as check
 use Rattle.verifier_spec.specs.declared.fault.VerifyFault.{VerifyFault}
 use Rattle.verifier_spec.specs.States.{is_proper, entry_state}
 use Rattle.verifier_spec.specs.Checks.{checks, failed_check, shape_checks}
-use Rattle.verifier_spec.specs.Annotation.{Notes, note_at, is_covered, are_edges_covered, IsAnnotation, reached_checks, failed_at, fault_or, fault_from, fault_of}
+use Rattle.verifier_spec.specs.Annotation.{Claims, claim_at, is_covered, are_edges_covered, IsAnnotation, reached_checks, failed_at, fault_or, fault_from, fault_of}
 
 -- ---- lists of checks
 
@@ -59,45 +59,45 @@ pub passes_last : (rows : List (Bool × Check)) (holds : Bool) (kind : Check) �
 passes_last rows holds kind front last =
     first_of-append rows ((not holds, kind) ∷ []) front ∙ cond-false (not holds) (Some kind) None (not_from_true holds last)
 
--- An instruction with a note passes: its checks and its edges hold from the state of the note, if it has one.
-pub record Passes (helpers : List Helper) (code : List Placed) (notes : Notes) (k : ℕ) (placed : Placed) (note : Option Abstract) : Type 0 where
+-- An instruction with a claim passes: its checks and its edges hold from the state of the claim, if it has one.
+pub record Passes (helpers : List Helper) (code : List Placed) (claims : Claims) (k : ℕ) (placed : Placed) (claim : Option Abstract) : Type 0 where
   pub shape : first_of (shape_checks code k placed) ≡ None
-  pub checked : (s : Abstract) → note ≡ Some s → failed_check helpers placed.instruction s ≡ None
-  pub closed : (s : Abstract) → note ≡ Some s → are_edges_covered code notes k placed s ≡ true
+  pub checked : (s : Abstract) → claim ≡ Some s → failed_check helpers placed.instruction s ≡ None
+  pub closed : (s : Abstract) → claim ≡ Some s → are_edges_covered code claims k placed s ≡ true
 
-pub reached_pass : (helpers : List Helper) (code : List Placed) (notes : Notes) (k : ℕ) (placed : Placed) (note : Option Abstract)
-    → first_of (reached_checks helpers code notes k placed note) ≡ None
-    → (s : Abstract) → note ≡ Some s → (first_of (checks helpers (summary_of placed.instruction) s) ≡ None) × (are_edges_covered code notes k placed s ≡ true)
-reached_pass helpers code notes k placed None h s e = cc
-reached_pass helpers code notes k placed (Some t) h s e =
+pub reached_pass : (helpers : List Helper) (code : List Placed) (claims : Claims) (k : ℕ) (placed : Placed) (claim : Option Abstract)
+    → first_of (reached_checks helpers code claims k placed claim) ≡ None
+    → (s : Abstract) → claim ≡ Some s → (first_of (checks helpers (summary_of placed.instruction) s) ≡ None) × (are_edges_covered code claims k placed s ≡ true)
+reached_pass helpers code claims k placed None h s e = cc
+reached_pass helpers code claims k placed (Some t) h s e =
     let same : t ≡ s = cc in
-    let P : Abstract → Type 0 = λ u. (first_of (checks helpers (summary_of placed.instruction) u) ≡ None) × (are_edges_covered code notes k placed u ≡ true) in
-    subst P same (last_passes (checks helpers (summary_of placed.instruction) t) (are_edges_covered code notes k placed t) check.Notes h)
+    let P : Abstract → Type 0 = λ u. (first_of (checks helpers (summary_of placed.instruction) u) ≡ None) × (are_edges_covered code claims k placed u ≡ true) in
+    subst P same (last_passes (checks helpers (summary_of placed.instruction) t) (are_edges_covered code claims k placed t) check.Notes h)
 
-pub pass_reached : (helpers : List Helper) (code : List Placed) (notes : Notes) (k : ℕ) (placed : Placed) (note : Option Abstract)
-    → ((s : Abstract) → note ≡ Some s → (first_of (checks helpers (summary_of placed.instruction) s) ≡ None) × (are_edges_covered code notes k placed s ≡ true))
-    → first_of (reached_checks helpers code notes k placed note) ≡ None
-pass_reached helpers code notes k placed None h = refl
-pass_reached helpers code notes k placed (Some t) h =
-    passes_last (checks helpers (summary_of placed.instruction) t) (are_edges_covered code notes k placed t) check.Notes (h t refl).0 (h t refl).1
+pub pass_reached : (helpers : List Helper) (code : List Placed) (claims : Claims) (k : ℕ) (placed : Placed) (claim : Option Abstract)
+    → ((s : Abstract) → claim ≡ Some s → (first_of (checks helpers (summary_of placed.instruction) s) ≡ None) × (are_edges_covered code claims k placed s ≡ true))
+    → first_of (reached_checks helpers code claims k placed claim) ≡ None
+pass_reached helpers code claims k placed None h = refl
+pass_reached helpers code claims k placed (Some t) h =
+    passes_last (checks helpers (summary_of placed.instruction) t) (are_edges_covered code claims k placed t) check.Notes (h t refl).0 (h t refl).1
 
-pub passes_at : (helpers : List Helper) (code : List Placed) (notes : Notes) (k : ℕ) (placed : Placed) → failed_at helpers code notes k placed ≡ None → Passes helpers code notes k placed (note_at notes k)
+pub passes_at : (helpers : List Helper) (code : List Placed) (claims : Claims) (k : ℕ) (placed : Placed) → failed_at helpers code claims k placed ≡ None → Passes helpers code claims k placed (claim_at claims k)
 unfolding failed_at failed_check
-passes_at helpers code notes k placed h =
-    let shape : first_of (shape_checks code k placed) ≡ None = first_of-front (shape_checks code k placed) (reached_checks helpers code notes k placed (note_at notes k)) h in
-    let reached : first_of (reached_checks helpers code notes k placed (note_at notes k)) ≡ None =
-    sym (first_of-append (shape_checks code k placed) (reached_checks helpers code notes k placed (note_at notes k)) shape) ∙ h in
+passes_at helpers code claims k placed h =
+    let shape : first_of (shape_checks code k placed) ≡ None = first_of-front (shape_checks code k placed) (reached_checks helpers code claims k placed (claim_at claims k)) h in
+    let reached : first_of (reached_checks helpers code claims k placed (claim_at claims k)) ≡ None =
+    sym (first_of-append (shape_checks code k placed) (reached_checks helpers code claims k placed (claim_at claims k)) shape) ∙ h in
     record {
       shape = shape;
-      checked = λ s e. (reached_pass helpers code notes k placed (note_at notes k) reached s e).0;
-      closed = λ s e. (reached_pass helpers code notes k placed (note_at notes k) reached s e).1;
+      checked = λ s e. (reached_pass helpers code claims k placed (claim_at claims k) reached s e).0;
+      closed = λ s e. (reached_pass helpers code claims k placed (claim_at claims k) reached s e).1;
     }
 
-pub at_passes : (helpers : List Helper) (code : List Placed) (notes : Notes) (k : ℕ) (placed : Placed) → Passes helpers code notes k placed (note_at notes k) → failed_at helpers code notes k placed ≡ None
+pub at_passes : (helpers : List Helper) (code : List Placed) (claims : Claims) (k : ℕ) (placed : Placed) → Passes helpers code claims k placed (claim_at claims k) → failed_at helpers code claims k placed ≡ None
 unfolding failed_at failed_check
-at_passes helpers code notes k placed passes =
-    first_of-append (shape_checks code k placed) (reached_checks helpers code notes k placed (note_at notes k)) passes.shape
-    ∙ pass_reached helpers code notes k placed (note_at notes k) (λ s e. (passes.checked s e, passes.closed s e))
+at_passes helpers code claims k placed passes =
+    first_of-append (shape_checks code k placed) (reached_checks helpers code claims k placed (claim_at claims k)) passes.shape
+    ∙ pass_reached helpers code claims k placed (claim_at claims k) (λ s e. (passes.checked s e, passes.closed s e))
 
 -- ---- all instructions
 
@@ -110,36 +110,36 @@ none_fault_or k (Some kind) later h = cc
 none_fault_or k None later h = refl
 
 -- no refusal from number k on: each instruction from there on passes
-pub each_passes : (helpers : List Helper) (code : List Placed) (notes : Notes) (k : ℕ) (rest : List Placed) → fault_from helpers code notes k rest ≡ None
-    → (i : ℕ) (placed : Placed) → slice_get rest i ≡ Some placed → failed_at helpers code notes (k + i) placed ≡ None
-each_passes helpers code notes k [] h i placed e = cc
-each_passes helpers code notes k (first ∷ rest) h zero placed e =
-    let here : failed_at helpers code notes k first ≡ None = (fault_or_none k (failed_at helpers code notes k first) (fault_from helpers code notes (k + 1) rest) h).0 in
+pub each_passes : (helpers : List Helper) (code : List Placed) (claims : Claims) (k : ℕ) (rest : List Placed) → fault_from helpers code claims k rest ≡ None
+    → (i : ℕ) (placed : Placed) → slice_get rest i ≡ Some placed → failed_at helpers code claims (k + i) placed ≡ None
+each_passes helpers code claims k [] h i placed e = cc
+each_passes helpers code claims k (first ∷ rest) h zero placed e =
+    let here : failed_at helpers code claims k first ≡ None = (fault_or_none k (failed_at helpers code claims k first) (fault_from helpers code claims (k + 1) rest) h).0 in
     let same : first ≡ placed = cc in
     let at : k ≡ k + 0 = omega arith in
-    let P : Placed → Type 0 = λ p. failed_at helpers code notes k p ≡ None in
-    let Q : ℕ → Type 0 = λ n. failed_at helpers code notes n placed ≡ None in
+    let P : Placed → Type 0 = λ p. failed_at helpers code claims k p ≡ None in
+    let Q : ℕ → Type 0 = λ n. failed_at helpers code claims n placed ≡ None in
     subst Q at (subst P same here)
-each_passes helpers code notes k (first ∷ rest) h (suc i) placed e =
-    let later : fault_from helpers code notes (k + 1) rest ≡ None = (fault_or_none k (failed_at helpers code notes k first) (fault_from helpers code notes (k + 1) rest) h).1 in
+each_passes helpers code claims k (first ∷ rest) h (suc i) placed e =
+    let later : fault_from helpers code claims (k + 1) rest ≡ None = (fault_or_none k (failed_at helpers code claims k first) (fault_from helpers code claims (k + 1) rest) h).1 in
     let at : (k + 1) + i ≡ k + suc i = omega arith in
-    let Q : ℕ → Type 0 = λ n. failed_at helpers code notes n placed ≡ None in
-    subst Q at (each_passes helpers code notes (k + 1) rest later i placed e)
+    let Q : ℕ → Type 0 = λ n. failed_at helpers code claims n placed ≡ None in
+    subst Q at (each_passes helpers code claims (k + 1) rest later i placed e)
 
-pub none_from_each : (helpers : List Helper) (code : List Placed) (notes : Notes) (k : ℕ) (rest : List Placed)
-    → ((i : ℕ) (placed : Placed) → slice_get rest i ≡ Some placed → failed_at helpers code notes (k + i) placed ≡ None)
-    → fault_from helpers code notes k rest ≡ None
-none_from_each helpers code notes k [] h = refl
-none_from_each helpers code notes k (first ∷ rest) h =
+pub none_from_each : (helpers : List Helper) (code : List Placed) (claims : Claims) (k : ℕ) (rest : List Placed)
+    → ((i : ℕ) (placed : Placed) → slice_get rest i ≡ Some placed → failed_at helpers code claims (k + i) placed ≡ None)
+    → fault_from helpers code claims k rest ≡ None
+none_from_each helpers code claims k [] h = refl
+none_from_each helpers code claims k (first ∷ rest) h =
     let at : k + 0 ≡ k = omega arith in
-    let P : ℕ → Type 0 = λ n. failed_at helpers code notes n first ≡ None in
-    let here : failed_at helpers code notes k first ≡ None = subst P at (h 0 first refl) in
-    let later : (i : ℕ) (placed : Placed) → slice_get rest i ≡ Some placed → failed_at helpers code notes ((k + 1) + i) placed ≡ None =
+    let P : ℕ → Type 0 = λ n. failed_at helpers code claims n first ≡ None in
+    let here : failed_at helpers code claims k first ≡ None = subst P at (h 0 first refl) in
+    let later : (i : ℕ) (placed : Placed) → slice_get rest i ≡ Some placed → failed_at helpers code claims ((k + 1) + i) placed ≡ None =
     λ i placed e.
     let then : k + suc i ≡ (k + 1) + i = omega arith in
-    let Q : ℕ → Type 0 = λ n. failed_at helpers code notes n placed ≡ None in
+    let Q : ℕ → Type 0 = λ n. failed_at helpers code claims n placed ≡ None in
     subst Q then (h (suc i) placed e) in
-    none_fault_or k (failed_at helpers code notes k first) (fault_from helpers code notes (k + 1) rest) here ∙ none_from_each helpers code notes (k + 1) rest later
+    none_fault_or k (failed_at helpers code claims k first) (fault_from helpers code claims (k + 1) rest) here ∙ none_from_each helpers code claims (k + 1) rest later
 
 -- ---- the law
 
@@ -149,21 +149,21 @@ if_passed true later fault h = (refl, h)
 if_passed false later fault h = cc
 
 -- a list of states in their ranges that has no refusal is an annotation
-pub annotation_from_none : (helpers : List Helper) (code : List Placed) (notes : Notes) → fault_of helpers code notes ≡ None
-    → ((k : ℕ) (s : Abstract) → note_at notes k ≡ Some s → is_proper s ≡ true) → IsAnnotation helpers code notes
+pub annotation_from_none : (helpers : List Helper) (code : List Placed) (claims : Claims) → fault_of helpers code claims ≡ None
+    → ((k : ℕ) (s : Abstract) → claim_at claims k ≡ Some s → is_proper s ≡ true) → IsAnnotation helpers code claims
 unfolding fault_of
-annotation_from_none helpers code notes h proper =
-    let parts : (((length notes == length code) && is_covered entry_state (note_at notes 0)) ≡ true) × (fault_from helpers code notes 0 code ≡ None) =
-    if_passed ((length notes == length code) && is_covered entry_state (note_at notes 0)) (fault_from helpers code notes 0 code) (record { pc = 0; kind = check.Notes }) h in
-    let both : ((length notes == length code) ≡ true) × (is_covered entry_state (note_at notes 0) ≡ true) =
-    and_parts (length notes == length code) (is_covered entry_state (note_at notes 0)) parts.0 in
-    let each : (i : ℕ) (placed : Placed) → slice_get code i ≡ Some placed → Passes helpers code notes i placed (note_at notes i) =
+annotation_from_none helpers code claims h proper =
+    let parts : (((length claims == length code) && is_covered entry_state (claim_at claims 0)) ≡ true) × (fault_from helpers code claims 0 code ≡ None) =
+    if_passed ((length claims == length code) && is_covered entry_state (claim_at claims 0)) (fault_from helpers code claims 0 code) (record { pc = 0; kind = check.Notes }) h in
+    let both : ((length claims == length code) ≡ true) × (is_covered entry_state (claim_at claims 0) ≡ true) =
+    and_parts (length claims == length code) (is_covered entry_state (claim_at claims 0)) parts.0 in
+    let each : (i : ℕ) (placed : Placed) → slice_get code i ≡ Some placed → Passes helpers code claims i placed (claim_at claims i) =
     λ i placed e.
     let at : 0 + i ≡ i = omega arith in
-    let Q : ℕ → Type 0 = λ n. failed_at helpers code notes n placed ≡ None in
-    passes_at helpers code notes i placed (subst Q at (each_passes helpers code notes 0 code parts.1 i placed e)) in
+    let Q : ℕ → Type 0 = λ n. failed_at helpers code claims n placed ≡ None in
+    passes_at helpers code claims i placed (subst Q at (each_passes helpers code claims 0 code parts.1 i placed e)) in
     record {
-      long = eqb-true (length notes) (length code) both.0;
+      long = eqb-true (length claims) (length code) both.0;
       start = both.1;
       shape = λ k placed e. (each k placed e).shape;
       checked = λ k placed s e n. (each k placed e).checked s n;
@@ -172,20 +172,20 @@ annotation_from_none helpers code notes h proper =
     }
 
 -- an annotation has no refusal
-pub none_from_annotation : (helpers : List Helper) (code : List Placed) (notes : Notes) → IsAnnotation helpers code notes → fault_of helpers code notes ≡ None
+pub none_from_annotation : (helpers : List Helper) (code : List Placed) (claims : Claims) → IsAnnotation helpers code claims → fault_of helpers code claims ≡ None
 unfolding fault_of
-none_from_annotation helpers code notes a =
-    let long : (length notes == length code) ≡ true = eq-eqb (length notes) (length code) a.long in
-    let both : ((length notes == length code) && is_covered entry_state (note_at notes 0)) ≡ true =
-    and_from (length notes == length code) (is_covered entry_state (note_at notes 0)) long a.start in
-    let each : (i : ℕ) (placed : Placed) → slice_get code i ≡ Some placed → failed_at helpers code notes (0 + i) placed ≡ None =
+none_from_annotation helpers code claims a =
+    let long : (length claims == length code) ≡ true = eq-eqb (length claims) (length code) a.long in
+    let both : ((length claims == length code) && is_covered entry_state (claim_at claims 0)) ≡ true =
+    and_from (length claims == length code) (is_covered entry_state (claim_at claims 0)) long a.start in
+    let each : (i : ℕ) (placed : Placed) → slice_get code i ≡ Some placed → failed_at helpers code claims (0 + i) placed ≡ None =
     λ i placed e.
     let at : i ≡ 0 + i = omega arith in
-    let Q : ℕ → Type 0 = λ n. failed_at helpers code notes n placed ≡ None in
-    subst Q at (at_passes helpers code notes i placed
+    let Q : ℕ → Type 0 = λ n. failed_at helpers code claims n placed ≡ None in
+    subst Q at (at_passes helpers code claims i placed
     (record { shape = a.shape i placed e; checked = λ s n. a.checked i placed s e n; closed = λ s n. a.closed i placed s e n })) in
-    cond-true ((length notes == length code) && is_covered entry_state (note_at notes 0)) (fault_from helpers code notes 0 code) (Some (record { pc = 0; kind = check.Notes })) both
-    ∙ none_from_each helpers code notes 0 code each
+    cond-true ((length claims == length code) && is_covered entry_state (claim_at claims 0)) (fault_from helpers code claims 0 code) (Some (record { pc = 0; kind = check.Notes })) both
+    ∙ none_from_each helpers code claims 0 code each
 
 -- ---- one instruction after another
 
@@ -199,10 +199,10 @@ drop_at {A} (y ∷ xs) (suc k) x e =
     subst P next (drop_at xs k x e)
 
 -- the refusal from an instruction on is its own, or else the one from the next on
-pub fault_from-drop : (helpers : List Helper) (code : List Placed) (notes : Notes) (all : List Placed) (k : ℕ) (placed : Placed) → slice_get all k ≡ Some placed
-    → fault_from helpers code notes k (drop k all) ≡ fault_or k (failed_at helpers code notes k placed) (fault_from helpers code notes (k + 1) (drop (k + 1) all))
-fault_from-drop helpers code notes all k placed e =
-    let P : List Placed → Type 0 = λ rest. fault_from helpers code notes k rest ≡ fault_or k (failed_at helpers code notes k placed) (fault_from helpers code notes (k + 1) (drop (k + 1) all)) in
+pub fault_from-drop : (helpers : List Helper) (code : List Placed) (claims : Claims) (all : List Placed) (k : ℕ) (placed : Placed) → slice_get all k ≡ Some placed
+    → fault_from helpers code claims k (drop k all) ≡ fault_or k (failed_at helpers code claims k placed) (fault_from helpers code claims (k + 1) (drop (k + 1) all))
+fault_from-drop helpers code claims all k placed e =
+    let P : List Placed → Type 0 = λ rest. fault_from helpers code claims k rest ≡ fault_or k (failed_at helpers code claims k placed) (fault_from helpers code claims (k + 1) (drop (k + 1) all)) in
     subst P (sym (drop_at all k placed e)) refl
 
 -- ---- running out of memory is no refusal of a list
@@ -226,16 +226,16 @@ no_memory_first (row ∷ rows) kind none e =
       | inr passes ↦ no_memory_first rows kind parts.1 (sym (cond-false row.0 (Some row.1) (first_of rows) passes) ∙ e)
     ]
 
-no_memory_rows : (helpers : List Helper) (code : List Placed) (notes : Notes) (k : ℕ) (placed : Placed) (known : Option Abstract)
-    → list_any (λ row. is_memory row.1) (shape_checks code k placed ++ reached_checks helpers code notes k placed known) ≡ false
+no_memory_rows : (helpers : List Helper) (code : List Placed) (claims : Claims) (k : ℕ) (placed : Placed) (known : Option Abstract)
+    → list_any (λ row. is_memory row.1) (shape_checks code k placed ++ reached_checks helpers code claims k placed known) ≡ false
 unfolding is_memory
-no_memory_rows helpers code notes k placed None = refl
-no_memory_rows helpers code notes k placed (Some s) = refl
+no_memory_rows helpers code claims k placed None = refl
+no_memory_rows helpers code claims k placed (Some s) = refl
 
-no_memory_at : (helpers : List Helper) (code : List Placed) (notes : Notes) (k : ℕ) (placed : Placed) (kind : Check) → failed_at helpers code notes k placed ≡ Some kind → is_memory kind ≡ false
+no_memory_at : (helpers : List Helper) (code : List Placed) (claims : Claims) (k : ℕ) (placed : Placed) (kind : Check) → failed_at helpers code claims k placed ≡ Some kind → is_memory kind ≡ false
 unfolding failed_at
-no_memory_at helpers code notes k placed kind e =
-    no_memory_first (shape_checks code k placed ++ reached_checks helpers code notes k placed (note_at notes k)) kind (no_memory_rows helpers code notes k placed (note_at notes k)) e
+no_memory_at helpers code claims k placed kind e =
+    no_memory_first (shape_checks code k placed ++ reached_checks helpers code claims k placed (claim_at claims k)) kind (no_memory_rows helpers code claims k placed (claim_at claims k)) e
 
 no_memory_or : (k : ℕ) (failed : Option Check) (later : Option VerifyFault) (f : VerifyFault)
     → ((kind : Check) → failed ≡ Some kind → is_memory kind ≡ false) → (later ≡ Some f → is_memory f.kind ≡ false)
@@ -246,23 +246,23 @@ no_memory_or k (Some kind) later f here there e =
     subst P same (here kind refl)
 no_memory_or k None later f here there e = there e
 
-no_memory_from : (helpers : List Helper) (code : List Placed) (notes : Notes) (k : ℕ) (rest : List Placed) (f : VerifyFault) → fault_from helpers code notes k rest ≡ Some f → is_memory f.kind ≡ false
-no_memory_from helpers code notes k [] f e = cc
-no_memory_from helpers code notes k (placed ∷ rest) f e =
-    no_memory_or k (failed_at helpers code notes k placed) (fault_from helpers code notes (k + 1) rest) f (no_memory_at helpers code notes k placed)
-    (no_memory_from helpers code notes (k + 1) rest f) e
+no_memory_from : (helpers : List Helper) (code : List Placed) (claims : Claims) (k : ℕ) (rest : List Placed) (f : VerifyFault) → fault_from helpers code claims k rest ≡ Some f → is_memory f.kind ≡ false
+no_memory_from helpers code claims k [] f e = cc
+no_memory_from helpers code claims k (placed ∷ rest) f e =
+    no_memory_or k (failed_at helpers code claims k placed) (fault_from helpers code claims (k + 1) rest) f (no_memory_at helpers code claims k placed)
+    (no_memory_from helpers code claims (k + 1) rest f) e
 
 -- no refusal of a list is that memory ran out
-pub fault_of-kind : (helpers : List Helper) (code : List Placed) (notes : Notes) (f : VerifyFault) → fault_of helpers code notes ≡ Some f → f.kind ≢ check.Memory
+pub fault_of-kind : (helpers : List Helper) (code : List Placed) (claims : Claims) (f : VerifyFault) → fault_of helpers code claims ≡ Some f → f.kind ≢ check.Memory
 unfolding fault_of is_memory
-fault_of-kind helpers code notes f e is =
-    let start : Bool = (length notes == length code) && is_covered entry_state (note_at notes 0) in
-    let notes_fault : VerifyFault = record { pc = 0; kind = check.Notes } in
+fault_of-kind helpers code claims f e is =
+    let start : Bool = (length claims == length code) && is_covered entry_state (claim_at claims 0) in
+    let claims_fault : VerifyFault = record { pc = 0; kind = check.Notes } in
     let none : is_memory f.kind ≡ false =
     elim (cases_Bool start) [
-      | inl passes ↦ no_memory_from helpers code notes 0 code f (sym (cond-true start (fault_from helpers code notes 0 code) (Some notes_fault) passes) ∙ e)
+      | inl passes ↦ no_memory_from helpers code claims 0 code f (sym (cond-true start (fault_from helpers code claims 0 code) (Some claims_fault) passes) ∙ e)
       | inr fails ↦
-          let told : Some notes_fault ≡ Some f = sym (cond-false start (fault_from helpers code notes 0 code) (Some notes_fault) fails) ∙ e in
+          let told : Some claims_fault ≡ Some f = sym (cond-false start (fault_from helpers code claims 0 code) (Some claims_fault) fails) ∙ e in
           let same : check.Notes ≡ f.kind = cc in
           let P : Check → Type 0 = λ c. is_memory c ≡ false in
           subst P same refl

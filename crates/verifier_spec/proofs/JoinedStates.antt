@@ -8,11 +8,11 @@ use Rattle.verifier_spec.specs.declared.state.Abstract.{Abstract}
 use Rattle.verifier_spec.specs.declared.fault.Check.{Check}
 use Rattle.verifier_spec.specs.Checks.{failed_check, jump_of}
 use Rattle.verifier_spec.specs.Transfer.{falls_to, jumps_to}
-use Rattle.verifier_spec.specs.Annotation.{note_at, is_edge_covered}
-use Rattle.verifier_spec.specs.JoinedStates.{joined_notes, with_edge, with_edges, if_passed, with_instruction, known_after, states_from, joined_states}
+use Rattle.verifier_spec.specs.Annotation.{claim_at, is_edge_covered}
+use Rattle.verifier_spec.specs.JoinedStates.{joined_claims, with_edge, with_edges, if_passed, with_instruction, known_after, states_from, joined_states}
 use Rattle.verifier_spec.proofs.Joins.{within_refl, within_trans, within_joined_left, within_joined_right, joined_least}
 
--- ---- the order of notes
+-- ---- the order of claims
 
 pub covered_refl : (a : Option Abstract) → is_edge_covered a a ≡ true
 covered_refl None = refl
@@ -24,60 +24,60 @@ covered_trans (Some a) None c h g = absurd (false≢true h)
 covered_trans (Some a) (Some b) None h g = absurd (false≢true g)
 covered_trans (Some a) (Some b) (Some c) h g = within_trans a b c h g
 
-pub notes_left : (a b : Option Abstract) → is_edge_covered a (joined_notes a b) ≡ true
-notes_left None b = refl
-notes_left (Some a) None = within_refl a
-notes_left (Some a) (Some b) = within_joined_left a b
+pub claims_left : (a b : Option Abstract) → is_edge_covered a (joined_claims a b) ≡ true
+claims_left None b = refl
+claims_left (Some a) None = within_refl a
+claims_left (Some a) (Some b) = within_joined_left a b
 
-pub notes_right : (a b : Option Abstract) → is_edge_covered b (joined_notes a b) ≡ true
-notes_right None b = covered_refl b
-notes_right (Some a) None = refl
-notes_right (Some a) (Some b) = within_joined_right a b
+pub claims_right : (a b : Option Abstract) → is_edge_covered b (joined_claims a b) ≡ true
+claims_right None b = covered_refl b
+claims_right (Some a) None = refl
+claims_right (Some a) (Some b) = within_joined_right a b
 
-pub notes_least : (a b c : Option Abstract) → is_edge_covered a c ≡ true → is_edge_covered b c ≡ true → is_edge_covered (joined_notes a b) c ≡ true
-notes_least None b c h g = g
-notes_least (Some a) None c h g = h
-notes_least (Some a) (Some b) None h g = absurd (false≢true h)
-notes_least (Some a) (Some b) (Some c) h g = joined_least a b c h g
+pub claims_least : (a b c : Option Abstract) → is_edge_covered a c ≡ true → is_edge_covered b c ≡ true → is_edge_covered (joined_claims a b) c ≡ true
+claims_least None b c h g = g
+claims_least (Some a) None c h g = h
+claims_least (Some a) (Some b) None h g = absurd (false≢true h)
+claims_least (Some a) (Some b) (Some c) h g = joined_least a b c h g
 
 -- ---- one edge
 
-edge_left : (j : ℕ) (target : Option ℕ) (state note : Option Abstract) → is_edge_covered note (with_edge j target state note) ≡ true
-edge_left j None state note = covered_refl note
-edge_left j (Some target) state note =
-    elim (target == j) as (λ same. is_edge_covered note (cond same (joined_notes note state) note) ≡ true) [
-      | true ↦ notes_left note state
-      | false ↦ covered_refl note
+edge_left : (j : ℕ) (target : Option ℕ) (state claim : Option Abstract) → is_edge_covered claim (with_edge j target state claim) ≡ true
+edge_left j None state claim = covered_refl claim
+edge_left j (Some target) state claim =
+    elim (target == j) as (λ same. is_edge_covered claim (cond same (joined_claims claim state) claim) ≡ true) [
+      | true ↦ claims_left claim state
+      | false ↦ covered_refl claim
     ]
 
-edge_right : (j : ℕ) (state note : Option Abstract) → is_edge_covered state (with_edge j (Some j) state note) ≡ true
-edge_right j state note =
-    subst (λ o. is_edge_covered state o ≡ true) (sym (cond-true (j == j) (joined_notes note state) note (eq-eqb j j refl))) (notes_right note state)
+edge_right : (j : ℕ) (state claim : Option Abstract) → is_edge_covered state (with_edge j (Some j) state claim) ≡ true
+edge_right j state claim =
+    subst (λ o. is_edge_covered state o ≡ true) (sym (cond-true (j == j) (joined_claims claim state) claim (eq-eqb j j refl))) (claims_right claim state)
 
-pub edge_least : (j : ℕ) (target : Option ℕ) (state note outer : Option Abstract) → is_edge_covered note outer ≡ true
-    → (target ≡ Some j → is_edge_covered state outer ≡ true) → is_edge_covered (with_edge j target state note) outer ≡ true
+pub edge_least : (j : ℕ) (target : Option ℕ) (state claim outer : Option Abstract) → is_edge_covered claim outer ≡ true
+    → (target ≡ Some j → is_edge_covered state outer ≡ true) → is_edge_covered (with_edge j target state claim) outer ≡ true
 edge_least j None state known outer h g = h
 edge_least j (Some target) state known outer h g =
     elim (cases_Bool (target == j)) [
       | inl same ↦
-          subst (λ o. is_edge_covered o outer ≡ true) (sym (cond-true (target == j) (joined_notes known state) known same))
-          (notes_least known state outer h (g (ap (λ (k : ℕ). Some k) (eqb-true target j same))))
-      | inr other ↦ subst (λ o. is_edge_covered o outer ≡ true) (sym (cond-false (target == j) (joined_notes known state) known other)) h
+          subst (λ o. is_edge_covered o outer ≡ true) (sym (cond-true (target == j) (joined_claims known state) known same))
+          (claims_least known state outer h (g (ap (λ (k : ℕ). Some k) (eqb-true target j same))))
+      | inr other ↦ subst (λ o. is_edge_covered o outer ≡ true) (sym (cond-false (target == j) (joined_claims known state) known other)) h
     ]
 
 -- ---- what is known grows
 
 module _ (helpers : List Helper) (code : List Placed) where
-  with_grows : (j k : ℕ) (at : Option Placed) (own note : Option Abstract) → is_edge_covered note (with_instruction helpers code j k at own note) ≡ true
-  with_grows j k None own note = covered_refl note
-  with_grows j k (Some placed) None note = covered_refl note
-  with_grows j k (Some placed) (Some s) note =
+  with_grows : (j k : ℕ) (at : Option Placed) (own claim : Option Abstract) → is_edge_covered claim (with_instruction helpers code j k at own claim) ≡ true
+  with_grows j k None own claim = covered_refl claim
+  with_grows j k (Some placed) None claim = covered_refl claim
+  with_grows j k (Some placed) (Some s) claim =
       let target = target_of code placed.slot (jump_of placed.instruction) in
-      let fallen = with_edge j (Some (k + 1)) (falls_to placed.instruction s) note in
-      elim (failed_check helpers placed.instruction s) as (λ failed. is_edge_covered note (if_passed failed note (with_edges code j k placed s note)) ≡ true) [
-        | Some _ ↦ covered_refl note
+      let fallen = with_edge j (Some (k + 1)) (falls_to placed.instruction s) claim in
+      elim (failed_check helpers placed.instruction s) as (λ failed. is_edge_covered claim (if_passed failed claim (with_edges code j k placed s claim)) ≡ true) [
+        | Some _ ↦ covered_refl claim
         | None ↦
-            covered_trans note fallen (with_edges code j k placed s note) (edge_left j (Some (k + 1)) (falls_to placed.instruction s) note)
+            covered_trans claim fallen (with_edges code j k placed s claim) (edge_left j (Some (k + 1)) (falls_to placed.instruction s) claim)
             (edge_left j target (jumps_to placed.instruction s) fallen)
       ]
 
@@ -96,13 +96,13 @@ module _ (helpers : List Helper) (code : List Placed) where
 
   -- ---- an instruction whose checks pass
 
-  module _ (k : ℕ) (placed : Placed) (s : Abstract) (at : slice_get code k ≡ Some placed) (note : known_after helpers code k k ≡ Some s) (passed : failed_check helpers placed.instruction s ≡ None) where
+  module _ (k : ℕ) (placed : Placed) (s : Abstract) (at : slice_get code k ≡ Some placed) (claim : known_after helpers code k k ≡ Some s) (passed : failed_check helpers placed.instruction s ≡ None) where
     pub next_known : (j : ℕ) → known_after helpers code (suc k) j ≡ with_edges code j k placed s (known_after helpers code k j)
     unfolding known_after
     next_known j =
         let before = known_after helpers code k j in
         ap (λ (o : Option Placed). with_instruction helpers code j k o (known_after helpers code k k) before) at
-        ∙ (ap (λ (own : Option Abstract). with_instruction helpers code j k (Some placed) own before) note
+        ∙ (ap (λ (own : Option Abstract). with_instruction helpers code j k (Some placed) own before) claim
         ∙ ap (λ (failed : Option Check). if_passed failed before (with_edges code j k placed s before)) passed)
 
     pub falls_known : is_edge_covered (falls_to placed.instruction s) (known_after helpers code (suc k) (k + 1)) ≡ true
@@ -127,7 +127,7 @@ module _ (helpers : List Helper) (code : List Placed) where
 -- ---- the least above what edges propagate
 
 module _ (helpers : List Helper) (code : List Placed) (j : ℕ) (outer : Option Abstract) where
-  -- both edges of an instruction are within a note where they lead to j
+  -- both edges of an instruction are within a claim where they lead to j
   pub record BringsWithin (k : ℕ) (placed : Placed) (s : Abstract) : Type 0 where
     pub falls : k + 1 ≡ j → is_edge_covered (falls_to placed.instruction s) outer ≡ true
     pub jumps : target_of code placed.slot (jump_of placed.instruction) ≡ Some j → is_edge_covered (jumps_to placed.instruction s) outer ≡ true
@@ -155,7 +155,7 @@ module _ (helpers : List Helper) (code : List Placed) (j : ℕ) (outer : Option 
   instruction_least k (Some placed) (Some s) known at is h brings =
       passed_least k placed s known (failed_check helpers placed.instruction s) refl h (brings placed s at is)
 
-  -- What is known of an instruction is within each note that the entry, if it is the first, and all that edges of reached
+  -- What is known of an instruction is within each claim that the entry, if it is the first, and all that edges of reached
   -- instructions propagate are within.
   pub known_least : (k : ℕ) → is_edge_covered (known_after helpers code 0 j) outer ≡ true
       → ((i : ℕ) (placed : Placed) (s : Abstract) → i < k → slice_get code i ≡ Some placed → known_after helpers code i i ≡ Some s → failed_check helpers placed.instruction s ≡ None
@@ -173,21 +173,21 @@ pub length-states_from : (helpers : List Helper) (code : List Placed) (k : ℕ) 
 length-states_from helpers code k [] = refl
 length-states_from helpers code k (placed ∷ rest) = ap (λ (n : ℕ). suc n) (length-states_from helpers code (k + 1) rest)
 
-note_from : (helpers : List Helper) (code : List Placed) (k : ℕ) (rest : List Placed) (j : ℕ) → j < length rest → note_at (states_from helpers code k rest) j ≡ known_after helpers code (k + j) (k + j)
-note_from helpers code k [] j under = absurd (omega arith)
-note_from helpers code k (placed ∷ rest) zero under =
+claim_from : (helpers : List Helper) (code : List Placed) (k : ℕ) (rest : List Placed) (j : ℕ) → j < length rest → claim_at (states_from helpers code k rest) j ≡ known_after helpers code (k + j) (k + j)
+claim_from helpers code k [] j under = absurd (omega arith)
+claim_from helpers code k (placed ∷ rest) zero under =
     let at : k ≡ k + 0 = omega arith in
     ap (λ (n : ℕ). known_after helpers code n n) at
-note_from helpers code k (placed ∷ rest) (suc j) under =
+claim_from helpers code k (placed ∷ rest) (suc j) under =
     let at : (k + 1) + j ≡ k + suc j = omega arith in
-    note_from helpers code (k + 1) rest j (omega arith) ∙ ap (λ (n : ℕ). known_after helpers code n n) at
+    claim_from helpers code (k + 1) rest j (omega arith) ∙ ap (λ (n : ℕ). known_after helpers code n n) at
 
 pub length-joined_states : (helpers : List Helper) (code : List Placed) → length (joined_states helpers code) ≡ length code
 unfolding joined_states
 length-joined_states helpers code = length-states_from helpers code 0 code
 
-pub note_joined : (helpers : List Helper) (code : List Placed) (j : ℕ) → j < length code → note_at (joined_states helpers code) j ≡ known_after helpers code j j
+pub claim_joined : (helpers : List Helper) (code : List Placed) (j : ℕ) → j < length code → claim_at (joined_states helpers code) j ≡ known_after helpers code j j
 unfolding joined_states
-note_joined helpers code j under =
+claim_joined helpers code j under =
     let at : 0 + j ≡ j = omega arith in
-    note_from helpers code 0 code j under ∙ ap (λ (n : ℕ). known_after helpers code n n) at
+    claim_from helpers code 0 code j under ∙ ap (λ (n : ℕ). known_after helpers code n n) at

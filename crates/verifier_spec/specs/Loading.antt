@@ -3,15 +3,15 @@ use Rattle.std.specs.Prelude.{◌≡◌, List, Option, Some, option_map, Result,
 use Rattle.machine_spec.specs.declared.{helper.Helper.Helper, instruction.IsaFault.IsaFault, instruction.Placed.Placed}
 use Rattle.machine_spec.specs.Image.{Program, read_image}
 use Rattle.verifier_spec.specs.declared.fault.LoadFault.{LoadFault, TheVariants.Isa, TheVariants.Verify}
-use Rattle.verifier_spec.specs.Annotation.{Notes, IsAnnotation, fault_of}
+use Rattle.verifier_spec.specs.Annotation.{Claims, IsAnnotation, fault_of}
 use Rattle.verifier_spec.specs.JoinedStates.{joined_states}
 
 -- A program is accepted: its image decodes to code that has an annotation, whatever list of abstract states that is.
 pub record IsAccepted (program : Program) : Type 0 where
   pub code : List Placed
   pub read : read_image program.image ≡ Ok code
-  pub notes : Notes
-  pub annotation : IsAnnotation program.helpers code notes
+  pub claims : Claims
+  pub annotation : IsAnnotation program.helpers code claims
 
 abbrev pub code_fault : List Helper → Result (List Placed) IsaFault → Option LoadFault
 code_fault helpers (Ok code) = option_map Verify (fault_of helpers code (joined_states helpers code))

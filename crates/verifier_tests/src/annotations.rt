@@ -36,10 +36,10 @@ fn state(r0: Abs, value_min: u32, value_max: u32) -> Result<State, Fail> {
 }
 
 /// What the check reports of an image and a list of states.
-fn told(alloc: Global, image: &[u8], notes: &[Option<State>]) -> Result<String, Fail> {
+fn told(alloc: Global, image: &[u8], claims: &[Option<State>]) -> Result<String, Fail> {
     let code = decode(alloc, image)?;
-    let notes = Vec::from_slice(alloc, notes)?;
-    Ok(match check(alloc, code, notes) {
+    let claims = Vec::from_slice(alloc, claims)?;
+    Ok(match check(alloc, code, claims) {
         Ok(verified) => format!(in alloc; "accepted {}", verified.code().len())?,
         Err(fault) => format!(in alloc; "{fault}")?,
     })
@@ -48,8 +48,8 @@ fn told(alloc: Global, image: &[u8], notes: &[Option<State>]) -> Result<String, 
 #[test]
 fn accepts_a_constant(rt: HostRuntime) -> Result<(), Fail> {
     let zero = state(Abs::Num(0, 0), 0, 65_536)?;
-    let notes = vec![in rt.alloc(); Some(State::entry()), Some(zero)]?;
-    let verified = check(rt.alloc(), decode(rt.alloc(), &ZERO)?, notes)?;
+    let claims = vec![in rt.alloc(); Some(State::entry()), Some(zero)]?;
+    let verified = check(rt.alloc(), decode(rt.alloc(), &ZERO)?, claims)?;
     assert_eq!(rt; verified.code().len(), 2);
     assert_eq!(rt; verified.kept(), 0);
     assert_eq!(rt; verified.regions(0).0, None);
@@ -58,13 +58,13 @@ fn accepts_a_constant(rt: HostRuntime) -> Result<(), Fail> {
 
 #[test]
 fn accepts_a_guarded_load(rt: HostRuntime) -> Result<(), Fail> {
-    let notes = vec![in rt.alloc();
+    let claims = vec![in rt.alloc();
         Some(State::entry()),
         Some(state(Abs::Num(0, 0), 0, 65_536)?),
         Some(state(Abs::Num(0, 0), 1, 65_536)?),
         Some(state(Abs::Num(0, 255), 0, 65_536)?),
     ]?;
-    let verified = check(rt.alloc(), decode(rt.alloc(), &FIRST_BYTE)?, notes)?;
+    let verified = check(rt.alloc(), decode(rt.alloc(), &FIRST_BYTE)?, claims)?;
     assert_eq!(rt; verified.code().len(), 4);
     assert_eq!(rt; verified.kept(), 1);
     assert_eq!(rt; verified.regions(1).0, None);
@@ -105,8 +105,8 @@ fn refuses_lists(rt: HostRuntime) -> Result<(), Fail> {
         (&FIRST_BYTE, &[entry, zero, some, narrow], "V15 Notes at 1"),
         (&FIRST_BYTE, &[entry, zero, some, zero], "V15 Notes at 2"),
     ];
-    for (image, notes, want) in cases {
-        let text = told(alloc, image, notes)?;
+    for (image, claims, want) in cases {
+        let text = told(alloc, image, claims)?;
         assert_eq!(rt; text.as_str(), want);
     }
     Ok(())
@@ -152,9 +152,9 @@ fn refuses_instructions(rt: HostRuntime) -> Result<(), Fail> {
             "accepted 4",
         ),
     ];
-    for (forms, notes, want) in cases {
+    for (forms, claims, want) in cases {
         let image = image_of(alloc, forms)?;
-        let text = told(alloc, &image, notes)?;
+        let text = told(alloc, &image, claims)?;
         assert_eq!(rt; text.as_str(), want);
     }
     Ok(())

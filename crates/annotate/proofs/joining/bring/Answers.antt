@@ -1,9 +1,9 @@
 use Rattle.std.proofs.Common.{Some, ap, ◌∙◌}
-use Rattle.verifier_spec.specs.JoinedStates.{joined_notes}
+use Rattle.verifier_spec.specs.JoinedStates.{joined_claims}
 use Rattle.annotate.proofs.Passing.{brought}
 use Rattle.annotate.proofs.joining.bring.Goals as goal
 
 pub returns-then-target-states-clause-each : goal.returns-then-target-states-clause-each
 returns-then-target-states-clause-each c = λ j under.
-    brought c.args.states.now c.args.target c.args.state c.joined_note.result c.if-target-states.true
-    (c.joined_note.ensures ∙ ap (λ o. joined_notes o (Some c.args.state)) c.note_of.ensures) j
+    brought c.args.states.now c.args.target c.args.state c.joined_claim.result c.if-target-states.true
+    (c.joined_claim.ensures ∙ ap (λ o. joined_claims o (Some c.args.state)) c.claim_of.ensures) j

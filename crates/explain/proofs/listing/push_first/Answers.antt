@@ -11,6 +11,6 @@ pub loop-k-preserved : goal.loop-k-preserved
 loop-k-preserved c =
     let before = string_bytes c.loop-k.text in
     let k = c.loop-k.k in
-    let pushed : string_bytes c.push_lines.new.text ≡ before ++ lines_of k (Some c.get.result) (option_copied c.note_at.result) = search rules in
+    let pushed : string_bytes c.push_lines.new.text ≡ before ++ lines_of k (Some c.get.result) (option_copied c.claim_at.result) = search rules in
     one_more (string_bytes c.args.text.now) before (string_bytes c.push_lines.new.text) k (lines_at c.args.code.now c.args.states.now) c.loop-k.invariant
-    (pushed ∙ ap (λ (t : List ℕ). before ++ t) (same_lines c.args.code.now c.args.states.now k c.get.result (option_copied c.note_at.result) c.get.ensures.is_at c.note_at.ensures))
+    (pushed ∙ ap (λ (t : List ℕ). before ++ t) (same_lines c.args.code.now c.args.states.now k c.get.result (option_copied c.claim_at.result) c.get.ensures.is_at c.claim_at.ensures))

@@ -1,10 +1,10 @@
 use Rattle.std.proofs.Common.{sym, ◌∙◌, length}
 use Rattle.verifier_spec.specs.States.{entry_state}
-use Rattle.verifier_spec.specs.Annotation.{note_at, is_covered}
+use Rattle.verifier_spec.specs.Annotation.{claim_at, is_covered}
 use Rattle.notes.proofs.Loop.{proper_started}
 use Rattle.notes.proofs.faults.fault_of.Goals as goal
 
 pub returns-clause-proper : goal.returns-clause-proper
 returns-clause-proper c =
-    proper_started c.args.notes.now (length c.args.code.now) (is_covered entry_state (note_at c.args.notes.now 0)) c.first_fault.result
+    proper_started c.args.claims.now (length c.args.code.now) (is_covered entry_state (claim_at c.args.claims.now 0)) c.first_fault.result
     (sym c.has_start.ensures ∙ c.if-not-has_start.false) c.first_fault.ensures.proper

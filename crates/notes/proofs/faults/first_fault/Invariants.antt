@@ -6,6 +6,6 @@ use Rattle.notes.proofs.faults.first_fault.Given as goal
 
 abbrev pub invariant-loop-k : goal.invariant-loop-k
 invariant-loop-k l = record {
-  rest : fault_from HELPERS l.code l.notes 0 l.code ≡ fault_from HELPERS l.code l.notes l.k (drop l.k l.code);
-  proper : AreProperBelow l.notes l.k;
+  rest : fault_from HELPERS l.code l.claims 0 l.code ≡ fault_from HELPERS l.code l.claims l.k (drop l.k l.code);
+  proper : AreProperBelow l.claims l.k;
 }

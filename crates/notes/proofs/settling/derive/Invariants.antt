@@ -1,10 +1,10 @@
-use Rattle.verifier_spec.specs.Annotation.{note_at}
+use Rattle.verifier_spec.specs.Annotation.{claim_at}
 use Rattle.notes.specs.Derived.{derived_at}
 use Rattle.notes.proofs.Steps.{AreDone, HasFollowed}
 use Rattle.notes.proofs.settling.derive.Given as goal
 
 abbrev pub invariant-loop-k : goal.invariant-loop-k
 invariant-loop-k l = record {
-  done : AreDone l.initial.states l.states (derived_at l.code (note_at l.initial.states)) l.k;
+  done : AreDone l.initial.states l.states (derived_at l.code (claim_at l.initial.states)) l.k;
   followed : HasFollowed l.code l.initial.states l.follows l.k;
 }

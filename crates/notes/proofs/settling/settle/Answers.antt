@@ -1,5 +1,5 @@
 use Rattle.std.proofs.Common.{◌∙◌, length}
-use Rattle.verifier_spec.specs.Annotation.{note_at}
+use Rattle.verifier_spec.specs.Annotation.{claim_at}
 use Rattle.notes.specs.Derived.{at_targets}
 use Rattle.notes.proofs.Derived.{derived_same, proper_same}
 use Rattle.notes.proofs.Steps.{marked_given}
@@ -11,12 +11,12 @@ returns-clause-states c =
     let old = c.args.states.now in
     let kept = c.keep_marked.new.states in
     c.derive.ensures.states
-    ∙ derived_same code (at_targets code old) (note_at kept) (marked_given code c.args.targets.now old kept c.requires.targets c.requires.long c.keep_marked.ensures.length c.keep_marked.ensures.each)
+    ∙ derived_same code (at_targets code old) (claim_at kept) (marked_given code c.args.targets.now old kept c.requires.targets c.requires.long c.keep_marked.ensures.length c.keep_marked.ensures.each)
 
 pub returns-clause-proper : goal.returns-clause-proper
 returns-clause-proper c =
     let code = c.args.code.now in
     let old = c.args.states.now in
     let kept = c.keep_marked.new.states in
-    proper_same code (at_targets code old) (note_at kept) (length code)
+    proper_same code (at_targets code old) (claim_at kept) (length code)
     (marked_given code c.args.targets.now old kept c.requires.targets c.requires.long c.keep_marked.ensures.length c.keep_marked.ensures.each) c.derive.ensures.proper

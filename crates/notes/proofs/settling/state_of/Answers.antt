@@ -1,6 +1,6 @@
 use Rattle.std.proofs.Common.{sym, ◌∙◌}
-use Rattle.notes.proofs.Steps.{note_at-get_or}
+use Rattle.notes.proofs.Steps.{claim_at-get_or}
 use Rattle.notes.proofs.settling.state_of.Goals as goal
 
 pub returns : goal.returns
-returns c = c.index-states-k.is ∙ sym (note_at-get_or c.args.states.now c.args.k c.index-states-k.result c.requires)
+returns c = c.index-states-k.is ∙ sym (claim_at-get_or c.args.states.now c.args.k c.index-states-k.result c.requires)

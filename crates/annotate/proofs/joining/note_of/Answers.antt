@@ -1,6 +1,0 @@
-use Rattle.std.proofs.Common.{sym, ◌∙◌}
-use Rattle.annotate.proofs.Passing.{note_at-get_or}
-use Rattle.annotate.proofs.joining.note_of.Goals as goal
-
-pub returns : goal.returns
-returns c = c.index-states-k.is ∙ sym (note_at-get_or c.args.states.now c.args.k c.index-states-k.result c.requires)
