@@ -203,7 +203,7 @@ def source_kind(s, source, width=64):
 
 
 def moved(s, address, number, operation):
-    """The interval of an address moved by a number, or None where it can't be told or leaves the range."""
+    """The interval of an address moved by a number, or None where it isn't known or leaves the range."""
     lo, hi = view(s, number)
     if (lo < 1 << 63) != (hi < 1 << 63):
         return None
@@ -428,7 +428,7 @@ def joined(a, b):
 
 
 def verify(code):
-    """Each instruction has the join of the states that edges bring; the lowest fault is told."""
+    """Each instruction has the join of the states that edges propagate; the lowest fault is reported."""
     states = [None] * len(code)
     states[0] = entry()
     for k in range(len(code)):

@@ -345,10 +345,10 @@ def fixed_calls(folder):
 
 def compare_fixed(program, folder):
     calls = 0
-    for words, more, status, told in fixed_calls(folder):
+    for words, more, status, reported in fixed_calls(folder):
         got = called(program, *words, cwd=folder, **more)
-        if (got[0], got[1] or b"", got[2]) != (status, b"", told.encode() + b"\n"):
-            sys.exit("%r\nexpected %r\nbut      %r" % (words, (status, told), got))
+        if (got[0], got[1] or b"", got[2]) != (status, b"", reported.encode() + b"\n"):
+            sys.exit("%r\nexpected %r\nbut      %r" % (words, (status, reported), got))
         calls += 1
     if os.path.exists(os.path.join(folder, "none")):
         sys.exit("a file was written")
@@ -364,15 +364,15 @@ def main():
             kind = n % 3
             if kind == 0:
                 command, given, want, got = compare_text(program, folder, rng)
-                status, told = want[0][0], want[0][2]
+                status, reported = want[0][0], want[0][2]
             else:
                 command, work = ("dis", disassembled) if kind == 1 else ("check", checked)
                 command, given, want, got = compare_image(program, folder, rng, command, work)
-                status, told = want[0], want[2]
+                status, reported = want[0], want[2]
             if want != got:
                 print("call %d of seed %d: %s of %r\nexpected %r\nbut      %r" % (n, seed, command, given, want, got))
                 sys.exit(1)
-            fault = re.search(rb"[A-Z][0-9]+", told)
+            fault = re.search(rb"[A-Z][0-9]+", reported)
             met["%s %s" % (command, fault[0].decode() if fault and status == 1 else status)] += 1
     print("%d calls agree" % count)
     print(", ".join("%s: %d" % pair for pair in sorted(met.items())))

@@ -31,7 +31,7 @@ fn joined_claim(known: Option<State>, state: State) -> State
 }
 
 /// Joins a state to what is known of an instruction, if there is an instruction with this number.
-fn bring(states: &mut [Option<State>], target: usize, state: State)
+fn propagate(states: &mut [Option<State>], target: usize, state: State)
     ensures length { length states.new ≡ length states.old }
     ensures each { EachIs states.new (λ j. with_edge j (Some target) (Some state) (claim_at states.old j)) }
 {
@@ -41,19 +41,19 @@ fn bring(states: &mut [Option<State>], target: usize, state: State)
 }
 
 /// Joins what an edge propagates, if it propagates a state and leads to an instruction.
-fn bring_along(states: &mut [Option<State>], target: Option<usize>, state: Option<State>)
+fn propagate_along(states: &mut [Option<State>], target: Option<usize>, state: Option<State>)
     ensures length { length states.new ≡ length states.old }
     ensures each { EachIs states.new (λ j. with_edge j target state (claim_at states.old j)) }
 {
     if let Some(target) = target
         && let Some(state) = state
     {
-        bring(states, target, state);
+        propagate(states, target, state);
     }
 }
 
 /// Joins what both edges of an instruction propagate, the one to the next instruction first.
-fn bring_both(code: &Code, states: &mut [Option<State>], k: usize, placed: Placed, state: State)
+fn propagate_both(code: &Code, states: &mut [Option<State>], k: usize, placed: Placed, state: State)
     requires slot { placed.slot < MAX_SLOTS }
     requires number { k < MAX_SLOTS }
     requires passes { failed_check HELPERS placed.instruction state ≡ None }
@@ -61,9 +61,9 @@ fn bring_both(code: &Code, states: &mut [Option<State>], k: usize, placed: Place
     ensures each { EachIs states.new (λ j. with_edges code.now j k placed state (claim_at states.old j)) }
 {
     let edges = state.transfer(placed.instruction);
-    bring_along(states, Some(k + 1), edges.next);
+    propagate_along(states, Some(k + 1), edges.next);
     let jump = Summary::of(placed.instruction).jump;
-    bring_along(states, code.target(placed.slot, jump), edges.jump);
+    propagate_along(states, code.target(placed.slot, jump), edges.jump);
 }
 
 /// Passes an instruction with its own claim: it propagates nothing where it is not reached or fails
@@ -83,7 +83,7 @@ fn pass_one(
 {
     if let Some(state) = claim {
         if state.check(placed.instruction).is_none() {
-            bring_both(code, states, k, placed, state);
+            propagate_both(code, states, k, placed, state);
         }
     }
 }

@@ -37,7 +37,7 @@ ends_by f front count i bytes total lt h so_far =
 
 pub ends : (e : BatchFault) (front : List Record) (count i : ℕ) (bytes : List ℕ) (total : Result (List Record) BatchFault) → i < count → IsFault faults.Memory e (record_or i (record_at (pos i) bytes))
     → with_front front (records_at (count - i) i bytes) ≡ total → IsFault faults.Memory e total
-ends e front count i bytes total lt h so_far = λ told. ends_by e front count i bytes total lt (h told) so_far
+ends e front count i bytes total lt h so_far = λ reported. ends_by e front count i bytes total lt (h reported) so_far
 
 -- no bytes are left
 pub is_done : (front : List Record) (count i : ℕ) (bytes : List ℕ) (total : Result (List Record) BatchFault) → i ≡ count → bytes ≡ [] → with_front front (records_at (count - i) i bytes) ≡ total → total ≡ Ok front

@@ -30,8 +30,8 @@ module _ (program : Program) (input : Input) (s : State) where
   pub exited : (i : Instruction) → IsNext program input s i → (summary_of i).exits ≡ true → IsExit program input s
   exited i next exits = record { form = next.form ∙ ap Some (exit_is i exits); no_trap = next.no_trap }
 
-  pub ends_trapped : (n : ℕ) (told : Trap) → Reaches program input n s → trap_at program input s ≡ Some told → EndsOnlyIn program input (end.Trap told) n
-  ends_trapped n told chain trap = ends_only program input (end.Trap told) n (record { last = s; chain = chain; trap = trap })
+  pub ends_trapped : (n : ℕ) (reported : Trap) → Reaches program input n s → trap_at program input s ≡ Some reported → EndsOnlyIn program input (end.Trap reported) n
+  ends_trapped n reported chain trap = ends_only program input (end.Trap reported) n (record { last = s; chain = chain; trap = trap })
 
   pub ends_out : (n : ℕ) (outcome : Outcome) → Reaches program input n s → IsExit program input s → outcome ≡ outcome_of (s.registers 0) s.emitted → EndsOnlyIn program input (end.Out outcome) (n + 1)
   ends_out n outcome chain at is =

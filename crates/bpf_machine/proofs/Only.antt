@@ -18,8 +18,8 @@ module _ (program : Program) (input : Input) where
   IsLast : State → Type 0
   IsLast s = (t : State) → Step program input s t → ⊥
 
-  trap_last : (s : State) (told : Trap) → trap_at program input s ≡ Some told → (t : State) → Step program input s t → ⊥
-  trap_last s told e t step = none-some told (sym step.no_trap ∙ e)
+  trap_last : (s : State) (reported : Trap) → trap_at program input s ≡ Some reported → (t : State) → Step program input s t → ⊥
+  trap_last s reported e t step = none-some reported (sym step.no_trap ∙ e)
 
   -- a run that reaches a last state goes no further
   no_further : (n m : ℕ) (s t : State) → Reaches program input n s → ((u : State) → Step program input s u → ⊥) → Reaches program input m t → n < m → ⊥
@@ -36,18 +36,18 @@ module _ (program : Program) (input : Input) where
   same_state : (n m : ℕ) (s t : State) → Reaches program input n s → Reaches program input m t → n ≡ m → s ≡ t
   same_state n m s t a b same = one_state program input m s t (subst (λ k. Reaches program input k s) same a) b
 
-  one_trap : (told other : Trap) (n m : ℕ) → IsTrapped program input told n → IsTrapped program input other m → (other ≡ told) × (m ≡ n)
-  one_trap told other n m a b =
-      let count = same_count n m a.last b.last a.chain (trap_last a.last told a.trap) b.chain (trap_last b.last other b.trap) in
+  one_trap : (reported other : Trap) (n m : ℕ) → IsTrapped program input reported n → IsTrapped program input other m → (other ≡ reported) × (m ≡ n)
+  one_trap reported other n m a b =
+      let count = same_count n m a.last b.last a.chain (trap_last a.last reported a.trap) b.chain (trap_last b.last other b.trap) in
       let state = same_state n m a.last b.last a.chain b.chain count in
-      (same_Some other told (sym b.trap ∙ ap (λ s. trap_at program input s) (sym state) ∙ a.trap), sym count)
+      (same_Some other reported (sym b.trap ∙ ap (λ s. trap_at program input s) (sym state) ∙ a.trap), sym count)
 
   -- a program that means an outcome is not trapped
-  not_both : (outcome : Outcome) (told : Trap) (n m : ℕ) → Means program input outcome n → IsTrapped program input told m → ⊥
-  not_both outcome told n m a b =
-      let count = same_count a.steps m a.last b.last a.chain (λ u step. end_stays program input a.last u outcome a.end step) b.chain (trap_last b.last told b.trap) in
+  not_both : (outcome : Outcome) (reported : Trap) (n m : ℕ) → Means program input outcome n → IsTrapped program input reported m → ⊥
+  not_both outcome reported n m a b =
+      let count = same_count a.steps m a.last b.last a.chain (λ u step. end_stays program input a.last u outcome a.end step) b.chain (trap_last b.last reported b.trap) in
       let state = same_state a.steps m a.last b.last a.chain b.chain count in
-      none-some told (sym a.end.no_trap ∙ ap (λ s. trap_at program input s) state ∙ b.trap)
+      none-some reported (sym a.end.no_trap ∙ ap (λ s. trap_at program input s) state ∙ b.trap)
 
   only : (e o : End) (n m : ℕ) → EndsIn program input e n → EndsIn program input o m → (o ≡ e) × (m ≡ n)
   only (end.Out p) (end.Out q) n m a b = let same = one_meaning program input q p m n b a in (ap end.Out same.0, same.1)

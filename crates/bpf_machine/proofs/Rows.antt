@@ -62,7 +62,7 @@ trap_inside program input s within = cond-true _ _ _ (lt-ltb s.slot (slot_count 
 pub no_form : (program : Program) (input : Input) (s : State) → s.slot < slot_count program.image → form_at program.image s.slot ≡ None → trap_at program input s ≡ Some trap.Form
 no_form program input s within e = trap_inside program input s within ∙ ap (λ o. trap_of program input o s) e
 
-pub trap_is : (program : Program) (input : Input) (s : State) (i : Instruction) (m : Summary) (told : Option Trap) → s.slot < slot_count program.image → form_at program.image s.slot ≡ Some i → m ≡ summary_of i
-    → told ≡ first_of (traps program input m s) → trap_at program input s ≡ told
-trap_is program input s i m told within form summary is =
+pub trap_is : (program : Program) (input : Input) (s : State) (i : Instruction) (m : Summary) (reported : Option Trap) → s.slot < slot_count program.image → form_at program.image s.slot ≡ Some i → m ≡ summary_of i
+    → reported ≡ first_of (traps program input m s) → trap_at program input s ≡ reported
+trap_is program input s i m reported within form summary is =
     trap_inside program input s within ∙ ap (λ o. trap_of program input o s) form ∙ sym (is ∙ ap (λ n. first_of (traps program input n s)) summary)

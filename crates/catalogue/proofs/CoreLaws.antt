@@ -10,8 +10,8 @@ use Rattle.catalogue.specs.declared.fault.CatFault.TheVariants as fault
 use Rattle.catalogue.specs.Faults.{IsFaultOf}
 use Rattle.catalogue.specs.CoreTie.{refusal_for}
 
-pub first_refusal : (table : Table) (name : List ℕ) (program : Program) (told : CatFault) → told ≢ fault.Memory → IsFaultOf table name program told
-    → (first : Refusal) × (refusal_for told ≡ Some first) × IsLoadRefusal table name program (Some first)
+pub first_refusal : (table : Table) (name : List ℕ) (program : Program) (reported : CatFault) → reported ≢ fault.Memory → IsFaultOf table name program reported
+    → (first : Refusal) × (refusal_for reported ≡ Some first) × IsLoadRefusal table name program (Some first)
 first_refusal table name program fault.Name ne h = (refusal.Name, refl, h)
 first_refusal table name program fault.Full ne h = (refusal.Full, refl, h)
 first_refusal table name program (fault.Load why) ne h = (refusal.Load why, refl, h)

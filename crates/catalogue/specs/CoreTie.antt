@@ -26,8 +26,8 @@ refusal_for fault.Memory = None
 abbrev pub DoesInCore : World → List ℕ → List ℕ → Result (ℕ × Version) CatFault → Table → Type 0
 DoesInCore w name image (Ok loaded) next =
     IsRefusal w (event.Load name image) None × Happens w (event.Load name image) (Loaded loaded.0) (record w { table = next })
-DoesInCore w name image (Err told) next =
-    (next ≡ w.table) × (told ≢ fault.Memory → (first : Refusal) × (refusal_for told ≡ Some first) × IsRefusal w (event.Load name image) (Some first))
+DoesInCore w name image (Err reported) next =
+    (next ≡ w.table) × (reported ≢ fault.Memory → (first : Refusal) × (refusal_for reported ≡ Some first) × IsRefusal w (event.Load name image) (Some first))
 
 -- A load over the table of a world does there what the core's event does.
 abbrev pub FollowsCore : Type 0

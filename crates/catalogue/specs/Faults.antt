@@ -33,7 +33,7 @@ IsFaultOf table name program fault.Memory = Unit {0}
 abbrev pub IsFindFault : CatFault → Type 0
 IsFindFault fault.Name = ⊥
 IsFindFault fault.Full = ⊥
-IsFindFault (fault.Load told) = ⊥
+IsFindFault (fault.Load reported) = ⊥
 IsFindFault fault.NoReader = Unit {0}
 IsFindFault fault.Versions = ⊥
 IsFindFault fault.Memory = Unit {0}

@@ -19,7 +19,7 @@ const LOADS: usize = 1_000;
 const TURNS: usize = 100_000_000;
 
 /// What the loading thread handed over and the deploying one did not take yet.
-type Told = Mutex<Vec<Known>>;
+type Published = Mutex<Vec<Known>>;
 
 #[test]
 fn deployments_are_never_older_than_known(rt: HostRuntime) -> Result<(), Fail> {
@@ -36,12 +36,12 @@ fn chase<Id: Names + Send + Sync, R: Threads + Wait + Abort + Sync>(
     requires outputs { parts.outputs ≡ Id.outputs }
 {
     let made: Broker<Id, Catalogue<&R>> = Broker::new(alloc, parts)?;
-    let (broker, told) = (&made, &Mutex::new(Vec::new(alloc)));
+    let (broker, published) = (&made, &Mutex::new(Vec::new(alloc)));
     let one = move |number: usize| -> usize {
         if number == 0 {
-            load_all(rt, alloc, broker, told)
+            load_all(rt, alloc, broker, published)
         } else {
-            deploy_all(rt, alloc, broker, told)
+            deploy_all(rt, alloc, broker, published)
         }
     };
     for count in &thread::map_indices(rt, alloc, 2, &one)? {
@@ -55,7 +55,7 @@ fn load_all<Id: Names, H: Wait + Drop, R: Wait>(
     rt: &R,
     alloc: Global,
     broker: &Broker<Id, Catalogue<H>>,
-    told: &Told,
+    published: &Published,
 ) -> usize {
     let Ok(image) = Bytes::copy_from_slice(alloc, &FORWARD) else {
         return 0;
@@ -66,7 +66,7 @@ fn load_all<Id: Names, H: Wait + Drop, R: Wait>(
             return count;
         };
         count = count.wrapping_add(1);
-        if version as usize != count || told.lock(rt).push(known).is_err() {
+        if version as usize != count || published.lock(rt).push(known).is_err() {
             return 0;
         }
     }
@@ -78,7 +78,7 @@ fn deploy_all<Id: Names, H: Wait + Drop, R: Wait>(
     rt: &R,
     alloc: Global,
     broker: &Broker<Id, Catalogue<H>>,
-    told: &Told,
+    published: &Published,
 ) -> usize {
     let Ok(mut finder) = broker.finder(rt, alloc) else {
         return 0;
@@ -86,7 +86,7 @@ fn deploy_all<Id: Names, H: Wait + Drop, R: Wait>(
     let mut count = 0usize;
     let mut last = 0;
     for _ in 0..TURNS {
-        let taken = mem::replace(&mut *told.lock(rt), Vec::new(alloc));
+        let taken = mem::replace(&mut *published.lock(rt), Vec::new(alloc));
         if taken.is_empty() {
             thread::yield_now();
         }

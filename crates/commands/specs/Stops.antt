@@ -50,7 +50,7 @@ end_of ended.NoThread = Err stop.Thread
 -- the first end or the others'
 abbrev pub or_else_ends : Result (Unit {0}) Stop → Result (Unit {0}) Stop → Result (Unit {0}) Stop
 or_else_ends (Ok done) others = others
-or_else_ends (Err told) others = Err told
+or_else_ends (Err reported) others = Err reported
 
 -- why a script ends whose workers ended so: what the first of them met that did not end its work
 abbrev pub end_of_all : List Ended → Result (Unit {0}) Stop

@@ -25,7 +25,7 @@ refusal_of fault.Memory = refused.Memory
 
 abbrev pub disassembly_of : Result (List Placed) IsaFault → Result (List ℕ) Refused
 disassembly_of (Ok code) = Ok (text_of code)
-disassembly_of (Err told) = Err (refusal_of told)
+disassembly_of (Err reported) = Err (refusal_of reported)
 
 -- what `dis` prints of an image: the text of its code, or its refusal
 abbrev pub disassembly : List ℕ → Result (List ℕ) Refused
@@ -35,7 +35,7 @@ disassembly image = disassembly_of (read_image image)
 -- reported, unless a file, standard output or memory failed.
 abbrev pub PrintsAs : {X : Type 0} → (X → List ℕ) → Result X Refused → ℕ → Option (List ℕ) → Option (List ℕ) → Type 0
 PrintsAs view (Ok text) status before after = (status ≡ 3) ⊎ ((status ≡ 0) × Appends before after (view text))
-PrintsAs view (Err told) status before after = (status ≡ 3) ⊎ (status ≡ status_of_refused told)
+PrintsAs view (Err reported) status before after = (status ≡ 3) ⊎ (status ≡ status_of_refused reported)
 
 -- 1 where a line is refused, 3 where memory ran out
 abbrev pub status_of_fault : AsmFault → ℕ
@@ -50,4 +50,4 @@ status_of_fault asm.Memory = 3
 -- unless a file or memory failed.
 abbrev pub WritesAs : Result (List ℕ) AsmFault → ℕ → Option (List ℕ) → Type 0
 WritesAs (Ok image) status file = (status ≡ 3) ⊎ ((status ≡ 0) × IfSome file (λ bytes. bytes ≡ image))
-WritesAs (Err told) status file = (status ≡ 3) ⊎ (status ≡ status_of_fault told)
+WritesAs (Err reported) status file = (status ≡ 3) ⊎ (status ≡ status_of_fault reported)

@@ -99,7 +99,7 @@ impl<'a, Id: Names + Send + Sync, R: Threads + Wait + Sync> Session<'a, Id, R> {
     /// Whether there is such an input partition is asked before anything is read for it.
     fn known_input(&self, input: u64) -> Result<(), Stop>
         ensures ok { OnOk result (input < self.now.broker) }
-        ensures err { IfErr result (λ told. (self.now.broker ≤ input) × (told ≡ stop.Broker Partition)) }
+        ensures err { IfErr result (λ reported. (self.now.broker ≤ input) × (reported ≡ stop.Broker Partition)) }
     {
         if input < self.broker.inputs() as u64 {
             Ok(())

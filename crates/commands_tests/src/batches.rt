@@ -111,10 +111,10 @@ fn keeps_the_batches_before_a_faulty_one(rt: HostRuntime) -> Result<(), Fail> {
         ),
     ] {
         let script = format!(in alloc; "partitions 1 1 {cells}\n{line}\n")?;
-        let (told, printed, fault) = called(&rt, alloc, &["run", "script"], script.as_str())?;
+        let (reported, printed, fault) = called(&rt, alloc, &["run", "script"], script.as_str())?;
         assert!(rt; fault.as_str() == err, "{line}: {fault}");
         assert!(rt; printed.as_str() == out, "{line}: {printed}");
-        assert!(rt; told == status, "{line}: {told}");
+        assert!(rt; reported == status, "{line}: {reported}");
     }
     Ok(())
 }

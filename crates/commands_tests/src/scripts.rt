@@ -22,7 +22,7 @@ fn forwards_a_record(rt: HostRuntime) -> Result<(), Fail> {
 }
 
 #[test]
-fn tells_where_a_script_ends(rt: HostRuntime) -> Result<(), Fail> {
+fn reports_where_a_script_ends(rt: HostRuntime) -> Result<(), Fail> {
     let alloc = rt.alloc();
     for (rest, out, err, status) in [
         ("", "load fwd version 1\n", "", 0),
@@ -110,10 +110,10 @@ fn tells_where_a_script_ends(rt: HostRuntime) -> Result<(), Fail> {
         ),
     ] {
         let script = format!(in alloc; "{BEGIN}{rest}")?;
-        let (told, printed, fault) = called(&rt, alloc, &["run", "stdin"], script.as_str())?;
+        let (reported, printed, fault) = called(&rt, alloc, &["run", "stdin"], script.as_str())?;
         assert!(rt; fault.as_str() == err, "{rest}: {fault}");
         assert!(rt; printed.as_str() == out, "{rest}: {printed}");
-        assert!(rt; told == status, "{rest}: {told}");
+        assert!(rt; reported == status, "{rest}: {reported}");
     }
     Ok(())
 }
@@ -157,9 +157,9 @@ fn needs_partitions_first(rt: HostRuntime) -> Result<(), Fail> {
             0,
         ),
     ] {
-        let (told, _out, fault) = called(&rt, alloc, &["run", "script"], script)?;
+        let (reported, _out, fault) = called(&rt, alloc, &["run", "script"], script)?;
         assert!(rt; fault.as_str() == err, "{script}: {fault}");
-        assert!(rt; told == status, "{script}: {told}");
+        assert!(rt; reported == status, "{script}: {reported}");
     }
     Ok(())
 }
@@ -184,7 +184,7 @@ fn limits_keys_and_values(rt: HostRuntime) -> Result<(), Fail> {
         let key = bytes_word(alloc, key)?;
         let value = bytes_word(alloc, value)?;
         let script = format!(in alloc; "partitions 1 1 8\nput 0 0 {key} {value}\n")?;
-        let (_told, _out, fault) = called(&rt, alloc, &["run", "script"], script.as_str())?;
+        let (_reported, _out, fault) = called(&rt, alloc, &["run", "script"], script.as_str())?;
         assert!(rt; fault.as_str() == err, "{fault}");
     }
     Ok(())

@@ -69,11 +69,11 @@ const REFUSED: [(&str, &str, &str); 13] = [
 ];
 
 #[test]
-fn tells_what_logs_refuse(rt: HostRuntime) -> Result<(), Fail> {
+fn reports_what_logs_refuse(rt: HostRuntime) -> Result<(), Fail> {
     let alloc = rt.alloc();
-    for (script, printed, told) in REFUSED {
+    for (script, printed, reported) in REFUSED {
         let (status, out, err) = called(&rt, alloc, &["run", "script"], script)?;
-        assert!(rt; err.as_str() == told, "{script}: {err}");
+        assert!(rt; err.as_str() == reported, "{script}: {err}");
         assert!(rt; out.as_str() == printed, "{script}: {out}");
         assert!(rt; status == 1, "{script}: {status}");
     }

@@ -63,13 +63,13 @@ const REFUSED: [(&[&str], &str, u8); 8] = [
 
 /// No refused text leaves an image.
 #[test]
-fn tells_why_no_text_is_read_or_written(rt: HostRuntime) -> Result<(), Fail> {
+fn reports_why_no_text_is_read_or_written(rt: HostRuntime) -> Result<(), Fail> {
     let alloc = rt.alloc();
     let mut files = text_shelf(alloc)?;
-    for (words, told, want) in REFUSED {
+    for (words, reported, want) in REFUSED {
         let (status, out, err) = called_with(&rt, alloc, &mut files, words, b"")?;
         assert!(rt;
-            err.as_str() == told && out.as_str() == "",
+            err.as_str() == reported && out.as_str() == "",
             "{words:?}: {err}{out}"
         );
         assert!(rt; status == want, "{words:?}: {status}");

@@ -31,8 +31,8 @@ fn words_that_can_not_be_had(rt: HostRuntime) -> Result<(), Fail> {
     ] {
         let mut stderr = Vec::new(rt.alloc());
         assert!(rt; tell_no_words(&mut stderr, &io::Error::from(kind)) == status);
-        let told = String::from_utf8(stderr).ok().ok_or("text")?;
-        assert!(rt; told.as_str() == text, "{told}");
+        let reported = String::from_utf8(stderr).ok().ok_or("text")?;
+        assert!(rt; reported.as_str() == text, "{reported}");
     }
     Ok(())
 }
@@ -77,7 +77,7 @@ fn refuses_words(rt: HostRuntime) -> Result<(), Fail> {
 }
 
 #[test]
-fn tells_that_output_fails(rt: HostRuntime) -> Result<(), Fail> {
+fn reports_that_output_fails(rt: HostRuntime) -> Result<(), Fail> {
     let alloc = rt.alloc();
     let mut files = empty_shelf(alloc);
     let words = [

@@ -58,9 +58,9 @@ module _ (bytes : List ℕ) (at : ℕ) (delta : ℤ) (fits : FitsSigned w32 delt
 
   pub is_only : (answer : Result (Record × ℕ) RecordFault) → AnswersAs Memory view answer (ok_or (record_at delta (drop at bytes)) Bad) → IfOk answer (λ x. at + x.1 ≤ length bytes)
       → (r : Record) (rest : List ℕ) → RecordFits r → drop at bytes ≡ record_spelling delta r ++ rest → AnswersAs Memory (λ x. x) answer (Ok (r, length (record_spelling delta r)))
-  is_only (Err fault) given within r rest f e = λ told.
+  is_only (Err fault) given within r rest f e = λ reported.
       let read : ok_or (record_at delta (drop at bytes)) Bad ≡ ok_or (Some (r, rest)) Bad = ap (λ (o : Option (Record × List ℕ)). ok_or o Bad) (ap (record_at delta) e ∙ record_again delta r rest fits f) in
-      let clash : ◌≡◌ {A = Result (Record × List ℕ) RecordFault} (Ok (r, rest)) (Err fault) = sym read ∙ given told in
+      let clash : ◌≡◌ {A = Result (Record × List ℕ) RecordFault} (Ok (r, rest)) (Err fault) = sym read ∙ given reported in
       absurd cc
   is_only (Ok x) given within r rest f e =
       let same : ◌≡◌ {A = Record × List ℕ} (r, rest) (view x) = some_is (r, rest) (view x) (sym (ap (record_at delta) e ∙ record_again delta r rest fits f) ∙ read_ok _ (view x) given) in

@@ -33,7 +33,7 @@ unfolding headers_at
 ends_by e None front count i bytes total lt none bad so_far =
     let k : count - i ≡ suc (count - (i + 1)) = omega arith in
     let one : with_front front (headers_at (count - i) bytes) ≡ None = rw (k, none) refl in
-    let told : ◌≡◌ {A = Result (Header × List ℕ) RecordFault} (Err Bad) (Err e) = bad in
+    let reported : ◌≡◌ {A = Result (Header × List ℕ) RecordFault} (Err Bad) (Err e) = bad in
     let same : Bad ≡ e = cc in
     rw (sym so_far ∙ one) (ap fails same)
 ends_by e (Some x) front count i bytes total lt some bad so_far =
@@ -42,7 +42,7 @@ ends_by e (Some x) front count i bytes total lt some bad so_far =
 
 pub ends : (e : RecordFault) (front : List Header) (count i : ℕ) (bytes : List ℕ) (total : Option (List Header × List ℕ)) → i < count → IsFault Memory e (ok_or (header_at bytes) Bad)
     → with_front front (headers_at (count - i) bytes) ≡ total → IsFault Memory e (ok_or total Bad)
-ends e front count i bytes total lt h so_far = λ told. ends_by e (header_at bytes) front count i bytes total lt refl (h told) so_far
+ends e front count i bytes total lt h so_far = λ reported. ends_by e (header_at bytes) front count i bytes total lt refl (h reported) so_far
 
 pub is_done : (front : List Header) (count i : ℕ) (bytes : List ℕ) (total : Option (List Header × List ℕ)) → count ≤ i → with_front front (headers_at (count - i) bytes) ≡ total → total ≡ Some (front, bytes)
 unfolding headers_at

@@ -37,7 +37,7 @@ fn joined(alloc: Global, image: &[u8], k: usize) -> Result<State, Fail> {
 }
 
 /// What the check answers of an image and states with numbers.
-fn told(alloc: Global, image: &[u8], pairs: &[(usize, State)]) -> Result<String, Fail> {
+fn reported(alloc: Global, image: &[u8], pairs: &[(usize, State)]) -> Result<String, Fail> {
     let code = decode(alloc, image)?;
     let pairs = Vec::from_slice(alloc, pairs)?;
     Ok(match check_sparse(alloc, code, pairs) {
@@ -47,14 +47,14 @@ fn told(alloc: Global, image: &[u8], pairs: &[(usize, State)]) -> Result<String,
 }
 
 /// The check of an image and states with numbers answers this.
-fn check_told(
+fn check_reported(
     alloc: Global,
     rt: &impl Abort,
     image: &[u8],
     pairs: &[(usize, State)],
     want: &str,
 ) -> Result<(), Fail> {
-    assert_eq!(rt; told(alloc, image, pairs)?.as_str(), want);
+    assert_eq!(rt; reported(alloc, image, pairs)?.as_str(), want);
     Ok(())
 }
 
@@ -94,17 +94,17 @@ fn unreached_has_no_region(rt: HostRuntime) -> Result<(), Fail> {
 #[test]
 fn states_follow_from_those_of_jump_targets(rt: HostRuntime) -> Result<(), Fail> {
     let last = joined(rt.alloc(), &FIRST_BYTE, 3)?;
-    check_told(rt.alloc(), &rt, &FIRST_BYTE, &[(3, last)], "kept 1")?;
-    check_told(rt.alloc(), &rt, &FIRST_BYTE, &[], "V15 Notes at 1")?;
-    check_told(rt.alloc(), &rt, &ZERO, &[], "kept 0")
+    check_reported(rt.alloc(), &rt, &FIRST_BYTE, &[(3, last)], "kept 1")?;
+    check_reported(rt.alloc(), &rt, &FIRST_BYTE, &[], "V15 Notes at 1")?;
+    check_reported(rt.alloc(), &rt, &ZERO, &[], "kept 0")
 }
 
 /// Nothing follows on an instruction that fails a check: no state covers the first jump's edge.
 #[test]
 fn nothing_follows_on_a_refused_instruction(rt: HostRuntime) -> Result<(), Fail> {
     let last = joined(rt.alloc(), &OUTSIDE, 1)?;
-    check_told(rt.alloc(), &rt, &OUTSIDE, &[], "V15 Notes at 1")?;
-    check_told(
+    check_reported(rt.alloc(), &rt, &OUTSIDE, &[], "V15 Notes at 1")?;
+    check_reported(
         rt.alloc(),
         &rt,
         &OUTSIDE,
@@ -118,9 +118,9 @@ fn nothing_follows_on_a_refused_instruction(rt: HostRuntime) -> Result<(), Fail>
 fn states_are_taken_anywhere(rt: HostRuntime) -> Result<(), Fail> {
     let entry = State::entry();
     let second = joined(rt.alloc(), &ZERO, 1)?;
-    check_told(rt.alloc(), &rt, &ZERO, &[(0, entry), (1, second)], "kept 0")?;
-    check_told(rt.alloc(), &rt, &ZERO, &[(0, second)], "V15 Notes at 0")?;
-    check_told(rt.alloc(), &rt, &ZERO, &[(1, entry)], "V4 Unset at 1")
+    check_reported(rt.alloc(), &rt, &ZERO, &[(0, entry), (1, second)], "kept 0")?;
+    check_reported(rt.alloc(), &rt, &ZERO, &[(0, second)], "V15 Notes at 0")?;
+    check_reported(rt.alloc(), &rt, &ZERO, &[(1, entry)], "V4 Unset at 1")
 }
 
 /// The numbers rise and are those of instructions.
@@ -128,15 +128,15 @@ fn states_are_taken_anywhere(rt: HostRuntime) -> Result<(), Fail> {
 fn numbers_rise(rt: HostRuntime) -> Result<(), Fail> {
     let entry = State::entry();
     let last = joined(rt.alloc(), &ZERO, 1)?;
-    check_told(rt.alloc(), &rt, &ZERO, &[(2, last)], "V15 Notes at 0")?;
-    check_told(
+    check_reported(rt.alloc(), &rt, &ZERO, &[(2, last)], "V15 Notes at 0")?;
+    check_reported(
         rt.alloc(),
         &rt,
         &ZERO,
         &[(1, last), (0, entry)],
         "V15 Notes at 0",
     )?;
-    check_told(
+    check_reported(
         rt.alloc(),
         &rt,
         &ZERO,

@@ -196,12 +196,12 @@ fn items_of<Id: Names, C, R: Wait>(
 /// Whether the log has what a thread reported: each batch where its receipt says and with its base,
 /// and, where an item follows those that were read, `report.records` records in them.
 fn is_in(report: &Report, items: &[Taken]) -> bool {
-    let told = report.taken.iter().all(|taken| has(items, taken));
+    let reported = report.taken.iter().all(|taken| has(items, taken));
     let read = match items.get(report.items) {
         Some(next) => next.base == report.records,
         None => true,
     };
-    told && read
+    reported && read
 }
 
 fn has(items: &[Taken], taken: &Taken) -> bool {

@@ -30,7 +30,7 @@ turn_at true input s i = Ends (outcome_of (s.registers 0) s.emitted)
 turn_at false input s i = Goes (after i input s)
 
 abbrev turn_by : Input → State → Option Trap → Option Instruction → Turn
-turn_by input s (Some told) form = Trapped told
+turn_by input s (Some reported) form = Trapped reported
 turn_by input s None None = Lost
 turn_by input s None (Some i) = turn_at (summary_of i).exits input s i
 
@@ -45,7 +45,7 @@ pub data End : Type 0 where
 abbrev run_by : (State → Option End) → ℕ → Turn → Option End
 run_by on n (Ends outcome) = Some (Out outcome (n + 1))
 run_by on n (Goes s) = on s
-run_by on n (Trapped told) = Some (Stopped told n)
+run_by on n (Trapped reported) = Some (Stopped reported n)
 run_by on n Lost = None
 
 -- the end of a run from a state that is reached after n steps, if it has at most `turns` turns
@@ -65,18 +65,18 @@ ends_at false input s i outcome is e = absurd cc
 
 ends_by : (input : Input) (s : State) (t : Option Trap) (form : Option Instruction) (outcome : Outcome) → turn_by input s t form ≡ Ends outcome
     → (t ≡ None) × (form ≡ Some Exit) × (outcome ≡ outcome_of (s.registers 0) s.emitted)
-ends_by input s (Some told) form outcome e = absurd cc
+ends_by input s (Some reported) form outcome e = absurd cc
 ends_by input s None None outcome e = absurd cc
 ends_by input s None (Some i) outcome e = let end = ends_at (summary_of i).exits input s i outcome refl e in (refl, ap Some end.0, end.1)
 
-never_trapped : (exits : Bool) (input : Input) (s : State) (i : Instruction) (told : Trap) → turn_at exits input s i ≡ Trapped told → ⊥
-never_trapped true input s i told e = cc
-never_trapped false input s i told e = cc
+never_trapped : (exits : Bool) (input : Input) (s : State) (i : Instruction) (reported : Trap) → turn_at exits input s i ≡ Trapped reported → ⊥
+never_trapped true input s i reported e = cc
+never_trapped false input s i reported e = cc
 
-trapped_by : (input : Input) (s : State) (t : Option Trap) (form : Option Instruction) (told : Trap) → turn_by input s t form ≡ Trapped told → t ≡ Some told
-trapped_by input s (Some other) form told e = cc
-trapped_by input s None None told e = absurd cc
-trapped_by input s None (Some i) told e = absurd (never_trapped (summary_of i).exits input s i told e)
+trapped_by : (input : Input) (s : State) (t : Option Trap) (form : Option Instruction) (reported : Trap) → turn_by input s t form ≡ Trapped reported → t ≡ Some reported
+trapped_by input s (Some other) form reported e = cc
+trapped_by input s None None reported e = absurd cc
+trapped_by input s None (Some i) reported e = absurd (never_trapped (summary_of i).exits input s i reported e)
 
 -- an instruction other than EXIT, and the state after it
 abbrev GoesOn : Input → State → Option Trap → Option Instruction → State → Type 0
@@ -87,7 +87,7 @@ goes_at true input s i next is e = absurd cc
 goes_at false input s i next is e = (other_than_exit i is, cc)
 
 goes_by : (input : Input) (s : State) (t : Option Trap) (form : Option Instruction) (next : State) → turn_by input s t form ≡ Goes next → GoesOn input s t form next
-goes_by input s (Some told) form next e = absurd cc
+goes_by input s (Some reported) form next e = absurd cc
 goes_by input s None None next e = absurd cc
 goes_by input s None (Some i) next e = let on = goes_at (summary_of i).exits input s i next refl e in (i, refl, refl, on.0, on.1)
 
@@ -102,13 +102,13 @@ module _ (program : Program) (input : Input) where
       let on = goes_by input s (trap_at program input s) (form_at program.image s.slot) next e in
       subst (Reaches program input (n + 1)) on.4 (step_on program input n s on.0 chain on.2 on.3 on.1)
 
-  trap_stands : (n : ℕ) (s : State) (told : Trap) → Reaches program input n s → turn program input s ≡ Trapped told → IsTrapped program input told n
-  trap_stands n s told chain e = record { last = s; chain = chain; trap = trapped_by input s (trap_at program input s) (form_at program.image s.slot) told e }
+  trap_stands : (n : ℕ) (s : State) (reported : Trap) → Reaches program input n s → turn program input s ≡ Trapped reported → IsTrapped program input reported n
+  trap_stands n s reported chain e = record { last = s; chain = chain; trap = trapped_by input s (trap_at program input s) (form_at program.image s.slot) reported e }
 
   -- what the definitions say of such an end
   abbrev pub IsEnd : End → Type 0
   IsEnd (Out outcome n) = Means program input outcome n
-  IsEnd (Stopped told n) = IsTrapped program input told n
+  IsEnd (Stopped reported n) = IsTrapped program input reported n
 
   end_is : (e f : End) → Some e ≡ Some f → e ≡ f
   end_is e f same = cc
@@ -118,7 +118,7 @@ module _ (program : Program) (input : Input) where
       → (t : Turn) → turn program input s ≡ t → run_by (run_from turns program input (n + 1)) n t ≡ Some end → IsEnd end
   ends_as turns n s end chain later (Ends outcome) at e = subst IsEnd (end_is (Out outcome (n + 1)) end e) (end_means n s outcome chain at)
   ends_as turns n s end chain later (Goes next) at e = later next (goes_reaches n s next chain at) e
-  ends_as turns n s end chain later (Trapped told) at e = subst IsEnd (end_is (Stopped told n) end e) (trap_stands n s told chain at)
+  ends_as turns n s end chain later (Trapped reported) at e = subst IsEnd (end_is (Stopped reported n) end e) (trap_stands n s reported chain at)
   ends_as turns n s end chain later Lost at e = absurd cc
 
   ends_from : (turns n : ℕ) (s : State) (end : End) → Reaches program input n s → run_from turns program input n s ≡ Some end → IsEnd end

@@ -94,7 +94,7 @@ fn is_written_as(
     Ok(())
 }
 
-/// The image has so many instructions, is written again as it is, and has these at these slots.
+/// The image has `count` instructions, is written again as it is, and has these at these slots.
 fn has_starts(
     rt: &impl Abort,
     alloc: Global,
@@ -375,7 +375,7 @@ fn have_no_size(rt: &impl Abort, alloc: Global, images: &[&[u8]]) {
     }
 }
 
-/// The image of so many moves.
+/// The image of `count` moves.
 fn moves(alloc: Global, count: usize) -> Result<Vec<u8>, AllocError> {
     let mut image = Vec::new(alloc);
     for _ in 0..count {

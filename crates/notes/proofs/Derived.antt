@@ -426,13 +426,13 @@ module _ (code : List Placed) (claims states : Claims) (kept : List (ℕ × Abst
       }
 
 -- the refusal of states with numbers that rise is that of the list that follows from them
-pub pairs_told : (code : List Placed) (pairs : List (ℕ × Abstract)) (all : Claims) (fault : Option VerifyFault) → are_rising 0 (length code) pairs ≡ true → all ≡ derived code (pair_at pairs) → fault_of HELPERS code all ≡ fault
+pub pairs_reported : (code : List Placed) (pairs : List (ℕ × Abstract)) (all : Claims) (fault : Option VerifyFault) → are_rising 0 (length code) pairs ≡ true → all ≡ derived code (pair_at pairs) → fault_of HELPERS code all ≡ fault
     → pairs_fault code pairs ≡ fault
 unfolding pairs_fault
-pairs_told code pairs all fault rising is told =
+pairs_reported code pairs all fault rising is reported =
     cond-true (are_rising 0 (length code) pairs) (fault_of HELPERS code (derived code (pair_at pairs))) (Some (record { pc = 0; kind = check.Notes })) rising
-    ∙ (ap (λ (ns : Claims). fault_of HELPERS code ns) (sym is) ∙ told)
+    ∙ (ap (λ (ns : Claims). fault_of HELPERS code ns) (sym is) ∙ reported)
 
-pub unordered_told : (code : List Placed) (pairs : List (ℕ × Abstract)) → are_rising 0 (length code) pairs ≡ false → pairs_fault code pairs ≡ Some (record { pc = 0; kind = check.Notes })
+pub unordered_reported : (code : List Placed) (pairs : List (ℕ × Abstract)) → are_rising 0 (length code) pairs ≡ false → pairs_fault code pairs ≡ Some (record { pc = 0; kind = check.Notes })
 unfolding pairs_fault
-unordered_told code pairs e = cond-false (are_rising 0 (length code) pairs) (fault_of HELPERS code (derived code (pair_at pairs))) (Some (record { pc = 0; kind = check.Notes })) e
+unordered_reported code pairs e = cond-false (are_rising 0 (length code) pairs) (fault_of HELPERS code (derived code (pair_at pairs))) (Some (record { pc = 0; kind = check.Notes })) e

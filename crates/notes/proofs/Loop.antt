@@ -12,9 +12,9 @@ use Rattle.notes.specs.Proper.{IsProperAt, AreProperBelow, AreProper}
 use Rattle.notes.proofs.Lookups.{claim_at_past}
 
 -- the refusal of an instruction that fails a check
-pub told_here : (code : List Placed) (claims : Claims) (k : ℕ) (placed : Placed) (kind : Check) → slice_get code k ≡ Some placed
+pub reported_here : (code : List Placed) (claims : Claims) (k : ℕ) (placed : Placed) (kind : Check) → slice_get code k ≡ Some placed
     → failed_at HELPERS code claims k placed ≡ Some kind → fault_from HELPERS code claims k (drop k code) ≡ Some (record { pc = k; kind = kind })
-told_here code claims k placed kind at fails =
+reported_here code claims k placed kind at fails =
     fault_from-drop HELPERS code claims code k placed at
     ∙ ap (λ failed. fault_or k failed (fault_from HELPERS code claims (k + 1) (drop (k + 1) code))) fails
 
@@ -51,8 +51,8 @@ none_then : {T : Type 0} (r : Option T) {P Q : Type 0} → IfNone r P → (P →
 none_then None h f = f h
 none_then (Some x) h f = tt
 
-pub proper_started : (claims : Claims) (n : ℕ) (covers : Bool) (told : Option VerifyFault) → ((length claims == n) && covers) ≡ true
-    → IfNone told (AreProperBelow claims n) → IfNone told (AreProper claims)
-proper_started claims n covers told started below =
+pub proper_started : (claims : Claims) (n : ℕ) (covers : Bool) (reported : Option VerifyFault) → ((length claims == n) && covers) ≡ true
+    → IfNone reported (AreProperBelow claims n) → IfNone reported (AreProper claims)
+proper_started claims n covers reported started below =
     let long : length claims ≡ n = eqb-true (length claims) n (and_parts (length claims == n) covers started).0 in
-    none_then told below (proper_all claims n long)
+    none_then reported below (proper_all claims n long)

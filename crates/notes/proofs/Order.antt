@@ -10,13 +10,13 @@ use Rattle.verifier_spec.specs.declared.fault.Check.{Check}
 use Rattle.verifier_spec.specs.declared.fault.Check.TheVariants as check
 use Rattle.verifier_spec.specs.Checks.{checks, failed_check, shape_checks}
 use Rattle.verifier_spec.specs.Annotation.{Claims, claim_at, are_edges_covered, reached_checks, failed_at}
-use Rattle.verifier_spec.proofs.Faults.{first_of-append, first_of-told}
+use Rattle.verifier_spec.proofs.Faults.{first_of-append, first_of-reported}
 
 -- a failed check of the shape is reported
-pub shape_told : (code : List Placed) (claims : Claims) (k : ℕ) (placed : Placed) (kind : Check)
+pub shape_reported : (code : List Placed) (claims : Claims) (k : ℕ) (placed : Placed) (kind : Check)
     → first_of (shape_checks code k placed) ≡ Some kind → failed_at HELPERS code claims k placed ≡ Some kind
 unfolding failed_at
-shape_told code claims k placed kind e = first_of-told (shape_checks code k placed) (reached_checks HELPERS code claims k placed (claim_at claims k)) kind e
+shape_reported code claims k placed kind e = first_of-reported (shape_checks code k placed) (reached_checks HELPERS code claims k placed (claim_at claims k)) kind e
 
 -- else the first failed check in the instruction's state
 pub shape_passed : (code : List Placed) (claims : Claims) (k : ℕ) (placed : Placed) (known : Option Abstract)
@@ -28,17 +28,17 @@ shape_passed code claims k placed known e n =
     ∙ ap (λ s. first_of (reached_checks HELPERS code claims k placed s)) n
 
 -- of which its own are reported before its edges
-pub check_told : (code : List Placed) (claims : Claims) (k : ℕ) (placed : Placed) (s : Abstract) (kind : Check)
+pub check_reported : (code : List Placed) (claims : Claims) (k : ℕ) (placed : Placed) (s : Abstract) (kind : Check)
     → failed_check HELPERS placed.instruction s ≡ Some kind → first_of (reached_checks HELPERS code claims k placed (Some s)) ≡ Some kind
 unfolding failed_check
-check_told code claims k placed s kind e =
-    first_of-told (checks HELPERS (summary_of placed.instruction) s) ((not (are_edges_covered code claims k placed s), check.Notes) ∷ []) kind e
+check_reported code claims k placed s kind e =
+    first_of-reported (checks HELPERS (summary_of placed.instruction) s) ((not (are_edges_covered code claims k placed s), check.Notes) ∷ []) kind e
 
 -- and then an edge that leads where no claim covers it
-pub edges_told : (code : List Placed) (claims : Claims) (k : ℕ) (placed : Placed) (s : Abstract) (covered : Bool) → failed_check HELPERS placed.instruction s ≡ None → are_edges_covered code claims k placed s ≡ covered
+pub edges_reported : (code : List Placed) (claims : Claims) (k : ℕ) (placed : Placed) (s : Abstract) (covered : Bool) → failed_check HELPERS placed.instruction s ≡ None → are_edges_covered code claims k placed s ≡ covered
     → first_of (reached_checks HELPERS code claims k placed (Some s)) ≡ (if covered then None else Some check.Notes)
 unfolding failed_check
-edges_told code claims k placed s covered e is =
+edges_reported code claims k placed s covered e is =
     first_of-append (checks HELPERS (summary_of placed.instruction) s) ((not (are_edges_covered code claims k placed s), check.Notes) ∷ []) e ∙ ap (λ b. first_of ((not b, check.Notes) ∷ [])) is ∙ last covered
   where
     last : (b : Bool) → first_of ((not b, check.Notes) ∷ []) ≡ (if b then None else Some check.Notes)

@@ -166,8 +166,8 @@ next_records base rows count row lt is =
 module _ (base : ℕ) (rows : List Row) (count size len : ℕ) (records : List Record) (row : Row) (given : Record)
     (so_far : UpTo base rows count records size) (lt : count < length rows) (is : row ≡ get_or rows count row) (given_is : given ≡ record_of base row)
     (len_is : len ≡ length (record_spelling (pos count) given)) where
-  pub so_many : length records ≡ count
-  so_many = ap length so_far.are ∙ (length-map (take count rows) (record_of base) ∙ length-take-le count rows (omega (arith, lt)))
+  pub count_is : length records ≡ count
+  count_is = ap length so_far.are ∙ (length-map (take count rows) (record_of base) ∙ length-take-le count rows (omega (arith, lt)))
 
   longer : map (record_of base) (take (count + 1) rows) ≡ records ++ given ∷ []
   longer =
@@ -176,7 +176,7 @@ module _ (base : ℕ) (rows : List Row) (count size len : ℕ) (records : List R
 
   grown : size + len ≡ size_with (records ++ given ∷ [])
   grown =
-      let at : 0 + length records ≡ count = omega (arith, so_many) in
+      let at : 0 + length records ≡ count = omega (arith, count_is) in
       let pushed = spelling_push 0 records given ∙ ap (λ (n : ℕ). records_spelling 0 records ++ record_spelling (pos n) given) at in
       let more = ap length pushed ∙ length-append (records_spelling 0 records) (record_spelling (pos count) given) in
       omega (arith, so_far.size_is, len_is, more)
@@ -186,10 +186,10 @@ module _ (base : ℕ) (rows : List Row) (count size len : ℕ) (records : List R
 
   pub ends_before : max_batch < size + len → AreFirst base rows records
   ends_before large = record {
-    are = so_far.are ∙ ap (λ (n : ℕ). map (record_of base) (take n rows)) (sym so_many);
-    there = omega (arith, so_many, lt);
+    are = so_far.are ∙ ap (λ (n : ℕ). map (record_of base) (take n rows)) (sym count_is);
+    there = omega (arith, count_is, lt);
     few_bytes = omega (arith, so_far.size_is, so_far.small);
-    full = λ some. subst (λ (n : ℕ). max_batch < size_with (map (record_of base) (take (n + 1) rows))) (sym so_many)
+    full = λ some. subst (λ (n : ℕ). max_batch < size_with (map (record_of base) (take (n + 1) rows))) (sym count_is)
         (omega (arith, grown, large, ap size_with longer));
   }
 

@@ -155,7 +155,7 @@ const FAULTS: [(&str, bool, bool, Option<ScriptFault>); 20] = [
 ];
 
 #[test]
-fn tells_faults(rt: HostRuntime) -> Result<(), Fail> {
+fn reports_faults(rt: HostRuntime) -> Result<(), Fail> {
     for (line, has_begun, is_loaded, fault) in &FAULTS {
         let command = parse(rt.alloc(), line)?.ok_or("a command")?;
         assert!(rt;

@@ -21,7 +21,7 @@ use Rattle.verifier_spec.specs.Transfer.{falls_to, jumps_to, jump_edge}
 use Rattle.verifier_spec.specs.Annotation.{Claims, claim_at, claim_of, is_covered, is_edge_covered, are_edges_covered, IsAnnotation, reached_checks, failed_at, fault_or, fault_from, fault_of}
 use Rattle.verifier_spec.specs.JoinedStates.{with_edge, with_edges, if_passed, with_instruction, known_after, joined_states}
 use Rattle.verifier_spec.proofs.Annotations.{none_of_three, covering, there, and_second}
-use Rattle.verifier_spec.proofs.Faults.{Passes, first_of-told, first_of-append, at_passes, none_from_each}
+use Rattle.verifier_spec.proofs.Faults.{Passes, first_of-reported, first_of-append, at_passes, none_from_each}
 use Rattle.verifier_spec.proofs.JoinedStates.{covered_refl, covered_trans, edge_least, grows_to, falls_known, jumps_known, length-joined_states, claim_joined}
 use Rattle.verifier_spec.proofs.Monotone.{check_monotone, falls_monotone, jumps_monotone}
 
@@ -96,7 +96,7 @@ either_is_other : (xs ys : List (Bool × Check)) (first : Option Check) (kind : 
     → ((c : Check) → first_of xs ≡ Some c → is_claims c ≡ false) → (first_of xs ≡ None → first_of ys ≡ Some kind → is_claims kind ≡ false)
     → first_of (xs ++ ys) ≡ Some kind → is_claims kind ≡ false
 either_is_other xs ys (Some c) kind is here there e =
-    let found : Some c ≡ Some kind = sym (first_of-told xs ys c is) ∙ e in
+    let found : Some c ≡ Some kind = sym (first_of-reported xs ys c is) ∙ e in
     let same : c ≡ kind = cc in
     let P : Check → Type 0 = λ x. is_claims x ≡ false in
     subst P same (here c is)

@@ -36,12 +36,12 @@ first_of-append (x ∷ xs) ys h =
     cond-false x.0 (Some x.1) (first_of (xs ++ ys)) parts.0 ∙ first_of-append xs ys parts.1
 
 -- the first check that fails in a list is the first of it and any other after it
-pub first_of-told : {A : Type 0} (xs ys : List (Bool × A)) (x : A) → first_of xs ≡ Some x → first_of (xs ++ ys) ≡ Some x
-first_of-told [] ys x h = cc
-first_of-told {A} (row ∷ xs) ys x h =
+pub first_of-reported : {A : Type 0} (xs ys : List (Bool × A)) (x : A) → first_of xs ≡ Some x → first_of (xs ++ ys) ≡ Some x
+first_of-reported [] ys x h = cc
+first_of-reported {A} (row ∷ xs) ys x h =
     elim (cases_Bool row.0) [
       | inl fails ↦ cond-true row.0 (Some row.1) (first_of (xs ++ ys)) fails ∙ (sym (cond-true row.0 (Some row.1) (first_of xs) fails) ∙ h)
-      | inr passes ↦ cond-false row.0 (Some row.1) (first_of (xs ++ ys)) passes ∙ first_of-told xs ys x (sym (cond-false row.0 (Some row.1) (first_of xs) passes) ∙ h)
+      | inr passes ↦ cond-false row.0 (Some row.1) (first_of (xs ++ ys)) passes ∙ first_of-reported xs ys x (sym (cond-false row.0 (Some row.1) (first_of xs) passes) ∙ h)
     ]
 
 -- ---- one instruction
@@ -219,7 +219,7 @@ no_memory_first (row ∷ rows) kind none e =
     let parts : (is_memory row.1 ≡ false) × (list_any (λ r. is_memory r.1) rows ≡ false) = or_parts (is_memory row.1) (list_any (λ r. is_memory r.1) rows) none in
     elim (cases_Bool row.0) [
       | inl fails ↦
-          let told : Some row.1 ≡ Some kind = sym (cond-true row.0 (Some row.1) (first_of rows) fails) ∙ e in
+          let reported : Some row.1 ≡ Some kind = sym (cond-true row.0 (Some row.1) (first_of rows) fails) ∙ e in
           let same : row.1 ≡ kind = cc in
           let P : Check → Type 0 = λ c. is_memory c ≡ false in
           subst P same parts.0
@@ -262,7 +262,7 @@ fault_of-kind helpers code claims f e is =
     elim (cases_Bool start) [
       | inl passes ↦ no_memory_from helpers code claims 0 code f (sym (cond-true start (fault_from helpers code claims 0 code) (Some claims_fault) passes) ∙ e)
       | inr fails ↦
-          let told : Some claims_fault ≡ Some f = sym (cond-false start (fault_from helpers code claims 0 code) (Some claims_fault) fails) ∙ e in
+          let reported : Some claims_fault ≡ Some f = sym (cond-false start (fault_from helpers code claims 0 code) (Some claims_fault) fails) ∙ e in
           let same : check.Notes ≡ f.kind = cc in
           let P : Check → Type 0 = λ c. is_memory c ≡ false in
           subst P same refl

@@ -134,26 +134,26 @@ module _ (helpers : List Helper) (code : List Placed) (j : ℕ) (outer : Option 
 
   edges_least : (k : ℕ) (placed : Placed) (s : Abstract) (known : Option Abstract) → is_edge_covered known outer ≡ true → BringsWithin k placed s
       → is_edge_covered (with_edges code j k placed s known) outer ≡ true
-  edges_least k placed s known h brings =
+  edges_least k placed s known h propagates =
       edge_least j (target_of code placed.slot (jump_of placed.instruction)) (jumps_to placed.instruction s) (with_edge j (Some (k + 1)) (falls_to placed.instruction s) known) outer
       (edge_least j (Some (k + 1)) (falls_to placed.instruction s) known outer h (λ e.
       let same : k + 1 ≡ j = cc in
-      brings.falls same))
-      brings.jumps
+      propagates.falls same))
+      propagates.jumps
 
   passed_least : (k : ℕ) (placed : Placed) (s : Abstract) (known : Option Abstract) (failed : Option Check) → failed_check helpers placed.instruction s ≡ failed
       → is_edge_covered known outer ≡ true → (failed_check helpers placed.instruction s ≡ None → BringsWithin k placed s)
       → is_edge_covered (if_passed failed known (with_edges code j k placed s known)) outer ≡ true
-  passed_least k placed s known (Some _) is h brings = h
-  passed_least k placed s known None is h brings = edges_least k placed s known h (brings is)
+  passed_least k placed s known (Some _) is h propagates = h
+  passed_least k placed s known None is h propagates = edges_least k placed s known h (propagates is)
 
   instruction_least : (k : ℕ) (at : Option Placed) (own known : Option Abstract) → slice_get code k ≡ at → known_after helpers code k k ≡ own → is_edge_covered known outer ≡ true
       → ((placed : Placed) (s : Abstract) → slice_get code k ≡ Some placed → known_after helpers code k k ≡ Some s → failed_check helpers placed.instruction s ≡ None → BringsWithin k placed s)
       → is_edge_covered (with_instruction helpers code j k at own known) outer ≡ true
-  instruction_least k None own known at is h brings = h
-  instruction_least k (Some placed) None known at is h brings = h
-  instruction_least k (Some placed) (Some s) known at is h brings =
-      passed_least k placed s known (failed_check helpers placed.instruction s) refl h (brings placed s at is)
+  instruction_least k None own known at is h propagates = h
+  instruction_least k (Some placed) None known at is h propagates = h
+  instruction_least k (Some placed) (Some s) known at is h propagates =
+      passed_least k placed s known (failed_check helpers placed.instruction s) refl h (propagates placed s at is)
 
   -- What is known of an instruction is within each claim that the entry, if it is the first, and all that edges of reached
   -- instructions propagate are within.
@@ -162,10 +162,10 @@ module _ (helpers : List Helper) (code : List Placed) (j : ℕ) (outer : Option 
       → BringsWithin i placed s)
       → is_edge_covered (known_after helpers code k j) outer ≡ true
   unfolding known_after
-  known_least zero first brings = first
-  known_least (suc k) first brings =
+  known_least zero first propagates = first
+  known_least (suc k) first propagates =
       instruction_least k (slice_get code k) (known_after helpers code k k) (known_after helpers code k j) refl refl
-      (known_least k first (λ i placed s under. brings i placed s (omega (arith, under)))) (λ placed s. brings k placed s (omega arith))
+      (known_least k first (λ i placed s under. propagates i placed s (omega (arith, under)))) (λ placed s. propagates k placed s (omega arith))
 
 -- ---- the list of them
 

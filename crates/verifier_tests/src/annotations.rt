@@ -36,7 +36,7 @@ fn state(r0: Abs, value_min: u32, value_max: u32) -> Result<State, Fail> {
 }
 
 /// What the check reports of an image and a list of states.
-fn told(alloc: Global, image: &[u8], claims: &[Option<State>]) -> Result<String, Fail> {
+fn reported(alloc: Global, image: &[u8], claims: &[Option<State>]) -> Result<String, Fail> {
     let code = decode(alloc, image)?;
     let claims = Vec::from_slice(alloc, claims)?;
     Ok(match check(alloc, code, claims) {
@@ -106,7 +106,7 @@ fn refuses_lists(rt: HostRuntime) -> Result<(), Fail> {
         (&FIRST_BYTE, &[entry, zero, some, zero], "V15 Notes at 2"),
     ];
     for (image, claims, want) in cases {
-        let text = told(alloc, image, claims)?;
+        let text = reported(alloc, image, claims)?;
         assert_eq!(rt; text.as_str(), want);
     }
     Ok(())
@@ -154,7 +154,7 @@ fn refuses_instructions(rt: HostRuntime) -> Result<(), Fail> {
     ];
     for (forms, claims, want) in cases {
         let image = image_of(alloc, forms)?;
-        let text = told(alloc, &image, claims)?;
+        let text = reported(alloc, &image, claims)?;
         assert_eq!(rt; text.as_str(), want);
     }
     Ok(())

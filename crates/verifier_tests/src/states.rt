@@ -341,7 +341,7 @@ fn checks_in_order(rt: HostRuntime) {
 
 /// Of two checks that an instruction fails the one before the other is reported.
 #[test]
-fn tells_the_first_of_two_faults(rt: HostRuntime) {
+fn reports_the_first_of_two_faults(rt: HostRuntime) {
     let entry = State::entry();
     let load = |dst: u8, offset: i16| {
         Instruction::Load(Size::Byte, Extension::Zero, dst, 10, offset)

@@ -178,7 +178,7 @@ fn count_of(batch: &Batch) -> usize {
     batch.records.list.len()
 }
 
-/// The bytes are read as a batch with this start, this producer and so many records.
+/// The bytes are read as a batch with this start, this producer and this many records.
 fn reads_as(
     rt: &impl Abort,
     alloc: Global,

@@ -171,7 +171,7 @@ fn with_headers(alloc: Global, count: usize, start: &[u8]) -> Result<Vec<u8>, Al
     Ok(bytes)
 }
 
-/// Whether a record with so many headers is read.
+/// Whether a record with `count` headers is read.
 fn is_read(alloc: Global, count: usize, start: &[u8]) -> Result<bool, AllocError> {
     let bytes = Bytes::from_vec(with_headers(alloc, count, start)?)?;
     Ok(read(alloc, &bytes, 0, 0).is_ok())

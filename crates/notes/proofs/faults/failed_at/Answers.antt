@@ -1,10 +1,10 @@
 use Rattle.std.proofs.Common.{sym, ◌∙◌, Some, None}
-use Rattle.notes.proofs.Order.{shape_told, shape_passed}
+use Rattle.notes.proofs.Order.{shape_reported, shape_passed}
 use Rattle.notes.proofs.faults.failed_at.Goals as goal
 
 pub returns-in-Some-clause-failed : goal.returns-in-Some-clause-failed
 returns-in-Some-clause-failed c =
-    sym (shape_told c.args.code.now c.args.claims.now c.args.k c.args.placed c.in-Some.check (sym c.in-Some.ensures))
+    sym (shape_reported c.args.code.now c.args.claims.now c.args.k c.args.placed c.in-Some.check (sym c.in-Some.ensures))
 
 pub returns-in-Some-claim_at-clause-failed : goal.returns-in-Some-claim_at-clause-failed
 returns-in-Some-claim_at-clause-failed c =

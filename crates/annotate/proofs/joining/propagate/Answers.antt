@@ -1,7 +1,7 @@
 use Rattle.std.proofs.Common.{Some, ap, ◌∙◌}
 use Rattle.verifier_spec.specs.JoinedStates.{joined_claims}
 use Rattle.annotate.proofs.Passing.{brought}
-use Rattle.annotate.proofs.joining.bring.Goals as goal
+use Rattle.annotate.proofs.joining.propagate.Goals as goal
 
 pub returns-then-target-states-clause-each : goal.returns-then-target-states-clause-each
 returns-then-target-states-clause-each c = λ j under.
