@@ -25,7 +25,7 @@ pub record IsStep (outputs input : ℕ) (old : Content) (note : CellNote) (count
 abbrev pub IsStepFault : ℕ → ℕ → Content → BrokerFault → Type 0
 IsStepFault inputs input old Partition = inputs ≤ input
 IsStepFault inputs input old Memory = input < inputs
-IsStepFault inputs input old (BookRefuses book.Partition) = length old.logs ≤ input
+IsStepFault inputs input old (BookRefuses book.Partition) = (input < inputs) × (length old.logs ≤ input)
 IsStepFault inputs input old (BookRefuses book.Memory) = input < inputs
 IsStepFault inputs input old (BookRefuses (book.Gap expected)) = ⊥
 IsStepFault inputs input old NoProgram = ⊥
