@@ -29,7 +29,7 @@ impl Numbers {
 
     /// Finds a record.
     pub(crate) fn find(&mut self, record: &Record) {
-        if is_new(&mut self.found, number_of(&record.key)) {
+        if is_new(&mut self.found, record_number(&record.key)) {
             self.once = self.once.wrapping_add(1);
         } else {
             self.again = self.again.wrapping_add(1);
@@ -47,7 +47,7 @@ fn is_new(found: &mut [bool], number: usize) -> bool {
 }
 
 /// The number of the record with this key.
-fn number_of(key: &Option<Bytes>) -> usize {
+fn record_number(key: &Option<Bytes>) -> usize {
     match key {
         Some(key) => read(key.as_slice()),
         None => usize::MAX,
