@@ -20,7 +20,7 @@ EXAMPLES = Path(__file__).resolve().parent.parent / "examples"
 
 
 def limited(size):
-    """What a child does first: a write past so many bytes fails, and does not end it."""
+    """What a child does first: a write past `size` bytes fails, and does not end it."""
     def begin():
         signal.signal(signal.SIGXFSZ, signal.SIG_IGN)
         resource.setrlimit(resource.RLIMIT_FSIZE, (size, size))
@@ -28,7 +28,7 @@ def limited(size):
 
 
 def cut_at(klog, script, size, whole):
-    """What is wrong with a run whose output has room for so many bytes, or nothing."""
+    """What is wrong with a run whose output has room for `size` bytes, or nothing."""
     with tempfile.TemporaryFile() as out:
         ran = subprocess.run([klog, "run", script.name], cwd=script.parent, stdout=out, stderr=subprocess.PIPE, preexec_fn=limited(size), timeout=60)
         out.seek(0)
