@@ -51,7 +51,7 @@ impl Machine {
     {
         let registers = entry_registers(run);
         let stack = Stack::new(run.alloc)?;
-        let emitter = Emitter::new();
+        let emitter = Emitter::new(run.alloc);
         Ok(Machine {
             slot: 0,
             registers,

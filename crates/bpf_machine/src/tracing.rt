@@ -35,12 +35,12 @@ pub enum Advance {
 }
 
 /// What r0 at the exit makes of the emissions.
-fn outcome_of(alloc: Global, answer: Tagged, machine: Machine) -> Outcome
+fn outcome_of(answer: Tagged, machine: Machine) -> Outcome
     ensures { result ≡ outcome_of (value_of answer) machine.emitter }
 {
     let Machine { emitter, .. } = machine;
     match answer {
-        Tagged::Number(0) => Outcome::Kept(emitter.into_emissions(alloc)),
+        Tagged::Number(0) => Outcome::Kept(emitter.into_emissions()),
         Tagged::Number(code) => Outcome::Rejected(code),
         Tagged::Nothing => Outcome::Rejected(0),
         Tagged::Address(_, _) => Outcome::Rejected(0),
@@ -114,7 +114,7 @@ pub fn trace(
             Advance::Trapped(trap) => return Ok((End::Trap(trap), count)),
             Advance::Ended => {
                 let answer = get(&machine.registers, 0);
-                return Ok((End::Out(outcome_of(alloc, answer, machine)), count + 1));
+                return Ok((End::Out(outcome_of(answer, machine)), count + 1));
             }
         }
     }

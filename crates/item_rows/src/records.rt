@@ -8,8 +8,9 @@ use crate::origin::Origin;
 use crate::rows::OutputRows;
 use log_item::Program;
 use log_spec::Row;
-use machine_spec::{Emission, Outcome, Place};
+use machine_spec::{Emission, Emissions, Outcome, Place};
 use std::alloc::{AllocError, Global};
+use std::mem;
 use wire_spec::{Batch, Record, TIMESTAMP_END};
 
 /// An emission as a row.
@@ -65,6 +66,13 @@ fn push_rows(
     Ok(())
 }
 
+/// The emissions by value.
+fn into_list(alloc: Global, mut emissions: Emissions) -> Vec<Emission>
+    ensures { result.items ≡ emissions }
+{
+    mem::replace(&mut emissions.list, Vec::new(alloc))
+}
+
 /// Runs a program on a record and adds the rows that it gives.
 fn push_record(
     alloc: Global,
@@ -78,7 +86,7 @@ fn push_record(
     ensures { OnOk result (Adds all.old all.new (λ output here. IsRecordRows output (Some program.now) place.now given.now here)) }
 {
     match program.run(alloc, given, place)? {
-        Outcome::Kept(emissions) => push_rows(all, place, emissions.list),
+        Outcome::Kept(emissions) => push_rows(all, place, into_list(alloc, emissions)),
         Outcome::Rejected(_) => Ok(()),
     }
 }

@@ -25,9 +25,21 @@ pub struct Emission {
 }
 
 /// The emissions of a run, in order. A clause sees them as the list of them.
-#[derive(Drop)]
 pub struct Emissions {
     pub list: Vec<Emission>,
+}
+
+/// Many runs emit nothing: to drop an empty list takes no call.
+impl Drop for Emissions {
+    #[inline(always)]
+    fn drop(self) {
+        let Emissions { list } = self;
+        if list.is_empty() {
+            list.destroy_empty();
+        } else {
+            drop(list);
+        }
+    }
 }
 
 impl Model for Emissions {

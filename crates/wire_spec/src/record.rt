@@ -9,9 +9,21 @@ pub struct Header {
 }
 
 /// The headers of a record, in order. A clause sees them as the list of them.
-#[derive(Drop)]
 pub struct Headers {
     pub list: Vec<Header>,
+}
+
+/// Most records have no headers: to drop an empty list takes no call.
+impl Drop for Headers {
+    #[inline(always)]
+    fn drop(self) {
+        let Headers { list } = self;
+        if list.is_empty() {
+            list.destroy_empty();
+        } else {
+            drop(list);
+        }
+    }
 }
 
 impl Model for Headers {

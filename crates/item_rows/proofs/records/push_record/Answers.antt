@@ -14,10 +14,10 @@ returns-in-Kept c =
     let one = c.args.all.now in let two = c.push_rows.new.all in
     let ran = c.in_ok-emissions.ensures.means in
     let means = subst (λ (o : Outcome). Means program (record { given = given; place = place }) o ran.0) c.in-Kept.is ran.1 in
-    on_ok c.push_rows.result (Adds one two (λ q here. here ≡ rows_to q place 0 c.emissions.inside.list.items)) (Adds one two (λ q here. IsRecordRows q (Some program) place given here))
+    on_ok c.push_rows.result (Adds one two (λ q here. here ≡ rows_to q place 0 c.into_list.result.items)) (Adds one two (λ q here. IsRecordRows q (Some program) place given here))
     c.push_rows.ensures
     (λ adds. outcome_rows program place given (Kept c.in-Kept.emissions) ran.0 one two means
-    (subst (λ (es : List Emission). Adds one two (λ q here. here ≡ rows_to q place 0 es)) c.emissions.view_is adds))
+    (subst (λ (es : List Emission). Adds one two (λ q here. here ≡ rows_to q place 0 es)) c.into_list.ensures adds))
 
 pub returns-in-Rejected : goal.returns-in-Rejected
 returns-in-Rejected c =
