@@ -102,8 +102,8 @@ module _ (program : Program) (input : Input) where
       let on = goes_by input s (trap_at program input s) (form_at program.image s.slot) next e in
       subst (Reaches program input (n + 1)) on.4 (step_on program input n s on.0 chain on.2 on.3 on.1)
 
-  trap_stands : (n : ℕ) (s : State) (reported : Trap) → Reaches program input n s → turn program input s ≡ Trapped reported → IsTrapped program input reported n
-  trap_stands n s reported chain e = record { last = s; chain = chain; trap = trapped_by input s (trap_at program input s) (form_at program.image s.slot) reported e }
+  trap_reached : (n : ℕ) (s : State) (reported : Trap) → Reaches program input n s → turn program input s ≡ Trapped reported → IsTrapped program input reported n
+  trap_reached n s reported chain e = record { last = s; chain = chain; trap = trapped_by input s (trap_at program input s) (form_at program.image s.slot) reported e }
 
   -- what the definitions say of such an end
   abbrev pub IsEnd : End → Type 0
@@ -118,7 +118,7 @@ module _ (program : Program) (input : Input) where
       → (t : Turn) → turn program input s ≡ t → run_by (run_from turns program input (n + 1)) n t ≡ Some end → IsEnd end
   ends_as turns n s end chain later (Ends outcome) at e = subst IsEnd (end_is (Out outcome (n + 1)) end e) (end_means n s outcome chain at)
   ends_as turns n s end chain later (Goes next) at e = later next (goes_reaches n s next chain at) e
-  ends_as turns n s end chain later (Trapped reported) at e = subst IsEnd (end_is (Stopped reported n) end e) (trap_stands n s reported chain at)
+  ends_as turns n s end chain later (Trapped reported) at e = subst IsEnd (end_is (Stopped reported n) end e) (trap_reached n s reported chain at)
   ends_as turns n s end chain later Lost at e = absurd cc
 
   ends_from : (turns n : ℕ) (s : State) (end : End) → Reaches program input n s → run_from turns program input n s ≡ Some end → IsEnd end

@@ -483,7 +483,7 @@ batch_takes bytes x fits e =
 -- ---- What is spelled so is read
 
 -- the fields that are in these bytes
-record Stands (b : Batch) (bytes : List ℕ) : Type 0 where
+record HasFields (b : Batch) (bytes : List ℕ) : Type 0 where
   pub base_offset : base_offset bytes ≡ b.base_offset
   pub size : number_at w32 8 bytes ≡ 9 + length (covered b)
   pub leader_epoch : leader_epoch bytes ≡ b.leader_epoch
@@ -525,9 +525,9 @@ length-covered b = omega arith
 pub records_length : (b : Batch) → length (covered b) ≡ 40 + length (records_spelling 0 b.records)
 records_length b = omega arith
 
-stands : (b : Batch) (rest : List ℕ) → BatchFits b → Stands b (batch_spelling b ++ rest)
+has_fields : (b : Batch) (rest : List ℕ) → BatchFits b → HasFields b (batch_spelling b ++ rest)
 unfolding batch_spelling
-stands b rest fits =
+has_fields b rest fits =
     let zero_is : IsTimestamp (pos 0) = (omega (arith, ints), omega (arith, ints)) in
     let top = timestamp_fits (greatest (timestamps b.base_timestamp b.records)) (max_timestamp_is (timestamps b.base_timestamp b.records) (pos 0) zero_is fits.each_timestamp) in
     let whole = length-covered b in
@@ -546,17 +546,17 @@ stands b rest fits =
       count = from_be_bytes-to_be_bytes_4 (length b.records) (omega (arith, fits.few_records));
     }
 
-crc_stands : (b : Batch) (rest : List ℕ) → IsBytes (covered b) → crc (batch_spelling b ++ rest) ≡ checksum (covered b)
+crc_there : (b : Batch) (rest : List ℕ) → IsBytes (covered b) → crc (batch_spelling b ++ rest) ≡ checksum (covered b)
 unfolding batch_spelling
-crc_stands b rest bytes = from_be_bytes-to_be_bytes_4 (checksum (covered b)) (checksum-lt (covered b) (Each1-from_get_or (λ x. x < 256) (covered b) 0 (λ i lt. bytes i)))
+crc_there b rest bytes = from_be_bytes-to_be_bytes_4 (checksum (covered b)) (checksum-lt (covered b) (Each1-from_get_or (λ x. x < 256) (covered b) 0 (λ i lt. bytes i)))
 
-covered_stands : (b : Batch) (rest : List ℕ) → drop 21 (batch_spelling b ++ rest) ≡ covered b ++ rest
+covered_there : (b : Batch) (rest : List ℕ) → drop 21 (batch_spelling b ++ rest) ≡ covered b ++ rest
 unfolding batch_spelling
-covered_stands b rest = refl
+covered_there b rest = refl
 
-records_stand : (b : Batch) (rest : List ℕ) → drop 61 (batch_spelling b ++ rest) ≡ records_spelling 0 b.records ++ rest
+records_there : (b : Batch) (rest : List ℕ) → drop 61 (batch_spelling b ++ rest) ≡ records_spelling 0 b.records ++ rest
 unfolding batch_spelling
-records_stand b rest = refl
+records_there b rest = refl
 
 alone_is : (b : Batch) (P : List ℕ → Type 0) → P (batch_spelling b ++ []) → P (batch_spelling b)
 alone_is b P h = subst P (append-nil (batch_spelling b)) h
@@ -565,7 +565,7 @@ whole_by : (bytes : List ℕ) (n : ℕ) (rs : List Record) (b : Batch) → count
 unfolding whole_at
 whole_by bytes n rs b e1 e2 e3 = rw (e1, e2, e3) refl
 
-timed_again : (b : Batch) (bytes : List ℕ) → BatchFits b → Stands b bytes → timed_at bytes b.records ≡ Ok b
+timed_again : (b : Batch) (bytes : List ℕ) → BatchFits b → HasFields b bytes → timed_at bytes b.records ≡ Ok b
 unfolding timed_at
 timed_again b bytes fits s =
     let ts = timestamps b.base_timestamp b.records in
@@ -579,11 +579,11 @@ timed_again b bytes fits s =
 whole_again : (b : Batch) → BatchFits b → IsBytes (batch_spelling b) → whole_at (batch_spelling b) ≡ Ok b
 whole_again b fits bytes =
     let text = batch_spelling b in
-    let s : Stands b text = alone_is b (Stands b) (stands b [] fits) in
-    let inner : drop 21 text ≡ covered b = alone_is b (λ (t : List ℕ). drop 21 t ≡ covered b) (covered_stands b [] ∙ append-nil (covered b)) in
+    let s : HasFields b text = alone_is b (HasFields b) (has_fields b [] fits) in
+    let inner : drop 21 text ≡ covered b = alone_is b (λ (t : List ℕ). drop 21 t ≡ covered b) (covered_there b [] ∙ append-nil (covered b)) in
     let inner_bytes : IsBytes (covered b) = subst IsBytes inner (IsBytes-drop 21 text bytes) in
-    let sum : crc text ≡ checksum (drop 21 text) = alone_is b (λ (t : List ℕ). crc t ≡ checksum (covered b)) (crc_stands b [] inner_bytes) ∙ ap checksum (sym inner) in
-    let behind : drop 61 text ≡ records_spelling 0 b.records = alone_is b (λ (t : List ℕ). drop 61 t ≡ records_spelling 0 b.records) (records_stand b [] ∙ append-nil (records_spelling 0 b.records)) in
+    let sum : crc text ≡ checksum (drop 21 text) = alone_is b (λ (t : List ℕ). crc t ≡ checksum (covered b)) (crc_there b [] inner_bytes) ∙ ap checksum (sym inner) in
+    let behind : drop 61 text ≡ records_spelling 0 b.records = alone_is b (λ (t : List ℕ). drop 61 t ≡ records_spelling 0 b.records) (records_there b [] ∙ append-nil (records_spelling 0 b.records)) in
     let last : last_offset_delta text + 1 ≡ length b.records = omega (arith, s.last, fits.some_records) in
     let counted : Counted text (length b.records) = record { magic = s.magic; crc = sum; attributes = s.attributes; some = fits.some_records; few = fits.few_records; last = last; count = s.count } in
     let small : 0 + length b.records < 2 ^ 31 = omega (arith, fits.few_records) in
@@ -598,7 +598,7 @@ batch_again b rest fits bytes =
     let text = batch_spelling b in
     let n = length text in
     let all = text ++ rest in
-    let s = stands b rest fits in
+    let s = has_fields b rest fits in
     let whole = length-covered b in
     let inner = records_length b in
     let alone : take n all ≡ text = take_at text rest n refl in
@@ -610,9 +610,9 @@ batch_again b rest fits bytes =
 pub one_batch : (b c : Batch) (x y : List ℕ) → BatchFits b → BatchFits c → batch_spelling b ++ x ≡ batch_spelling c ++ y → (b ≡ c) × (x ≡ y)
 one_batch b c x y fits also e =
     let all = batch_spelling b ++ x in
-    let s = stands b x fits in
-    let t : Stands c all = subst (Stands c) (sym e) (stands c y also) in
+    let s = has_fields b x fits in
+    let t : HasFields c all = subst (HasFields c) (sym e) (has_fields c y also) in
     let count : length b.records ≡ length c.records = sym s.count ∙ t.count in
-    let row : records_spelling 0 b.records ++ x ≡ records_spelling 0 c.records ++ y = sym (records_stand b x) ∙ ap (drop 61) e ∙ records_stand c y in
+    let row : records_spelling 0 b.records ++ x ≡ records_spelling 0 c.records ++ y = sym (records_there b x) ∙ ap (drop 61) e ∙ records_there c y in
     let both = records_one 0 b.records c.records x y (omega (arith, fits.few_records)) count fits.records also.records row in
     (same_batch b c (sym s.base_offset ∙ t.base_offset) (sym s.leader_epoch ∙ t.leader_epoch) (sym s.base_timestamp ∙ t.base_timestamp) (sym s.producer_id ∙ t.producer_id) (sym s.producer_epoch ∙ t.producer_epoch) (sym s.base_sequence ∙ t.base_sequence) both.0, both.1)
