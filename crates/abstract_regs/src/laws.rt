@@ -1,7 +1,8 @@
-//! What the checks and the transfer promise of every instruction.
+//! What the checks and the transfer promise of every instruction, and the join of every two states.
 
 ghost use Rattle.std.specs.Prelude.{◌≡◌, true, None};
 ghost use Rattle.verifier_spec.specs.States.{is_within};
+ghost use Rattle.verifier_spec.specs.Joins.{joined, IsLeastAbove};
 ghost use Rattle.verifier_spec.specs.Checks.{failed_check};
 ghost use Rattle.verifier_spec.specs.Soundness.{IsSoundAt, KeepsOrder};
 ghost use Rattle.machine_spec.specs.declared.helper.TheConstants.{HELPERS};
@@ -27,4 +28,13 @@ pub fn order_is_kept(inner: &State, outer: &State, instruction: Instruction)
     ensures { KeepsOrder HELPERS instruction inner.now outer.now }
 {
     let _within = inner.within(outer);
+}
+
+/// The join is the least state above two: both states are within it, and it is within every state
+/// that both are within. `State::join` returns it, and `State::within` is the order.
+#[tactic(auto, using(verifier_spec::proofs::Joins::least_above))]
+pub fn join_is_least(a: &State, b: &State)
+    ensures { IsLeastAbove a.now b.now (joined a.now b.now) }
+{
+    let _join = a.join(b);
 }

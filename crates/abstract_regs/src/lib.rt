@@ -8,7 +8,7 @@ mod state;
 mod transfer;
 
 pub use checks::{greatest_displacement, is_one_sign, is_wrong_argument, least_displacement};
-pub use laws::{order_is_kept, transfer_is_sound};
+pub use laws::{join_is_least, order_is_kept, transfer_is_sound};
 pub use machine_spec::{Instruction, Region};
 pub use state::{Edges, State};
 pub use verifier_spec::{Abs, Abstract, Check, StackSet};

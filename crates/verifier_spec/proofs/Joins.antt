@@ -14,7 +14,7 @@ use Rattle.verifier_spec.specs.declared.state.Abs.TheVariants as abs
 use Rattle.verifier_spec.specs.declared.state.Abstract.{Abstract}
 use Rattle.verifier_spec.specs.Kinds.{is_set, kind_at, least, greatest, range_of, same_region, is_proper_kind, is_kind_within, furthest}
 use Rattle.verifier_spec.specs.States.{is_proper, is_within}
-use Rattle.verifier_spec.specs.Joins.{joined_ranges, joined_kind, pairwise, joined}
+use Rattle.verifier_spec.specs.Joins.{joined_ranges, joined_kind, pairwise, joined, IsLeastAbove}
 use Rattle.verifier_spec.proofs.Order.{within_parts, within_from, region_is}
 use Rattle.verifier_spec.proofs.Proper.{proper_parts, proper_from, lengths_order}
 use Rattle.verifier_spec.proofs.Whole.{le_z-true, le-le_z, le_trans_z}
@@ -520,3 +520,13 @@ module _ (a b : Abstract) (p : is_proper a ≡ true) (q : is_proper b ≡ true) 
         value_order = omega (arith, u.value_order, v.value_order);
         value_limited = omega (arith, u.value_limited, v.value_limited);
       })
+
+-- ---- the law of the join
+
+pub least_above : (a b : Abstract) → is_proper a ≡ true → is_proper b ≡ true → IsLeastAbove a b (joined a b)
+least_above a b p q = record {
+  proper = joined_proper a b p q;
+  left = within_joined_left a b;
+  right = within_joined_right a b;
+  least = joined_least a b;
+}

@@ -1,8 +1,9 @@
 -- The join of two abstract states: the least state that both are within.
-use Rattle.std.specs.Prelude.{min, max, bit_and, if◌then◌else◌, List, [], ◌∷◌, Option, Some}
+use Rattle.std.specs.Prelude.{◌≡◌, min, max, true, bit_and, if◌then◌else◌, List, [], ◌∷◌, Option, Some}
 use Rattle.std.specs.Int.{int_min, int_max}
 use Rattle.verifier_spec.specs.declared.{interval.Interval.Interval, state.Abs.Abs, state.Abstract.Abstract}
 use Rattle.verifier_spec.specs.Kinds.{range_of, same_region}
+use Rattle.verifier_spec.specs.States.{is_proper, is_within}
 
 -- the least interval that contains two; nothing is known where one of them is no number
 abbrev pub joined_ranges : Option Interval → Option Interval → Abs
@@ -35,3 +36,11 @@ joined a b = record {
   value_max = max a.value_max b.value_max;
   set = record { words = pairwise bit_and a.set.words b.set.words };
 }
+
+-- A state is the least one above two: it is in its ranges, both are within it, and it is within every state that both are
+-- within.
+pub record IsLeastAbove (a b join : Abstract) : Type 0 where
+  pub proper : is_proper join ≡ true
+  pub left : is_within a join ≡ true
+  pub right : is_within b join ≡ true
+  pub least : (above : Abstract) → is_within a above ≡ true → is_within b above ≡ true → is_within join above ≡ true
