@@ -8,7 +8,7 @@ use Rattle.machine_spec.specs.declared.instruction.Instruction.{Instruction}
 use Rattle.machine_spec.specs.declared.instruction.Placed.{Placed}
 use Rattle.machine_spec.specs.Image.{IsCodeOf}
 use Rattle.bpf_isa.specs.Code.{AreBytes}
-use Rattle.bpf_isa.specs.Spelling.{spelling, spelled, HasRegisters}
+use Rattle.bpf_isa.specs.Spelling.{spelling, spelled}
 use Rattle.bpf_isa.proofs.Bytes.{form_read}
 use Rattle.bpf_isa.proofs.Slots.{sized}
 use Rattle.bpf_isa.proofs.Walk.{code_spelled, placed_registers}
@@ -17,13 +17,8 @@ use Rattle.bpf_asm.specs.Reading.{is_line_feed, read_line}
 use Rattle.bpf_asm.specs.Images.{before_bytes, with_line, lines_image, some_image, image_of}
 use Rattle.bpf_asm.specs.Writing.{line_of, line_text, text_of}
 use Rattle.bpf_asm.proofs.Lines.{if_fits}
-use Rattle.bpf_asm.proofs.Ranges.{IsHeld, slot_held}
+use Rattle.bpf_asm.proofs.Ranges.{IsSaid, slot_held}
 use Rattle.bpf_asm.proofs.LineTexts.{split_at, line_again, line_feeds}
-
--- an instruction whose line says it
-record IsSaid (i : Instruction) : Type 0 where
-  registers : HasRegisters i
-  held : IsHeld i
 
 abbrev AreSaid : List Placed → Type 0
 AreSaid code = (k : ℕ) (p : Placed) → slice_get code k ≡ Some p → IsSaid p.instruction
