@@ -1,25 +1,27 @@
 -- The fields that an instruction is spelled with encode that instruction.
-use Rattle.std.proofs.Common.{◌≡◌, ℕ, ◌+◌, ◌*◌, ◌/◌, ◌%◌, ◌^◌, ◌<◌, ◌≤◌, ℤ, pos, Bool, true, false, cond, Option, Result, Ok, Err, refl, sym, ap, subst, ◌∙◌, arith}
-use Rattle.std.specs.Int.{w32, cast_unsigned, cast_signed}
+use Rattle.std.proofs.Common.{◌≡◌, ℕ, ◌+◌, ◌*◌, ◌/◌, ◌%◌, ◌^◌, ◌<◌, ◌≤◌, ℤ, pos, Bool, true, false, cond, Option, Result, Ok, Err, refl, sym, ap, subst, ◌∙◌}
+use Rattle.std.proofs.Common.{arith}
+use Rattle.std.specs.{Int.w32, Int.cast_unsigned, Int.cast_signed}
 use Rattle.std.proofs.lemmas.{Bool.and_from, Bool.le-leb, Int.of_z-to_z}
-use Rattle.machine_spec.specs.declared.operation.{Width.Width, Width.TheVariants.Bits32, Width.TheVariants.Bits64, Operation.Operation, SwappedWidth.SwappedWidth, ByteOrder.ByteOrder, Change.Change, Test.Test}
+use Rattle.machine_spec.specs.declared.operation.{Width.Width, Width.TheVariants.Bits32, Width.TheVariants.Bits64, Operation.Operation}
+use Rattle.machine_spec.specs.declared.operation.{SwappedWidth.SwappedWidth, ByteOrder.ByteOrder, Change.Change, Test.Test}
 use Rattle.machine_spec.specs.declared.operation.SwappedWidth.TheVariants as swapped
 use Rattle.machine_spec.specs.declared.operation.ExtendedWidth.TheVariants as extended
-use Rattle.machine_spec.specs.declared.operation.Operation.TheVariants.{Add, Sub, Mul, Div, SignedDiv, Or, And, LeftShift, RightShift, Mod, SignedMod, Xor, ArithmeticRightShift}
-use Rattle.machine_spec.specs.declared.operation.ByteOrder.TheVariants.{LittleEndian, BigEndian, Swapped}
-use Rattle.machine_spec.specs.declared.operation.Change.TheVariants.{Negate, Order, SignExtend}
-use Rattle.machine_spec.specs.declared.operation.Test.TheVariants.{Equal, NotEqual, Greater, GreaterOrEqual, Less, LessOrEqual, AnyBit, SignedGreater, SignedGreaterOrEqual, SignedLess, SignedLessOrEqual}
+use Rattle.machine_spec.specs.declared.operation.Operation.TheVariants.{Add, Sub, Mul, Div, SignedDiv, Or, And, LeftShift, RightShift, Mod, SignedMod, Xor}
+use Rattle.machine_spec.specs.declared.operation.Operation.TheVariants.{ArithmeticRightShift}
+use Rattle.machine_spec.specs.declared.operation.{ByteOrder.TheVariants.LittleEndian, ByteOrder.TheVariants.BigEndian, ByteOrder.TheVariants.Swapped}
+use Rattle.machine_spec.specs.declared.operation.{Change.TheVariants.Negate, Change.TheVariants.Order, Change.TheVariants.SignExtend}
+use Rattle.machine_spec.specs.declared.operation.Test.TheVariants.{Equal, NotEqual, Greater, GreaterOrEqual, Less, LessOrEqual, AnyBit, SignedGreater}
+use Rattle.machine_spec.specs.declared.operation.Test.TheVariants.{SignedGreaterOrEqual, SignedLess, SignedLessOrEqual}
 use Rattle.machine_spec.specs.declared.instruction.Size.{Size, TheVariants.Byte, TheVariants.Half, TheVariants.Word, TheVariants.Double}
-use Rattle.machine_spec.specs.declared.instruction.Extension.{Extension, TheVariants.Zero, TheVariants.Sign}
-use Rattle.machine_spec.specs.declared.instruction.Distance.TheVariants.{Short, Long}
-use Rattle.machine_spec.specs.declared.instruction.Source.{Source, TheVariants.Register, TheVariants.Immediate}
-use Rattle.machine_spec.specs.declared.instruction.Instruction.{Instruction}
+use Rattle.machine_spec.specs.declared.instruction.{Extension.Extension, Extension.TheVariants.Zero, Extension.TheVariants.Sign, Distance.TheVariants.Short}
+use Rattle.machine_spec.specs.declared.instruction.{Distance.TheVariants.Long, Source.Source, Source.TheVariants.Register, Source.TheVariants.Immediate}
+use Rattle.machine_spec.specs.declared.instruction.{Instruction.Instruction, IsaFault.IsaFault}
 use Rattle.machine_spec.specs.declared.instruction.Instruction.TheVariants.{Move, Compute, Load, Unary, Store, JumpIf, Jump, Wide, Call, Exit}
-use Rattle.machine_spec.specs.declared.instruction.IsaFault.{IsaFault}
 use Rattle.machine_spec.specs.declared.instruction.IsaFault.TheVariants as fault
 use Rattle.machine_spec.specs.Opcodes.{Fields, Uses, template_of, uses_of, has_register, has_registers}
-use Rattle.machine_spec.specs.Image.{read_fields, slots_of}
-use Rattle.bpf_isa.specs.Spelling.{spelled_fields, HasRegisters}
+use Rattle.machine_spec.specs.{Image.read_fields, Image.slots_of}
+use Rattle.bpf_isa.specs.{Spelling.spelled_fields, Spelling.HasRegisters}
 use Rattle.bpf_asm.proofs.Ranges.{is_load, is_change, is_form, RangedChange, Ranged}
 
 -- fields with another upper half
@@ -35,9 +37,12 @@ Again slot upper i = read_fields slot (with_upper (spelled_fields i) upper) ≡ 
 
 -- the same of an instruction of both widths with a register and with a number
 abbrev AllAgain : ℕ → Option ℕ → (Width → Source → Instruction) → ℕ → ℤ → Type 0
-AllAgain slot upper of r imm = Again slot upper (of Bits32 (Register r)) × Again slot upper (of Bits32 (Immediate imm)) × Again slot upper (of Bits64 (Register r)) × Again slot upper (of Bits64 (Immediate imm))
+AllAgain slot upper of r imm =
+    Again slot upper (of Bits32 (Register r)) × Again slot upper (of Bits32 (Immediate imm)) × Again slot upper (of Bits64 (Register r)) × Again slot upper
+    (of Bits64 (Immediate imm))
 
-all_again : (slot : ℕ) (upper : Option ℕ) (of : Width → Source → Instruction) → ((r : ℕ) (imm : ℤ) → AllAgain slot upper of r imm) → (width : Width) (source : Source) → Again slot upper (of width source)
+all_again : (slot : ℕ) (upper : Option ℕ) (of : Width → Source → Instruction) → ((r : ℕ) (imm : ℤ) → AllAgain slot upper of r imm)
+    → (width : Width) (source : Source) → Again slot upper (of width source)
 all_again slot upper of all Bits32 (Register r) = (all r (pos 0)).0
 all_again slot upper of all Bits32 (Immediate imm) = (all 0 imm).1
 all_again slot upper of all Bits64 (Register r) = (all r (pos 0)).2
@@ -47,7 +52,8 @@ moves_again : (slot : ℕ) (upper : Option ℕ) (dst r : ℕ) (imm : ℤ) → Al
 unfolding read_fields template_of
 moves_again slot upper dst r imm = (refl, refl, refl, refl)
 
-computes_again : (operation : Operation) (slot : ℕ) (upper : Option ℕ) (dst r : ℕ) (imm : ℤ) → AllAgain slot upper (λ width source. Compute width operation dst source) r imm
+computes_again : (operation : Operation) (slot : ℕ) (upper : Option ℕ) (dst r : ℕ) (imm : ℤ)
+    → AllAgain slot upper (λ width source. Compute width operation dst source) r imm
 unfolding read_fields template_of
 computes_again Add slot upper dst r imm = (refl, refl, refl, refl)
 computes_again Sub slot upper dst r imm = (refl, refl, refl, refl)
@@ -63,7 +69,8 @@ computes_again SignedMod slot upper dst r imm = (refl, refl, refl, refl)
 computes_again Xor slot upper dst r imm = (refl, refl, refl, refl)
 computes_again ArithmeticRightShift slot upper dst r imm = (refl, refl, refl, refl)
 
-jumps_again : (test : Test) (slot : ℕ) (upper : Option ℕ) (dst : ℕ) (offset : ℤ) (r : ℕ) (imm : ℤ) → AllAgain slot upper (λ width source. JumpIf width test dst source offset) r imm
+jumps_again : (test : Test) (slot : ℕ) (upper : Option ℕ) (dst : ℕ) (offset : ℤ) (r : ℕ) (imm : ℤ)
+    → AllAgain slot upper (λ width source. JumpIf width test dst source offset) r imm
 unfolding read_fields template_of
 jumps_again Equal slot upper dst offset r imm = (refl, refl, refl, refl)
 jumps_again NotEqual slot upper dst offset r imm = (refl, refl, refl, refl)
@@ -77,7 +84,8 @@ jumps_again SignedGreaterOrEqual slot upper dst offset r imm = (refl, refl, refl
 jumps_again SignedLess slot upper dst offset r imm = (refl, refl, refl, refl)
 jumps_again SignedLessOrEqual slot upper dst offset r imm = (refl, refl, refl, refl)
 
-load_again : (size : Size) (extension : Extension) (slot : ℕ) (upper : Option ℕ) (dst base : ℕ) (offset : ℤ) → is_load size extension ≡ true → Again slot upper (Load size extension dst base offset)
+load_again : (size : Size) (extension : Extension) (slot : ℕ) (upper : Option ℕ) (dst base : ℕ) (offset : ℤ) → is_load size extension ≡ true
+    → Again slot upper (Load size extension dst base offset)
 unfolding read_fields template_of
 load_again Byte Zero slot upper dst base offset form = refl
 load_again Half Zero slot upper dst base offset form = refl
@@ -116,10 +124,13 @@ unfolding read_fields template_of
 negate_again Bits32 slot upper dst = refl
 negate_again Bits64 slot upper dst = refl
 
-change_again : (change : Change) (slot : ℕ) (upper : Option ℕ) (dst src : ℕ) → is_change change ≡ true → RangedChange change dst src → Again slot upper (Unary change dst src)
+change_again : (change : Change) (slot : ℕ) (upper : Option ℕ) (dst src : ℕ) → is_change change ≡ true → RangedChange change dst src
+    → Again slot upper (Unary change dst src)
 unfolding read_fields template_of
-change_again (Negate width) slot upper dst src form same = subst (λ s. Again slot upper (Unary (Negate width) dst s)) (sym same) (negate_again width slot upper dst)
-change_again (Order order width) slot upper dst src form same = subst (λ s. Again slot upper (Unary (Order order width) dst s)) (sym same) (order_again order width slot upper dst)
+change_again (Negate width) slot upper dst src form same =
+    subst (λ s. Again slot upper (Unary (Negate width) dst s)) (sym same) (negate_again width slot upper dst)
+change_again (Order order width) slot upper dst src form same =
+    subst (λ s. Again slot upper (Unary (Order order width) dst s)) (sym same) (order_again order width slot upper dst)
 change_again (SignExtend Bits32 extended.Bits8) slot upper dst src form ranged = refl
 change_again (SignExtend Bits32 extended.Bits16) slot upper dst src form ranged = refl
 change_again (SignExtend Bits32 extended.Bits32) slot upper dst src form ranged = absurd cc
@@ -129,12 +140,15 @@ change_again (SignExtend Bits64 extended.Bits32) slot upper dst src form ranged 
 
 again : (slot : ℕ) (upper : Option ℕ) (i : Instruction) → is_form i ≡ true → Ranged i → slots_of i ≡ 1 → Again slot upper i
 unfolding read_fields template_of
-again slot upper (Move width dst source) form ranged one = all_again slot upper (λ width source. Move width dst source) (moves_again slot upper dst) width source
-again slot upper (Compute width operation dst source) form ranged one = all_again slot upper (λ width source. Compute width operation dst source) (computes_again operation slot upper dst) width source
+again slot upper (Move width dst source) form ranged one =
+    all_again slot upper (λ width source. Move width dst source) (moves_again slot upper dst) width source
+again slot upper (Compute width operation dst source) form ranged one =
+    all_again slot upper (λ width source. Compute width operation dst source) (computes_again operation slot upper dst) width source
 again slot upper (Load size extension dst base offset) form ranged one = load_again size extension slot upper dst base offset form
 again slot upper (Unary change dst src) form ranged one = change_again change slot upper dst src form ranged
 again slot upper (Store size base offset source) form ranged one = store_again size source slot upper base offset
-again slot upper (JumpIf width test dst source offset) form ranged one = all_again slot upper (λ width source. JumpIf width test dst source offset) (jumps_again test slot upper dst offset) width source
+again slot upper (JumpIf width test dst source offset) form ranged one =
+    all_again slot upper (λ width source. JumpIf width test dst source offset) (jumps_again test slot upper dst offset) width source
 again slot upper (Jump (Short slots)) form ranged one = refl
 again slot upper (Jump (Long slots)) form ranged one = refl
 again slot upper (Wide dst n) form ranged one = absurd cc
@@ -151,7 +165,8 @@ registers_hold uses f dst src = and_from _ _ (holds uses.dst f.dst dst) (holds u
     holds false n small = refl
 
 -- an instruction of one slot
-pub narrow_read : (slot : ℕ) (upper : Option ℕ) (i : Instruction) → is_form i ≡ true → Ranged i → HasRegisters i → slots_of i ≡ 1 → read_fields slot (with_upper (spelled_fields i) upper) ≡ Ok i
+pub narrow_read : (slot : ℕ) (upper : Option ℕ) (i : Instruction) → is_form i ≡ true → Ranged i → HasRegisters i → slots_of i ≡ 1
+    → read_fields slot (with_upper (spelled_fields i) upper) ≡ Ok i
 narrow_read slot upper i form ranged registers one =
     again slot upper i form ranged one ∙ ap (if_registers slot i) (registers_hold (uses_of i) (spelled_fields i) registers.dst registers.src)
 

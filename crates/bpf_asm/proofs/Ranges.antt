@@ -1,40 +1,27 @@
 -- What a slot of an image can hold: the forms that there are, and the ranges of their numbers.
-use Rattle.std.proofs.Common.{◌≡◌, ℕ, ◌+◌, ◌*◌, ◌^◌, ◌<◌, ◌%◌, ℤ, pos, negsuc, Bool, true, false, List, [], ◌∷◌, Option, Some, None, Ok, refl, sym, subst, arith, ◌==◌, cond}
+use Rattle.std.proofs.Common.{◌≡◌, ℕ, ◌+◌, ◌*◌, ◌^◌, ◌<◌, ◌%◌, ℤ, pos, negsuc, Bool, true, false, List, [], ◌∷◌, Option, Some, None, Ok, refl, sym, subst}
+use Rattle.std.proofs.Common.{arith, ◌==◌, cond}
 use Rattle.std.specs.Prelude.{option_map, FitsSigned, find}
-use Rattle.std.specs.List.{list_all}
-use Rattle.std.specs.Int.{w16, w32, from_le_bytes, cast_unsigned}
-use Rattle.std.specs.Ordering.{int_eq}
+use Rattle.std.specs.{List.list_all, Int.w16, Int.w32, Int.from_le_bytes, Int.cast_unsigned, Ordering.int_eq}
 use Rattle.std.proofs.Math.Facts.{sfits_to_z}
-use Rattle.std.proofs.lemmas.Bool.{and_parts}
-use Rattle.std.proofs.lemmas.Int.{of_z-to_z}
-use Rattle.std.proofs.lemmas.Option.{same_Some, none-some}
-use Rattle.machine_spec.specs.declared.operation.Width.{Width}
-use Rattle.machine_spec.specs.declared.operation.Width.TheVariants.{Bits32, Bits64}
-use Rattle.machine_spec.specs.declared.operation.Operation.{Operation}
-use Rattle.machine_spec.specs.declared.operation.Operation.TheVariants.{Add, Sub, Mul, Div, SignedDiv, Or, And, LeftShift, RightShift, Mod, SignedMod, Xor, ArithmeticRightShift}
-use Rattle.machine_spec.specs.declared.operation.SwappedWidth.{SwappedWidth}
+use Rattle.std.proofs.lemmas.{Bool.and_parts, Int.of_z-to_z, Option.same_Some, Option.none-some}
+use Rattle.machine_spec.specs.declared.operation.{Width.Width, Width.TheVariants.Bits32, Width.TheVariants.Bits64, Operation.Operation}
+use Rattle.machine_spec.specs.declared.operation.{SwappedWidth.SwappedWidth, ExtendedWidth.ExtendedWidth, ByteOrder.ByteOrder, Change.Change}
+use Rattle.machine_spec.specs.declared.operation.{Change.TheVariants.Negate, Change.TheVariants.Order, Change.TheVariants.SignExtend}
+use Rattle.machine_spec.specs.declared.operation.Operation.TheVariants.{Add, Sub, Mul, Div, SignedDiv, Or, And, LeftShift, RightShift, Mod, SignedMod, Xor}
+use Rattle.machine_spec.specs.declared.operation.Operation.TheVariants.{ArithmeticRightShift}
 use Rattle.machine_spec.specs.declared.operation.SwappedWidth.TheVariants as swapped
-use Rattle.machine_spec.specs.declared.operation.ExtendedWidth.{ExtendedWidth}
 use Rattle.machine_spec.specs.declared.operation.ExtendedWidth.TheVariants as extended
-use Rattle.machine_spec.specs.declared.operation.ByteOrder.{ByteOrder}
-use Rattle.machine_spec.specs.declared.operation.Change.{Change}
-use Rattle.machine_spec.specs.declared.operation.Change.TheVariants.{Negate, Order, SignExtend}
-use Rattle.machine_spec.specs.declared.instruction.Size.{Size}
-use Rattle.machine_spec.specs.declared.instruction.Size.TheVariants.{Byte, Half, Word, Double}
-use Rattle.machine_spec.specs.declared.instruction.Extension.{Extension}
-use Rattle.machine_spec.specs.declared.instruction.Extension.TheVariants.{Zero, Sign}
-use Rattle.machine_spec.specs.declared.instruction.Distance.{Distance}
-use Rattle.machine_spec.specs.declared.instruction.Distance.TheVariants.{Short, Long}
-use Rattle.machine_spec.specs.declared.instruction.Source.{Source}
-use Rattle.machine_spec.specs.declared.instruction.Source.TheVariants.{Register, Immediate}
-use Rattle.machine_spec.specs.declared.instruction.Instruction.{Instruction}
+use Rattle.machine_spec.specs.declared.instruction.{Size.Size, Size.TheVariants.Byte, Size.TheVariants.Half, Size.TheVariants.Word, Size.TheVariants.Double}
+use Rattle.machine_spec.specs.declared.instruction.{Extension.Extension, Extension.TheVariants.Zero, Extension.TheVariants.Sign, Distance.Distance}
+use Rattle.machine_spec.specs.declared.instruction.{Distance.TheVariants.Short, Distance.TheVariants.Long, Source.Source, Source.TheVariants.Register}
+use Rattle.machine_spec.specs.declared.instruction.{Source.TheVariants.Immediate, Instruction.Instruction}
 use Rattle.machine_spec.specs.declared.instruction.Instruction.TheVariants.{Move, Compute, Load, Unary, Store, JumpIf, Jump, Wide, Call, Exit}
 use Rattle.machine_spec.specs.declared.opcode.TheConstants.{TEMPLATES}
 use Rattle.machine_spec.specs.Opcodes.{Fields, opcode_of, is_other_kind, template_of, filled_source, selected, extended_by, extending, swapped_by, filled}
 use Rattle.machine_spec.specs.Image.{byte_at, word_at, upper_at, fields_at, read_slot}
-use Rattle.bpf_isa.specs.Code.{AreBytes}
-use Rattle.bpf_isa.specs.Spelling.{source_imm, operation_offset, spelled_fields, HasRegisters}
-use Rattle.bpf_isa.proofs.Bytes.{slot_read, second}
+use Rattle.bpf_isa.specs.{Code.AreBytes, Spelling.source_imm, Spelling.operation_offset, Spelling.spelled_fields, Spelling.HasRegisters}
+use Rattle.bpf_isa.proofs.{Bytes.slot_read, Bytes.second}
 use Rattle.bpf_asm.proofs.NumberTexts.{Fits}
 
 -- ---- forms

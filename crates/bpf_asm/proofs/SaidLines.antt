@@ -1,23 +1,23 @@
 -- The instruction of a line is one that an image can have: its form is one of the profile's, its registers are r0 to r10
 -- and its numbers lie in their ranges.
-use Rattle.std.proofs.Common.{◌≡◌, ℕ, ◌+◌, ◌-◌, ◌^◌, ◌<◌, ◌≤◌, ℤ, pos, negsuc, Bool, true, false, cond, List, [], ◌∷◌, length, take, Option, Some, None, Result, Ok, Err, refl, ap, subst, arith, leb, drop, slice_index, unsigned_abs}
+use Rattle.std.proofs.Common.{◌≡◌, ℕ, ◌+◌, ◌-◌, ◌^◌, ◌<◌, ◌≤◌, ℤ, pos, negsuc, Bool, true, false, cond, List, [], ◌∷◌, length, take, Option, Some, None, Result}
+use Rattle.std.proofs.Common.{Ok, Err, refl, ap, subst, arith, leb, drop, slice_index, unsigned_abs}
 use Rattle.std.specs.Prelude.{◌&&◌, ◌==◌}
-use Rattle.std.specs.Str.{bytes_eq}
-use Rattle.std.specs.List.{position_or_len, before_first}
-use Rattle.std.proofs.lemmas.Bool.{leb-true, and_parts}
-use Rattle.machine_spec.specs.declared.operation.Change.{Change, TheVariants.Negate, TheVariants.Order, TheVariants.SignExtend}
-use Rattle.machine_spec.specs.declared.instruction.Source.{Source, TheVariants.Register, TheVariants.Immediate}
-use Rattle.machine_spec.specs.declared.instruction.Distance.{Distance, TheVariants.Short, TheVariants.Long}
-use Rattle.machine_spec.specs.declared.instruction.Instruction.{Instruction}
+use Rattle.std.specs.{Str.bytes_eq, List.position_or_len, List.before_first}
+use Rattle.std.proofs.lemmas.{Bool.leb-true, Bool.and_parts}
+use Rattle.machine_spec.specs.declared.operation.{Change.Change, Change.TheVariants.Negate, Change.TheVariants.Order, Change.TheVariants.SignExtend}
+use Rattle.machine_spec.specs.declared.instruction.{Source.Source, Source.TheVariants.Register, Source.TheVariants.Immediate, Distance.Distance}
+use Rattle.machine_spec.specs.declared.instruction.{Distance.TheVariants.Short, Distance.TheVariants.Long, Instruction.Instruction}
 use Rattle.machine_spec.specs.declared.instruction.Instruction.TheVariants.{Move, Compute, Load, Unary, Store, JumpIf, Jump, Wide, Call, Exit}
-use Rattle.bpf_isa.specs.Spelling.{HasRegisters, source_register, spelled_fields, changed_register}
+use Rattle.bpf_isa.specs.{Spelling.HasRegisters, Spelling.source_register, Spelling.spelled_fields, Spelling.changed_register}
 use Rattle.bpf_asm.specs.declared.fault.LineFault.{LineFault}
 use Rattle.bpf_asm.specs.declared.fault.LineFault.TheVariants as fault
 use Rattle.bpf_asm.specs.Numbers.{is_digits, natural, written_number, distance_of, is_in}
-use Rattle.bpf_asm.specs.Faults.{both, read_as}
-use Rattle.bpf_asm.specs.Operands.{register_named, ranged, read_register, read_immediate, read_source, read_place, read_between, read_wide, read_short, read_long, is_sign}
-use Rattle.bpf_asm.specs.Words.{word_of, forms, form_named}
-use Rattle.bpf_asm.specs.Reading.{with_one, with_two, with_three, single, pair, triple, is_empty, read_change, read_stored, read_distance, read_operands, read_form, read_trimmed, some_read, read_line, operands_in, rest_of, is_space, after_spaces, before_spaces}
+use Rattle.bpf_asm.specs.{Faults.both, Faults.read_as, Words.word_of, Words.forms, Words.form_named}
+use Rattle.bpf_asm.specs.Operands.{register_named, ranged, read_register, read_immediate, read_source, read_place, read_between, read_wide, read_short}
+use Rattle.bpf_asm.specs.Operands.{read_long, is_sign}
+use Rattle.bpf_asm.specs.Reading.{with_one, with_two, with_three, single, pair, triple, is_empty, read_change, read_stored, read_distance, read_operands}
+use Rattle.bpf_asm.specs.Reading.{read_form, read_trimmed, some_read, read_line, operands_in, rest_of, is_space, after_spaces, before_spaces}
 use Rattle.bpf_asm.proofs.NumberTexts.{Fits}
 use Rattle.bpf_asm.proofs.Ranges.{is_change, is_form, RangedSource, RangedDistance, Ranged, IsSaid, found_passes}
 
@@ -141,7 +141,8 @@ between_is text p e =
 
 place_is : (text : List ℕ) (p : ℕ × ℤ) → read_place text ≡ Ok p → IsPlace p
 place_is text p e =
-    on_choice ((slice_index text 0 == 91) && (slice_index text (length text - 1) == 93)) (read_between (drop 1 (take (length text - 1) text))) (Err fault.Operand) (Ok p) (IsPlace p) e
+    on_choice ((slice_index text 0 == 91) && (slice_index text (length text - 1) == 93)) (read_between (drop 1 (take (length text - 1) text)))
+    (Err fault.Operand) (Ok p) (IsPlace p) e
     (between_is (drop 1 (take (length text - 1) text)) p) (λ e. absurd cc)
 
 -- ---- the operands of a form
@@ -160,20 +161,30 @@ record IsTwo {A B : Type 0} (first : List ℕ → Result A LineFault) (second : 
   reads_one : first one ≡ Ok p.0
   reads_other : second other ≡ Ok p.1
 
-two_made : {A B : Type 0} (first : List ℕ → Result A LineFault) (second : List ℕ → Result B LineFault) (o : Option (List ℕ × List ℕ)) (p : A × B) → with_two first second o ≡ Ok p → IsTwo first second p
-two_made first second (Some t) p e = record { one = t.0; other = t.1; reads_one = both_first (first t.0) (second t.1) p e; reads_other = both_second (first t.0) (second t.1) p e }
+two_made : {A B : Type 0} (first : List ℕ → Result A LineFault) (second : List ℕ → Result B LineFault) (o : Option (List ℕ × List ℕ)) (p : A × B)
+    → with_two first second o ≡ Ok p → IsTwo first second p
+two_made first second (Some t) p e =
+    record { one = t.0; other = t.1; reads_one = both_first (first t.0) (second t.1) p e; reads_other = both_second (first t.0) (second t.1) p e }
 two_made first second None p e = absurd cc
 
-record IsThree {A B C : Type 0} (first : List ℕ → Result A LineFault) (second : List ℕ → Result B LineFault) (third : List ℕ → Result C LineFault) (p : (A × B) × C) : Type 0 where
+record IsThree {A B C : Type 0} (first : List ℕ → Result A LineFault) (second : List ℕ → Result B LineFault) (third : List ℕ → Result C LineFault)
+    (p : (A × B) × C) : Type 0 where
   two : IsTwo first second p.0
   last : List ℕ
   reads_last : third last ≡ Ok p.1
 
-three_made : {A B C : Type 0} (first : List ℕ → Result A LineFault) (second : List ℕ → Result B LineFault) (third : List ℕ → Result C LineFault) (o : Option (List ℕ × List ℕ × List ℕ)) (p : (A × B) × C) → with_three first second third o ≡ Ok p → IsThree first second third p
+three_made : {A B C : Type 0} (first : List ℕ → Result A LineFault) (second : List ℕ → Result B LineFault) (third : List ℕ → Result C LineFault)
+    (o : Option (List ℕ × List ℕ × List ℕ)) (p : (A × B) × C) → with_three first second third o ≡ Ok p → IsThree first second third p
 three_made first second third (Some t) p e =
     let front = both_first (both (first t.0) (second t.1)) (third t.2) p e in
     record {
-      two = record { one = t.0; other = t.1; reads_one = both_first (first t.0) (second t.1) p.0 front; reads_other = both_second (first t.0) (second t.1) p.0 front };
+      two = record {
+        one = t.0;
+        other = t.1;
+        reads_one = both_first (first t.0) (second t.1) p.0 front;
+        reads_other = both_second (first t.0)
+            (second t.1) p.0 front;
+      };
       last = t.2;
       reads_last = both_second (both (first t.0) (second t.1)) (third t.2) p e;
     }
@@ -181,7 +192,8 @@ three_made first second third None p e = absurd cc
 
 -- what is said of an instruction, in the order of its parts
 is_said : (i : Instruction) → is_form i ≡ true → Ranged i → (spelled_fields i).dst ≤ 10 → (spelled_fields i).src ≤ 10 → changed_register i ≤ 10 → IsSaid i
-is_said i form ranged dst src changed = record { registers = record { dst = dst; src = src; changed = changed }; held = record { form = form; ranged = ranged } }
+is_said i form ranged dst src changed =
+    record { registers = record { dst = dst; src = src; changed = changed }; held = record { form = form; ranged = ranged } }
 
 change_said : (change : Change) (operands : List (List ℕ)) (i : Instruction) → is_change change ≡ true → read_change change operands ≡ Ok i → IsSaid i
 change_said (Negate width) operands i form e =
@@ -219,12 +231,14 @@ operands_said (Compute width operation _ _) operands i form e =
     let m = made (λ p. Compute width operation p.0 p.1) (with_two read_register read_source (pair operands)) i e in
     let t = two_made read_register read_source (pair operands) m.from m.reads in
     let source = source_is t.other m.from.1 t.reads_other in
-    subst IsSaid m.gives (is_said (Compute width operation m.from.0 m.from.1) refl source.ranged (register_small t.one m.from.0 t.reads_one) source.register (omega arith))
+    subst IsSaid m.gives (is_said (Compute width operation m.from.0 m.from.1) refl source.ranged (register_small t.one m.from.0 t.reads_one) source.register
+    (omega arith))
 operands_said (Load size extension _ _ _) operands i form e =
     let m = made (λ p. Load size extension p.0 p.1.0 p.1.1) (with_two read_register read_place (pair operands)) i e in
     let t = two_made read_register read_place (pair operands) m.from m.reads in
     let place = place_is t.other m.from.1 t.reads_other in
-    subst IsSaid m.gives (is_said (Load size extension m.from.0 m.from.1.0 m.from.1.1) form place.offset (register_small t.one m.from.0 t.reads_one) place.base (omega arith))
+    subst IsSaid m.gives (is_said (Load size extension m.from.0 m.from.1.0 m.from.1.1) form place.offset (register_small t.one m.from.0 t.reads_one) place.base
+    (omega arith))
 operands_said (Unary change _ _) operands i form e = change_said change operands i form e
 operands_said (Store size _ _ source) operands i form e =
     let m = made (λ p. Store size p.0.0 p.0.1 p.1) (with_two read_place (read_stored source) (pair operands)) i e in
@@ -237,7 +251,8 @@ operands_said (JumpIf width test _ _ _) operands i form e =
     let t = three_made read_register read_source read_short (triple operands) m.from m.reads in
     let source = source_is t.two.other m.from.0.1 t.two.reads_other in
     subst IsSaid m.gives
-    (is_said (JumpIf width test m.from.0.0 m.from.0.1 m.from.1) refl (source.ranged, short_fits t.last m.from.1 t.reads_last) (register_small t.two.one m.from.0.0 t.two.reads_one) source.register (omega arith))
+    (is_said (JumpIf width test m.from.0.0 m.from.0.1 m.from.1) refl (source.ranged, short_fits t.last m.from.1 t.reads_last)
+    (register_small t.two.one m.from.0.0 t.two.reads_one) source.register (omega arith))
 operands_said (Jump distance) operands i form e =
     let m = made Jump (with_one (read_distance distance) (single operands)) i e in
     let t = one_made (read_distance distance) (single operands) m.from m.reads in
@@ -245,7 +260,8 @@ operands_said (Jump distance) operands i form e =
 operands_said (Wide _ _) operands i form e =
     let m = made (λ p. Wide p.0 p.1) (with_two read_register read_wide (pair operands)) i e in
     let t = two_made read_register read_wide (pair operands) m.from m.reads in
-    subst IsSaid m.gives (is_said (Wide m.from.0 m.from.1) refl (wide_small t.other m.from.1 t.reads_other) (register_small t.one m.from.0 t.reads_one) (omega arith) (omega arith))
+    subst IsSaid m.gives (is_said (Wide m.from.0 m.from.1) refl (wide_small t.other m.from.1 t.reads_other) (register_small t.one m.from.0 t.reads_one)
+    (omega arith) (omega arith))
 operands_said (Call _) operands i form e =
     let m = made Call (with_one read_immediate (single operands)) i e in
     let t = one_made read_immediate (single operands) m.from m.reads in
@@ -265,8 +281,10 @@ named_form : (word : List ℕ) (form : Instruction) → form_named word ≡ Some
 unfolding form_named
 named_form word form e = found_passes (λ form. bytes_eq (word_of form) word) is_form forms form refl e
 
-form_said : (word : List ℕ) (form : Option Instruction) (rest : Option (List ℕ)) (i : Instruction) → form_named word ≡ form → some_read (read_form form rest) ≡ Ok (Some i) → IsSaid i
-form_said word (Some form) rest i named e = operands_said form (operands_in rest) i (named_form word form named) (some_made (read_operands form (operands_in rest)) i e)
+form_said : (word : List ℕ) (form : Option Instruction) (rest : Option (List ℕ)) (i : Instruction) → form_named word ≡ form
+    → some_read (read_form form rest) ≡ Ok (Some i) → IsSaid i
+form_said word (Some form) rest i named e =
+    operands_said form (operands_in rest) i (named_form word form named) (some_made (read_operands form (operands_in rest)) i e)
 form_said word None rest i named e = absurd cc
 
 trimmed_said : (line : List ℕ) (i : Instruction) → read_trimmed line ≡ Ok (Some i) → IsSaid i

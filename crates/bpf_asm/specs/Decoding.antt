@@ -1,10 +1,10 @@
 -- What the image of a text decodes to.
 use Rattle.std.specs.Prelude.{ℕ, List, map, filter_map, Option, None, Result, Ok, Err}
 use Rattle.std.specs.List.{slice_split}
-use Rattle.machine_spec.specs.declared.instruction.{Instruction.Instruction, Placed.Placed, IsaFault.IsaFault}
+use Rattle.machine_spec.specs.declared.{instruction.Instruction.Instruction, instruction.Placed.Placed, instruction.IsaFault.IsaFault}
 use Rattle.machine_spec.specs.Image.{read_image}
 use Rattle.bpf_asm.specs.declared.fault.LineFault.{LineFault}
-use Rattle.bpf_asm.specs.Reading.{is_line_feed, read_line}
+use Rattle.bpf_asm.specs.{Reading.is_line_feed, Reading.read_line}
 
 abbrev pub if_said : Result (Option Instruction) LineFault → Option Instruction
 if_said (Ok said) = said
