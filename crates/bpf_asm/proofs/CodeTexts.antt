@@ -2,28 +2,15 @@
 use Rattle.std.proofs.Common.{◌≡◌, ℕ, suc, ◌+◌, ◌<◌, ◌≤◌, List, [], ◌∷◌, length, Option, Some, Result, Ok, refl, true, sym, ap, ◌∙◌, arith, leb, append_assoc}
 use Rattle.std.specs.Prelude.{slice_get}
 use Rattle.std.specs.List.{slice_split}
-use Rattle.std.proofs.lemmas.Bool.{le-leb}
-use Rattle.std.proofs.lemmas.List.{length-append}
-use Rattle.machine_spec.specs.declared.instruction.Instruction.{Instruction}
-use Rattle.machine_spec.specs.declared.instruction.Placed.{Placed}
+use Rattle.std.proofs.lemmas.{Bool.le-leb, List.length-append}
+use Rattle.machine_spec.specs.declared.instruction.{Instruction.Instruction, Placed.Placed}
 use Rattle.machine_spec.specs.Image.{IsCodeOf}
-use Rattle.bpf_isa.specs.Code.{AreBytes}
-use Rattle.bpf_isa.specs.Spelling.{spelling, spelled, HasRegisters}
-use Rattle.bpf_isa.proofs.Bytes.{form_read}
-use Rattle.bpf_isa.proofs.Slots.{sized}
-use Rattle.bpf_isa.proofs.Walk.{code_spelled, placed_registers}
+use Rattle.bpf_isa.specs.{Code.AreBytes, Spelling.spelling, Spelling.spelled}
+use Rattle.bpf_isa.proofs.{Bytes.form_read, Slots.sized, Walk.code_spelled, Walk.placed_registers}
 use Rattle.bpf_asm.specs.declared.fault.LineFault.{LineFault}
-use Rattle.bpf_asm.specs.Reading.{is_line_feed, read_line}
+use Rattle.bpf_asm.specs.{Reading.is_line_feed, Reading.read_line, Writing.line_of, Writing.line_text, Writing.text_of}
 use Rattle.bpf_asm.specs.Images.{before_bytes, with_line, lines_image, some_image, image_of}
-use Rattle.bpf_asm.specs.Writing.{line_of, line_text, text_of}
-use Rattle.bpf_asm.proofs.Lines.{if_fits}
-use Rattle.bpf_asm.proofs.Ranges.{IsHeld, slot_held}
-use Rattle.bpf_asm.proofs.LineTexts.{split_at, line_again, line_feeds}
-
--- an instruction whose line says it
-record IsSaid (i : Instruction) : Type 0 where
-  registers : HasRegisters i
-  held : IsHeld i
+use Rattle.bpf_asm.proofs.{Lines.if_fits, Ranges.IsSaid, Ranges.slot_held, LineTexts.split_at, LineTexts.line_again, LineTexts.line_feeds}
 
 abbrev AreSaid : List Placed → Type 0
 AreSaid code = (k : ℕ) (p : Placed) → slice_get code k ≡ Some p → IsSaid p.instruction

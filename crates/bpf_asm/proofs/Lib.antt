@@ -1,11 +1,14 @@
 pub mod Scanning
 pub mod Lines
-pub mod Registers
+pub mod SaidLines
 pub mod Writings
 pub mod NumberTexts
 pub mod PlainTexts
 pub mod OperandTexts
 pub mod Ranges
 pub mod NamedForms
+pub mod FieldsRead
+pub mod SlotsRead
 pub mod LineTexts
 pub mod CodeTexts
+pub mod DecodedTexts

@@ -1,29 +1,21 @@
 -- The line of an instruction reads as that instruction.
 use Rattle.std.proofs.Common.{◌≡◌, ℕ, zero, suc, ◌+◌, ◌-◌, ◌^◌, ◌<◌, ◌≤◌, Bool, true, false, ◌&&◌, ◌==◌, not, cond, List, [], ◌∷◌, ◌++◌, length, map, take, drop, get_or, Option, Some, None, Result, Ok, Err, refl, sym, ap, subst, ◌∙◌, arith, ltb}
 use Rattle.std.specs.List.{position_or_len, slice_split, onto_first, before_first, after_first}
-use Rattle.std.proofs.Math.Seq.{take-append_seam, drop-append-add, get_or-append_right}
-use Rattle.std.proofs.lemmas.Bool.{and_from, and_parts, lt-ltb, le-ltb}
+use Rattle.std.proofs.Math.{Seq.take-append_seam, Seq.drop-append-add, Seq.get_or-append_right}
+use Rattle.std.proofs.lemmas.{Bool.and_from, Bool.and_parts, Bool.lt-ltb, Bool.le-ltb, List.Folds.list_all-append}
 use Rattle.std.proofs.lemmas.List.{append_assoc, length-append, append-nil, take_all, take_more}
-use Rattle.std.proofs.lemmas.List.Folds.{list_all-append}
-use Rattle.machine_spec.specs.declared.operation.Change.{Change}
-use Rattle.machine_spec.specs.declared.operation.Change.TheVariants.{Negate, Order, SignExtend}
-use Rattle.machine_spec.specs.declared.instruction.Distance.{Distance}
-use Rattle.machine_spec.specs.declared.instruction.Distance.TheVariants.{Short, Long}
-use Rattle.machine_spec.specs.declared.instruction.Source.{Source}
-use Rattle.machine_spec.specs.declared.instruction.Source.TheVariants.{Register, Immediate}
-use Rattle.machine_spec.specs.declared.instruction.Instruction.{Instruction}
+use Rattle.machine_spec.specs.declared.operation.{Change.Change, Change.TheVariants.Negate, Change.TheVariants.Order, Change.TheVariants.SignExtend}
+use Rattle.machine_spec.specs.declared.instruction.{Distance.Distance, Distance.TheVariants.Short, Distance.TheVariants.Long, Source.Source}
+use Rattle.machine_spec.specs.declared.instruction.{Source.TheVariants.Register, Source.TheVariants.Immediate, Instruction.Instruction}
 use Rattle.machine_spec.specs.declared.instruction.Instruction.TheVariants.{Move, Compute, Load, Unary, Store, JumpIf, Jump, Wide, Call, Exit}
-use Rattle.bpf_isa.specs.Spelling.{HasRegisters, source_register}
+use Rattle.bpf_isa.specs.{Spelling.HasRegisters, Spelling.source_register}
 use Rattle.bpf_asm.specs.declared.fault.LineFault.{LineFault}
-use Rattle.bpf_asm.specs.Faults.{both, read_as}
-use Rattle.bpf_asm.specs.Operands.{read_source, source_text}
+use Rattle.bpf_asm.specs.{Faults.both, Faults.read_as, Operands.read_source, Operands.source_text, Words.word_of, Words.form_named}
 use Rattle.bpf_asm.specs.Reading.{is_space, is_comma, is_line_feed, after_spaces, before_spaces, rest_of, read_change, read_stored, read_distance, read_operands, read_form, some_read, read_trimmed, read_line}
-use Rattle.bpf_asm.specs.Words.{word_of, form_named}
 use Rattle.bpf_asm.specs.Writing.{change_operands, jump_text, operands_of, joined, operands_text, line_of}
-use Rattle.bpf_asm.proofs.Scanning.{before_other}
+use Rattle.bpf_asm.proofs.{Scanning.before_other, Ranges.RangedSource, Ranges.RangedChange, Ranges.RangedDistance, Ranges.IsHeld}
 use Rattle.bpf_asm.proofs.PlainTexts.{fails, first_at, first_none, implied, is_plain, are_plain, IsOperand, natural_operand, register_operand, number_operand, distance_operand, place_operand}
 use Rattle.bpf_asm.proofs.OperandTexts.{register_again, immediate_again, short_again, long_again, wide_again, register_source, immediate_source, place_again}
-use Rattle.bpf_asm.proofs.Ranges.{RangedSource, RangedChange, RangedDistance, IsHeld}
 use Rattle.bpf_asm.proofs.NamedForms.{is_word, Named, form_of, distance_form, stored_form, word_named}
 
 -- ---- what a plain byte is not

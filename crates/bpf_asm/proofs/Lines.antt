@@ -1,16 +1,13 @@
 -- The image of lines, line after line.
 use Rattle.std.proofs.Common.{◌≡◌, ℕ, ◌+◌, ◌-◌, ◌<◌, ◌≤◌, Bool, true, false, List, [], ◌∷◌, ◌++◌, length, drop, take, Some, Result, Ok, Err, refl, sym, ap, subst, ◌∙◌, arith, leb, ltb, cond, append_assoc}
 use Rattle.std.proofs.lemmas.List.{drop-drop, length-append, length-drop, take_all, append-nil}
-use Rattle.std.proofs.lemmas.Bool.{ltb-true, ltb-false, le-leb, lt-leb}
-use Rattle.std.proofs.lemmas.List.Splits.{slice_split_first}
-use Rattle.std.specs.List.{slice_split, position_or_len}
+use Rattle.std.proofs.lemmas.{Bool.ltb-true, Bool.ltb-false, Bool.le-leb, Bool.lt-leb, List.Splits.slice_split_first}
+use Rattle.std.specs.{List.slice_split, List.position_or_len}
 use Rattle.machine_spec.specs.declared.instruction.Instruction.{Instruction}
 use Rattle.bpf_isa.specs.Spelling.{spelling}
 use Rattle.bpf_asm.specs.declared.fault.AsmFault.{AsmFault}
-use Rattle.bpf_asm.specs.Reading.{is_line_feed, read_line}
+use Rattle.bpf_asm.specs.{Reading.is_line_feed, Reading.read_line, Steps.IsAdded, Steps.IsRefused, Images.before_bytes, Images.lines_image}
 use Rattle.bpf_asm.specs.declared.fault.AsmFault.TheVariants as asm
-use Rattle.bpf_asm.specs.Steps.{IsAdded, IsRefused}
-use Rattle.bpf_asm.specs.Images.{before_bytes, lines_image}
 use Rattle.bpf_asm.proofs.Scanning.{split_whole}
 
 -- the lines from a place on, which is past the text's end after the last

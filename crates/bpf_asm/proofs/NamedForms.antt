@@ -1,30 +1,22 @@
 -- The word of each instruction names its form.
 use Rattle.std.proofs.Common.{◌≡◌, ℕ, pos, Bool, true, false, ◌&&◌, ◌==◌, not, List, [], ◌∷◌, ◌++◌, Some, refl}
 use Rattle.std.specs.Prelude.{codes}
-use Rattle.machine_spec.specs.declared.operation.Width.{Width}
-use Rattle.machine_spec.specs.declared.operation.Width.TheVariants.{Bits32, Bits64}
-use Rattle.machine_spec.specs.declared.operation.Operation.{Operation}
-use Rattle.machine_spec.specs.declared.operation.Operation.TheVariants.{Add, Sub, Mul, Div, SignedDiv, Or, And, LeftShift, RightShift, Mod, SignedMod, Xor, ArithmeticRightShift}
+use Rattle.machine_spec.specs.declared.operation.{Width.Width, Width.TheVariants.Bits32, Width.TheVariants.Bits64, Operation.Operation}
+use Rattle.machine_spec.specs.declared.operation.{ByteOrder.TheVariants.LittleEndian, ByteOrder.TheVariants.BigEndian, ByteOrder.TheVariants.Swapped}
+use Rattle.machine_spec.specs.declared.operation.{Change.Change, Change.TheVariants.Negate, Change.TheVariants.Order, Change.TheVariants.SignExtend, Test.Test}
+use Rattle.machine_spec.specs.declared.operation.Operation.TheVariants.{Add, Sub, Mul, Div, SignedDiv, Or, And, LeftShift, RightShift, Mod, SignedMod, Xor}
+use Rattle.machine_spec.specs.declared.operation.Operation.TheVariants.{ArithmeticRightShift}
 use Rattle.machine_spec.specs.declared.operation.SwappedWidth.TheVariants as swapped
 use Rattle.machine_spec.specs.declared.operation.ExtendedWidth.TheVariants as extended
-use Rattle.machine_spec.specs.declared.operation.ByteOrder.TheVariants.{LittleEndian, BigEndian, Swapped}
-use Rattle.machine_spec.specs.declared.operation.Change.{Change}
-use Rattle.machine_spec.specs.declared.operation.Change.TheVariants.{Negate, Order, SignExtend}
-use Rattle.machine_spec.specs.declared.operation.Test.{Test}
-use Rattle.machine_spec.specs.declared.operation.Test.TheVariants.{Equal, NotEqual, Greater, GreaterOrEqual, Less, LessOrEqual, AnyBit, SignedGreater, SignedGreaterOrEqual, SignedLess, SignedLessOrEqual}
-use Rattle.machine_spec.specs.declared.instruction.Size.{Size}
-use Rattle.machine_spec.specs.declared.instruction.Size.TheVariants.{Byte, Half, Word, Double}
-use Rattle.machine_spec.specs.declared.instruction.Extension.{Extension}
-use Rattle.machine_spec.specs.declared.instruction.Extension.TheVariants.{Zero, Sign}
-use Rattle.machine_spec.specs.declared.instruction.Distance.{Distance}
-use Rattle.machine_spec.specs.declared.instruction.Distance.TheVariants.{Short, Long}
-use Rattle.machine_spec.specs.declared.instruction.Source.{Source}
-use Rattle.machine_spec.specs.declared.instruction.Source.TheVariants.{Register, Immediate}
-use Rattle.machine_spec.specs.declared.instruction.Instruction.{Instruction}
+use Rattle.machine_spec.specs.declared.operation.Test.TheVariants.{Equal, NotEqual, Greater, GreaterOrEqual, Less, LessOrEqual, AnyBit, SignedGreater}
+use Rattle.machine_spec.specs.declared.operation.Test.TheVariants.{SignedGreaterOrEqual, SignedLess, SignedLessOrEqual}
+use Rattle.machine_spec.specs.declared.instruction.{Size.Size, Size.TheVariants.Byte, Size.TheVariants.Half, Size.TheVariants.Word, Size.TheVariants.Double}
+use Rattle.machine_spec.specs.declared.instruction.{Extension.Extension, Extension.TheVariants.Zero, Extension.TheVariants.Sign, Distance.Distance}
+use Rattle.machine_spec.specs.declared.instruction.{Distance.TheVariants.Short, Distance.TheVariants.Long, Source.Source, Source.TheVariants.Register}
+use Rattle.machine_spec.specs.declared.instruction.{Source.TheVariants.Immediate, Instruction.Instruction}
 use Rattle.machine_spec.specs.declared.instruction.Instruction.TheVariants.{Move, Compute, Load, Unary, Store, JumpIf, Jump, Wide, Call, Exit}
 use Rattle.bpf_asm.specs.Words.{word_of, operation_text, width_text, test_text, change_word, form_named}
-use Rattle.bpf_asm.proofs.PlainTexts.{are_plain}
-use Rattle.bpf_asm.proofs.Ranges.{is_load, is_change, is_form}
+use Rattle.bpf_asm.proofs.{PlainTexts.are_plain, Ranges.is_load, Ranges.is_change, Ranges.is_form}
 
 -- a plain text of one byte or more that does not begin with `#` (35)
 abbrev pub is_word : List ℕ → Bool
@@ -38,64 +30,47 @@ Named word form = (form_named word ≡ Some form) × (is_word word ≡ true)
 abbrev pub number : Source
 number = Immediate (pos 0)
 
-move_named : (width : Width) → Named (codes "mov" ++ width_text width) (Move width 0 number)
-unfolding form_named
-move_named Bits32 = (refl, refl)
-move_named Bits64 = (refl, refl)
+-- words of both widths, and their forms
+abbrev BothNamed : (Width → List ℕ) → (Width → Instruction) → Type 0
+BothNamed word form = Named (word Bits32) (form Bits32) × Named (word Bits64) (form Bits64)
 
-compute_named : (width : Width) (operation : Operation) → Named (operation_text operation ++ width_text width) (Compute width operation 0 number)
-unfolding form_named
-compute_named Bits32 Add = (refl, refl)
-compute_named Bits32 Sub = (refl, refl)
-compute_named Bits32 Mul = (refl, refl)
-compute_named Bits32 Div = (refl, refl)
-compute_named Bits32 SignedDiv = (refl, refl)
-compute_named Bits32 Or = (refl, refl)
-compute_named Bits32 And = (refl, refl)
-compute_named Bits32 LeftShift = (refl, refl)
-compute_named Bits32 RightShift = (refl, refl)
-compute_named Bits32 Mod = (refl, refl)
-compute_named Bits32 SignedMod = (refl, refl)
-compute_named Bits32 Xor = (refl, refl)
-compute_named Bits32 ArithmeticRightShift = (refl, refl)
-compute_named Bits64 Add = (refl, refl)
-compute_named Bits64 Sub = (refl, refl)
-compute_named Bits64 Mul = (refl, refl)
-compute_named Bits64 Div = (refl, refl)
-compute_named Bits64 SignedDiv = (refl, refl)
-compute_named Bits64 Or = (refl, refl)
-compute_named Bits64 And = (refl, refl)
-compute_named Bits64 LeftShift = (refl, refl)
-compute_named Bits64 RightShift = (refl, refl)
-compute_named Bits64 Mod = (refl, refl)
-compute_named Bits64 SignedMod = (refl, refl)
-compute_named Bits64 Xor = (refl, refl)
-compute_named Bits64 ArithmeticRightShift = (refl, refl)
+of_width : (word : Width → List ℕ) (form : Width → Instruction) → BothNamed word form → (width : Width) → Named (word width) (form width)
+of_width word form both Bits32 = both.0
+of_width word form both Bits64 = both.1
 
-jump_named : (width : Width) (test : Test) → Named (test_text test ++ width_text width) (JumpIf width test 0 number (pos 0))
+moves_named : BothNamed (λ width. codes "mov" ++ width_text width) (λ width. Move width 0 number)
 unfolding form_named
-jump_named Bits32 Equal = (refl, refl)
-jump_named Bits32 NotEqual = (refl, refl)
-jump_named Bits32 Greater = (refl, refl)
-jump_named Bits32 GreaterOrEqual = (refl, refl)
-jump_named Bits32 Less = (refl, refl)
-jump_named Bits32 LessOrEqual = (refl, refl)
-jump_named Bits32 AnyBit = (refl, refl)
-jump_named Bits32 SignedGreater = (refl, refl)
-jump_named Bits32 SignedGreaterOrEqual = (refl, refl)
-jump_named Bits32 SignedLess = (refl, refl)
-jump_named Bits32 SignedLessOrEqual = (refl, refl)
-jump_named Bits64 Equal = (refl, refl)
-jump_named Bits64 NotEqual = (refl, refl)
-jump_named Bits64 Greater = (refl, refl)
-jump_named Bits64 GreaterOrEqual = (refl, refl)
-jump_named Bits64 Less = (refl, refl)
-jump_named Bits64 LessOrEqual = (refl, refl)
-jump_named Bits64 AnyBit = (refl, refl)
-jump_named Bits64 SignedGreater = (refl, refl)
-jump_named Bits64 SignedGreaterOrEqual = (refl, refl)
-jump_named Bits64 SignedLess = (refl, refl)
-jump_named Bits64 SignedLessOrEqual = (refl, refl)
+moves_named = ((refl, refl), (refl, refl))
+
+computes_named : (operation : Operation) → BothNamed (λ width. operation_text operation ++ width_text width) (λ width. Compute width operation 0 number)
+unfolding form_named
+computes_named Add = ((refl, refl), (refl, refl))
+computes_named Sub = ((refl, refl), (refl, refl))
+computes_named Mul = ((refl, refl), (refl, refl))
+computes_named Div = ((refl, refl), (refl, refl))
+computes_named SignedDiv = ((refl, refl), (refl, refl))
+computes_named Or = ((refl, refl), (refl, refl))
+computes_named And = ((refl, refl), (refl, refl))
+computes_named LeftShift = ((refl, refl), (refl, refl))
+computes_named RightShift = ((refl, refl), (refl, refl))
+computes_named Mod = ((refl, refl), (refl, refl))
+computes_named SignedMod = ((refl, refl), (refl, refl))
+computes_named Xor = ((refl, refl), (refl, refl))
+computes_named ArithmeticRightShift = ((refl, refl), (refl, refl))
+
+jumps_named : (test : Test) → BothNamed (λ width. test_text test ++ width_text width) (λ width. JumpIf width test 0 number (pos 0))
+unfolding form_named
+jumps_named Equal = ((refl, refl), (refl, refl))
+jumps_named NotEqual = ((refl, refl), (refl, refl))
+jumps_named Greater = ((refl, refl), (refl, refl))
+jumps_named GreaterOrEqual = ((refl, refl), (refl, refl))
+jumps_named Less = ((refl, refl), (refl, refl))
+jumps_named LessOrEqual = ((refl, refl), (refl, refl))
+jumps_named AnyBit = ((refl, refl), (refl, refl))
+jumps_named SignedGreater = ((refl, refl), (refl, refl))
+jumps_named SignedGreaterOrEqual = ((refl, refl), (refl, refl))
+jumps_named SignedLess = ((refl, refl), (refl, refl))
+jumps_named SignedLessOrEqual = ((refl, refl), (refl, refl))
 
 change_named : (change : Change) → is_change change ≡ true → Named (change_word change) (Unary change 0 0)
 unfolding form_named
@@ -117,7 +92,8 @@ change_named (SignExtend Bits64 extended.Bits8) there = (refl, refl)
 change_named (SignExtend Bits64 extended.Bits16) there = (refl, refl)
 change_named (SignExtend Bits64 extended.Bits32) there = (refl, refl)
 
-load_named : (size : Size) (extension : Extension) → is_load size extension ≡ true → Named (word_of (Load size extension 0 0 (pos 0))) (Load size extension 0 0 (pos 0))
+load_named : (size : Size) (extension : Extension) → is_load size extension ≡ true
+    → Named (word_of (Load size extension 0 0 (pos 0))) (Load size extension 0 0 (pos 0))
 unfolding form_named
 load_named Byte Zero there = (refl, refl)
 load_named Half Zero there = (refl, refl)
@@ -169,12 +145,14 @@ form_of Exit = Exit
 
 pub word_named : (i : Instruction) → is_form i ≡ true → Named (word_of i) (form_of i)
 unfolding form_named
-word_named (Move width dst source) there = move_named width
-word_named (Compute width operation dst source) there = compute_named width operation
+word_named (Move width dst source) there = of_width (λ width. codes "mov" ++ width_text width) (λ width. Move width 0 number) moves_named width
+word_named (Compute width operation dst source) there =
+    of_width (λ width. operation_text operation ++ width_text width) (λ width. Compute width operation 0 number) (computes_named operation) width
 word_named (Load size extension dst base offset) there = load_named size extension there
 word_named (Unary change dst src) there = change_named change there
 word_named (Store size base offset source) there = store_named size source
-word_named (JumpIf width test dst source offset) there = jump_named width test
+word_named (JumpIf width test dst source offset) there =
+    of_width (λ width. test_text test ++ width_text width) (λ width. JumpIf width test 0 number (pos 0)) (jumps_named test) width
 word_named (Jump distance) there = leap_named distance
 word_named (Wide dst n) there = (refl, refl)
 word_named (Call n) there = (refl, refl)

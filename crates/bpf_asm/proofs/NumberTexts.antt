@@ -1,14 +1,9 @@
 -- Numbers and distances read back as they were written.
 use Rattle.std.proofs.Common.{◌≡◌, ℕ, zero, suc, ◌^◌, ◌<◌, ℤ, pos, negsuc, Bool, true, false, ◌||◌, ◌==◌, not, min, cond, List, [], ◌∷◌, length, drop, get_or, Option, Some, None, refl, ap, ◌∙◌, arith, leb}
 use Rattle.std.specs.Prelude.{slice_index, decimal}
-use Rattle.std.specs.Int.{IsInRange}
-use Rattle.std.specs.List.{list_all}
-use Rattle.std.specs.Char.{is_ascii_digit}
-use Rattle.std.specs.Fmt.{signed_decimal}
-use Rattle.std.specs.Str.Parse.{AllDigits, digits_value}
-use Rattle.std.proofs.lemmas.Bool.{and_from, le-leb, lt-ltb, ne_eqb}
-use Rattle.std.proofs.lemmas.Fmt.{decimal_is_IsNumeral, decimal_digit, first_decimal}
-use Rattle.std.proofs.lemmas.Str.Parse.{digit_from_value, digit_at}
+use Rattle.std.specs.{Int.IsInRange, List.list_all, Char.is_ascii_digit, Fmt.signed_decimal, Str.Parse.AllDigits, Str.Parse.digits_value}
+use Rattle.std.proofs.lemmas.{Bool.and_from, Bool.le-leb, Bool.lt-ltb, Bool.ne_eqb, Fmt.decimal_is_IsNumeral, Fmt.decimal_digit, Fmt.first_decimal}
+use Rattle.std.proofs.lemmas.{Str.Parse.digit_from_value, Str.Parse.digit_at}
 use Rattle.bpf_asm.specs.Numbers.{is_digits, is_natural, natural, positive, negative, written_number, distance_of, distance_text}
 
 -- ---- digits

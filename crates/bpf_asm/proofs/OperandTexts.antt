@@ -1,20 +1,16 @@
 -- Operands read back as they were written.
 use Rattle.std.proofs.Common.{◌≡◌, ℕ, suc, ◌+◌, ◌-◌, ◌^◌, ◌<◌, ◌≤◌, ℤ, pos, negsuc, Bool, true, false, ◌==◌, cond, List, [], ◌∷◌, ◌++◌, length, take, drop, get_or, Option, Some, Result, Ok, Err, refl, sym, ap, ◌∙◌, arith, leb}
 use Rattle.std.specs.Prelude.{slice_index, decimal, unsigned_abs}
-use Rattle.std.specs.Fmt.{signed_decimal}
-use Rattle.std.specs.List.{position_or_len}
-use Rattle.std.proofs.Math.Seq.{take-append_seam, drop-append_seam, get_or-append_seam}
-use Rattle.std.proofs.lemmas.List.{append_assoc, length-append}
-use Rattle.std.proofs.lemmas.Bool.{and_from, le-leb, ne_eqb}
-use Rattle.machine_spec.specs.declared.instruction.Source.{Source}
-use Rattle.machine_spec.specs.declared.instruction.Source.TheVariants.{Register, Immediate}
+use Rattle.std.specs.{Fmt.signed_decimal, List.position_or_len}
+use Rattle.std.proofs.Math.{Seq.take-append_seam, Seq.drop-append_seam, Seq.get_or-append_seam}
+use Rattle.std.proofs.lemmas.{List.append_assoc, List.length-append, Bool.and_from, Bool.le-leb, Bool.ne_eqb}
+use Rattle.machine_spec.specs.declared.instruction.{Source.Source, Source.TheVariants.Register, Source.TheVariants.Immediate}
 use Rattle.bpf_asm.specs.declared.fault.LineFault.{LineFault}
 use Rattle.bpf_asm.specs.declared.fault.LineFault.TheVariants as fault
-use Rattle.bpf_asm.specs.Faults.{both, read_as}
-use Rattle.bpf_asm.specs.Numbers.{natural, distance_text, is_in}
+use Rattle.bpf_asm.specs.{Faults.both, Faults.read_as, Numbers.natural, Numbers.distance_text, Numbers.is_in}
 use Rattle.bpf_asm.specs.Operands.{register_named, read_register, register_text, ranged, read_immediate, read_wide, read_short, read_long, read_source, is_sign, read_between, read_place, place_text}
 use Rattle.bpf_asm.proofs.NumberTexts.{Fits, decimal_digits, decimal_first, natural_decimal, natural_again, number_again, distance_again}
-use Rattle.bpf_asm.proofs.PlainTexts.{first_at, register_unsigned}
+use Rattle.bpf_asm.proofs.{PlainTexts.first_at, PlainTexts.register_unsigned}
 
 -- ---- registers
 

@@ -1,15 +1,10 @@
 -- Texts in which no byte parts a line: no space, no comma and no line feed.
 use Rattle.std.proofs.Common.{◌≡◌, ℕ, suc, ◌+◌, ◌^◌, ◌<◌, ◌≤◌, ℤ, pos, negsuc, Bool, true, false, ◌&&◌, ◌==◌, not, cond, List, [], ◌∷◌, ◌++◌, length, refl, ap, ◌∙◌, arith, leb}
 use Rattle.std.specs.Prelude.{decimal}
-use Rattle.std.specs.Char.{is_ascii_digit}
-use Rattle.std.specs.Fmt.{signed_decimal}
-use Rattle.std.specs.List.{list_all, position_or_len}
-use Rattle.std.proofs.lemmas.Bool.{and_from, and_parts, ne_eqb, leb-true}
-use Rattle.std.proofs.lemmas.List.Folds.{list_all-append}
-use Rattle.std.proofs.lemmas.Fmt.{decimal_nonempty}
-use Rattle.bpf_asm.specs.Numbers.{distance_text}
-use Rattle.bpf_asm.specs.Operands.{register_text, place_text, is_sign}
-use Rattle.bpf_asm.proofs.NumberTexts.{Fits, decimal_digits}
+use Rattle.std.specs.{Char.is_ascii_digit, Fmt.signed_decimal, List.list_all, List.position_or_len}
+use Rattle.std.proofs.lemmas.{Bool.and_from, Bool.and_parts, Bool.ne_eqb, Bool.leb-true, List.Folds.list_all-append, Fmt.decimal_nonempty}
+use Rattle.bpf_asm.specs.{Numbers.distance_text, Operands.register_text, Operands.place_text, Operands.is_sign}
+use Rattle.bpf_asm.proofs.{NumberTexts.Fits, NumberTexts.decimal_digits}
 
 -- ---- bytes that fail a test
 

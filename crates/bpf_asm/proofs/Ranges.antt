@@ -1,37 +1,27 @@
 -- What a slot of an image can hold: the forms that there are, and the ranges of their numbers.
-use Rattle.std.proofs.Common.{◌≡◌, ℕ, ◌+◌, ◌*◌, ◌^◌, ◌<◌, ℤ, pos, negsuc, Bool, true, false, List, [], ◌∷◌, Option, Some, None, Ok, refl, sym, subst, arith, ◌==◌, cond}
+use Rattle.std.proofs.Common.{◌≡◌, ℕ, ◌+◌, ◌*◌, ◌^◌, ◌<◌, ◌%◌, ℤ, pos, negsuc, Bool, true, false, List, [], ◌∷◌, Option, Some, None, Ok, refl, sym, subst}
+use Rattle.std.proofs.Common.{arith, ◌==◌, cond}
 use Rattle.std.specs.Prelude.{option_map, FitsSigned, find}
-use Rattle.std.specs.List.{list_all}
-use Rattle.std.specs.Int.{w16, w32, from_le_bytes, cast_unsigned}
-use Rattle.std.specs.Ordering.{int_eq}
+use Rattle.std.specs.{List.list_all, Int.w16, Int.w32, Int.from_le_bytes, Int.cast_unsigned, Ordering.int_eq}
 use Rattle.std.proofs.Math.Facts.{sfits_to_z}
-use Rattle.std.proofs.lemmas.Bool.{and_parts}
-use Rattle.std.proofs.lemmas.Int.{of_z-to_z}
-use Rattle.std.proofs.lemmas.Option.{same_Some, none-some}
-use Rattle.machine_spec.specs.declared.operation.Width.{Width}
-use Rattle.machine_spec.specs.declared.operation.Width.TheVariants.{Bits32, Bits64}
-use Rattle.machine_spec.specs.declared.operation.Operation.{Operation}
-use Rattle.machine_spec.specs.declared.operation.SwappedWidth.{SwappedWidth}
-use Rattle.machine_spec.specs.declared.operation.ExtendedWidth.{ExtendedWidth}
+use Rattle.std.proofs.lemmas.{Bool.and_parts, Int.of_z-to_z, Option.same_Some, Option.none-some}
+use Rattle.machine_spec.specs.declared.operation.{Width.Width, Width.TheVariants.Bits32, Width.TheVariants.Bits64, Operation.Operation}
+use Rattle.machine_spec.specs.declared.operation.{SwappedWidth.SwappedWidth, ExtendedWidth.ExtendedWidth, ByteOrder.ByteOrder, Change.Change}
+use Rattle.machine_spec.specs.declared.operation.{Change.TheVariants.Negate, Change.TheVariants.Order, Change.TheVariants.SignExtend}
+use Rattle.machine_spec.specs.declared.operation.Operation.TheVariants.{Add, Sub, Mul, Div, SignedDiv, Or, And, LeftShift, RightShift, Mod, SignedMod, Xor}
+use Rattle.machine_spec.specs.declared.operation.Operation.TheVariants.{ArithmeticRightShift}
+use Rattle.machine_spec.specs.declared.operation.SwappedWidth.TheVariants as swapped
 use Rattle.machine_spec.specs.declared.operation.ExtendedWidth.TheVariants as extended
-use Rattle.machine_spec.specs.declared.operation.ByteOrder.{ByteOrder}
-use Rattle.machine_spec.specs.declared.operation.Change.{Change}
-use Rattle.machine_spec.specs.declared.operation.Change.TheVariants.{Negate, Order, SignExtend}
-use Rattle.machine_spec.specs.declared.instruction.Size.{Size}
-use Rattle.machine_spec.specs.declared.instruction.Size.TheVariants.{Byte, Half, Word, Double}
-use Rattle.machine_spec.specs.declared.instruction.Extension.{Extension}
-use Rattle.machine_spec.specs.declared.instruction.Extension.TheVariants.{Zero, Sign}
-use Rattle.machine_spec.specs.declared.instruction.Distance.{Distance}
-use Rattle.machine_spec.specs.declared.instruction.Distance.TheVariants.{Short, Long}
-use Rattle.machine_spec.specs.declared.instruction.Source.{Source}
-use Rattle.machine_spec.specs.declared.instruction.Source.TheVariants.{Register, Immediate}
-use Rattle.machine_spec.specs.declared.instruction.Instruction.{Instruction}
+use Rattle.machine_spec.specs.declared.instruction.{Size.Size, Size.TheVariants.Byte, Size.TheVariants.Half, Size.TheVariants.Word, Size.TheVariants.Double}
+use Rattle.machine_spec.specs.declared.instruction.{Extension.Extension, Extension.TheVariants.Zero, Extension.TheVariants.Sign, Distance.Distance}
+use Rattle.machine_spec.specs.declared.instruction.{Distance.TheVariants.Short, Distance.TheVariants.Long, Source.Source, Source.TheVariants.Register}
+use Rattle.machine_spec.specs.declared.instruction.{Source.TheVariants.Immediate, Instruction.Instruction}
 use Rattle.machine_spec.specs.declared.instruction.Instruction.TheVariants.{Move, Compute, Load, Unary, Store, JumpIf, Jump, Wide, Call, Exit}
 use Rattle.machine_spec.specs.declared.opcode.TheConstants.{TEMPLATES}
 use Rattle.machine_spec.specs.Opcodes.{Fields, opcode_of, is_other_kind, template_of, filled_source, selected, extended_by, extending, swapped_by, filled}
 use Rattle.machine_spec.specs.Image.{byte_at, word_at, upper_at, fields_at, read_slot}
-use Rattle.bpf_isa.specs.Code.{AreBytes}
-use Rattle.bpf_isa.proofs.Bytes.{slot_read, second}
+use Rattle.bpf_isa.specs.{Code.AreBytes, Spelling.source_imm, Spelling.operation_offset, Spelling.spelled_fields, Spelling.HasRegisters}
+use Rattle.bpf_isa.proofs.{Bytes.slot_read, Bytes.second}
 use Rattle.bpf_asm.proofs.NumberTexts.{Fits}
 
 -- ---- forms
@@ -185,7 +175,7 @@ module _ (f : Fields) (ranged : AreRanged f) where
 -- ---- the templates
 
 -- what is found in a list of which all pass a test passes it
-found_passes : {A : Type 0} (p q : A → Bool) (xs : List A) (x : A) → list_all q xs ≡ true → find p xs ≡ Some x → q x ≡ true
+pub found_passes : {A : Type 0} (p q : A → Bool) (xs : List A) (x : A) → list_all q xs ≡ true → find p xs ≡ Some x → q x ≡ true
 found_passes p q [] x all e = absurd (none-some x e)
 found_passes {A} p q (y ∷ xs) x all e =
     let parts = and_parts (q y) (list_all q xs) all in
@@ -208,3 +198,58 @@ slot_held image slot i fits e =
     let f = fields_at image slot in
     let read = slot_read image slot i e in
     filled_held f (fields_ranged image slot fits) read.template i (template_form f read.template read.found) read.is_filled
+
+-- ---- the fields that an instruction is spelled with
+
+-- an instruction that is in an image, or that a line says
+pub record IsSaid (i : Instruction) : Type 0 where
+  pub registers : HasRegisters i
+  pub held : IsHeld i
+
+-- the offset and the imm lie in their ranges
+pub record FitSlots (f : Fields) : Type 0 where
+  pub offset : Fits (2 ^ 15) f.offset
+  pub imm : Fits (2 ^ 31) f.imm
+
+source_fits : (source : Source) → RangedSource source → Fits (2 ^ 31) (source_imm source)
+source_fits (Register _) ranged = omega arith
+source_fits (Immediate imm) ranged = ranged
+
+selection_fits : (operation : Operation) → Fits (2 ^ 15) (operation_offset operation)
+selection_fits Add = omega arith
+selection_fits Sub = omega arith
+selection_fits Mul = omega arith
+selection_fits Div = omega arith
+selection_fits SignedDiv = omega arith
+selection_fits Or = omega arith
+selection_fits And = omega arith
+selection_fits LeftShift = omega arith
+selection_fits RightShift = omega arith
+selection_fits Mod = omega arith
+selection_fits SignedMod = omega arith
+selection_fits Xor = omega arith
+selection_fits ArithmeticRightShift = omega arith
+
+change_fits : (change : Change) (dst src : ℕ) → FitSlots (spelled_fields (Unary change dst src))
+change_fits (Negate width) dst src = record { offset = omega arith; imm = omega arith }
+change_fits (Order order swapped.Bits16) dst src = record { offset = omega arith; imm = omega arith }
+change_fits (Order order swapped.Bits32) dst src = record { offset = omega arith; imm = omega arith }
+change_fits (Order order swapped.Bits64) dst src = record { offset = omega arith; imm = omega arith }
+change_fits (SignExtend width extended.Bits8) dst src = record { offset = omega arith; imm = omega arith }
+change_fits (SignExtend width extended.Bits16) dst src = record { offset = omega arith; imm = omega arith }
+change_fits (SignExtend width extended.Bits32) dst src = record { offset = omega arith; imm = omega arith }
+
+pub spelled_fit : (i : Instruction) → Ranged i → FitSlots (spelled_fields i)
+spelled_fit (Move width dst source) ranged = record { offset = omega arith; imm = source_fits source ranged }
+spelled_fit (Compute width operation dst source) ranged = record { offset = selection_fits operation; imm = source_fits source ranged }
+spelled_fit (Load size extension dst base offset) ranged = record { offset = ranged; imm = omega arith }
+spelled_fit (Unary change dst src) ranged = change_fits change dst src
+spelled_fit (Store size base offset source) ranged = record { offset = ranged.0; imm = source_fits source ranged.1 }
+spelled_fit (JumpIf width test dst source offset) ranged = record { offset = ranged.1; imm = source_fits source ranged.0 }
+spelled_fit (Jump (Short slots)) ranged = record { offset = ranged; imm = omega arith }
+spelled_fit (Jump (Long slots)) ranged = record { offset = omega arith; imm = ranged }
+spelled_fit (Wide dst n) ranged =
+    let lower : n % 2 ^ 32 < 2 ^ 32 = omega arith in
+    record { offset = omega arith; imm = fits_32 _ (sfits_to_z {w = w32} (record { fits = lower })) }
+spelled_fit (Call n) ranged = record { offset = omega arith; imm = ranged }
+spelled_fit Exit ranged = record { offset = omega arith; imm = omega arith }

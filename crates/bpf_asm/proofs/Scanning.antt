@@ -1,17 +1,13 @@
 -- Walking over a text byte by byte.
 use Rattle.std.proofs.Common.{◌≡◌, ℕ, zero, suc, ◌+◌, ◌-◌, ◌*◌, ◌^◌, ◌<◌, ◌≤◌, Bool, true, false, cond, not, map, ◌==◌, leb, Some, None, Err, List, [], ◌∷◌, ◌++◌, length, get_or, drop, take, min, refl, sym, ap, subst, ◌∙◌, arith}
-use Rattle.std.proofs.Math.Seq.{drop-cons}
-use Rattle.std.proofs.Math.ListN.{drop_of_length-le}
+use Rattle.std.proofs.Math.{Seq.drop-cons, ListN.drop_of_length-le}
 use Rattle.std.specs.Prelude.{reverse}
-use Rattle.std.specs.List.{position_or_len, slice_split, onto_first, list_all}
-use Rattle.std.proofs.lemmas.List.{take_more, reverse-append, reverse-reverse, drop-take}
-use Rattle.std.proofs.lemmas.List.Splits.{slice_split_first}
-use Rattle.std.proofs.lemmas.Bool.{and_parts, and_from, leb-true, eq-eqb}
-use Rattle.std.proofs.lemmas.Str.{digit_value_digit}
-use Rattle.std.specs.Str.Parse.{digits_value_after}
-use Rattle.std.specs.Char.{digit_value, is_ascii_digit}
+use Rattle.std.specs.{List.position_or_len, List.slice_split, List.onto_first, List.list_all, Str.Parse.digits_value_after, Char.digit_value}
+use Rattle.std.specs.Char.{is_ascii_digit}
+use Rattle.std.proofs.lemmas.{List.take_more, List.reverse-append, List.reverse-reverse, List.drop-take, List.Splits.slice_split_first, Bool.and_parts}
+use Rattle.std.proofs.lemmas.{Bool.and_from, Bool.leb-true, Bool.eq-eqb, Str.digit_value_digit}
 use Rattle.bpf_asm.specs.declared.fault.LineFault.TheVariants as fault
-use Rattle.bpf_asm.specs.Operands.{read_between, read_place}
+use Rattle.bpf_asm.specs.{Operands.read_between, Operands.read_place}
 use Rattle.bpf_asm.specs.Reading.{is_space, is_comma, after_spaces, before_spaces, operands_in, single, is_empty}
 
 -- ---- the first byte that passes a test

@@ -1,8 +1,7 @@
 -- Faults of lines and of texts.
 use Rattle.std.specs.Prelude.{ℕ, Option, Some, None, Result, Ok, Err}
-use Rattle.bpf_asm.specs.declared.fault.LineFault.{LineFault}
+use Rattle.bpf_asm.specs.declared.{fault.LineFault.LineFault, fault.AsmFault.AsmFault}
 use Rattle.bpf_asm.specs.declared.fault.LineFault.TheVariants as fault
-use Rattle.bpf_asm.specs.declared.fault.AsmFault.{AsmFault}
 use Rattle.bpf_asm.specs.declared.fault.AsmFault.TheVariants as asm
 
 -- which of two faults of a line is the line's: an operand of the wrong shape, a register, a number

@@ -4,11 +4,9 @@ use Rattle.std.specs.List.{slice_split}
 use Rattle.machine_spec.specs.declared.instruction.Instruction.{Instruction}
 use Rattle.machine_spec.specs.declared.limits.TheConstants.{MAX_SLOTS}
 use Rattle.bpf_isa.specs.Spelling.{spelling}
-use Rattle.bpf_asm.specs.declared.fault.LineFault.{LineFault}
-use Rattle.bpf_asm.specs.declared.fault.AsmFault.{AsmFault}
+use Rattle.bpf_asm.specs.declared.{fault.LineFault.LineFault, fault.AsmFault.AsmFault}
 use Rattle.bpf_asm.specs.declared.fault.AsmFault.TheVariants as asm
-use Rattle.bpf_asm.specs.Faults.{at_line}
-use Rattle.bpf_asm.specs.Reading.{is_line_feed, read_line}
+use Rattle.bpf_asm.specs.{Faults.at_line, Reading.is_line_feed, Reading.read_line}
 
 -- these bytes and then the others, if there are others
 abbrev pub before_bytes : List ℕ → Result (List ℕ) AsmFault → Result (List ℕ) AsmFault

@@ -6,3 +6,4 @@ pub mod Reading
 pub mod Writing
 pub mod Images
 pub mod Steps
+pub mod Decoding

@@ -1,12 +1,10 @@
 -- Operands: registers, numbers, distances and the places of bytes in memory; what each reads as, or why it is refused.
 use Rattle.std.specs.Prelude.{ℕ, ◌-◌, ◌^◌, ℤ, pos, neg_ℤ, unsigned_abs, Bool, ◌&&◌, ◌||◌, ◌==◌, nat_le, if◌then◌else◌, List, [], ◌∷◌, ◌++◌, length, take, drop, slice_index, Option, Some, None, Result, Ok, Err, decimal}
-use Rattle.std.specs.List.{position_or_len}
-use Rattle.std.specs.Fmt.{signed_decimal}
-use Rattle.machine_spec.specs.declared.instruction.Source.{Source}
-use Rattle.machine_spec.specs.declared.instruction.Source.TheVariants.{Register, Immediate}
+use Rattle.std.specs.{List.position_or_len, Fmt.signed_decimal}
+use Rattle.machine_spec.specs.declared.instruction.{Source.Source, Source.TheVariants.Register, Source.TheVariants.Immediate}
 use Rattle.bpf_asm.specs.declared.fault.LineFault.{LineFault}
 use Rattle.bpf_asm.specs.declared.fault.LineFault.TheVariants as fault
-use Rattle.bpf_asm.specs.Faults.{both, read_as}
+use Rattle.bpf_asm.specs.{Faults.both, Faults.read_as}
 use Rattle.bpf_asm.specs.Numbers.{is_digits, natural, written_number, distance_of, distance_text, is_in}
 
 -- ---- registers

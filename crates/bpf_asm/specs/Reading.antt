@@ -1,19 +1,14 @@
 -- What a line says: an instruction, nothing, or why it is refused.
 use Rattle.std.specs.Prelude.{ℕ, Bool, true, false, ◌==◌, nat_lt, if◌then◌else◌, List, [], ◌∷◌, length, map, reverse, Option, Some, None, Result, Ok, Err}
-use Rattle.std.specs.List.{slice_split, position_or_len, before_first, after_first}
-use Rattle.machine_spec.specs.declared.operation.Change.{Change}
-use Rattle.machine_spec.specs.declared.operation.Change.TheVariants.{Negate, Order, SignExtend}
-use Rattle.machine_spec.specs.declared.instruction.Source.{Source}
-use Rattle.machine_spec.specs.declared.instruction.Source.TheVariants.{Register, Immediate}
-use Rattle.machine_spec.specs.declared.instruction.Distance.{Distance}
-use Rattle.machine_spec.specs.declared.instruction.Distance.TheVariants.{Short, Long}
-use Rattle.machine_spec.specs.declared.instruction.Instruction.{Instruction}
+use Rattle.std.specs.{List.slice_split, List.position_or_len, List.before_first, List.after_first}
+use Rattle.machine_spec.specs.declared.operation.{Change.Change, Change.TheVariants.Negate, Change.TheVariants.Order, Change.TheVariants.SignExtend}
+use Rattle.machine_spec.specs.declared.instruction.{Source.Source, Source.TheVariants.Register, Source.TheVariants.Immediate, Distance.Distance}
+use Rattle.machine_spec.specs.declared.instruction.{Distance.TheVariants.Short, Distance.TheVariants.Long, Instruction.Instruction}
 use Rattle.machine_spec.specs.declared.instruction.Instruction.TheVariants.{Move, Compute, Load, Unary, Store, JumpIf, Jump, Wide, Call, Exit}
 use Rattle.bpf_asm.specs.declared.fault.LineFault.{LineFault}
 use Rattle.bpf_asm.specs.declared.fault.LineFault.TheVariants as fault
-use Rattle.bpf_asm.specs.Faults.{both, read_as}
+use Rattle.bpf_asm.specs.{Faults.both, Faults.read_as, Words.form_named}
 use Rattle.bpf_asm.specs.Operands.{read_register, read_immediate, read_wide, read_short, read_long, read_source, read_place}
-use Rattle.bpf_asm.specs.Words.{form_named}
 
 -- ---- the parts of a line
 

@@ -1,9 +1,8 @@
 -- What appending a line to an image does, whatever the lines after it are.
 use Rattle.std.specs.Prelude.{◌≡◌, ℕ, List, length, Option, Result, Err}
 use Rattle.machine_spec.specs.declared.instruction.Instruction.{Instruction}
-use Rattle.bpf_asm.specs.declared.fault.LineFault.{LineFault}
-use Rattle.bpf_asm.specs.declared.fault.AsmFault.{AsmFault}
-use Rattle.bpf_asm.specs.Images.{before_bytes, with_line}
+use Rattle.bpf_asm.specs.declared.{fault.LineFault.LineFault, fault.AsmFault.AsmFault}
+use Rattle.bpf_asm.specs.{Images.before_bytes, Images.with_line}
 
 -- the image was old before the line with this number and is new after it
 pub record IsAdded (number : ℕ) (reading : Result (Option Instruction) LineFault) (old new : List ℕ) : Type 0 where

@@ -1,31 +1,23 @@
 -- The word of each instruction, and the instruction of each word.
-use Rattle.std.specs.Prelude.{ℕ, List, ◌++◌, codes, Option, find}
-use Rattle.std.specs.Str.{bytes_eq}
-use Rattle.machine_spec.specs.declared.operation.Width.{Width}
-use Rattle.machine_spec.specs.declared.operation.Width.TheVariants.{Bits32, Bits64}
-use Rattle.machine_spec.specs.declared.operation.Operation.{Operation}
-use Rattle.machine_spec.specs.declared.operation.Operation.TheVariants.{Add, Sub, Mul, Div, SignedDiv, Or, And, LeftShift, RightShift, Mod, SignedMod, Xor, ArithmeticRightShift}
-use Rattle.machine_spec.specs.declared.operation.SwappedWidth.{SwappedWidth}
+use Rattle.std.specs.Prelude.{ℕ, ℤ, pos, if◌then◌else◌, List, [], ◌∷◌, ◌++◌, codes, Option, None, find}
+use Rattle.std.specs.{List.flat_map, List.filter_map, Str.bytes_eq}
+use Rattle.machine_spec.specs.declared.operation.{Width.Width, Width.TheVariants.Bits32, Width.TheVariants.Bits64, Operation.Operation}
+use Rattle.machine_spec.specs.declared.operation.{SwappedWidth.SwappedWidth, ExtendedWidth.ExtendedWidth, ByteOrder.ByteOrder}
+use Rattle.machine_spec.specs.declared.operation.{ByteOrder.TheVariants.LittleEndian, ByteOrder.TheVariants.BigEndian, ByteOrder.TheVariants.Swapped}
+use Rattle.machine_spec.specs.declared.operation.{Change.Change, Change.TheVariants.Negate, Change.TheVariants.Order, Change.TheVariants.SignExtend, Test.Test}
+use Rattle.machine_spec.specs.declared.operation.Operation.TheVariants.{Add, Sub, Mul, Div, SignedDiv, Or, And, LeftShift, RightShift, Mod, SignedMod, Xor}
+use Rattle.machine_spec.specs.declared.operation.Operation.TheVariants.{ArithmeticRightShift}
 use Rattle.machine_spec.specs.declared.operation.SwappedWidth.TheVariants as swapped
-use Rattle.machine_spec.specs.declared.operation.ExtendedWidth.{ExtendedWidth}
 use Rattle.machine_spec.specs.declared.operation.ExtendedWidth.TheVariants as extended
-use Rattle.machine_spec.specs.declared.operation.ByteOrder.{ByteOrder}
-use Rattle.machine_spec.specs.declared.operation.ByteOrder.TheVariants.{LittleEndian, BigEndian, Swapped}
-use Rattle.machine_spec.specs.declared.operation.Change.{Change}
-use Rattle.machine_spec.specs.declared.operation.Change.TheVariants.{Negate, Order, SignExtend}
-use Rattle.machine_spec.specs.declared.operation.Test.{Test}
-use Rattle.machine_spec.specs.declared.operation.Test.TheVariants.{Equal, NotEqual, Greater, GreaterOrEqual, Less, LessOrEqual, AnyBit, SignedGreater, SignedGreaterOrEqual, SignedLess, SignedLessOrEqual}
-use Rattle.machine_spec.specs.declared.instruction.Size.{Size}
-use Rattle.machine_spec.specs.declared.instruction.Size.TheVariants.{Byte, Half, Word, Double}
-use Rattle.machine_spec.specs.declared.instruction.Extension.{Extension}
-use Rattle.machine_spec.specs.declared.instruction.Extension.TheVariants.{Zero, Sign}
-use Rattle.machine_spec.specs.declared.instruction.Distance.{Distance}
-use Rattle.machine_spec.specs.declared.instruction.Distance.TheVariants.{Short, Long}
-use Rattle.machine_spec.specs.declared.instruction.Source.{Source}
-use Rattle.machine_spec.specs.declared.instruction.Source.TheVariants.{Register, Immediate}
-use Rattle.machine_spec.specs.declared.instruction.Instruction.{Instruction}
+use Rattle.machine_spec.specs.declared.operation.Test.TheVariants.{Equal, NotEqual, Greater, GreaterOrEqual, Less, LessOrEqual, AnyBit, SignedGreater}
+use Rattle.machine_spec.specs.declared.operation.Test.TheVariants.{SignedGreaterOrEqual, SignedLess, SignedLessOrEqual}
+use Rattle.machine_spec.specs.declared.instruction.{Size.Size, Size.TheVariants.Byte, Size.TheVariants.Half, Size.TheVariants.Word, Size.TheVariants.Double}
+use Rattle.machine_spec.specs.declared.instruction.{Extension.Extension, Extension.TheVariants.Zero, Extension.TheVariants.Sign, Distance.Distance}
+use Rattle.machine_spec.specs.declared.instruction.{Distance.TheVariants.Short, Distance.TheVariants.Long, Source.Source, Source.TheVariants.Register}
+use Rattle.machine_spec.specs.declared.instruction.{Source.TheVariants.Immediate, Instruction.Instruction}
 use Rattle.machine_spec.specs.declared.instruction.Instruction.TheVariants.{Move, Compute, Load, Unary, Store, JumpIf, Jump, Wide, Call, Exit}
-use Rattle.bpf_asm.specs.declared.word.TheConstants.{FORMS}
+use Rattle.machine_spec.specs.declared.opcode.TheConstants.{TEMPLATES}
+use Rattle.machine_spec.specs.{Opcodes.Fields, Opcodes.has_signed_form, Opcodes.filled}
 
 abbrev pub width_text : Width → List ℕ
 width_text Bits32 = codes "32"
@@ -112,6 +104,28 @@ word_of (Wide _ _) = codes "imm64"
 word_of (Call _) = codes "call"
 word_of Exit = codes "exit"
 
--- the instruction, with 0 in its fields, that has a word
+-- ---- the forms, of which each word names one
+
+-- fields that are 0 but for an offset and an imm
+abbrev pub selection : ℤ → ℤ → Fields
+selection offset imm = record { opcode = 0; dst = 0; src = 0; offset = offset; imm = imm; upper = None }
+
+-- What selects the other instructions of a template's opcode: the offset of a signed quotient or remainder and that of a
+-- move that extends the sign of 8, 16 or 32 bits, the imm of a byte order of 32 or 64 bits (RFC 9669, sections 4.1, 4.2).
+abbrev pub selections : Instruction → List Fields
+selections (Compute _ operation _ (Immediate _)) = if has_signed_form operation then selection (pos 1) (pos 0) ∷ [] else []
+selections (Move _ _ (Register _)) = selection (pos 8) (pos 0) ∷ selection (pos 16) (pos 0) ∷ selection (pos 32) (pos 0) ∷ []
+selections (Unary (Order _ _) _ _) = selection (pos 0) (pos 32) ∷ selection (pos 0) (pos 64) ∷ []
+selections _ = []
+
+-- the other instructions of a template's opcode, by what the profile fills the template with
+abbrev pub others_of : Instruction → List Instruction
+others_of template = filter_map (filled template) (selections template)
+
+-- The instructions of the profile's opcodes, with 0 in their fields: the first of each opcode, then the others.
+abbrev pub forms : List Instruction
+forms = TEMPLATES ++ flat_map others_of TEMPLATES
+
+-- the form that has a word; where a second operand may be a number or a register, one with a number
 unfoldable pub form_named : List ℕ → Option Instruction
-form_named word = find (λ form. bytes_eq (word_of form) word) FORMS
+form_named word = find (λ form. bytes_eq (word_of form) word) forms

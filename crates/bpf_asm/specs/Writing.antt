@@ -1,17 +1,11 @@
 -- The text of code: a line for each instruction.
 use Rattle.std.specs.Prelude.{ℕ, List, [], ◌∷◌, ◌++◌, codes, decimal}
-use Rattle.std.specs.List.{flat_map}
-use Rattle.std.specs.Fmt.{signed_decimal}
-use Rattle.machine_spec.specs.declared.operation.Change.{Change}
-use Rattle.machine_spec.specs.declared.operation.Change.TheVariants.{Negate, Order, SignExtend}
-use Rattle.machine_spec.specs.declared.instruction.Distance.{Distance}
-use Rattle.machine_spec.specs.declared.instruction.Distance.TheVariants.{Short, Long}
-use Rattle.machine_spec.specs.declared.instruction.Instruction.{Instruction}
-use Rattle.machine_spec.specs.declared.instruction.Instruction.TheVariants.{Move, Compute, Load, Unary, Store, JumpIf, Jump, Wide, Call, Exit}
+use Rattle.std.specs.{List.flat_map, Fmt.signed_decimal}
+use Rattle.machine_spec.specs.declared.operation.{Change.Change, Change.TheVariants.Negate, Change.TheVariants.Order, Change.TheVariants.SignExtend}
+use Rattle.machine_spec.specs.declared.instruction.{Distance.Distance, Distance.TheVariants.Short, Distance.TheVariants.Long, Instruction.Instruction}
 use Rattle.machine_spec.specs.declared.instruction.Placed.{Placed}
-use Rattle.bpf_asm.specs.Numbers.{distance_text}
-use Rattle.bpf_asm.specs.Operands.{register_text, source_text, place_text}
-use Rattle.bpf_asm.specs.Words.{word_of}
+use Rattle.machine_spec.specs.declared.instruction.Instruction.TheVariants.{Move, Compute, Load, Unary, Store, JumpIf, Jump, Wide, Call, Exit}
+use Rattle.bpf_asm.specs.{Numbers.distance_text, Operands.register_text, Operands.source_text, Operands.place_text, Words.word_of}
 
 -- a sign extension has a source
 abbrev pub change_operands : Change → ℕ → ℕ → List (List ℕ)

@@ -1,12 +1,13 @@
 //! From a text to the image that it says.
 
-ghost use Rattle.std.specs.Prelude.{◌≡◌, ◌≢◌, [], Ok, Err, Some, OnOk, IfErr};
+ghost use Rattle.std.specs.Prelude.{◌≡◌, ◌≢◌, [], Ok, Err, Some, OnOk, IfOk, IfErr};
 ghost use Rattle.std.specs.List.{slice_split};
 ghost use Rattle.wire_spec.specs.Memory.{AnswersAs};
 ghost use Rattle.bpf_isa.specs.Spelling.{HasRegisters};
 ghost use Rattle.bpf_asm.specs.declared.fault.AsmFault.TheVariants as faults;
 ghost use Rattle.bpf_asm.specs.Reading.{is_line_feed, read_line};
 ghost use Rattle.bpf_asm.specs.Images.{lines_image, image_of};
+ghost use Rattle.bpf_asm.specs.Decoding.{decoded, instructions_of};
 ghost use Rattle.bpf_asm.specs.Steps.{IsAdded, IsRefused};
 
 use crate::fault::{AsmFault, at_line};
@@ -30,7 +31,7 @@ fn add(image: &mut Vec<u8>, number: usize, instruction: Instruction) -> Result<(
 }
 
 /// Appends what the line with this number says.
-#[tactic(auto, using(crate::proofs::Registers::line_registers))]
+#[tactic(auto, using(crate::proofs::SaidLines::line_registers))]
 fn add_line(image: &mut Vec<u8>, number: usize, line: &[u8]) -> Result<(), AsmFault>
     ensures ok { OnOk result (IsAdded number (read_line line.now) image.old.items image.new.items) }
     ensures err { IfErr result (λ f. f ≢ faults.Memory → IsRefused number (read_line line.now) image.old.items f) }
@@ -61,9 +62,12 @@ fn add_lines(image: &mut Vec<u8>, text: &[u8]) -> Result<(), AsmFault>
 }
 
 /// The image that a text says, or the text's first fault.
-#[tactic(auto, unfolding(crate::specs::Images::image_of))]
+#[tactic(auto, unfolding(crate::specs::Images::image_of), using(crate::proofs::DecodedTexts::image_decodes))]
 pub fn assemble(alloc: Global, text: &str) -> Result<Vec<u8>, AsmFault>
-    ensures { AnswersAs faults.Memory (λ v. v.items) result (image_of text.now) }
+    // What it answers is what the text says, unless memory runs out.
+    ensures exact { AnswersAs faults.Memory (λ v. v.items) result (image_of text.now) }
+    // The image decodes, to the instructions of the text's lines.
+    ensures decodes { IfOk result (λ v. decoded v.items ≡ Ok (instructions_of text.now)) }
 {
     let mut image = Vec::new(alloc);
     add_lines(&mut image, text.as_bytes())?;

@@ -8,90 +8,23 @@ ghost use Rattle.machine_spec.specs.declared.operation.Change.TheVariants as cha
 
 use machine_spec::{
     ByteOrder, Change, Distance, ExtendedWidth, Extension, Instruction, Operation, Size, Source,
-    SwappedWidth, Test, Width,
+    SwappedWidth, TEMPLATES, Test, Width,
 };
 
-const IMMEDIATE: Source = Source::Immediate(0);
+const NUMBER: Source = Source::Immediate(0);
 
-const REGISTER: Source = Source::Register(0);
-
-/// The instruction of each word, with 0 in its fields; where a second operand may be a number or a
-/// register, a number.
-const FORMS: [Instruction; 86] = [
-    Instruction::Move(Width::Bits64, 0, IMMEDIATE),
-    Instruction::Compute(Width::Bits64, Operation::Add, 0, IMMEDIATE),
-    Instruction::Compute(Width::Bits64, Operation::Sub, 0, IMMEDIATE),
-    Instruction::Compute(Width::Bits64, Operation::Mul, 0, IMMEDIATE),
-    Instruction::Compute(Width::Bits64, Operation::Div, 0, IMMEDIATE),
-    Instruction::Compute(Width::Bits64, Operation::SignedDiv, 0, IMMEDIATE),
-    Instruction::Compute(Width::Bits64, Operation::Or, 0, IMMEDIATE),
-    Instruction::Compute(Width::Bits64, Operation::And, 0, IMMEDIATE),
-    Instruction::Compute(Width::Bits64, Operation::LeftShift, 0, IMMEDIATE),
-    Instruction::Compute(Width::Bits64, Operation::RightShift, 0, IMMEDIATE),
-    Instruction::Compute(Width::Bits64, Operation::Mod, 0, IMMEDIATE),
-    Instruction::Compute(Width::Bits64, Operation::SignedMod, 0, IMMEDIATE),
-    Instruction::Compute(Width::Bits64, Operation::Xor, 0, IMMEDIATE),
-    Instruction::Compute(Width::Bits64, Operation::ArithmeticRightShift, 0, IMMEDIATE),
-    Instruction::Move(Width::Bits32, 0, IMMEDIATE),
-    Instruction::Compute(Width::Bits32, Operation::Add, 0, IMMEDIATE),
-    Instruction::Compute(Width::Bits32, Operation::Sub, 0, IMMEDIATE),
-    Instruction::Compute(Width::Bits32, Operation::Mul, 0, IMMEDIATE),
-    Instruction::Compute(Width::Bits32, Operation::Div, 0, IMMEDIATE),
-    Instruction::Compute(Width::Bits32, Operation::SignedDiv, 0, IMMEDIATE),
-    Instruction::Compute(Width::Bits32, Operation::Or, 0, IMMEDIATE),
-    Instruction::Compute(Width::Bits32, Operation::And, 0, IMMEDIATE),
-    Instruction::Compute(Width::Bits32, Operation::LeftShift, 0, IMMEDIATE),
-    Instruction::Compute(Width::Bits32, Operation::RightShift, 0, IMMEDIATE),
-    Instruction::Compute(Width::Bits32, Operation::Mod, 0, IMMEDIATE),
-    Instruction::Compute(Width::Bits32, Operation::SignedMod, 0, IMMEDIATE),
-    Instruction::Compute(Width::Bits32, Operation::Xor, 0, IMMEDIATE),
-    Instruction::Compute(Width::Bits32, Operation::ArithmeticRightShift, 0, IMMEDIATE),
-    Instruction::JumpIf(Width::Bits64, Test::Equal, 0, IMMEDIATE, 0),
-    Instruction::JumpIf(Width::Bits64, Test::NotEqual, 0, IMMEDIATE, 0),
-    Instruction::JumpIf(Width::Bits64, Test::Greater, 0, IMMEDIATE, 0),
-    Instruction::JumpIf(Width::Bits64, Test::GreaterOrEqual, 0, IMMEDIATE, 0),
-    Instruction::JumpIf(Width::Bits64, Test::Less, 0, IMMEDIATE, 0),
-    Instruction::JumpIf(Width::Bits64, Test::LessOrEqual, 0, IMMEDIATE, 0),
-    Instruction::JumpIf(Width::Bits64, Test::AnyBit, 0, IMMEDIATE, 0),
-    Instruction::JumpIf(Width::Bits64, Test::SignedGreater, 0, IMMEDIATE, 0),
-    Instruction::JumpIf(Width::Bits64, Test::SignedGreaterOrEqual, 0, IMMEDIATE, 0),
-    Instruction::JumpIf(Width::Bits64, Test::SignedLess, 0, IMMEDIATE, 0),
-    Instruction::JumpIf(Width::Bits64, Test::SignedLessOrEqual, 0, IMMEDIATE, 0),
-    Instruction::JumpIf(Width::Bits32, Test::Equal, 0, IMMEDIATE, 0),
-    Instruction::JumpIf(Width::Bits32, Test::NotEqual, 0, IMMEDIATE, 0),
-    Instruction::JumpIf(Width::Bits32, Test::Greater, 0, IMMEDIATE, 0),
-    Instruction::JumpIf(Width::Bits32, Test::GreaterOrEqual, 0, IMMEDIATE, 0),
-    Instruction::JumpIf(Width::Bits32, Test::Less, 0, IMMEDIATE, 0),
-    Instruction::JumpIf(Width::Bits32, Test::LessOrEqual, 0, IMMEDIATE, 0),
-    Instruction::JumpIf(Width::Bits32, Test::AnyBit, 0, IMMEDIATE, 0),
-    Instruction::JumpIf(Width::Bits32, Test::SignedGreater, 0, IMMEDIATE, 0),
-    Instruction::JumpIf(Width::Bits32, Test::SignedGreaterOrEqual, 0, IMMEDIATE, 0),
-    Instruction::JumpIf(Width::Bits32, Test::SignedLess, 0, IMMEDIATE, 0),
-    Instruction::JumpIf(Width::Bits32, Test::SignedLessOrEqual, 0, IMMEDIATE, 0),
-    Instruction::Jump(Distance::Short(0)),
-    Instruction::Jump(Distance::Long(0)),
-    Instruction::Call(0),
-    Instruction::Exit,
-    Instruction::Load(Size::Byte, Extension::Zero, 0, 0, 0),
-    Instruction::Load(Size::Half, Extension::Zero, 0, 0, 0),
-    Instruction::Load(Size::Word, Extension::Zero, 0, 0, 0),
-    Instruction::Load(Size::Double, Extension::Zero, 0, 0, 0),
-    Instruction::Load(Size::Byte, Extension::Sign, 0, 0, 0),
-    Instruction::Load(Size::Half, Extension::Sign, 0, 0, 0),
-    Instruction::Load(Size::Word, Extension::Sign, 0, 0, 0),
-    Instruction::Store(Size::Byte, 0, 0, IMMEDIATE),
-    Instruction::Store(Size::Half, 0, 0, IMMEDIATE),
-    Instruction::Store(Size::Word, 0, 0, IMMEDIATE),
-    Instruction::Store(Size::Double, 0, 0, IMMEDIATE),
-    Instruction::Store(Size::Byte, 0, 0, REGISTER),
-    Instruction::Store(Size::Half, 0, 0, REGISTER),
-    Instruction::Store(Size::Word, 0, 0, REGISTER),
-    Instruction::Store(Size::Double, 0, 0, REGISTER),
-    Instruction::Wide(0, 0),
-    Instruction::Unary(Change::Negate(Width::Bits64), 0, 0),
-    Instruction::Unary(Change::Negate(Width::Bits32), 0, 0),
+/// Where an opcode is that of several instructions, those that `TEMPLATES` leaves out, with 0 in
+/// their fields; where a second operand may be a number or a register, a number.
+const OTHER_FORMS: [Instruction; 15] = [
+    Instruction::Compute(Width::Bits32, Operation::SignedDiv, 0, NUMBER),
+    Instruction::Compute(Width::Bits32, Operation::SignedMod, 0, NUMBER),
     Instruction::Unary(
-        Change::Order(ByteOrder::LittleEndian, SwappedWidth::Bits16),
+        Change::SignExtend(Width::Bits32, ExtendedWidth::Bits8),
+        0,
+        0,
+    ),
+    Instruction::Unary(
+        Change::SignExtend(Width::Bits32, ExtendedWidth::Bits16),
         0,
         0,
     ),
@@ -106,11 +39,6 @@ const FORMS: [Instruction; 86] = [
         0,
     ),
     Instruction::Unary(
-        Change::Order(ByteOrder::BigEndian, SwappedWidth::Bits16),
-        0,
-        0,
-    ),
-    Instruction::Unary(
         Change::Order(ByteOrder::BigEndian, SwappedWidth::Bits32),
         0,
         0,
@@ -120,21 +48,8 @@ const FORMS: [Instruction; 86] = [
         0,
         0,
     ),
-    Instruction::Unary(
-        Change::Order(ByteOrder::Swapped, SwappedWidth::Bits16),
-        0,
-        0,
-    ),
-    Instruction::Unary(
-        Change::Order(ByteOrder::Swapped, SwappedWidth::Bits32),
-        0,
-        0,
-    ),
-    Instruction::Unary(
-        Change::Order(ByteOrder::Swapped, SwappedWidth::Bits64),
-        0,
-        0,
-    ),
+    Instruction::Compute(Width::Bits64, Operation::SignedDiv, 0, NUMBER),
+    Instruction::Compute(Width::Bits64, Operation::SignedMod, 0, NUMBER),
     Instruction::Unary(
         Change::SignExtend(Width::Bits64, ExtendedWidth::Bits8),
         0,
@@ -151,12 +66,12 @@ const FORMS: [Instruction; 86] = [
         0,
     ),
     Instruction::Unary(
-        Change::SignExtend(Width::Bits32, ExtendedWidth::Bits8),
+        Change::Order(ByteOrder::Swapped, SwappedWidth::Bits32),
         0,
         0,
     ),
     Instruction::Unary(
-        Change::SignExtend(Width::Bits32, ExtendedWidth::Bits16),
+        Change::Order(ByteOrder::Swapped, SwappedWidth::Bits64),
         0,
         0,
     ),
@@ -385,5 +300,8 @@ fn first_named(word: &[u8], forms: &[Instruction]) -> Option<Instruction>
 pub fn form_named(word: &[u8]) -> Option<Instruction>
     ensures { result ≡ definitions.form_named word.now }
 {
-    first_named(word, &FORMS)
+    match first_named(word, &TEMPLATES) {
+        Some(form) => Some(form),
+        None => first_named(word, &OTHER_FORMS),
+    }
 }

@@ -1,6 +1,6 @@
 use Rattle.std.proofs.Common.{◌≡◌, Ok, Some}
 use Rattle.bpf_asm.specs.Reading.{read_line}
-use Rattle.bpf_asm.proofs.Registers.{line_registers}
+use Rattle.bpf_asm.proofs.SaidLines.{line_registers}
 use Rattle.bpf_asm.proofs.assembling.add_line.Goals as goal
 
 pub add-requires : goal.add-requires
