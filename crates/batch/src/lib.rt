@@ -1,6 +1,7 @@
 //! Record batches of Kafka's message format (magic 2, uncompressed): a batch and its bytes.
 #![tactic(auto)]
 
+mod feed;
 mod fields;
 mod limits;
 mod reading;
@@ -8,6 +9,7 @@ mod sharing;
 mod times;
 mod writing;
 
+pub use feed::Feed;
 pub use limits::{HEADER, MAX_BATCH, MAX_RECORDS, fits, record_len};
 pub use reading::{decode, one_spelling};
 pub use sharing::share;

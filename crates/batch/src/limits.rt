@@ -6,6 +6,9 @@ ghost use Rattle.wire_spec.specs.BatchSpelling.{IsTimestamp, BatchFits, timestam
 use crate::times::{base_of, is_timestamp, latest};
 use wire_spec::{Batch, Record};
 
+/// The bytes up to the end of batchLength, which it does not count.
+pub(crate) const FRONT: usize = 12;
+
 /// The bytes of the header, before the records.
 pub const HEADER: usize = 61;
 

@@ -7,18 +7,18 @@ ghost use Rattle.wire_spec.specs.Memory.{AnswersAs};
 ghost use Rattle.wire_spec.specs.declared.fault.BatchFault.TheVariants.{Memory};
 
 use crate::fields::{i16_at, i32_at, i64_at, u16_at, u32_at};
-use crate::limits::{HEADER, MAX_BATCH, MAX_RECORDS};
+use crate::limits::{FRONT, HEADER, MAX_BATCH, MAX_RECORDS};
 use crate::times::{is_same, is_timestamp, latest};
 use bytes::Bytes;
 use kafka_record::RecordFault;
 use std::alloc::Global;
 use wire_spec::{Batch, BatchFault, Record, Records};
 
-// The bytes up to the end of batchLength, which it does not count.
-const FRONT: usize = 12;
-
 // What batchLength counts at least: the rest of the header.
 const MIN_LENGTH: i32 = 49;
+
+// The bytes of a record without key, value and headers, whose numbers take one byte each.
+const SHORTEST_RECORD: usize = 7;
 
 /// How many bytes a batch of this batchLength has.
 fn with_front_of(length: i32) -> usize
@@ -30,7 +30,7 @@ fn with_front_of(length: i32) -> usize
 
 /// How many bytes the batch at the front takes.
 #[tactic(auto, unfolding(wire_spec::specs::BatchReading::size_at))]
-fn batch_size(bytes: &[u8]) -> Result<usize, BatchFault>
+pub(crate) fn batch_size(bytes: &[u8]) -> Result<usize, BatchFault>
     ensures gives { result ≡ size_at bytes.now }
     ensures within { IfOk result (λ n. (61 ≤ n) × (n ≤ length bytes.now)) }
     ensures bytes { (i : ℕ) → slice_index bytes.now i < 256 }
@@ -103,13 +103,19 @@ fn record_of(
     }
 }
 
+/// How many records to make room for: no more than the bytes after the header may hold, since the
+/// shortest record has 7.
+fn room_for(count: u32, bytes: usize) -> usize {
+    (count as usize).min(bytes.saturating_sub(HEADER) / SHORTEST_RECORD + 1)
+}
+
 /// That many records, which fill the bytes after the header.
 fn records_of(alloc: Global, bytes: &Bytes, count: u32) -> Result<Records, BatchFault>
     requires header { 61 ≤ length bytes.now }
     requires few { count ≤ 10000 }
     ensures { AnswersAs Memory (λ rs. rs) result (records_at count 0 (drop 61 bytes.now)) }
 {
-    let mut list = Vec::with_capacity(alloc, count as usize)?;
+    let mut list = Vec::with_capacity(alloc, room_for(count, bytes.len()))?;
     let end = bytes.len();
     let mut at = HEADER;
     for place in 0..count {

@@ -6,14 +6,11 @@ ghost use Rattle.wire_spec.specs.RecordSpelling.{RecordFits, record_spelling};
 ghost use Rattle.wire_spec.specs.BatchSpelling.{IsTimestamp, BatchFits, timestamps, greatest, signed, records_spelling, covered, batch_spelling};
 
 use crate::fields::{put_i16, put_i32, put_i64, put_u32};
-use crate::limits::{HEADER, records_len};
+use crate::limits::{FRONT, HEADER, records_len};
 use crate::times::{base_of, latest};
 use byteorder::{BigEndian, ByteOrder};
 use std::alloc::{AllocError, Global};
 use wire_spec::{Batch, Record};
-
-// The bytes up to the end of batchLength, which it does not count.
-const FRONT: usize = 12;
 
 // The place of the checksum, and where what it covers begins.
 const CRC: usize = 17;

@@ -296,7 +296,7 @@ count_again bytes n h =
     let few : is_miscounted bytes ≡ false = rw h.count (counted_ok n (last_offset_delta bytes) h.some h.few h.last) in
     rw (eq-eqb (magic bytes) 2 h.magic, eq-eqb (crc bytes) (checksum (drop 21 bytes)) h.crc, eq-eqb (attributes bytes) 0 h.attributes, few) (ap done h.count)
 
-record Sized (bytes : List ℕ) (n : ℕ) : Type 0 where
+pub record Sized (bytes : List ℕ) (n : ℕ) : Type 0 where
   pub size : number_at w32 8 bytes + 12 ≡ n
   pub least : 61 ≤ n
   pub most : n ≤ max_batch
@@ -318,7 +318,7 @@ long_enough m h =
       | inr le ↦ absurd (negative m (le-ltb m (2 ^ 31) le) h)
     ]
 
-size_taken : (bytes : List ℕ) (n : ℕ) → size_at bytes ≡ Ok n → Sized bytes n
+pub size_taken : (bytes : List ℕ) (n : ℕ) → size_at bytes ≡ Ok n → Sized bytes n
 unfolding size_at
 size_taken bytes n e =
     let a = guard_ok (ltb (length bytes) 12) faults.Short _ n e in
@@ -464,7 +464,7 @@ same_4 : (xs ys : List ℕ) → ((i : ℕ) → i < 4 → get_or xs i 0 ≡ get_o
 same_4 xs ys h = omega (arith, h 0 (omega arith), h 1 (omega arith), h 2 (omega arith), h 3 (omega arith))
 
 -- batchLength is the same where the batch is alone
-length_alone : (n : ℕ) (bytes : List ℕ) → 12 ≤ n → number_at w32 8 (take n bytes) ≡ number_at w32 8 bytes
+pub length_alone : (n : ℕ) (bytes : List ℕ) → 12 ≤ n → number_at w32 8 (take n bytes) ≡ number_at w32 8 bytes
 length_alone n bytes le =
     same_4 (drop 8 (take n bytes)) (drop 8 bytes) (λ i lt. get_or-drop 8 (take n bytes) i 0 ∙ get_or-take n bytes (8 + i) 0 (omega arith) ∙ sym (get_or-drop 8 bytes i 0))
 

@@ -1,4 +1,5 @@
 pub mod BatchLaws
 pub mod Checksums
+pub mod MoreBytes
 pub mod RecordLaws
 pub mod Varints

@@ -1,6 +1,6 @@
 -- Reading a record batch (Apache Kafka documentation, "Message Format": "Record Batch"): the batch at the
 -- front of the bytes, and how many of them it takes, or the first refusal. A number is big-endian.
-use Rattle.std.specs.Prelude.{ℕ, zero, suc, ◌+◌, ◌^◌, ℤ, pos, negsuc, int_lt, int_le, List, [], ◌∷◌, length, take, drop, slice_index, Option, Some, None, Result, Ok, Err, Bool, nat_lt, ◌==◌, ◌&&◌, ◌||◌, not, if◌then◌else◌}
+use Rattle.std.specs.Prelude.{◌≡◌, ℕ, zero, suc, ◌+◌, ◌^◌, ℤ, pos, negsuc, int_lt, int_le, List, [], ◌∷◌, length, take, drop, slice_index, Option, Some, None, Result, Ok, Err, Bool, nat_lt, ◌==◌, ◌&&◌, ◌||◌, not, if◌then◌else◌}
 use Rattle.std.specs.{List.list_all, Int.Width, Int.w16, Int.w32, Int.w64, Int.from_be_bytes, Int.cast_signed, Ordering.int_eq}
 use Rattle.wire_spec.specs.declared.limits.TheConstants.{TIMESTAMP_END}
 use Rattle.wire_spec.specs.declared.fault.BatchFault.{BatchFault}
@@ -144,6 +144,10 @@ size_at bytes =
     else if nat_lt max_batch (batch_size bytes) then Err BatchFault.TooLarge
     else if nat_lt (length bytes) (batch_size bytes) then Err BatchFault.Short
     else Ok (batch_size bytes)
+
+-- The bytes are a part of a batch: more bytes may make it whole.
+abbrev pub IsPart : List ℕ → Type 0
+IsPart bytes = size_at bytes ≡ Err BatchFault.Short
 
 -- the batch at the front of the bytes, and how many of them it takes
 unfoldable pub batch_at : List ℕ → Result (Batch × ℕ) BatchFault

@@ -6,6 +6,8 @@ mod batches;
 #[cfg(test)]
 mod checksums;
 #[cfg(test)]
+mod feeds;
+#[cfg(test)]
 mod records;
 #[cfg(test)]
 mod varints;

@@ -1,0 +1,188 @@
+//! Batches from a stream of bytes that arrives in pieces of any size.
+
+ghost use Rattle.std.specs.Prelude.{◌≡◌, ◌≢◌, ◌↔◌, [], ◌++◌, IfOk, OnOk, OnErr, IsTrue, Some, Ok, Err};
+ghost use Rattle.wire_spec.specs.declared.fault.BatchFault.TheVariants.{Short};
+ghost use Rattle.wire_spec.specs.BatchReading.{IsPart};
+ghost use Rattle.batch.specs.Streams.{Open, with_piece, after_fault, Gives, Cuts, IsReady};
+
+use crate::fields::i32_at;
+use crate::limits::{FRONT, MAX_BATCH};
+use crate::reading::{batch_size, decode};
+use bytes::Bytes;
+use std::alloc::{AllocError, Global};
+use std::marker::Model;
+use std::mem;
+use wire_spec::{Batch, BatchFault};
+
+/// The bytes that were fed of a stream of record batches and not given yet. Contracts see those, or
+/// the fault that ended the stream.
+#[derive(Drop)]
+pub struct Feed {
+    alloc: Global,
+    // The bytes that batches are cut from, without a copy.
+    ready: Bytes,
+    // The bytes after those.
+    next: Vec<u8>,
+    fault: Option<BatchFault>,
+}
+
+impl Model for Feed {
+    ghost use Rattle.batch.specs.Streams.{Stream, stream};
+
+    ghost Value = { Stream };
+
+    ghost view = { λ f. stream f.ready f.next.items f.fault };
+}
+
+impl Feed {
+    /// With no bytes of a stream.
+    pub fn new(alloc: Global) -> Feed
+        ensures { result ≡ Open [] }
+    {
+        Feed {
+            alloc,
+            ready: Bytes::new(),
+            next: Vec::new(alloc),
+            fault: None,
+        }
+    }
+
+    /// Takes a piece of the stream: the bytes after those that were fed before. Its bytes are copied
+    /// once, and those of a batch that goes on in a later piece once more. A stream that a fault
+    /// ended keeps none. An `Err` changes nothing.
+    pub fn feed(&mut self, piece: &[u8]) -> Result<(), AllocError>
+        ensures ok { OnOk result (self.new ≡ with_piece self.old piece.now) }
+        ensures err { OnErr result (self.new ≡ self.old) }
+    {
+        if self.fault.is_some() {
+            return Ok(());
+        }
+        if self.next.is_empty() && is_part(&self.ready) {
+            self.next = joined(self.alloc, &self.ready, piece)?;
+            self.ready = Bytes::new();
+            return Ok(());
+        }
+        append(&mut self.next, piece)
+    }
+
+    /// The next batch of the stream, as `decode` reads it, or `None` where the bytes so far hold no
+    /// whole one. Its keys, values and headers share the bytes that were fed. The fault of bytes that
+    /// begin with no batch ends the stream: every later call returns it again. A length that is out
+    /// of range is such a fault as soon as its 12 bytes are fed. Where memory runs out, nothing
+    /// changes.
+    pub fn next(&mut self) -> Result<Option<Batch>, BatchFault>
+        ensures { Gives self.old result self.new }
+    {
+        if let Some(fault) = self.fault {
+            return Err(fault);
+        }
+        if !fill(self.alloc, &mut self.ready, &mut self.next)? {
+            return Ok(None);
+        }
+        match cut(self.alloc, &mut self.ready) {
+            Ok(batch) => Ok(Some(batch)),
+            Err(fault) => Err(self.refuse(fault)),
+        }
+    }
+
+    // Ends the stream with a fault, unless memory ran out.
+    fn refuse(&mut self, fault: BatchFault) -> BatchFault
+        ensures fault { result ≡ fault }
+        ensures new { self.new ≡ after_fault self.old fault }
+    {
+        match fault {
+            BatchFault::Memory => fault,
+            _ => {
+                self.ready = Bytes::new();
+                self.next = Vec::new(self.alloc);
+                self.fault = Some(fault);
+                fault
+            }
+        }
+    }
+}
+
+/// Whether bytes to cut a batch from are ready, or a refusal of one. All bytes are moved there, unless
+/// they are a part of a batch.
+fn fill(alloc: Global, ready: &mut Bytes, next: &mut Vec<u8>) -> Result<bool, AllocError>
+    ensures same { ready.new ++ next.new.items ≡ ready.old ++ next.old.items }
+    ensures ready { IfOk result (λ whole. IsReady whole ready.new next.new.items) }
+{
+    if !is_part(ready) {
+        return Ok(true);
+    }
+    if !ready.is_empty() {
+        *next = joined(alloc, ready, next)?;
+        *ready = Bytes::new();
+    }
+    if is_part(next) {
+        return Ok(false);
+    }
+    match Bytes::from_vec(mem::replace(next, Vec::new(alloc))) {
+        Ok(bytes) => {
+            *ready = bytes;
+            Ok(true)
+        }
+        Err(failed) => {
+            *next = failed.value;
+            Err(AllocError)
+        }
+    }
+}
+
+/// Cuts the batch off the front of the bytes. An `Err` leaves them.
+fn cut(alloc: Global, ready: &mut Bytes) -> Result<Batch, BatchFault>
+    requires { IsPart ready.old → ⊥ }
+    ensures { Cuts ready.old result ready.new }
+{
+    match decode(alloc, ready.clone()?) {
+        Ok((batch, used)) => {
+            ready.advance(used);
+            Ok(batch)
+        }
+        Err(fault) => Err(fault),
+    }
+}
+
+/// Whether the bytes are a part of a batch: more may make it whole.
+fn is_part(bytes: &[u8]) -> bool
+    ensures { IsTrue result ↔ IsPart bytes.now }
+{
+    match batch_size(bytes) {
+        Err(BatchFault::Short) => true,
+        _ => false,
+    }
+}
+
+/// How many bytes of the batch at the front are not there yet; 0 where its length is not known.
+fn missing(bytes: &[u8]) -> usize {
+    if bytes.len() < FRONT {
+        return 0;
+    }
+    let length = i32_at(bytes, 8).max(0) as usize;
+    (FRONT + length).min(MAX_BATCH).saturating_sub(bytes.len())
+}
+
+/// Writes a piece at the end. Room is made for the rest of the batch at the front and for one piece
+/// of this size after it, so that its bytes move no more.
+fn append(bytes: &mut Vec<u8>, piece: &[u8]) -> Result<(), AllocError>
+    ensures ok { OnOk result (bytes.new.items ≡ bytes.old.items ++ piece.now) }
+    ensures err { OnErr result (bytes.new.items ≡ bytes.old.items) }
+{
+    bytes.reserve(missing(bytes).saturating_add(piece.len()))?;
+    bytes.extend_from_slice(piece)
+}
+
+/// The bytes and the piece after them.
+fn joined(alloc: Global, bytes: &[u8], piece: &[u8]) -> Result<Vec<u8>, AllocError>
+    ensures { IfOk result (λ all. all.items ≡ bytes.now ++ piece.now) }
+{
+    let room = bytes
+        .len()
+        .saturating_add(missing(bytes))
+        .saturating_add(piece.len());
+    let mut all = Vec::with_capacity(alloc, room)?;
+    all.extend_from_slice(bytes)?;
+    all.extend_from_slice(piece)?;
+    Ok(all)
+}
