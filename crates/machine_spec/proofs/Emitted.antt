@@ -1,5 +1,5 @@
 -- The emissions of a run: no more than there may be, and each within the limits of a record.
-use Rattle.std.proofs.Common.{◌≡◌, ℕ, zero, suc, ◌+◌, ◌<◌, ◌≤◌, Bool, true, false, ℤ, if◌then◌else◌, List, [], ◌∷◌, ◌++◌, length, length-append, Option, Some, None, refl, sym, subst, ⊎_elim, inl, inr, ◌⊎◌, arith}
+use Rattle.std.proofs.Common.{◌≡◌, ℕ, zero, suc, ◌+◌, ◌<◌, ◌≤◌, Bool, true, false, ℤ, if◌then◌else◌, List, [], ◌∷◌, length, length-append, Option, Some, None, refl, sym, subst, ⊎_elim, inl, inr, ◌⊎◌, arith}
 use Rattle.std.specs.Prelude.{◌==◌, nat_le, nat_lt, unsigned_abs, pos, not, int_lt, All}
 use Rattle.std.specs.List.{list_any}
 use Rattle.std.proofs.lemmas.Bool.{or_parts, and_parts, not-false, leb-true, leb-false, ltb-false, cases_Bool, cond-true, cond-false, eqb-true, false≢true}
@@ -16,11 +16,11 @@ use Rattle.machine_spec.specs.declared.outcome.Emission.{Emission}
 use Rattle.machine_spec.specs.Image.{Program, form_at, slot_count}
 use Rattle.machine_spec.specs.Summaries.{summary_of}
 use Rattle.machine_spec.specs.Values.{Value, Nothing, Number, Address}
-use Rattle.machine_spec.specs.Machine.{Input, State, bytes_of, length_of, byte_in, bytes_from, bytes_read, bytes_at, named, signature_of, helper_of, number_held, emit_code, emits, emitted_after, whole_record, bare_record, effect_of, called, after}
+use Rattle.machine_spec.specs.Machine.{Input, State, bytes_of, length_of, byte_in, bytes_from, bytes_read, bytes_at, named, signature_of, helper_of, number_held, emit_code, emitted_after, whole_record, bare_record, effect_of, called, after}
 use Rattle.machine_spec.specs.Traps.{is_within, names_wrongly, is_wrong_argument, calls_wrongly, arguments_of, traps, trap_of, trap_at}
 use Rattle.machine_spec.specs.declared.instruction.Trap.TheVariants as trap
 use Rattle.machine_spec.specs.declared.summary.Direction.TheVariants.{Read}
-use Rattle.machine_spec.specs.Meaning.{Reaches, Step}
+use Rattle.machine_spec.specs.Meaning.{Reaches}
 use Rattle.machine_spec.proofs.FirstOf.{none_hold}
 use Rattle.machine_spec.proofs.Helpers.{names_parts}
 

@@ -24,7 +24,7 @@ pub struct Emission {
     pub headers: Headers,
 }
 
-/// The emissions of a run, in order. A clause sees them as the list of them.
+/// The emissions of a run, in order, at most 16. A clause sees them as the list of them.
 pub struct Emissions {
     pub list: Vec<Emission>,
 }
@@ -43,12 +43,15 @@ impl Drop for Emissions {
 }
 
 impl Model for Emissions {
-    ghost use Rattle.std.specs.Prelude.{List};
+    ghost use Rattle.std.specs.Prelude.{List, ◌≤◌, length};
+    ghost use Rattle.machine_spec.specs.declared.limits.TheConstants.{MAX_EMISSIONS};
     ghost use Rattle.machine_spec.specs.declared.outcome.Emission.{Emission};
 
     ghost Value = { List Emission };
 
     ghost view = { λ e. e.list.items };
+
+    ghost invariant = { λ e. length e.list.items ≤ MAX_EMISSIONS };
 }
 
 /// What a run ends with: its emissions, or the code by which the program rejects the record.
