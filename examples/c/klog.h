@@ -74,8 +74,8 @@ HELPER(9, record_partition, void);
 /* Hides where a number comes from: what follows is compiled as it is written. */
 #define AS_WRITTEN(number) asm volatile("" : "+r"(number))
 
-/* Whether a length is at least, or at most, n bytes. A compiler joins plain tests: of `length < 1 || length > 16` it makes
- * `length - 1 > 15`, which says nothing of the length. */
+/* Whether a length is at least, or at most, n bytes, in a test of its own. Of plain tests a compiler makes others: in a loop
+ * it joins that of the length with that of the rounds, whose number is then not constant. */
 INLINED int at_least(u64 length, u64 n)
 {
 	AS_WRITTEN(length);
@@ -119,11 +119,11 @@ INLINED int is_within(u64 *number, u64 low, u64 high)
 #define length_minus(length, n) ({ u64 less_ = (length); asm("sub %0,%1" : "+r"(less_) : "i"(n)); less_; })
 #endif
 
-/* A number modulo a constant count, in 64 bits, for an index of a variable: array[index_below(number, sizeof array)]. */
+/* A number as an index, in 64 bits, of a variable with a constant count of elements: array[index_below(number, count)]. A number
+ * that is too large gives the last one. */
 INLINED u64 index_below(u64 number, u64 count)
 {
-	AS_WRITTEN(number);
-	return number % count;
+	return bounded(number, 0, count - 1);
 }
 
 /* Copies bytes of the value, or the key, from a place on to a variable of `most` bytes, 512 at most. The result is 0; it is 1
