@@ -261,7 +261,7 @@ def plain_slots(code):
 
 def check(holds, *words):
     if not holds:
-        sys.exit("image_test: " + " ".join(str(word) for word in words))
+        sys.exit("image_test: " + " ".join(str(word) for word in words)[:2000])
 
 
 def test_programs(rng, count, folder, klog):
