@@ -128,8 +128,8 @@ def test_known(drawing):
     boxes, edges, text = drawing.of(assembled(NEVER))
     check([name for name, box in boxes.items() if "gray90" in box] == ["b2", "b3"], boxes)
     check('b0 -> b2 [label="r0 = 4", color=gray' in text, text)
-    check(drawing.refusal(b"\x7fELF") [0] == 1 and "I1 Size" in drawing.refusal(b"\x7fELF")[2] and drawing.refusal(b"\x7fELF")[1] == "", drawing.refusal(b"\x7fELF"))
-    check(drawing.refusal(bytes(8))[2] == "I2 Opcode slot 0\n", drawing.refusal(bytes(8)))
+    for image, fault in ((b"\x7fELF", "I1 Size\n"), (bytes(8), "I2 Opcode slot 0\n")):
+        check(drawing.refusal(image) == (1, "", fault), drawing.refusal(image))
 
 
 def test_random(drawing, rng, count):

@@ -12,6 +12,7 @@ about it. The status is then 1, and IMAGE is left as it was. The image is not ve
 """
 import argparse
 import collections
+import functools
 import heapq
 import os
 import stat
@@ -52,7 +53,10 @@ class Function:
         if self.start + size > len(self.section.data):
             raise Refused(f"`{name}` ends outside {self.section.name}")
         self.code = self.section.data[self.start:self.start + size]
-        self.lines = Lines(obj, self.section)
+
+    @functools.cached_property
+    def lines(self):
+        return Lines(self.obj, self.section)
 
     def relocations(self):
         """The function's relocations, by slot."""
@@ -170,11 +174,11 @@ def ordered(function, blocks, before):
 
 def loop_among(blocks, before, done):
     """Blocks that lead to one another in a ring, among those that no order has. Each of these has one of them before it."""
-    path, slot = [], min(slot for slot in before if slot not in done)
+    path, slot = {}, min(slot for slot in before if slot not in done)
     while slot not in path:
-        path.append(slot)
+        path[slot] = len(path)
         slot = next(leading for leading in before[slot] if leading not in done)
-    return [blocks[slot] for slot in sorted(path[path.index(slot):])]
+    return [blocks[k] for k in sorted(path) if path[k] >= path[slot]]
 
 
 def spans(pairs):
@@ -198,7 +202,7 @@ def loop_text(function, ring):
                 lines[line.file].add(line.line)
     source = "; ".join(f"{name}:{spans((n, n) for n in numbers)}" for name, numbers in sorted(lines.items()))
     return (f"has a loop, slots {slots}" + (f" ({source})" if source else "") + ": klog runs no loops; give it a constant number of"
-            " rounds with `#pragma unroll`")
+            " rounds, and UNROLLED before it (klog.h)")
 
 
 # ---- what no image can have
@@ -218,7 +222,7 @@ def called(obj, name, section):
     if section != UNDEFINED:
         return own_call(name)
     if name in MEMORY:
-        return f"calls `{name}`: not inlined; give it a small constant length, or write a loop with `#pragma unroll`"
+        return f"calls `{name}`: not inlined; give it a small constant length, or write a loop with UNROLLED before it (klog.h)"
     return f"calls `{name}`, which is not here: klog has the helpers of klog.h alone"
 
 

@@ -116,7 +116,8 @@ def end(rng):
     if rng.random() < 0.5:
         return b"".join(slot(0xAF, 0, r) for r in (1, 2, 3, 4, 5, 8, 9)) + slot(0x95)
     code = b"".join(slot(0x7B, 10, r, -8 * k) for k, r in enumerate((0, 8, 9), 1))
-    return code + slot(0xB7, 1) + slot(0xBF, 2, 10) + slot(0x07, 2, 0, 0, -64) + slot(0xB7, 3, 0, 0, 64) + slot(0x85, 0, 0, 0, 4) + slot(0xB7, 0) + slot(0x95)
+    emission = slot(0xB7, 1) + slot(0xBF, 2, 10) + slot(0x07, 2, 0, 0, -64) + slot(0xB7, 3, 0, 0, 64) + slot(0x85, 0, 0, 0, 4)
+    return code + emission + slot(0xB7, 0) + slot(0x95)
 
 
 # A block's body and how it ends: ("end",), ("fall",), ("always", block, opcode), ("branch", block, its slot without the offset).
@@ -163,7 +164,8 @@ def only_reached(blocks):
         if number in found:
             found |= set(followers(block, number))
     new = {number: k for k, number in enumerate(sorted(found))}
-    return [Block(blocks[n].body, blocks[n].end if len(blocks[n].end) == 1 else (blocks[n].end[0], new[blocks[n].end[1]], blocks[n].end[2])) for n in sorted(found)]
+    renamed = lambda how: how if len(how) == 1 else (how[0], new[how[1]], how[2])
+    return [Block(blocks[n].body, renamed(blocks[n].end)) for n in sorted(found)]
 
 
 # ---- layouts
@@ -228,7 +230,8 @@ def packed(rng, code, name="transform", machine=247, padding=b""):
     other = symbol(len(name) + 2, 2, 1, len(text) - len(after), len(after))
     symbols += [other] if after else []
     section_names = b"\0.text\0.symtab\0.strtab\0.shstrtab\0"
-    held = [(0, 0, 0, b"", 0, 0, 0), (1, 1, 6, text, 0, 0, 0), (7, 2, 0, b"".join(symbols), 3, 2, 24), (15, 3, 0, names, 0, 0, 0), (23, 3, 0, section_names, 0, 0, 0)]
+    held = [(0, 0, 0, b"", 0, 0, 0), (1, 1, 6, text, 0, 0, 0), (7, 2, 0, b"".join(symbols), 3, 2, 24), (15, 3, 0, names, 0, 0, 0),
+            (23, 3, 0, section_names, 0, 0, 0)]
     data, headers = b"", b""
     for at, kind, flags, part, link, info, size in held:
         headers += struct.pack("<IIQQQQIIQQ", at, kind, flags, 0, 64 + len(data), len(part), link, info, 8, size)
@@ -241,7 +244,9 @@ def packed(rng, code, name="transform", machine=247, padding=b""):
 
 def some_records(rng, count):
     some = lambda lengths: bytes(rng.choice([0, 65, 255, rng.randrange(256)]) for _ in range(rng.choice(lengths)))
-    return [Record(0, rng.choice([None, b"", b"k", some([16, 40])]), rng.choice([None, b"", some([15]), some([16, 17, 32, 100]), some([16, 64])]), []) for _ in range(count)]
+    keys = lambda: rng.choice([None, b"", b"k", some([16, 40])])
+    values = lambda: rng.choice([None, b"", some([15]), some([16, 17, 32, 100]), some([16, 64])])
+    return [Record(0, keys(), values(), []) for _ in range(count)]
 
 
 def outcome(code, record):
@@ -289,8 +294,10 @@ def test_programs(rng, count, folder, klog):
         totals["slots"] += len(mixed) // 8
         met |= {struct.unpack_from("<B", straight, 8 * at)[0] for at in first.slots}
     check(count < 1000 or met == PROFILE, "opcodes that no program had:", sorted(PROFILE - met))
-    print(f"{count} programs of {totals['slots']} slots, {totals['with jumps back']} of them with jumps back, {len(met)} of {len(PROFILE)} opcodes: as the unshuffled ones on"
-          f" {8 * count} records, {totals['emitted']} kept and {totals['rejected']} rejected; unchanged where they led forward" + (f"; {totals['checked by klog']} accepted by klog" if klog else ""))
+    checked = f"; {totals['checked by klog']} accepted by klog" if klog else ""
+    print(f"{count} programs of {totals['slots']} slots with {len(met)} of {len(PROFILE)} opcodes, {totals['with jumps back']} of them with jumps"
+          f" back: as the unshuffled ones on {8 * count} records, {totals['emitted']} kept and {totals['rejected']} rejected; unchanged where they"
+          f" led forward{checked}")
 
 
 def spans_in(text):
@@ -376,8 +383,9 @@ def object_faults(rng, good):
     yield text(padding=b"\0\0\0"), "`transform` is no whole number of slots: 16 bytes at byte "
     yield packed(rng, slot(0x05, 0, 0, 4) + slot(0x95)), "slot 0 jumps to slot 5, where no instruction of `transform` begins"
     yield packed(rng, slot(0x05, 0, 0, 1) + wide(1, 1) + slot(0x95)), "slot 0 jumps to slot 2, where no instruction of `transform` begins"
-    yield packed(rng, slot(0xB7) + slot(0xB7, 1)), "slot 1 is the last of `transform` and no end: the compiler takes what follows for impossible (__builtin_unreachable, or what C leaves undefined)"
-    yield packed(rng, slot(0x05, 0, 0, -1)), "has a loop, slots 0: klog runs no loops; give it a constant number of rounds with `#pragma unroll`"
+    yield packed(rng, slot(0xB7) + slot(0xB7, 1)), ("slot 1 is the last of `transform` and no end: the compiler takes what follows for impossible"
+                                                    " (__builtin_unreachable, or what C leaves undefined)")
+    yield packed(rng, slot(0x05, 0, 0, -1)), "has a loop, slots 0: klog runs no loops; give it a constant number of rounds, and UNROLLED before it (klog.h)"
 
 
 def test_faults(rng):
@@ -421,7 +429,8 @@ def compilers():
 
 def compiled(compiler, source, folder, *options):
     target = os.path.join(folder, "object.o")
-    done = subprocess.run([*compiler.words, "-I", os.path.join(TOP, "examples", "c"), *options, "-c", source, "-o", target], capture_output=True, text=True, check=False)
+    words = [*compiler.words, "-I", os.path.join(TOP, "examples", "c"), *options, "-c", source, "-o", target]
+    done = subprocess.run(words, capture_output=True, text=True, check=False)
     check(done.returncode == 0, compiler.name, *options, source, done.stderr)
     with open(target, "rb") as it:
         return it.read()
@@ -450,14 +459,14 @@ SOURCES = [
     (around("static volatile u64 seen;\n", "return seen;"), "slot N (it.c:5) reads the global `seen`: klog has no memory between records"),
     (around("extern u64 limit;\n", "return limit;"), "slot N (it.c:5) reads `limit`, which is not here: klog has no memory but the record and the stack"),
     (around("", "if (value_length < 40 || key_length < 40)", "\treturn 0;", "return __builtin_memcmp(value, key, key_length);"),
-     "slot N (it.c:6) calls `memcmp`: not inlined; give it a small constant length, or write a loop with `#pragma unroll`"),
+     "slot N (it.c:6) calls `memcmp`: not inlined; give it a small constant length, or write a loop with UNROLLED before it (klog.h)"),
     (around("u64 lookup(u64 n);\n", "return lookup(value_length);"), "slot N (it.c:5) calls `lookup`, which is not here: klog has the helpers of klog.h alone"),
     (around("static const u8 table[256] = {3, 1, 4, 1, 5};\n", "return value_length ? table[value[0]] : 0;"),
      "slot N (it.c:5) reads the constant `table`: klog has no constants in memory; copy a text to a variable of the function"
      ' (`u8 text[] = "..";`), and write a table as tests or shifts'),
     (around("", 'static const u8 name[] = "seven or more";', "return value_length < sizeof name ? name[value_length] : 0;"), 'reads the constant'),
     (around("", "u64 sum = 0;", "for (u64 k = 0; k < value_length; k++)", "\tsum += value[k];", "return sum;"),
-     "has a loop, slots N (it.c:5 to 6): klog runs no loops; give it a constant number of rounds with `#pragma unroll`"),
+     "has a loop, slots N (it.c:5 to 6): klog runs no loops; give it a constant number of rounds, and UNROLLED before it (klog.h)"),
 ]
 
 
@@ -511,7 +520,8 @@ def test_examples(found, folder, klog):
                     said["accepted" if word == "accepted" else f"{os.path.basename(source)} {level}: {word}"] += 1
                     objects.append(data)
             others = "; ".join(sorted(word for word in said if word != "accepted"))
-            print(f"{compiler.name} -mcpu={version}: {len(sources)} examples at -O1, -O2 and -Os: {said['accepted']} images accepted" + (f" ({others})" if others else ""))
+            print(f"{compiler.name} -mcpu={version}: {len(sources)} examples at -O1, -O2 and -Os: {said['accepted']} images accepted" +
+                  (f" ({others})" if others else ""))
     return objects
 
 

@@ -113,16 +113,16 @@ class Klog:
 
     def run(self, image, example):
         word = lambda part: "-" if part is None else part.hex() or "."
-        script = f"partitions 1 {OUTPUTS} 8\nload t hex:{image.hex()}\ndeploy 0 t\nput 0 {example.time} {word(example.key)} {word(example.value)}\ngo\n"
-        done = self.call("run", "stdin", given=script)
+        record = f"put 0 {example.time} {word(example.key)} {word(example.value)}"
+        done = self.call("run", "stdin", given=f"partitions 1 {OUTPUTS} 8\nload t hex:{image.hex()}\ndeploy 0 t\n{record}\ngo\n")
         if done.returncode:
             return done.stderr
         rejected = re.search(r"^in 0 reject (\d+) count 1$", done.stdout, re.M)
         if rejected:
             return int(rejected[1])
         part = lambda text: None if text == "-" else b"" if text == "." else bytes.fromhex(text)
-        rows = sorted((int(row[3]), int(row[0]), part(row[5]), part(row[6])) for row in (line.split(" ")[1:] for line in done.stdout.split("\n") if line.startswith("row ")))
-        return [row[1:] for row in rows]
+        rows = [line.split(" ")[1:] for line in done.stdout.split("\n") if line.startswith("row ")]
+        return [(int(row[0]), part(row[5]), part(row[6])) for row in sorted(rows, key=lambda row: int(row[3]))]
 
 
 def judge(given, folder):
@@ -141,7 +141,8 @@ class Transforms:
 
     def image(self, path):
         target = os.path.join(self.folder, "transform.o")
-        done = subprocess.run([*self.words, "-w", "-g", "-I", os.path.join(TOP, "examples", "c"), "-c", path, "-o", target], capture_output=True, text=True, check=False)
+        words = [*self.words, "-w", "-g", "-I", os.path.join(TOP, "examples", "c"), "-c", path, "-o", target]
+        done = subprocess.run(words, capture_output=True, text=True, check=False)
         if done.returncode:
             raise Refused("not compiled: " + next((line for line in done.stderr.split("\n") if "error" in line), done.stderr))
         with open(target, "rb") as it:
