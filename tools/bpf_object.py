@@ -178,7 +178,8 @@ def entries(obj, relocations, c):
         raise Damaged("has a table of files without a form")
     for _ in range(count):
         row = {content: entry_value(obj, relocations, c, form) for content, form in layout}
-        paths.append(row.get(PATH, "?"))
+        path = row.get(PATH)
+        paths.append(path if isinstance(path, str) else "?")
     return paths
 
 

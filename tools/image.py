@@ -23,6 +23,7 @@ import tempfile
 from bpf_object import DATA_OBJECT, EXECUTABLE, FUNCTION, NO_BYTES, SECTION_NAME, WRITABLE, Damaged, Lines, Object
 
 WIDE, CALL, CALL_REGISTER, EXIT, JUMP, LONG_JUMP = 0x18, 0x85, 0x8D, 0x95, 0x05, 0x06
+TESTS = {1, 2, 3, 4, 5, 6, 7, 10, 11, 12, 13}
 UNDEFINED, COMMON = 0, 0xFFF2
 
 # What an instruction does to the order: nothing, an end, a jump in any case or a jump by a test.
@@ -92,7 +93,7 @@ def instructions(code):
             kind = END
         elif opcode in (JUMP, LONG_JUMP):
             kind, target = ALWAYS, slot + 1 + (offset if opcode == JUMP else imm)
-        elif opcode & 7 in (5, 6) and opcode not in (CALL, CALL_REGISTER):
+        elif opcode & 7 in (5, 6) and opcode >> 4 in TESTS:
             kind, target = BRANCH, slot + 1 + offset
         found.append(Instruction(slot, data, kind, target))
         slot += len(data) // 8

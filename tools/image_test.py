@@ -21,6 +21,7 @@ import subprocess
 import sys
 import tempfile
 
+from bpf_object import Damaged, Lines, Object
 from compare import KNOWN, TESTS, Record, Refused as Fault, decode, run, verify
 from image import Refused, image_of
 
@@ -399,16 +400,29 @@ def test_faults(rng):
 
 def test_damage(rng, objects, count):
     """An object that was changed at random is refused or gives an image; nothing else ends it."""
-    made = 0
+    made = lines = 0
     for _ in range(count):
         data = bytearray(rng.choice(objects))
         if rng.random() < 0.2:
             data = data[:rng.randrange(len(data))]
+        table = bytes(data).find(b"\1\1\1\0\0\0\1")
+        places = [(0, len(data)), (0, 64), (max(table - 40, 0), table + 200)]
         for _ in range(rng.choice([1, 1, 2, 8])):
-            at = rng.choice([rng.randrange(len(data)), rng.randrange(min(64, len(data)))]) if data else 0
+            low, high = rng.choice(places)
+            at = rng.randrange(low, max(min(high, len(data)), low + 1))
             data[at:at + 1] = bytes([rng.choice([0, 1, 255, rng.randrange(256)])])
         made += refusal(bytes(data)) == "made"
-    print(f"{count} damaged objects: {made} gave an image, the others were refused")
+        lines += lines_in(bytes(data))
+    print(f"{count} damaged objects: {made} gave an image, the others were refused; lines were read of {lines}")
+
+
+def lines_in(data):
+    """Whether an object has lines for its first section of code, which is read in any case."""
+    try:
+        obj = Object(data)
+        return any(Lines(obj, section).lines for section in obj.sections[:4] if section.flags & 4)
+    except Damaged:
+        return False
 
 
 # ---- compilers

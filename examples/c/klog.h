@@ -12,6 +12,7 @@
  *     length that was cut to 32 bits, says nothing of it.
  *   - A loop has a constant number of rounds, and UNROLLED before it.
  *   - A variable that is emitted is set on every path: begin it with `= {0}`. There are 512 bytes of stack.
+ *   - Divide unsigned numbers: compilers have no division of signed ones before -mcpu=v4.
  *   - There are no globals and no constants in memory: a text is a variable, `u8 text[] = "..";`.
  *   - The record's bytes are emitted as they lie, from a place and by a length that are constants or with the record's own
  *     length. For others: emit_cut, emit_rest, copy_value.
