@@ -1,12 +1,21 @@
 -- What a feed gives of its bytes, which are in two parts, by what is cut off the first.
-use Rattle.std.proofs.Common.{◌≡◌, ◌≢◌, ℕ, ◌≤◌, List, ◌++◌, length, drop, Ok, Err, true, false, refl, sym, ap, subst, ◌∙◌}
+use Rattle.std.proofs.Common.{◌≡◌, ◌≢◌, ℕ, ◌≤◌, List, ◌++◌, length, take, drop, Ok, Err, true, false, refl, sym, ap, subst, ◌∙◌}
 use Rattle.std.specs.Prelude.{Some, None}
 use Rattle.std.proofs.lemmas.List.{drop-append-le}
 use Rattle.wire_spec.specs.declared.{fault.BatchFault.BatchFault, record.Batch.Batch}
 use Rattle.wire_spec.specs.declared.fault.BatchFault.TheVariants.{Short, Memory}
-use Rattle.wire_spec.specs.BatchReading.{IsPart, batch_at}
+use Rattle.wire_spec.specs.BatchReading.{◌>>=◌, size_at, whole_at, IsPart, batch_at}
 use Rattle.wire_spec.proofs.MoreBytes.{batch_at-part, batch_at-append, batch_at-not_short}
+use Rattle.wire_spec.proofs.BatchLaws.{Sized, bind_ok, ok_is, size_taken}
 use Rattle.batch.specs.Streams.{Stream, Open, after_fault, IsRefusal, Gives, Cuts, IsReady}
+
+-- a batch takes its header at least, and no more bytes than there are
+pub batch_at-taken : (bytes : List ℕ) (batch : Batch) (used : ℕ) → batch_at bytes ≡ Ok (batch, used) → Sized bytes used
+unfolding batch_at
+batch_at-taken bytes batch used e =
+    let a = bind_ok (size_at bytes) (λ size. whole_at (take size bytes) >>= λ b. Ok (b, size)) (batch, used) e in
+    let w = bind_ok (whole_at (take a.0 bytes)) (λ b. Ok (b, a.0)) (batch, used) a.2 in
+    subst (Sized bytes) (ap (λ (x : Batch × ℕ). x.1) (ok_is (w.0, a.0) (batch, used) w.2)) (size_taken bytes a.0 a.1)
 
 pub is_refusal : (bytes : List ℕ) (fault : BatchFault) → (IsPart bytes → ⊥) → (fault ≢ Memory → batch_at bytes ≡ Err fault) → IsRefusal bytes fault
 is_refusal bytes fault whole exact = λ other. (λ short. batch_at-not_short bytes whole (exact other ∙ ap (λ (f : BatchFault). Err f) short), exact other)

@@ -1,8 +1,9 @@
 //! Batches from a stream of bytes that arrives in pieces of any size.
 
-ghost use Rattle.std.specs.Prelude.{◌≡◌, ◌≢◌, ◌↔◌, [], ◌++◌, IfOk, OnOk, OnErr, IsTrue, Some, Ok, Err};
+ghost use Rattle.std.specs.Prelude.{◌≡◌, ◌≢◌, ◌↔◌, [], ◌++◌, IfOk, IfSome, OnOk, OnErr, IsTrue, Some, Ok, Err};
 ghost use Rattle.wire_spec.specs.declared.fault.BatchFault.TheVariants.{Short};
 ghost use Rattle.wire_spec.specs.BatchReading.{IsPart};
+ghost use Rattle.wire_spec.specs.BatchSpelling.{BatchFits};
 ghost use Rattle.batch.specs.Streams.{Open, with_piece, after_fault, Gives, Cuts, IsReady};
 
 use crate::fields::i32_at;
@@ -47,6 +48,13 @@ impl Feed {
         }
     }
 
+    /// Whether every byte that was fed was given, and no fault ended the stream.
+    pub fn is_empty(&self) -> bool
+        ensures { IsTrue result ↔ (self.now ≡ Open []) }
+    {
+        self.fault.is_none() && self.ready.is_empty() && self.next.is_empty()
+    }
+
     /// Takes a piece of the stream: the bytes after those that were fed before. Its bytes are copied
     /// once, and those of a batch that goes on in a later piece once more. A stream that a fault
     /// ended keeps none. An `Err` changes nothing.
@@ -71,7 +79,8 @@ impl Feed {
     /// of range is such a fault as soon as its 12 bytes are fed. Where memory runs out, nothing
     /// changes.
     pub fn next(&mut self) -> Result<Option<Batch>, BatchFault>
-        ensures { Gives self.old result self.new }
+        ensures gives { Gives self.old result self.new }
+        ensures fits { IfOk result (λ given. IfSome given BatchFits) }
     {
         if let Some(fault) = self.fault {
             return Err(fault);
@@ -133,7 +142,8 @@ fn fill(alloc: Global, ready: &mut Bytes, next: &mut Vec<u8>) -> Result<bool, Al
 /// Cuts the batch off the front of the bytes. An `Err` leaves them.
 fn cut(alloc: Global, ready: &mut Bytes) -> Result<Batch, BatchFault>
     requires { IsPart ready.old → ⊥ }
-    ensures { Cuts ready.old result ready.new }
+    ensures cuts { Cuts ready.old result ready.new }
+    ensures fits { IfOk result BatchFits }
 {
     match decode(alloc, ready.clone()?) {
         Ok((batch, used)) => {

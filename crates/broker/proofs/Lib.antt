@@ -1,3 +1,4 @@
 pub mod ItemOffsets
 pub mod NameFacts
 pub mod StepFacts
+pub mod StreamLaws

@@ -5,3 +5,4 @@ pub mod Fetches
 pub mod ItemRanges
 pub mod Layouts
 pub mod Steps
+pub mod Streams

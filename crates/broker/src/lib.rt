@@ -17,6 +17,7 @@ mod load;
 mod parts;
 mod start;
 mod stepped;
+mod stream;
 mod work;
 
 pub use crate::audit::{Audit, AuditedRows};
@@ -25,3 +26,4 @@ pub use crate::ended::{Ended, Until};
 pub use crate::fault::BrokerFault;
 pub use crate::parts::Parts;
 pub use crate::stepped::Stepped;
+pub use crate::stream::StreamFault;
