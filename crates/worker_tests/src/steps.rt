@@ -1,4 +1,3 @@
-ghost use Rattle.std.specs.Prelude.{◌≡◌};
 ghost use Rattle.broker.specs.Layouts.{IsNamed};
 
 use crate::calls::{deploy, has, put};
@@ -23,8 +22,7 @@ fn step_two<Id: Names, R: Wait + Abort>(
     alloc: Global,
     parts: Parts<Catalogue<&R>>,
 ) -> Result<(), Fail>
-    requires cells { IsNamed Id.cells parts.cells }
-    requires outputs { parts.outputs ≡ Id.outputs }
+    requires { IsNamed Id.cells Id.inputs Id.outputs parts }
 {
     let broker: Broker<Id, Catalogue<&R>> = Broker::new(alloc, parts)?;
     assert_eq!(rt; deploy(rt, alloc, &broker, 0, &FORWARD), Some(0));
@@ -52,9 +50,6 @@ fn step<Id: Names, C, R: Wait>(
     let _some = broker.inputs();
     let mut guard = broker.book(output).lock(rt);
     let book = &mut *guard;
-    if book.inputs() == 0 {
-        return None;
-    }
     let done = book.done(0);
     if done >= broker.cells(0) {
         return None;
