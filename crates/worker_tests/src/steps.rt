@@ -34,6 +34,8 @@ fn step_two<Id: Names, R: Wait + Abort>(
     assert_eq!(rt; count(rt, &broker, 0, &receipt), Some(1));
     assert_eq!(rt; count(rt, &broker, 1, &receipt), None);
     assert!(rt; has(rt, &broker, 0, 0, 2, &[(0, 0, b'v')]));
+    assert_eq!(rt; step_again(rt, alloc, &broker, 0), Some(Stepped::Added(1)));
+    assert!(rt; has(rt, &broker, 0, 0, 3, &[(0, 0, b'v'), (1, 0, b'w')]));
     Ok(())
 }
 
@@ -55,6 +57,31 @@ fn step<Id: Names, C, R: Wait>(
         return None;
     }
     let mut note = broker.note(0, done);
+    broker.step(alloc, book, 0, &mut note).ok()
+}
+
+/// A step that finds nothing, and with the same note another one, after a record came.
+fn step_again<Id: Names, C, R: Wait>(
+    rt: &R,
+    alloc: Global,
+    broker: &Broker<Id, C>,
+    output: usize,
+) -> Option<Stepped> {
+    if output >= broker.outputs() {
+        return None;
+    }
+    let _some = broker.inputs();
+    let mut guard = broker.book(output).lock(rt);
+    let book = &mut *guard;
+    let done = book.done(0);
+    if done >= broker.cells(0) {
+        return None;
+    }
+    let mut note = broker.note(0, done);
+    if broker.step(alloc, book, 0, &mut note) != Ok(Stepped::Nothing) {
+        return None;
+    }
+    put(rt, alloc, broker, 0, b'w')?;
     broker.step(alloc, book, 0, &mut note).ok()
 }
 
