@@ -120,7 +120,7 @@ module _ (inputs count input k : ℕ) (outputs : List (List Held)) (holdings : L
   holdings_count = (are k holdings there).count
 
   pub partition_at : (h : Held) → slice_get holdings input ≡ Some h → h.done.partition ≡ input
-  partition_at h e = ((are k holdings there).each input h e).1.0
+  partition_at h e = ((are k holdings there).each input h e).1
 
   pub held_from : (h : Held) → slice_get holdings input ≡ Some h → held_at outputs k input ≡ Some h
   held_from h e = subst (λ (hs : List Held). slice_get hs input ≡ Some h) (get_or_read outputs k holdings lt is []) e

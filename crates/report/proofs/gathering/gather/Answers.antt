@@ -1,4 +1,4 @@
-use Rattle.std.proofs.Common.{ap, sym, subst, ℕ, List, length, arith}
+use Rattle.std.proofs.Common.{ap, sym, subst, List, length, arith}
 use Rattle.report.specs.Holdings.{Held}
 use Rattle.report.specs.Snapshots.{AreOutputs, AreTallies}
 use Rattle.report.proofs.gathering.gather.Goals as goal
