@@ -6,7 +6,7 @@
 
 mod finds;
 
-ghost use Rattle.std.specs.Prelude.{◌≡◌, ◌≤◌};
+ghost use Rattle.std.specs.Prelude.{◌≤◌};
 ghost use Rattle.log_spec.specs.Logs.{FitsLog};
 ghost use Rattle.broker.specs.Layouts.{IsNamed, IsCount};
 
@@ -95,8 +95,7 @@ fn turn<Id: Names + Send + Sync, R: Threads + Wait + Clock + Sync>(
     parts: Parts<Catalogue<&R>>,
     producers: usize,
 ) -> io::Result<f64>
-    requires cells { IsNamed Id.cells parts.cells }
-    requires outputs { parts.outputs ≡ Id.outputs }
+    requires { IsNamed Id.cells Id.inputs Id.outputs parts }
 {
     let made: Broker<Id, Catalogue<&R>> = Broker::new(alloc, parts)?;
     let broker = &made;
@@ -143,8 +142,7 @@ fn ends<Id: Names, R: Wait + Clock>(
     alloc: Global,
     parts: Parts<Catalogue<&R>>,
 ) -> io::Result<(f64, f64)>
-    requires cells { IsNamed Id.cells parts.cells }
-    requires outputs { parts.outputs ≡ Id.outputs }
+    requires { IsNamed Id.cells Id.inputs Id.outputs parts }
 {
     let broker: Broker<Id, Catalogue<&R>> = Broker::new(alloc, parts)?;
     let start = Instant::now(rt)?;
