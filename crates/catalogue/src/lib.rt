@@ -12,6 +12,10 @@ mod fault;
 mod finder;
 mod known;
 mod laws;
+mod loading;
+mod publications;
+mod readings;
+mod versions;
 
 pub use crate::catalogue::Catalogue;
 pub use crate::fault::CatFault;
