@@ -67,6 +67,7 @@ impl Known {
         }
     }
 
+    /// Another owner of the same program, under the same name and version.
     pub(crate) fn share(&self) -> Result<Known, AllocError>
         ensures { IfOk result (λ known. known ≡ self.now) }
     {

@@ -1,4 +1,5 @@
-//! What is published, and the rule that its readers and its writer keep.
+//! What a reader of the published table knows.
+
 use crate::known::Known;
 
 /// What a reader knows: how often it read the published table, and the accepted loads that had made
