@@ -1,6 +1,5 @@
 //! How many programs readers find a second while a writer loads.
 
-ghost use Rattle.std.specs.Prelude.{◌≡◌};
 ghost use Rattle.broker.specs.Layouts.{IsNamed};
 
 use broker::{Broker, Parts};
@@ -100,8 +99,7 @@ fn run<Id: Names + Send + Sync, R: Threads + Wait + Clock + Sync>(
     parts: Parts<Catalogue<&R>>,
     readers: usize,
 ) -> Result<Vec<Option<Work>>, AllocError>
-    requires cells { IsNamed Id.cells parts.cells }
-    requires outputs { parts.outputs ≡ Id.outputs }
+    requires { IsNamed Id.cells Id.inputs Id.outputs parts }
 {
     let made: Broker<Id, Catalogue<&R>> = Broker::new(alloc, parts)?;
     let (broker, ended) = (&made, &AtomicU64::new(0));

@@ -7,7 +7,7 @@
 mod finds;
 mod loads;
 
-ghost use Rattle.std.specs.Prelude.{◌≡◌, ◌≤◌};
+ghost use Rattle.std.specs.Prelude.{◌≤◌};
 ghost use Rattle.log_spec.specs.Logs.{FitsLog};
 ghost use Rattle.broker.specs.Layouts.{IsNamed, IsCount};
 
@@ -96,8 +96,7 @@ fn turn<Id: Names + Send + Sync, R: Threads + Wait + Clock + Sync>(
     parts: Parts<Catalogue<&R>>,
     producers: usize,
 ) -> io::Result<f64>
-    requires cells { IsNamed Id.cells parts.cells }
-    requires outputs { parts.outputs ≡ Id.outputs }
+    requires { IsNamed Id.cells Id.inputs Id.outputs parts }
 {
     let made: Broker<Id, Catalogue<&R>> = Broker::new(alloc, parts)?;
     let broker = &made;
@@ -144,8 +143,7 @@ fn ends<Id: Names, R: Wait + Clock>(
     alloc: Global,
     parts: Parts<Catalogue<&R>>,
 ) -> io::Result<(f64, f64)>
-    requires cells { IsNamed Id.cells parts.cells }
-    requires outputs { parts.outputs ≡ Id.outputs }
+    requires { IsNamed Id.cells Id.inputs Id.outputs parts }
 {
     let broker: Broker<Id, Catalogue<&R>> = Broker::new(alloc, parts)?;
     let start = Instant::now(rt)?;

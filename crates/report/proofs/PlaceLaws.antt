@@ -112,7 +112,7 @@ least_end outputs n input first all of = record {
 
 -- ---- what is at a place of an output partition's list
 
-module _ (inputs input k : ℕ) (outputs : List (List Held)) (holdings : List Held) (are : AreOutputs inputs outputs) (lt : k < length outputs) (is : holdings ≡ get_or outputs k holdings) where
+module _ (inputs count input k : ℕ) (outputs : List (List Held)) (holdings : List Held) (are : AreOutputs inputs count outputs) (lt : k < length outputs) (is : holdings ≡ get_or outputs k holdings) where
   there : slice_get outputs k ≡ Some holdings
   there = slice_get_read outputs (length outputs) k holdings refl lt is
 
@@ -120,7 +120,7 @@ module _ (inputs input k : ℕ) (outputs : List (List Held)) (holdings : List He
   holdings_count = (are k holdings there).count
 
   pub partition_at : (h : Held) → slice_get holdings input ≡ Some h → h.done.partition ≡ input
-  partition_at h e = ((are k holdings there).each input h e).1
+  partition_at h e = ((are k holdings there).each input h e).1.0
 
   pub held_from : (h : Held) → slice_get holdings input ≡ Some h → held_at outputs k input ≡ Some h
   held_from h e = subst (λ (hs : List Held). slice_get hs input ≡ Some h) (get_or_read outputs k holdings lt is []) e
