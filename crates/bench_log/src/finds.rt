@@ -17,7 +17,7 @@ use std::time::Instant;
 use std::{io, thread};
 
 /// The name of the program.
-const NAME: &str = "fwd";
+pub(crate) const NAME: &str = "fwd";
 
 /// How often a reader finds.
 const FINDS: u64 = 200_000;
@@ -26,7 +26,7 @@ const FINDS: u64 = 200_000;
 const LOADS: u64 = 4_000;
 
 /// mov64 r1, 0; call 3; exit
-const FORWARD: [u8; 24] = [
+pub(crate) const FORWARD: [u8; 24] = [
     0xb7, 1, 0, 0, 0, 0, 0, 0, 0x85, 0, 0, 0, 3, 0, 0, 0, 0x95, 0, 0, 0, 0, 0, 0, 0,
 ];
 

@@ -1,10 +1,11 @@
 //! Measures how fast threads append to logs and find programs. Given how many turns to take, it fills
 //! logs of several sizes by one, two and four producers and prints what an append took in the best
-//! turn, and then how many programs one and four readers find a second while a writer loads; given
-//! nothing, it prints nothing.
+//! turn, then how many programs one and four readers find a second while a writer loads, and what a
+//! load takes; given nothing, it prints nothing.
 #![tactic(auto)]
 
 mod finds;
+mod loads;
 
 ghost use Rattle.std.specs.Prelude.{◌≤◌};
 ghost use Rattle.log_spec.specs.Logs.{FitsLog};
@@ -14,7 +15,7 @@ use broker::{Broker, Parts};
 use bytes::Bytes;
 use catalogue::Catalogue;
 use part_log::{LoggedBatch, Names};
-use std::alloc::{AllocError, Global};
+use std::alloc::{Alloc, AllocError, Global};
 use std::io::ErrorKind;
 use std::marker::Brand;
 use std::num::nearest_u64_to_f64;
@@ -169,7 +170,7 @@ fn measure_ends<R: Wait + Clock + Print>(rt: &R, alloc: Global, turns: u32) -> i
     )
 }
 
-fn measure_all<R: Threads + Wait + Clock + Print + Sync>(
+fn measure_all<R: Threads + Wait + Clock + Files + Alloc + Print + Sync>(
     rt: &R,
     alloc: Global,
     turns: u32,
@@ -183,7 +184,8 @@ fn measure_all<R: Threads + Wait + Clock + Print + Sync>(
         }
     }
     finds::measure(rt, alloc, 1, turns)?;
-    finds::measure(rt, alloc, 4, turns)
+    finds::measure(rt, alloc, 4, turns)?;
+    loads::measure(rt, alloc)
 }
 
 fn main(rt: HostRuntime) -> io::Result<()> {
