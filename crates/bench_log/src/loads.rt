@@ -5,11 +5,12 @@ use crate::finds::{FORWARD, NAME};
 use bytes::Bytes;
 use catalogue::Catalogue;
 use std::alloc::{Alloc, AllocError, Global};
+use std::fs::{self, Files};
+use std::io;
 use std::num::nearest_u64_to_f64;
 use std::rt::Clock;
 use std::sync::Wait;
 use std::time::Instant;
-use std::{fs, io};
 
 /// How many loads are timed, at the start and at the end.
 const SOME: u64 = 1_000;

@@ -16,6 +16,7 @@ use bytes::Bytes;
 use catalogue::Catalogue;
 use part_log::{LoggedBatch, Names};
 use std::alloc::{Alloc, AllocError, Global};
+use std::fs::Files;
 use std::io::ErrorKind;
 use std::marker::Brand;
 use std::num::nearest_u64_to_f64;
