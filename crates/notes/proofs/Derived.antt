@@ -1,6 +1,6 @@
 -- The states that follow from given ones: of an annotation's they are an annotation.
 use Rattle.std.proofs.Common.{◌≡◌, ◌≢◌, ℕ, zero, suc, ◌+◌, ◌<◌, ◌≤◌, Bool, true, false, cond, ◌==◌, List, [], ◌∷◌, ◌++◌, length, get_or, Option, Some, None, refl, sym, ap, ◌∙◌, subst, ◌⊎◌, inl, inr, arith}
-use Rattle.std.specs.Prelude.{slice_get, unwrap_or}
+use Rattle.std.specs.Prelude.{◌↔◌, IsTrue, slice_get, unwrap_or}
 use Rattle.std.proofs.lemmas.Bool.{cond-true, cond-false, cases_Bool, cases_lt, eq-eqb, eqb-true, and_parts, and_from, false≢true}
 use Rattle.std.proofs.lemmas.Option.{none-some, slice_get_within, unwrap_or-slice_get}
 use Rattle.std.proofs.lemmas.List.Folds.{list_any_at}
@@ -22,8 +22,7 @@ use Rattle.verifier_spec.proofs.Monotone.{check_monotone, falls_monotone, jumps_
 use Rattle.notes.specs.Derived.{fallen, given_or, derived_at, derived_from, derived, leads_to, jumps_at, is_target, at_targets, settled, pair_at, kept_claim, kept_from, kept_states, targets_from, target_count, are_rising, pairs_fault, AreDerivedProper}
 use Rattle.machine_spec.specs.declared.instruction.Region.{Region}
 use Rattle.predecode.specs.declared.decoded.Decoded.{Decoded}
-use Rattle.notes.specs.Regions.{AreRegions}
-use Rattle.notes.specs.Stores.{stores}
+use Rattle.notes.specs.Regions.{AreRegions, NeedsStack}
 use Rattle.notes.specs.Forms.{AreForms, IsVerified}
 use Rattle.notes.proofs.Lookups.{claim_at_past}
 
@@ -410,8 +409,8 @@ module _ (code : List Placed) (claims states : Claims) (kept : List (ℕ × Abst
   pub kept_view : derived code (pair_at kept) ≡ settled code claims
   kept_view = ap (λ (pairs : List (ℕ × Abstract)). derived code (pair_at pairs)) (kept_is ∙ ap (λ (ns : Claims). kept_states code ns) is) ∙ settled_again code claims
 
-  pub verified_from : AreRegions code states regions → AreForms code states forms → (writes : Bool) → writes ≡ stores code → IsAnnotation HELPERS code claims → AreDerivedProper code (at_targets code claims) (length code) → IsVerified code kept regions forms writes
-  verified_from regions_are forms_are writes writes_are annotation proper =
+  pub verified_from : AreRegions code states regions → AreForms code states forms → (needs : Bool) → (IsTrue needs ↔ NeedsStack code states) → IsAnnotation HELPERS code claims → AreDerivedProper code (at_targets code claims) (length code) → IsVerified code kept regions forms needs
+  verified_from regions_are forms_are needs needs_are annotation proper =
       let same : derived code (pair_at kept) ≡ states = kept_view ∙ sym is in
       let P : Claims → Type 0 = λ ns. IsAnnotation HELPERS code ns in
       let Q : Claims → Type 0 = λ ns. AreRegions code ns regions in
@@ -422,7 +421,7 @@ module _ (code : List Placed) (claims states : Claims) (kept : List (ℕ × Abst
         regions_are = subst Q (sym same) regions_are;
         forms_are = subst F (sym same) forms_are;
         kept_are = subst R (sym same) kept_is;
-        writes_are = writes_are;
+        needs_are = subst (λ (ns : Claims). IsTrue needs ↔ NeedsStack code ns) (sym same) needs_are;
       }
 
 -- the refusal of states with numbers that rise is that of the list that follows from them

@@ -1,7 +1,7 @@
 pub mod Derived
 pub mod Joined
 pub mod Lookups
+pub mod Needs
 pub mod Order
 pub mod Loop
 pub mod Steps
-pub mod Table

@@ -1,5 +1,4 @@
 pub mod Derived
 pub mod Regions
 pub mod Forms
-pub mod Stores
 pub mod Proper

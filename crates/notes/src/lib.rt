@@ -12,7 +12,6 @@ mod region_list;
 mod regions;
 mod settling;
 mod shape;
-mod stores;
 mod targets;
 mod verified;
 
