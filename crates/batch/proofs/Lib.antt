@@ -1,3 +1,4 @@
+pub mod BatchesLaws
 pub mod FeedLaws
 pub mod Found
 pub mod Latest

@@ -1,6 +1,6 @@
 //! Batches from a stream of bytes that arrives in pieces of any size.
 
-ghost use Rattle.std.specs.Prelude.{◌≡◌, ◌≢◌, ◌↔◌, [], ◌++◌, IfOk, IfSome, OnOk, OnErr, IsTrue, Some, Ok, Err};
+ghost use Rattle.std.specs.Prelude.{◌≡◌, ◌≢◌, ◌↔◌, [], ◌++◌, length, IfOk, IfSome, OnOk, OnErr, IsTrue, Some, Ok, Err};
 ghost use Rattle.wire_spec.specs.declared.fault.BatchFault.TheVariants.{Short};
 ghost use Rattle.wire_spec.specs.BatchReading.{IsPart};
 ghost use Rattle.wire_spec.specs.BatchSpelling.{BatchFits};
@@ -54,6 +54,16 @@ impl Feed {
         ensures { IsTrue result ↔ (fed self.now ≡ []) }
     {
         self.fault.is_some() || (self.ready.is_empty() && self.next.is_empty())
+    }
+
+    /// How many bytes are kept: none, where a fault ended the stream.
+    pub fn len(&self) -> usize
+        ensures { result ≡ length (fed self.now) }
+    {
+        if self.fault.is_some() {
+            return 0;
+        }
+        self.ready.len() + self.next.len()
     }
 
     /// Takes a piece of the stream: the bytes after those that were fed before. Its bytes are copied

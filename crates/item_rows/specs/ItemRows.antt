@@ -1,14 +1,15 @@
 -- The rows of an item in every output partition.
-use Rattle.std.specs.Prelude.{◌≡◌, ℕ, ◌<◌, ◌≤◌, ◌++◌, List, [], length, All, Option, get_or}
+use Rattle.std.specs.Prelude.{◌≡◌, ℕ, ◌+◌, ◌<◌, ◌≤◌, ◌++◌, List, [], length, All, Option, get_or}
+use Rattle.wire_spec.specs.declared.limits.TheConstants.{TIMESTAMP_END}
 use Rattle.machine_spec.specs.Image.{Program}
 use Rattle.log_spec.specs.declared.row.Row.{Row}
 use Rattle.log_spec.specs.Logs.{Item as Kept, IsItemRows, RowFits}
 use Rattle.item_rows.specs.declared.origin.Origin.{Origin}
 
--- the numbers of an origin are in their ranges
+-- The numbers of an origin are in their ranges: each record of an item there has an offset below 2^62.
 pub record IsOrigin (origin : Origin) : Type 0 where
   pub input : origin.input < 64
-  pub offset : origin.offset ≤ 655360000
+  pub offset : origin.offset + 10000 ≤ TIMESTAMP_END
   pub some_output : 1 ≤ origin.outputs
   pub outputs : origin.outputs ≤ 64
 

@@ -4,7 +4,7 @@
 pub struct Origin {
     /// The input partition, below 64.
     pub input: usize,
-    /// How many records the items before it have, at most 655,360,000.
+    /// How many records the items before it have, at most 2^62 - 10,000: so each offset is below 2^62.
     pub offset: u64,
     /// How many output partitions there are, 1 to 64.
     pub outputs: usize,

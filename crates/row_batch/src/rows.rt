@@ -11,13 +11,15 @@ use log_spec::Row;
 use std::alloc::{AllocError, Global};
 use wire_spec::Batch;
 
-/// The batch of the first rows, as many as it has room for. The first row has this place.
-fn first_batch(alloc: Global, place: usize, rows: &[Row]) -> Result<Batch, AllocError>
+/// The batch of the first rows, as many as it has room for. The first row has this place, which is
+/// the batch's base offset. The rows' parts share their bytes with the records. It fails only where
+/// memory runs out.
+pub fn first_batch(alloc: Global, place: usize, rows: &[Row]) -> Result<Batch, AllocError>
     requires place { place < 2 ^ 63 }
     requires some { 0 < length rows.now }
     requires few { length rows.now ≤ 10000 }
     requires fit { All RowFits rows.now }
-    ensures { IfOk result (λ batch. (count : ℕ) × IsFirst place rows.now count batch) }
+    ensures { IfOk result (λ batch. IsFirst place rows.now (length batch.records) batch) }
 {
     let base = rows[0].timestamp;
     Ok(Batch {

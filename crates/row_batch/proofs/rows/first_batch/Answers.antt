@@ -14,4 +14,4 @@ returns c =
     let low = first_fits rows c.requires.fit in
     let offset : to_z w64 c.args.place ≡ pos c.args.place = to_z_pos w64 c.args.place c.requires.place in
     let stamp : to_z w64 found.timestamp ≡ pos (first_timestamp rows) = ap (to_z w64) same ∙ to_z_pos w64 (first_timestamp rows) (omega (arith, low)) in
-    (length records, first_batch_as c.args.place rows records (to_z w64 c.args.place) (to_z w64 found.timestamp) offset stamp c.requires.place c.requires.some c.requires.few c.requires.fit first)
+    first_batch_as c.args.place rows records (to_z w64 c.args.place) (to_z w64 found.timestamp) offset stamp c.requires.place c.requires.some c.requires.few c.requires.fit first
