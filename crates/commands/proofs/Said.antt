@@ -1,15 +1,80 @@
 -- What a line's command does, the line does.
-use Rattle.std.proofs.Common.{◌≡◌, List, ℕ, subst}
-use Rattle.std.specs.Prelude.{Option, Some, Result, IfOk}
+use Rattle.std.proofs.Common.{◌≡◌, List, ℕ, Result, Err, refl, sym, subst, inl, ◌∙◌}
+use Rattle.std.specs.Prelude.{Option, Some, None, IfOk, ⊤}
+use Rattle.std.specs.Io.KnownBytes.{Appends}
+use Rattle.std.proofs.KnownBytes.{Appends-nil}
 use Rattle.part_log.specs.Parts.{Received}
 use Rattle.broker.specs.Layouts.{Layout}
 use Rattle.script.specs.declared.command.Command.{Command}
-use Rattle.commands.specs.Sessions.{Begins, Does, LineDoes}
+use Rattle.script.specs.declared.command.Command.TheVariants.{Partitions, Load, Deploy, Put, Append, Close, Fetch, Go}
+use Rattle.script.specs.declared.command.Source.{Source}
+use Rattle.script.specs.declared.fault.ScriptFault.{ScriptFault}
+use Rattle.commands.specs.declared.stop.Stop.{Stop}
+use Rattle.commands.specs.declared.stop.Stop.TheVariants as stop
+use Rattle.commands.specs.Appends.{bytes_of, unread_of, EndsAt, AppendDoes, Prints}
+use Rattle.commands.specs.Sessions.{Begins, Refuses, IsUntouched, Does, LineDoes}
+use Rattle.commands.proofs.AppendLaws.{nothing}
 
 pub begins : {E : Type 0} (said : Option Command) (command : Command) (made : Result Layout E)
     → Some command ≡ said → IfOk made (λ parts. Begins (Some command) parts) → IfOk made (λ parts. Begins said parts)
 begins said command made is given = subst (λ (s : Option Command). IfOk made (λ parts. Begins s parts)) is given
 
-pub line_does : {E : Type 0} (outputs inputs : ℕ) (files : List ℕ → Option (List ℕ)) (said : Option Command) (command : Command) (before after : Option (List ℕ)) (done : Result (Option Received) E)
-    → Some command ≡ said → IfOk done (λ receipt. Does outputs inputs files command receipt before after) → IfOk done (λ receipt. LineDoes outputs inputs files said receipt before after)
-line_does outputs inputs files said command before after done is given = subst (λ (s : Option Command). IfOk done (λ receipt. LineDoes outputs inputs files s receipt before after)) is given
+pub line_does : (outputs inputs : ℕ) (files : List ℕ → Option (List ℕ)) (said : Option Command) (command : Command) (old new : List Received) (before after : Option (List ℕ)) (result : Result ⊤ Stop)
+    → Some command ≡ said → Does outputs inputs files command old new before after result → LineDoes outputs inputs files said old new before after result
+line_does outputs inputs files said command old new before after result is given = subst (λ (s : Option Command). LineDoes outputs inputs files s old new before after result) is given
+
+-- ---- A line that is refused before anything is done
+
+-- the line is refused, or memory ran out
+abbrev IsEarly : Stop → Type 0
+IsEarly (stop.Line fault) = ⊤
+IsEarly stop.Memory = ⊤
+IsEarly (stop.Broker fault) = ⊥
+IsEarly (stop.Batch fault) = ⊥
+IsEarly (stop.File name) = ⊥
+IsEarly stop.Output = ⊥
+IsEarly stop.Thread = ⊥
+
+refuses_early : (inputs input : ℕ) (reason : Stop) → IsEarly reason → Refuses inputs input reason
+refuses_early inputs input (stop.Line fault) early = tt
+refuses_early inputs input stop.Memory early = tt
+refuses_early inputs input other early = absurd early
+
+ends_early : (inputs input : ℕ) (unread : Stop) (old : List Received) (rest : List ℕ) (reason : Stop) → IsEarly reason → EndsAt inputs input unread old old rest (Err reason)
+ends_early inputs input unread old rest (stop.Line fault) early = refl
+ends_early inputs input unread old rest stop.Memory early = tt
+ends_early inputs input unread old rest other early = absurd early
+
+prints_none : (before : Option (List ℕ)) (reason : Stop) → IsEarly reason → Prints before before [] (Err reason)
+prints_none before (stop.Line fault) early = Appends-nil before
+prints_none before stop.Memory early = tt
+prints_none before other early = absurd early
+
+appends_none : (inputs : ℕ) (files : List ℕ → Option (List ℕ)) (input : ℕ) (source : Source) (old : List Received) (before : Option (List ℕ)) (reason : Stop)
+    → IsEarly reason → AppendDoes inputs files input source old old before before (Err reason)
+appends_none inputs files input source old before reason early =
+    let unread = unread_of source in
+    record {
+      appends = nothing inputs input (bytes_of files source) unread old old reason refl (λ rest. ends_early inputs input unread old rest reason early);
+      printed = prints_none before reason early;
+    }
+
+early : (outputs inputs : ℕ) (files : List ℕ → Option (List ℕ)) (said : Option Command) (old : List Received) (before : Option (List ℕ)) (reason : Stop)
+    → IsEarly reason → LineDoes outputs inputs files said old old before before (Err reason)
+early outputs inputs files None old before reason is = ((refl, refl), tt)
+early outputs inputs files (Some (Partitions made outs cells)) old before reason is = ((refl, refl), tt)
+early outputs inputs files (Some (Load name source)) old before reason is = (refl, tt)
+early outputs inputs files (Some (Deploy input name)) old before reason is = inl ((refl, refl), refuses_early inputs input reason is)
+early outputs inputs files (Some (Put input timestamp key value)) old before reason is = inl ((refl, refl), refuses_early inputs input reason is)
+early outputs inputs files (Some (Append input source)) old before reason is = appends_none inputs files input source old before reason is
+early outputs inputs files (Some (Close input)) old before reason is = inl ((refl, refl), refuses_early inputs input reason is)
+early outputs inputs files (Some (Fetch output place max)) old before reason is = (refl, tt)
+early outputs inputs files (Some Go) old before reason is = (refl, tt)
+
+pub line_refused : (outputs inputs : ℕ) (files : List ℕ → Option (List ℕ)) (said : Option Command) (old : List Received) (before : Option (List ℕ)) (fault : ScriptFault)
+    → LineDoes outputs inputs files said old old before before (Err (stop.Line fault))
+line_refused outputs inputs files said old before fault = early outputs inputs files said old before (stop.Line fault) tt
+
+pub no_memory : (outputs inputs : ℕ) (files : List ℕ → Option (List ℕ)) (said : Option Command) (old : List Received) (before : Option (List ℕ))
+    → LineDoes outputs inputs files said old old before before (Err stop.Memory)
+no_memory outputs inputs files said old before = early outputs inputs files said old before stop.Memory tt

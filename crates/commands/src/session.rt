@@ -1,21 +1,23 @@
 //! The commands of a script after its first, one after the other.
 
-ghost use Rattle.std.specs.Prelude.{◌≡◌, ◌<◌, ◌≤◌, [], true, OnOk, IfOk, IfErr, option_map};
+ghost use Rattle.std.specs.Prelude.{◌≡◌, ◌<◌, ◌≤◌, ◌++◌, [], ◌∷◌, ℕ, length, vec_len, vec_capacity, true, Some, OnOk, IfOk, IfErr, option_map};
+ghost use Rattle.std.specs.Io.KnownBytes.{Appends};
 ghost use Rattle.script.specs.Commands.{command_of};
 ghost use Rattle.script.specs.Faults.{text_size, is_in_range};
-ghost use Rattle.log_spec.specs.Logs.{FitsLog};
 ghost use Rattle.broker.specs.Layouts.{IsNamed};
 ghost use Rattle.broker.specs.declared.fault.BrokerFault.TheVariants.{Partition};
 ghost use Rattle.commands.specs.declared.stop.Stop.TheVariants as stop;
+ghost use Rattle.commands.specs.Appends.{append_lines, bytes_of, unread_of, AppendsOf, AppendDoes};
 ghost use Rattle.commands.specs.Puts.{put_batch};
-ghost use Rattle.commands.specs.Sessions.{IsMark, IsImageIn, AreAppended, Loads, Deploys, Puts, Closes, Fetches, Reports, Does, LineDoes};
+ghost use Rattle.commands.specs.Sessions.{IsMark, IsImageIn, Loads, Fetches, Reports, Refuses, DeployDoes, PutDoes, CloseDoes, Does, LineDoes};
+ghost use Rattle.commands.specs.Stops.{IsUnread, IsUnwritten};
 
-use crate::batches::{batch_of, next_batch};
+use crate::batches::batch_of;
 use crate::files::Files;
 use crate::image::read_image;
-use crate::printing::print;
-use crate::reading::{Unread, cause_of, read_whole};
-use crate::stop::{Stop, end_of_all};
+use crate::printing::{print, print_line};
+use crate::reading::cause_of;
+use crate::stop::{Stop, end_of_all, end_of_stream, stop_of_unread};
 use broker::{Broker, BrokerFault, Parts, Until};
 use bytes::Bytes;
 use catalogue::{Catalogue, Finder, Known};
@@ -28,11 +30,14 @@ use script::{
 };
 use std::alloc::{AllocError, Global};
 use std::collections::BTreeMap;
-use std::io::Write;
+use std::io::{Read, Write};
 use std::sync::Wait;
 use std::thread::Threads;
-use wire_spec::{Batch, MAX_KEY, MAX_VALUE, TIMESTAMP_END};
+use wire_spec::{MAX_KEY, MAX_VALUE, TIMESTAMP_END};
 use worker::Gate;
+
+/// How many bytes are read at once of batches that are appended.
+const PIECE: usize = 65_536;
 
 /// Lets every offer pass.
 #[derive(Drop)]
@@ -53,14 +58,6 @@ pub struct Session<'a, Id: Names, R: Wait> {
     broker: Broker<Id, Catalogue<&'a R>>,
     finder: Option<Finder>,
     loaded: BTreeMap<String, Known>,
-}
-
-/// Why a command stops whose file can't be read.
-fn stopped_by(name: FileName, cause: Unread) -> Stop {
-    match cause {
-        Unread::File => Stop::File(name),
-        Unread::Memory => Stop::Memory,
-    }
 }
 
 fn shared(bytes: Vec<u8>) -> Result<Bytes, AllocError>
@@ -115,29 +112,8 @@ impl<'a, Id: Names + Send + Sync, R: Threads + Wait + Sync> Session<'a, Id, R> {
         match source {
             Source::Line(image) => Ok(image),
             Source::File(name) => match read_image(self.alloc, files, name.text.as_str()) {
-                Err(cause) => Err(stopped_by(name, cause)),
+                Err(cause) => Err(stop_of_unread(name, cause)),
                 Ok(bytes) => Ok(shared(bytes)?),
-            },
-        }
-    }
-
-    /// The bytes of batches that are to be appended. Their file is opened before their input
-    /// partition is looked for, and read after it.
-    fn batches<F: Files>(&self, files: &mut F, input: u64, source: Source) -> Result<Bytes, Stop> {
-        match source {
-            Source::Line(bytes) => {
-                self.known_input(input)?;
-                Ok(bytes)
-            }
-            Source::File(name) => match files.open(name.text.as_str()) {
-                Err(error) => Err(stopped_by(name, cause_of(&error))),
-                Ok(mut reader) => {
-                    self.known_input(input)?;
-                    match read_whole(self.alloc, &mut reader) {
-                        Err(cause) => Err(stopped_by(name, cause)),
-                        Ok(bytes) => Ok(shared(bytes)?),
-                    }
-                }
             },
         }
     }
@@ -172,9 +148,9 @@ impl<'a, Id: Names + Send + Sync, R: Threads + Wait + Sync> Session<'a, Id, R> {
     }
 
     /// Appends the mark of a loaded name.
-    #[tactic(auto, using(crate::proofs::Marks::deployed))]
     fn mark(&mut self, input: u64, name: &Name) -> Result<(Receipt<Id>, u32), Stop>
-        ensures { IfOk result (λ marked. IsMark input name.now marked.1 marked.0) }
+        ensures ok { IfOk result (λ marked. (input < self.old.broker) × IsMark input name.now marked.1 marked.0) }
+        ensures err { IfErr result (Refuses self.old.broker input) }
     {
         let mut finder = self.taken_finder()?;
         let Some(known) = self.loaded.get(name.text.as_str()) else {
@@ -202,37 +178,35 @@ impl<'a, Id: Names + Send + Sync, R: Threads + Wait + Sync> Session<'a, Id, R> {
         stdout: &mut O,
         input: u64,
         name: RawName,
-    ) -> Result<Receipt<Id>, Stop>
-        ensures { IfOk result (λ receipt. Deploys input name receipt (O.contents stdout.old) (O.contents stdout.new)) }
+        receipts: &mut Vec<Receipt<Id>>,
+    ) -> Result<(), Stop>
+        ensures { DeployDoes self.old.broker input name receipts.old.items receipts.new.items (O.contents stdout.old) (O.contents stdout.new) result }
     {
         match Name::new(name.text.as_str()) {
             None => Err(Stop::Line(ScriptFault::Order)),
-            Some(name) => self.deploy_named(stdout, input, &name),
+            Some(name) => self.deploy_named(stdout, input, &name, receipts),
         }
     }
 
-    #[tactic(auto, using(crate::proofs::Marks::deploys, crate::proofs::Written::same_text))]
     fn deploy_named<O: Write>(
         &mut self,
         stdout: &mut O,
         input: u64,
         name: &Name,
-    ) -> Result<Receipt<Id>, Stop>
-        ensures { IfOk result (λ receipt. Deploys input name.now receipt (O.contents stdout.old) (O.contents stdout.new)) }
+        receipts: &mut Vec<Receipt<Id>>,
+    ) -> Result<(), Stop>
+        ensures { DeployDoes self.old.broker input name.now receipts.old.items receipts.new.items (O.contents stdout.old) (O.contents stdout.new) result }
     {
         self.known_input(input)?;
+        make_room(receipts)?;
         let (receipt, version) = self.mark(input, name)?;
-        let line = deploy_text(
-            self.alloc,
-            input,
-            receipt.index(),
-            name.text.as_str(),
-            version,
-        )?;
-        print(stdout, line.as_str())?;
-        Ok(receipt)
+        let text = name.text.as_str();
+        let line = deploy_text(self.alloc, input, receipt.index(), text, version);
+        add(receipts, receipt);
+        print_line(stdout, line)
     }
 
+    /// Appends a record, and prints where it is.
     fn put<O: Write>(
         &self,
         stdout: &mut O,
@@ -240,69 +214,117 @@ impl<'a, Id: Names + Send + Sync, R: Threads + Wait + Sync> Session<'a, Id, R> {
         timestamp: u64,
         key: Option<Bytes>,
         value: Option<Bytes>,
-    ) -> Result<Receipt<Id>, Stop>
+        receipts: &mut Vec<Receipt<Id>>,
+    ) -> Result<(), Stop>
         requires timestamp { timestamp < TIMESTAMP_END }
         requires key { text_size key ≤ MAX_KEY }
         requires value { text_size value ≤ MAX_VALUE }
-        ensures { IfOk result (λ receipt. Puts input (put_batch timestamp key value) receipt (O.contents stdout.old) (O.contents stdout.new)) }
+        ensures { PutDoes self.now.broker input (put_batch timestamp key value) receipts.old.items receipts.new.items (O.contents stdout.old) (O.contents stdout.new) result }
     {
-        self.known_input(input)?;
+        make_room(receipts)?;
         let batch = batch_of(self.alloc, timestamp, key, value)?;
-        self.append(stdout, input, batch)
-    }
-
-    /// Appends a batch, and prints where it is.
-    #[tactic(auto, using(crate::proofs::Written::same_text))]
-    fn append<O: Write>(
-        &self,
-        stdout: &mut O,
-        input: u64,
-        batch: Batch,
-    ) -> Result<Receipt<Id>, Stop>
-        requires { FitsLog batch }
-        ensures { IfOk result (λ receipt. Puts input batch receipt (O.contents stdout.old) (O.contents stdout.new)) }
-    {
         let receipt = self
             .broker
             .append(self.rt, self.alloc, input as usize, batch)?;
-        let line = append_text(self.alloc, input, receipt.index(), receipt.base())?;
-        print(stdout, line.as_str())?;
-        Ok(receipt)
+        let line = append_text(self.alloc, input, receipt.index(), receipt.base());
+        add(receipts, receipt);
+        print_line(stdout, line)
     }
 
-    /// Appends the batches that some bytes contain one after the other, and returns their receipts.
-    /// Those before a faulty one stay.
-    #[tactic(auto, using(crate::proofs::Appended::one_more, crate::proofs::Appended::at_end))]
-    fn append_all<O: Write>(
+    /// Closes a log, and prints where its end is.
+    fn close<O: Write>(
         &self,
         stdout: &mut O,
         input: u64,
-        bytes: Bytes,
-    ) -> Result<Vec<Receipt<Id>>, Stop>
-        ensures { IfOk result (λ receipts. AreAppended input bytes receipts.items []) }
+        receipts: &mut Vec<Receipt<Id>>,
+    ) -> Result<(), Stop>
+        ensures { CloseDoes self.now.broker input receipts.old.items receipts.new.items (O.contents stdout.old) (O.contents stdout.new) result }
     {
-        let mut receipts = Vec::new(self.alloc);
-        let mut rest = bytes;
-        while !rest.is_empty() {
-            let (batch, used) = next_batch(self.alloc, &rest)?;
-            let receipt = self.append(stdout, input, batch)?;
-            let Ok(()) = receipts.push(receipt) else {
-                return Err(Stop::Memory);
-            };
-            rest.advance(used);
-        }
-        Ok(receipts)
+        make_room(receipts)?;
+        let receipt = self.broker.close(self.rt, self.alloc, input as usize)?;
+        let line = close_text(self.alloc, input, receipt.index());
+        add(receipts, receipt);
+        print_line(stdout, line)
     }
 
-    #[tactic(auto, using(crate::proofs::Written::same_text))]
-    fn close<O: Write>(&self, stdout: &mut O, input: u64) -> Result<Receipt<Id>, Stop>
-        ensures { IfOk result (λ receipt. Closes input receipt (O.contents stdout.old) (O.contents stdout.new)) }
+    /// Appends the batches of a command's bytes, and prints a line for each, also for those before a
+    /// fault.
+    fn append<F: Files, O: Write>(
+        &self,
+        files: &mut F,
+        stdout: &mut O,
+        input: u64,
+        source: Source,
+        receipts: &mut Vec<Receipt<Id>>,
+    ) -> Result<(), Stop>
+        ensures { AppendDoes self.now.broker (F.bytes files.old) input source receipts.old.items receipts.new.items (O.contents stdout.old) (O.contents stdout.new) result }
     {
-        self.known_input(input)?;
-        let receipt = self.broker.close(self.rt, self.alloc, input as usize)?;
-        let line = close_text(self.alloc, input, receipt.index())?;
-        print(stdout, line.as_str())?;
-        Ok(receipt)
+        let before = receipts.len();
+        let appended = self.append_source(files, input, source, receipts);
+        print_appended(self.alloc, stdout, input, &receipts[before..])?;
+        appended
+    }
+
+    /// Appends the batches of a command's bytes.
+    fn append_source<F: Files>(
+        &self,
+        files: &mut F,
+        input: u64,
+        source: Source,
+        receipts: &mut Vec<Receipt<Id>>,
+    ) -> Result<(), Stop>
+        ensures { AppendsOf self.now.broker input (bytes_of (F.bytes files.old) source) (unread_of source) receipts.old.items receipts.new.items result }
+    {
+        match source {
+            Source::Line(bytes) => self.append_bytes(input, &bytes, receipts),
+            Source::File(name) => self.append_file(files, input, name, receipts),
+        }
+    }
+
+    fn append_bytes(
+        &self,
+        input: u64,
+        bytes: &[u8],
+        receipts: &mut Vec<Receipt<Id>>,
+    ) -> Result<(), Stop>
+        ensures { AppendsOf self.now.broker input (Some bytes.now) stop.Memory receipts.old.items receipts.new.items result }
+    {
+        let mut reader = bytes;
+        self.append_from(input, &mut reader, Stop::Memory, receipts)
+    }
+
+    /// The file is opened before its input partition is looked for, and read after it.
+    fn append_file<F: Files>(
+        &self,
+        files: &mut F,
+        input: u64,
+        name: FileName,
+        receipts: &mut Vec<Receipt<Id>>,
+    ) -> Result<(), Stop>
+        ensures { AppendsOf self.now.broker input (F.bytes files.old name) (stop.File name) receipts.old.items receipts.new.items result }
+    {
+        match files.open(name.text.as_str()) {
+            Err(error) => Err(stop_of_unread(name, cause_of(&error))),
+            Ok(mut reader) => self.append_from(input, &mut reader, Stop::File(name), receipts),
+        }
+    }
+
+    /// Appends the batches of a reader's bytes, of which at most `PIECE` are read at once.
+    fn append_from<S: Read>(
+        &self,
+        input: u64,
+        reader: &mut S,
+        unread: Stop,
+        receipts: &mut Vec<Receipt<Id>>,
+    ) -> Result<(), Stop>
+        requires { IsUnread unread }
+        ensures { AppendsOf self.now.broker input (S.remaining reader.old) unread receipts.old.items receipts.new.items result }
+    {
+        let input = input as usize;
+        let appended = self
+            .broker
+            .append_from(self.rt, self.alloc, input, reader, PIECE, receipts);
+        end_of_stream(appended, unread)
     }
 
     /// Prints the rows of an output partition from a place on as one record batch, or `none`.
@@ -331,16 +353,16 @@ impl<'a, Id: Names + Send + Sync, R: Threads + Wait + Sync> Session<'a, Id, R> {
         Ok(())
     }
 
-    /// What a line asks for that is a command. Returns the receipt of what it appends, if that is one
-    /// item.
-    #[tactic(auto, using(crate::proofs::Said::line_does))]
+    /// What a line asks for. The receipts of all that it appends are put at the end of the list, also
+    /// before a fault.
     pub fn line<F: Files, O: Write>(
         &mut self,
         files: &mut F,
         stdout: &mut O,
         line: &str,
-    ) -> Result<Option<Receipt<Id>>, Stop>
-        ensures { IfOk result (λ receipt. LineDoes Id.outputs self.old.broker (F.bytes files.old) (command_of line.now) receipt (O.contents stdout.old) (O.contents stdout.new)) }
+        receipts: &mut Vec<Receipt<Id>>,
+    ) -> Result<(), Stop>
+        ensures { LineDoes Id.outputs self.old.broker (F.bytes files.old) (command_of line.now) receipts.old.items receipts.new.items (O.contents stdout.old) (O.contents stdout.new) result }
     {
         let Some(command) = parse(self.alloc, line)? else {
             return Err(Stop::Line(ScriptFault::Syntax));
@@ -349,7 +371,7 @@ impl<'a, Id: Names + Send + Sync, R: Threads + Wait + Sync> Session<'a, Id, R> {
         if let Some(fault) = first_fault(&command, true, is_loaded) {
             return Err(Stop::Line(fault));
         }
-        self.act(files, stdout, command)
+        self.act(files, stdout, command, receipts)
     }
 
     /// What a command asks for.
@@ -358,35 +380,65 @@ impl<'a, Id: Names + Send + Sync, R: Threads + Wait + Sync> Session<'a, Id, R> {
         files: &mut F,
         stdout: &mut O,
         command: Command,
-    ) -> Result<Option<Receipt<Id>>, Stop>
+        receipts: &mut Vec<Receipt<Id>>,
+    ) -> Result<(), Stop>
         requires { is_in_range command ≡ true }
-        ensures { IfOk result (λ receipt. Does Id.outputs self.old.broker (F.bytes files.old) command receipt (O.contents stdout.old) (O.contents stdout.new)) }
+        ensures { Does Id.outputs self.old.broker (F.bytes files.old) command receipts.old.items receipts.new.items (O.contents stdout.old) (O.contents stdout.new) result }
     {
         match command {
             Command::Partitions(..) => Err(Stop::Line(ScriptFault::Order)),
             Command::Load(name, source) => {
                 let image = self.image(files, source)?;
-                self.load(stdout, name, image)?;
-                Ok(None)
+                self.load(stdout, name, image)
             }
-            Command::Deploy(input, name) => Ok(Some(self.deploy(stdout, input, name)?)),
+            Command::Deploy(input, name) => self.deploy(stdout, input, name, receipts),
             Command::Put(input, timestamp, key, value) => {
-                Ok(Some(self.put(stdout, input, timestamp, key, value)?))
+                self.put(stdout, input, timestamp, key, value, receipts)
             }
-            Command::Append(input, source) => {
-                let bytes = self.batches(files, input, source)?;
-                self.append_all(stdout, input, bytes)?;
-                Ok(None)
-            }
-            Command::Close(input) => Ok(Some(self.close(stdout, input)?)),
-            Command::Fetch(output, place, max) => {
-                self.fetch(stdout, output, place, max)?;
-                Ok(None)
-            }
-            Command::Go => {
-                self.go(stdout)?;
-                Ok(None)
-            }
+            Command::Append(input, source) => self.append(files, stdout, input, source, receipts),
+            Command::Close(input) => self.close(stdout, input, receipts),
+            Command::Fetch(output, place, max) => self.fetch(stdout, output, place, max),
+            Command::Go => self.go(stdout),
         }
     }
+}
+
+/// Makes room for one more receipt.
+fn make_room<Id: Names>(receipts: &mut Vec<Receipt<Id>>) -> Result<(), Stop>
+    ensures same { receipts.new.items ≡ receipts.old.items }
+    ensures ok { OnOk result (vec_len receipts.new < vec_capacity receipts.new) }
+    ensures err { IfErr result (λ reason. reason ≡ stop.Memory) }
+{
+    match receipts.reserve(1) {
+        Ok(()) => Ok(()),
+        Err(_) => Err(Stop::Memory),
+    }
+}
+
+/// Puts a receipt at the end of a list that has room for it.
+fn add<Id: Names>(receipts: &mut Vec<Receipt<Id>>, receipt: Receipt<Id>)
+    requires { vec_len receipts.old < vec_capacity receipts.old }
+    ensures { receipts.new.items ≡ receipts.old.items ++ receipt ∷ [] }
+{
+    match receipts.push(receipt) {
+        Ok(()) => {}
+        Err(_) => unreachable!(),
+    }
+}
+
+/// Prints the lines of appended batches.
+fn print_appended<Id: Names, O: Write>(
+    alloc: Global,
+    stdout: &mut O,
+    input: u64,
+    receipts: &[Receipt<Id>],
+) -> Result<(), Stop>
+    ensures ok { OnOk result (Appends (O.contents stdout.old) (O.contents stdout.new) (append_lines input receipts.now)) }
+    ensures err { IfErr result IsUnwritten }
+{
+    for receipt in receipts {
+        let line = append_text(alloc, input, receipt.index(), receipt.base());
+        print_line(stdout, line)?;
+    }
+    Ok(())
 }
