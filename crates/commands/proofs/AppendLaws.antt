@@ -86,7 +86,7 @@ known_or_none None = ([], tt)
 known_or_none (Some all) = (all, refl)
 
 -- nothing is appended
-pub nothing : (inputs input : ℕ) (known : Option (List ℕ)) (unread : Stop) (old new : List Received) (reason : Stop) → new ≡ old
+abbrev pub nothing : (inputs input : ℕ) (known : Option (List ℕ)) (unread : Stop) (old new : List Received) (reason : Stop) → new ≡ old
     → ((rest : List ℕ) → EndsAt inputs input unread old new rest (Err reason)) → AppendsOf inputs input known unread old new (Err reason)
 nothing inputs input known unread old new reason same ends =
     let all = known_or_none known in

@@ -31,6 +31,7 @@ use script::{
 use std::alloc::{AllocError, Global};
 use std::collections::BTreeMap;
 use std::io::{Read, Write};
+use std::marker::Model;
 use std::sync::Wait;
 use std::thread::Threads;
 use wire_spec::{MAX_KEY, MAX_VALUE, TIMESTAMP_END};
@@ -50,7 +51,8 @@ impl Gate for Open {
 }
 
 /// What a script works on once `partitions` made it: its broker, the finder that its first `deploy`
-/// made, and what is known of each name that it loaded.
+/// made, and what is known of each name that it loaded. Contracts see how many input partitions it
+/// has.
 #[derive(Drop)]
 pub struct Session<'a, Id: Names, R: Wait> {
     rt: &'a R,
@@ -58,6 +60,14 @@ pub struct Session<'a, Id: Names, R: Wait> {
     broker: Broker<Id, Catalogue<&'a R>>,
     finder: Option<Finder>,
     loaded: BTreeMap<String, Known>,
+}
+
+impl<'a, Id: Names, R: Wait> Model for Session<'a, Id, R> {
+    ghost use Rattle.std.specs.Prelude.{ℕ};
+
+    ghost Value = { ℕ };
+
+    ghost view = { λ s. s.broker };
 }
 
 fn shared(bytes: Vec<u8>) -> Result<Bytes, AllocError>
@@ -75,6 +85,7 @@ impl<'a, Id: Names + Send + Sync, R: Threads + Wait + Sync> Session<'a, Id, R> {
     ) -> Result<Session<'a, Id, R>, AllocError>
         requires cells { IsNamed Id.cells parts.cells }
         requires outputs { parts.outputs ≡ Id.outputs }
+        ensures { IfOk result (λ session. session ≡ length parts.cells) }
     {
         Ok(Session {
             rt,
@@ -95,8 +106,8 @@ impl<'a, Id: Names + Send + Sync, R: Threads + Wait + Sync> Session<'a, Id, R> {
 
     /// Whether there is such an input partition is asked before anything is read for it.
     fn known_input(&self, input: u64) -> Result<(), Stop>
-        ensures ok { OnOk result (input < self.now.broker) }
-        ensures err { IfErr result (λ reported. (self.now.broker ≤ input) × (reported ≡ stop.Broker Partition)) }
+        ensures ok { OnOk result (input < self.now) }
+        ensures err { IfErr result (λ reported. (self.now ≤ input) × (reported ≡ stop.Broker Partition)) }
     {
         if input < self.broker.inputs() as u64 {
             Ok(())
@@ -149,8 +160,8 @@ impl<'a, Id: Names + Send + Sync, R: Threads + Wait + Sync> Session<'a, Id, R> {
 
     /// Appends the mark of a loaded name.
     fn mark(&mut self, input: u64, name: &Name) -> Result<(Receipt<Id>, u32), Stop>
-        ensures ok { IfOk result (λ marked. (input < self.old.broker) × IsMark input name.now marked.1 marked.0) }
-        ensures err { IfErr result (Refuses self.old.broker input) }
+        ensures ok { IfOk result (λ marked. (input < self.old) × IsMark input name.now marked.1 marked.0) }
+        ensures err { IfErr result (Refuses self.old input) }
     {
         let mut finder = self.taken_finder()?;
         let Some(known) = self.loaded.get(name.text.as_str()) else {
@@ -180,7 +191,7 @@ impl<'a, Id: Names + Send + Sync, R: Threads + Wait + Sync> Session<'a, Id, R> {
         name: RawName,
         receipts: &mut Vec<Receipt<Id>>,
     ) -> Result<(), Stop>
-        ensures { DeployDoes self.old.broker input name receipts.old.items receipts.new.items (O.contents stdout.old) (O.contents stdout.new) result }
+        ensures { DeployDoes self.old input name receipts.old.items receipts.new.items (O.contents stdout.old) (O.contents stdout.new) result }
     {
         match Name::new(name.text.as_str()) {
             None => Err(Stop::Line(ScriptFault::Order)),
@@ -195,7 +206,7 @@ impl<'a, Id: Names + Send + Sync, R: Threads + Wait + Sync> Session<'a, Id, R> {
         name: &Name,
         receipts: &mut Vec<Receipt<Id>>,
     ) -> Result<(), Stop>
-        ensures { DeployDoes self.old.broker input name.now receipts.old.items receipts.new.items (O.contents stdout.old) (O.contents stdout.new) result }
+        ensures { DeployDoes self.old input name.now receipts.old.items receipts.new.items (O.contents stdout.old) (O.contents stdout.new) result }
     {
         self.known_input(input)?;
         make_room(receipts)?;
@@ -219,7 +230,7 @@ impl<'a, Id: Names + Send + Sync, R: Threads + Wait + Sync> Session<'a, Id, R> {
         requires timestamp { timestamp < TIMESTAMP_END }
         requires key { text_size key ≤ MAX_KEY }
         requires value { text_size value ≤ MAX_VALUE }
-        ensures { PutDoes self.now.broker input (put_batch timestamp key value) receipts.old.items receipts.new.items (O.contents stdout.old) (O.contents stdout.new) result }
+        ensures { PutDoes self.now input (put_batch timestamp key value) receipts.old.items receipts.new.items (O.contents stdout.old) (O.contents stdout.new) result }
     {
         make_room(receipts)?;
         let batch = batch_of(self.alloc, timestamp, key, value)?;
@@ -238,7 +249,7 @@ impl<'a, Id: Names + Send + Sync, R: Threads + Wait + Sync> Session<'a, Id, R> {
         input: u64,
         receipts: &mut Vec<Receipt<Id>>,
     ) -> Result<(), Stop>
-        ensures { CloseDoes self.now.broker input receipts.old.items receipts.new.items (O.contents stdout.old) (O.contents stdout.new) result }
+        ensures { CloseDoes self.now input receipts.old.items receipts.new.items (O.contents stdout.old) (O.contents stdout.new) result }
     {
         make_room(receipts)?;
         let receipt = self.broker.close(self.rt, self.alloc, input as usize)?;
@@ -257,7 +268,7 @@ impl<'a, Id: Names + Send + Sync, R: Threads + Wait + Sync> Session<'a, Id, R> {
         source: Source,
         receipts: &mut Vec<Receipt<Id>>,
     ) -> Result<(), Stop>
-        ensures { AppendDoes self.now.broker (F.bytes files.old) input source receipts.old.items receipts.new.items (O.contents stdout.old) (O.contents stdout.new) result }
+        ensures { AppendDoes self.now (F.bytes files.old) input source receipts.old.items receipts.new.items (O.contents stdout.old) (O.contents stdout.new) result }
     {
         let before = receipts.len();
         let appended = self.append_source(files, input, source, receipts);
@@ -273,7 +284,7 @@ impl<'a, Id: Names + Send + Sync, R: Threads + Wait + Sync> Session<'a, Id, R> {
         source: Source,
         receipts: &mut Vec<Receipt<Id>>,
     ) -> Result<(), Stop>
-        ensures { AppendsOf self.now.broker input (bytes_of (F.bytes files.old) source) (unread_of source) receipts.old.items receipts.new.items result }
+        ensures { AppendsOf self.now input (bytes_of (F.bytes files.old) source) (unread_of source) receipts.old.items receipts.new.items result }
     {
         match source {
             Source::Line(bytes) => self.append_bytes(input, &bytes, receipts),
@@ -287,7 +298,7 @@ impl<'a, Id: Names + Send + Sync, R: Threads + Wait + Sync> Session<'a, Id, R> {
         bytes: &[u8],
         receipts: &mut Vec<Receipt<Id>>,
     ) -> Result<(), Stop>
-        ensures { AppendsOf self.now.broker input (Some bytes.now) stop.Memory receipts.old.items receipts.new.items result }
+        ensures { AppendsOf self.now input (Some bytes.now) stop.Memory receipts.old.items receipts.new.items result }
     {
         let mut reader = bytes;
         self.append_from(input, &mut reader, Stop::Memory, receipts)
@@ -301,7 +312,7 @@ impl<'a, Id: Names + Send + Sync, R: Threads + Wait + Sync> Session<'a, Id, R> {
         name: FileName,
         receipts: &mut Vec<Receipt<Id>>,
     ) -> Result<(), Stop>
-        ensures { AppendsOf self.now.broker input (F.bytes files.old name) (stop.File name) receipts.old.items receipts.new.items result }
+        ensures { AppendsOf self.now input (F.bytes files.old name) (stop.File name) receipts.old.items receipts.new.items result }
     {
         match files.open(name.text.as_str()) {
             Err(error) => Err(stop_of_unread(name, cause_of(&error))),
@@ -318,7 +329,7 @@ impl<'a, Id: Names + Send + Sync, R: Threads + Wait + Sync> Session<'a, Id, R> {
         receipts: &mut Vec<Receipt<Id>>,
     ) -> Result<(), Stop>
         requires { IsUnread unread }
-        ensures { AppendsOf self.now.broker input (S.remaining reader.old) unread receipts.old.items receipts.new.items result }
+        ensures { AppendsOf self.now input (S.remaining reader.old) unread receipts.old.items receipts.new.items result }
     {
         let input = input as usize;
         let appended = self
@@ -342,7 +353,7 @@ impl<'a, Id: Names + Send + Sync, R: Threads + Wait + Sync> Session<'a, Id, R> {
 
     /// Runs the programs on every item that the logs have, then prints the report.
     fn go<O: Write>(&self, stdout: &mut O) -> Result<(), Stop>
-        ensures { OnOk result (Reports Id.outputs self.now.broker (O.contents stdout.old) (O.contents stdout.new)) }
+        ensures { OnOk result (Reports Id.outputs self.now (O.contents stdout.old) (O.contents stdout.new)) }
     {
         let ended = self
             .broker
@@ -362,7 +373,7 @@ impl<'a, Id: Names + Send + Sync, R: Threads + Wait + Sync> Session<'a, Id, R> {
         line: &str,
         receipts: &mut Vec<Receipt<Id>>,
     ) -> Result<(), Stop>
-        ensures { LineDoes Id.outputs self.old.broker (F.bytes files.old) (command_of line.now) receipts.old.items receipts.new.items (O.contents stdout.old) (O.contents stdout.new) result }
+        ensures { LineDoes Id.outputs self.old (F.bytes files.old) (command_of line.now) receipts.old.items receipts.new.items (O.contents stdout.old) (O.contents stdout.new) result }
     {
         let Some(command) = parse(self.alloc, line)? else {
             return Err(Stop::Line(ScriptFault::Syntax));
@@ -383,7 +394,7 @@ impl<'a, Id: Names + Send + Sync, R: Threads + Wait + Sync> Session<'a, Id, R> {
         receipts: &mut Vec<Receipt<Id>>,
     ) -> Result<(), Stop>
         requires { is_in_range command ≡ true }
-        ensures { Does Id.outputs self.old.broker (F.bytes files.old) command receipts.old.items receipts.new.items (O.contents stdout.old) (O.contents stdout.new) result }
+        ensures { Does Id.outputs self.old (F.bytes files.old) command receipts.old.items receipts.new.items (O.contents stdout.old) (O.contents stdout.new) result }
     {
         match command {
             Command::Partitions(..) => Err(Stop::Line(ScriptFault::Order)),
