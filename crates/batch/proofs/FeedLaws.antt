@@ -1,6 +1,6 @@
 -- What a feed gives of its bytes, which are in two parts, by what is cut off the first.
-use Rattle.std.proofs.Common.{◌≡◌, ◌≢◌, ℕ, ◌≤◌, List, ◌++◌, length, take, drop, Ok, Err, true, false, refl, sym, ap, subst, ◌∙◌}
-use Rattle.std.specs.Prelude.{Some, None}
+use Rattle.std.proofs.Common.{◌≡◌, ◌≢◌, ℕ, ◌≤◌, List, [], ◌∷◌, ◌++◌, length, take, drop, Ok, Err, true, false, refl, sym, ap, subst, ◌∙◌}
+use Rattle.std.specs.Prelude.{◌↔◌, Some, None}
 use Rattle.std.proofs.lemmas.List.{drop-append-le}
 use Rattle.wire_spec.specs.declared.{fault.BatchFault.BatchFault, record.Batch.Batch}
 use Rattle.wire_spec.specs.declared.fault.BatchFault.TheVariants.{Short, Memory}
@@ -37,3 +37,8 @@ pub gives_refusal : (old after : Stream) (ready next new : List ℕ) (fault : Ba
 gives_refusal old after ready next new fault old_is after_is whole (refusal, new_is) =
     subst (λ (s : Stream). Gives s (Err fault) after) (sym old_is)
     (λ other. ((refusal other).0, batch_at-append ready next whole ∙ (refusal other).1), after_is ∙ ap (λ (front : List ℕ). after_fault (Open (front ++ next)) fault) new_is)
+
+pub none_of : (ready next : List ℕ) → (ready ++ next ≡ []) ↔ ((length ready ≡ 0) × (length next ≡ 0))
+none_of [] [] = (λ e. (refl, refl), λ e. refl)
+none_of [] (byte ∷ next) = (λ e. absurd cc, λ e. absurd cc)
+none_of (byte ∷ ready) next = (λ e. absurd cc, λ e. absurd cc)

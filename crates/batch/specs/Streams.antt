@@ -1,5 +1,5 @@
 -- A stream of record batches that arrives in pieces of any size.
-use Rattle.std.specs.Prelude.{◌≡◌, ◌≢◌, ℕ, ◌≤◌, Bool, true, false, List, ◌++◌, length, drop, Option, Some, None, Result, Ok, Err}
+use Rattle.std.specs.Prelude.{◌≡◌, ◌≢◌, ℕ, ◌≤◌, Bool, true, false, List, [], ◌++◌, length, drop, Option, Some, None, Result, Ok, Err}
 use Rattle.wire_spec.specs.declared.fault.BatchFault.{BatchFault}
 use Rattle.wire_spec.specs.declared.fault.BatchFault.TheVariants.{Short, Memory}
 use Rattle.wire_spec.specs.declared.record.Batch.{Batch}
@@ -9,6 +9,11 @@ use Rattle.wire_spec.specs.BatchReading.{IsPart, batch_at}
 pub data Stream : Type 0 where
   Open : List ℕ → Stream
   Ended : BatchFault → Stream
+
+-- the bytes that were fed and not given yet
+abbrev pub fed : Stream → List ℕ
+fed (Open bytes) = bytes
+fed (Ended fault) = []
 
 -- the stream with a piece more; one that a fault ended keeps no bytes
 abbrev pub with_piece : Stream → List ℕ → Stream

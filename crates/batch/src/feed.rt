@@ -4,7 +4,7 @@ ghost use Rattle.std.specs.Prelude.{◌≡◌, ◌≢◌, ◌↔◌, [], ◌++�
 ghost use Rattle.wire_spec.specs.declared.fault.BatchFault.TheVariants.{Short};
 ghost use Rattle.wire_spec.specs.BatchReading.{IsPart};
 ghost use Rattle.wire_spec.specs.BatchSpelling.{BatchFits};
-ghost use Rattle.batch.specs.Streams.{Open, with_piece, after_fault, Gives, Cuts, IsReady};
+ghost use Rattle.batch.specs.Streams.{Open, fed, with_piece, after_fault, Gives, Cuts, IsReady};
 
 use crate::fields::i32_at;
 use crate::limits::{FRONT, MAX_BATCH};
@@ -48,11 +48,12 @@ impl Feed {
         }
     }
 
-    /// Whether every byte that was fed was given, and no fault ended the stream.
+    /// Whether no byte is kept: every one that was fed was given, or a fault ended the stream.
+    #[tactic(auto, using(crate::proofs::FeedLaws::none_of))]
     pub fn is_empty(&self) -> bool
-        ensures { IsTrue result ↔ (self.now ≡ Open []) }
+        ensures { IsTrue result ↔ (fed self.now ≡ []) }
     {
-        self.fault.is_none() && self.ready.is_empty() && self.next.is_empty()
+        self.fault.is_some() || (self.ready.is_empty() && self.next.is_empty())
     }
 
     /// Takes a piece of the stream: the bytes after those that were fed before. Its bytes are copied

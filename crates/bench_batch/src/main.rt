@@ -1,11 +1,11 @@
-//! Measures how fast `batch` reads and writes batches. Given how many times to do so in a turn, it takes
+//! Measures how fast `batch` reads and writes batches, and reads them of a stream in pieces. Given how many times to do so in a turn, it takes
 //! ten turns with each batch and prints the bytes and records a second of the best; given nothing, it
 //! prints nothing.
 #![tactic(auto)]
 
 ghost use Rattle.wire_spec.specs.BatchSpelling.{BatchFits};
 
-use batch::{Batch, Headers, Records, decode, encode, fits};
+use batch::{Batch, Feed, Headers, Records, decode, encode, fits};
 use bytes::Bytes;
 use kafka_record::{Header, Record};
 use std::alloc::{AllocError, Global};
@@ -16,6 +16,9 @@ use std::time::{Duration, Instant};
 use std::{env, io};
 
 const TURNS: u32 = 10;
+
+/// How many bytes of a stream are fed at once. No batch here is shorter.
+const PIECE: usize = 65_536;
 
 /// What the records of a batch are like; lengths are of bytes.
 struct Shape {
@@ -144,6 +147,28 @@ fn read_turn(alloc: Global, bytes: &Bytes, times: u32) -> io::Result<u64> {
     Ok(sum)
 }
 
+/// Reads the batch of a stream that repeats it `times` times, and sums what was read.
+fn feed_turn(alloc: Global, bytes: &[u8], times: u32) -> io::Result<u64> {
+    let mut feed = Feed::new(alloc);
+    let mut sum: u64 = 0;
+    for _ in 0..times {
+        for piece in bytes.chunks(PIECE) {
+            sum = sum.wrapping_add(fed(&mut feed, piece)?);
+        }
+    }
+    Ok(sum)
+}
+
+/// Feeds a piece, and sums the batch that ends in it, if one does.
+fn fed(feed: &mut Feed, piece: &[u8]) -> io::Result<u64> {
+    feed.feed(piece)?;
+    match feed.next() {
+        Ok(Some(batch)) => Ok(sum_of_batch(&batch)),
+        Ok(None) => Ok(0),
+        Err(_) => Err(ErrorKind::InvalidData.into()),
+    }
+}
+
 /// Writes the batch `times` times, and sums how many bytes there are.
 fn write_turn(alloc: Global, batch: &Batch, times: u32) -> io::Result<u64>
     requires { BatchFits batch.now }
@@ -168,6 +193,23 @@ fn shortest_read<R: Clock>(
     for _ in 0..TURNS {
         let start = Instant::now(rt)?;
         sum = sum.wrapping_add(read_turn(alloc, bytes, times)?);
+        shortest = shortest.min(start.elapsed(rt)?);
+    }
+    Ok((shortest, sum))
+}
+
+/// The shortest turn of reading from a stream, and the sum of all.
+fn shortest_feed<R: Clock>(
+    rt: &R,
+    alloc: Global,
+    bytes: &Bytes,
+    times: u32,
+) -> io::Result<(Duration, u64)> {
+    let mut shortest = Duration::MAX;
+    let mut sum: u64 = 0;
+    for _ in 0..TURNS {
+        let start = Instant::now(rt)?;
+        sum = sum.wrapping_add(feed_turn(alloc, bytes, times)?);
         shortest = shortest.min(start.elapsed(rt)?);
     }
     Ok((shortest, sum))
@@ -220,6 +262,8 @@ fn compare<R: Print + Clock>(rt: &R, alloc: Global, shape: &Shape, times: u32) -
     println!(rt; "{}, {} bytes in all", shape.name, bytes.len())?;
     let (took, sum) = shortest_read(rt, alloc, &bytes, times)?;
     show(rt, "  decode", took, times, bytes.len(), shape.records, sum)?;
+    let (took, sum) = shortest_feed(rt, alloc, &bytes, times)?;
+    show(rt, "  feed", took, times, bytes.len(), shape.records, sum)?;
     let (took, sum) = shortest_write(rt, alloc, &batch, times)?;
     show(rt, "  encode", took, times, bytes.len(), shape.records, sum)
 }

@@ -6,4 +6,6 @@ mod heads;
 #[cfg(test)]
 mod logs;
 #[cfg(test)]
+mod streams;
+#[cfg(test)]
 mod threads;

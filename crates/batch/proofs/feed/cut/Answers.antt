@@ -4,7 +4,7 @@ use Rattle.wire_spec.specs.BatchReading.{batch_at}
 use Rattle.batch.proofs.FeedLaws.{is_refusal}
 use Rattle.batch.proofs.feed.cut.Goals as goal
 
-pub returns-in-Err : goal.returns-in-Err
-returns-in-Err c =
+pub returns-in-Err-clause-cuts : goal.returns-in-Err-clause-cuts
+returns-in-Err-clause-cuts c =
     let exact : c.in-Err.fault ≢ Memory → batch_at c.args.ready.now ≡ Err c.in-Err.fault = search rules in
     (is_refusal c.args.ready.now c.in-Err.fault c.requires exact, refl)

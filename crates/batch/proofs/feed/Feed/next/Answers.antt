@@ -5,23 +5,23 @@ use Rattle.batch.specs.Streams.{Stream, Open, stream, after_fault, Gives, Cuts, 
 use Rattle.batch.proofs.FeedLaws.{gives_none, gives_batch, gives_refusal}
 use Rattle.batch.proofs.feed.Feed.next.Goals as goal
 
-pub returns-then-not-branch : goal.returns-then-not-branch
-returns-then-not-branch c =
+pub returns-then-not-branch-clause-gives : goal.returns-then-not-branch-clause-gives
+returns-then-not-branch-clause-gives c =
     let old_is : c.args.self.now ≡ Open (c.fill.new.ready ++ c.fill.new.next.items) = search rules in
     let new_is : stream c.fill.new.ready c.fill.new.next.items c.self.inside.fault ≡ Open (c.fill.new.ready ++ c.fill.new.next.items) = search rules in
     let part : IsReady false c.fill.new.ready c.fill.new.next.items = search rules in
     gives_none c.args.self.now _ c.fill.new.ready c.fill.new.next.items old_is new_is part
 
-pub returns-in-Ok : goal.returns-in-Ok
-returns-in-Ok c =
+pub returns-in-Ok-clause-gives : goal.returns-in-Ok-clause-gives
+returns-in-Ok-clause-gives c =
     let old_is : c.args.self.now ≡ Open (c.fill.new.ready ++ c.fill.new.next.items) = search rules in
     let whole : IsReady true c.fill.new.ready c.fill.new.next.items = search rules in
     let cut_is : Cuts c.fill.new.ready (Ok c.in-Ok.batch) c.cut.new.ready = search rules in
     let after_is : stream c.cut.new.ready c.fill.new.next.items c.self.inside.fault ≡ Open (c.cut.new.ready ++ c.fill.new.next.items) = search rules in
     gives_batch c.args.self.now _ c.fill.new.ready c.fill.new.next.items c.cut.new.ready c.in-Ok.batch old_is after_is whole cut_is
 
-pub returns-in-Err : goal.returns-in-Err
-returns-in-Err c =
+pub returns-in-Err-clause-gives : goal.returns-in-Err-clause-gives
+returns-in-Err-clause-gives c =
     let old_is : c.args.self.now ≡ Open (c.fill.new.ready ++ c.fill.new.next.items) = search rules in
     let whole : IsReady true c.fill.new.ready c.fill.new.next.items = search rules in
     let cut_is : Cuts c.fill.new.ready (Err c.in-Err.fault) c.cut.new.ready = search rules in
