@@ -1,6 +1,6 @@
 -- What a line's command does, the line does.
-use Rattle.std.proofs.Common.{◌≡◌, List, ℕ, Result, Err, refl, sym, subst, inl, ◌∙◌}
-use Rattle.std.specs.Prelude.{Option, Some, None, IfOk, ⊤}
+use Rattle.std.proofs.Common.{◌≡◌, List, [], ℕ, Result, Ok, Err, refl, sym, subst, inl}
+use Rattle.std.specs.Prelude.{Option, Some, None, IfOk, IsErrAnd, ⊤}
 use Rattle.std.specs.Io.KnownBytes.{Appends}
 use Rattle.std.proofs.KnownBytes.{Appends-nil}
 use Rattle.part_log.specs.Parts.{Received}
@@ -19,10 +19,6 @@ pub begins : {E : Type 0} (said : Option Command) (command : Command) (made : Re
     → Some command ≡ said → IfOk made (λ parts. Begins (Some command) parts) → IfOk made (λ parts. Begins said parts)
 begins said command made is given = subst (λ (s : Option Command). IfOk made (λ parts. Begins s parts)) is given
 
-pub line_does : (outputs inputs : ℕ) (files : List ℕ → Option (List ℕ)) (said : Option Command) (command : Command) (old new : List Received) (before after : Option (List ℕ)) (result : Result ⊤ Stop)
-    → Some command ≡ said → Does outputs inputs files command old new before after result → LineDoes outputs inputs files said old new before after result
-line_does outputs inputs files said command old new before after result is given = subst (λ (s : Option Command). LineDoes outputs inputs files s old new before after result) is given
-
 -- ---- A line that is refused before anything is done
 
 -- the line is refused, or memory ran out
@@ -40,10 +36,10 @@ refuses_early inputs input (stop.Line fault) early = tt
 refuses_early inputs input stop.Memory early = tt
 refuses_early inputs input other early = absurd early
 
-ends_early : (inputs input : ℕ) (unread : Stop) (old : List Received) (rest : List ℕ) (reason : Stop) → IsEarly reason → EndsAt inputs input unread old old rest (Err reason)
-ends_early inputs input unread old rest (stop.Line fault) early = refl
-ends_early inputs input unread old rest stop.Memory early = tt
-ends_early inputs input unread old rest other early = absurd early
+ends_early : (inputs input : ℕ) (cause : Stop) (old : List Received) (rest : List ℕ) (reason : Stop) → IsEarly reason → EndsAt inputs input cause old old rest (Err reason)
+ends_early inputs input cause old rest (stop.Line fault) early = refl
+ends_early inputs input cause old rest stop.Memory early = tt
+ends_early inputs input cause old rest other early = absurd early
 
 prints_none : (before : Option (List ℕ)) (reason : Stop) → IsEarly reason → Prints before before [] (Err reason)
 prints_none before (stop.Line fault) early = Appends-nil before
@@ -53,9 +49,9 @@ prints_none before other early = absurd early
 appends_none : (inputs : ℕ) (files : List ℕ → Option (List ℕ)) (input : ℕ) (source : Source) (old : List Received) (before : Option (List ℕ)) (reason : Stop)
     → IsEarly reason → AppendDoes inputs files input source old old before before (Err reason)
 appends_none inputs files input source old before reason early =
-    let unread = unread_of source in
+    let cause = unread_of source in
     record {
-      appends = nothing inputs input (bytes_of files source) unread old old reason refl (λ rest. ends_early inputs input unread old rest reason early);
+      appends = nothing inputs input (bytes_of files source) cause old old reason refl (λ rest. ends_early inputs input cause old rest reason early);
       printed = prints_none before reason early;
     }
 
@@ -71,10 +67,7 @@ early outputs inputs files (Some (Close input)) old before reason is = inl ((ref
 early outputs inputs files (Some (Fetch output place max)) old before reason is = (refl, tt)
 early outputs inputs files (Some Go) old before reason is = (refl, tt)
 
-pub line_refused : (outputs inputs : ℕ) (files : List ℕ → Option (List ℕ)) (said : Option Command) (old : List Received) (before : Option (List ℕ)) (fault : ScriptFault)
-    → LineDoes outputs inputs files said old old before before (Err (stop.Line fault))
-line_refused outputs inputs files said old before fault = early outputs inputs files said old before (stop.Line fault) tt
-
-pub no_memory : (outputs inputs : ℕ) (files : List ℕ → Option (List ℕ)) (said : Option Command) (old : List Received) (before : Option (List ℕ))
-    → LineDoes outputs inputs files said old old before before (Err stop.Memory)
-no_memory outputs inputs files said old before = early outputs inputs files said old before stop.Memory tt
+pub no_memory : (outputs inputs : ℕ) (files : List ℕ → Option (List ℕ)) (said : Option Command) (old : List Received) (before : Option (List ℕ)) (result : Result ⊤ Stop)
+    → IsErrAnd result (λ reason. reason ≡ stop.Memory) → LineDoes outputs inputs files said old old before before result
+no_memory outputs inputs files said old before (Ok done) is = absurd is
+no_memory outputs inputs files said old before (Err reason) is = early outputs inputs files said old before reason (subst IsEarly (sym is) tt)

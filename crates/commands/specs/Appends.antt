@@ -46,23 +46,23 @@ IsRefusal inputs input old new rest (BookRefuses fault) = ⊥
 -- How a line ends that appends batches, where this is left of their bytes: nothing is left, or they begin with no batch, or
 -- with one that the broker refuses; or they can't be read. Nothing is said where standard output or memory failed.
 abbrev pub EndsAt : ℕ → ℕ → Stop → List Received → List Received → List ℕ → Result ⊤ Stop → Type 0
-EndsAt inputs input unread old new rest (Ok done) = (input < inputs) × (rest ≡ [])
-EndsAt inputs input unread old new rest (Err (stop.Line fault)) = new ≡ old
-EndsAt inputs input unread old new rest (Err (stop.Broker fault)) = IsRefusal inputs input old new rest fault
-EndsAt inputs input unread old new rest (Err (stop.Batch fault)) = (input < inputs) × (rest ≢ []) × (batch_at rest ≡ Err fault)
-EndsAt inputs input unread old new rest (Err (stop.File name)) = stop.File name ≡ unread
-EndsAt inputs input unread old new rest (Err stop.Output) = ⊤
-EndsAt inputs input unread old new rest (Err stop.Thread) = ⊥
-EndsAt inputs input unread old new rest (Err stop.Memory) = ⊤
+EndsAt inputs input cause old new rest (Ok done) = (input < inputs) × (rest ≡ [])
+EndsAt inputs input cause old new rest (Err (stop.Line fault)) = new ≡ old
+EndsAt inputs input cause old new rest (Err (stop.Broker fault)) = IsRefusal inputs input old new rest fault
+EndsAt inputs input cause old new rest (Err (stop.Batch fault)) = (input < inputs) × (rest ≢ []) × (batch_at rest ≡ Err fault)
+EndsAt inputs input cause old new rest (Err (stop.File name)) = stop.File name ≡ cause
+EndsAt inputs input cause old new rest (Err stop.Output) = ⊤
+EndsAt inputs input cause old new rest (Err stop.Thread) = ⊥
+EndsAt inputs input cause old new rest (Err stop.Memory) = ⊤
 
 -- The batches that some bytes begin with, which are these where they are known, were appended to the log of an input partition
 -- one after the other, up to the end of the bytes or to a fault, and their receipts were added to a list.
-pub record AppendsOf (inputs input : ℕ) (known : Option (List ℕ)) (unread : Stop) (old new : List Received) (result : Result ⊤ Stop) : Type 0 where
+pub record AppendsOf (inputs input : ℕ) (known : Option (List ℕ)) (cause : Stop) (old new : List Received) (result : Result ⊤ Stop) : Type 0 where
   pub bytes : List ℕ
   pub known_is : IfSome known (λ all. bytes ≡ all)
   pub rest : List ℕ
   pub appended : Appended input bytes old new rest
-  pub ends : EndsAt inputs input unread old new rest result
+  pub ends : EndsAt inputs input cause old new rest result
 
 -- A text was printed, unless standard output or memory failed; then nothing is said of what was.
 abbrev pub Prints : Option (List ℕ) → Option (List ℕ) → List ℕ → Result ⊤ Stop → Type 0

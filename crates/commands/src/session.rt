@@ -10,7 +10,7 @@ ghost use Rattle.commands.specs.declared.stop.Stop.TheVariants as stop;
 ghost use Rattle.commands.specs.Appends.{append_lines, bytes_of, unread_of, AppendsOf, AppendDoes};
 ghost use Rattle.commands.specs.Puts.{put_batch};
 ghost use Rattle.commands.specs.Sessions.{IsMark, IsImageIn, Loads, Fetches, Reports, Refuses, DeployDoes, PutDoes, CloseDoes, Does, LineDoes};
-ghost use Rattle.commands.specs.Stops.{IsUnread, IsUnwritten};
+ghost use Rattle.commands.specs.Stops.{IsUnread, IsUnwritten, HasNoFinder};
 
 use crate::batches::batch_of;
 use crate::files::Files;
@@ -85,7 +85,7 @@ impl<'a, Id: Names + Send + Sync, R: Threads + Wait + Sync> Session<'a, Id, R> {
     ) -> Result<Session<'a, Id, R>, AllocError>
         requires cells { IsNamed Id.cells parts.cells }
         requires outputs { parts.outputs ≡ Id.outputs }
-        ensures { IfOk result (λ session. session ≡ length parts.cells) }
+        ensures { IfOk result (λ session. session ≡ length parts.entry.cells) }
     {
         Ok(Session {
             rt,
@@ -151,7 +151,10 @@ impl<'a, Id: Names + Send + Sync, R: Threads + Wait + Sync> Session<'a, Id, R> {
     }
 
     /// The finder of the session, for whoever takes it to give it back. The first call makes it.
-    fn taken_finder(&mut self) -> Result<Finder, Stop> {
+    fn taken_finder(&mut self) -> Result<Finder, Stop>
+        ensures same { self.new ≡ self.old }
+        ensures err { IfErr result HasNoFinder }
+    {
         match self.finder.take() {
             Some(finder) => Ok(finder),
             None => Ok(self.broker.finder(self.rt, self.alloc)?),
@@ -159,6 +162,7 @@ impl<'a, Id: Names + Send + Sync, R: Threads + Wait + Sync> Session<'a, Id, R> {
     }
 
     /// Appends the mark of a loaded name.
+    #[tactic(auto, using(crate::proofs::Marks::no_finder))]
     fn mark(&mut self, input: u64, name: &Name) -> Result<(Receipt<Id>, u32), Stop>
         ensures ok { IfOk result (λ marked. (input < self.old) × IsMark input name.now marked.1 marked.0) }
         ensures err { IfErr result (Refuses self.old input) }
@@ -176,10 +180,7 @@ impl<'a, Id: Names + Send + Sync, R: Threads + Wait + Sync> Session<'a, Id, R> {
             known,
         );
         self.finder = Some(finder);
-        match marked {
-            Ok(marked) => Ok(marked),
-            Err(fault) => Err(Stop::from(fault)),
-        }
+        Ok(marked?)
     }
 
     /// Deploys a loaded name, and prints where its mark is. No text that is too long for a name is
