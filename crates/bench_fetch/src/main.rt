@@ -7,7 +7,6 @@
 mod log;
 mod turns;
 
-ghost use Rattle.std.specs.Prelude.{◌≡◌};
 ghost use Rattle.broker.specs.Layouts.{IsNamed};
 
 use crate::log::fill;
@@ -72,8 +71,7 @@ fn compare<Id: Names + Send + Sync, R: Threads + Wait + Print + Clock + Sync>(
     shape: &Shape,
     times: u32,
 ) -> io::Result<()>
-    requires cells { IsNamed Id.cells parts.cells }
-    requires outputs { parts.outputs ≡ Id.outputs }
+    requires { IsNamed Id.cells Id.inputs Id.outputs parts }
 {
     let broker: Broker<Id, Catalogue<&R>> = Broker::new(alloc, parts)?;
     let Some(()) = fill(rt, alloc, &broker, shape) else {

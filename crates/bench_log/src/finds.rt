@@ -1,6 +1,5 @@
 //! How many programs readers find a second while a writer loads.
 
-ghost use Rattle.std.specs.Prelude.{◌≡◌};
 ghost use Rattle.broker.specs.Layouts.{IsNamed};
 
 use broker::{Broker, Parts};
@@ -18,7 +17,7 @@ use std::time::Instant;
 use std::{io, thread};
 
 /// The name of the program.
-const NAME: &str = "fwd";
+pub(crate) const NAME: &str = "fwd";
 
 /// How often a reader finds.
 const FINDS: u64 = 200_000;
@@ -27,7 +26,7 @@ const FINDS: u64 = 200_000;
 const LOADS: u64 = 4_000;
 
 /// mov64 r1, 0; call 3; exit
-const FORWARD: [u8; 24] = [
+pub(crate) const FORWARD: [u8; 24] = [
     0xb7, 1, 0, 0, 0, 0, 0, 0, 0x85, 0, 0, 0, 3, 0, 0, 0, 0x95, 0, 0, 0, 0, 0, 0, 0,
 ];
 
@@ -100,8 +99,7 @@ fn run<Id: Names + Send + Sync, R: Threads + Wait + Clock + Sync>(
     parts: Parts<Catalogue<&R>>,
     readers: usize,
 ) -> Result<Vec<Option<Work>>, AllocError>
-    requires cells { IsNamed Id.cells parts.cells }
-    requires outputs { parts.outputs ≡ Id.outputs }
+    requires { IsNamed Id.cells Id.inputs Id.outputs parts }
 {
     let made: Broker<Id, Catalogue<&R>> = Broker::new(alloc, parts)?;
     let (broker, ended) = (&made, &AtomicU64::new(0));

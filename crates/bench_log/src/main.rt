@@ -1,12 +1,13 @@
 //! Measures how fast threads append to logs and find programs. Given how many turns to take, it fills
 //! logs of several sizes by one, two and four producers and prints what an append took in the best
-//! turn, and then how many programs one and four readers find a second while a writer loads; given
-//! nothing, it prints nothing.
+//! turn, then how many programs one and four readers find a second while a writer loads, and what a
+//! load takes; given nothing, it prints nothing.
 #![tactic(auto)]
 
 mod finds;
+mod loads;
 
-ghost use Rattle.std.specs.Prelude.{◌≡◌, ◌≤◌};
+ghost use Rattle.std.specs.Prelude.{◌≤◌};
 ghost use Rattle.log_spec.specs.Logs.{FitsLog};
 ghost use Rattle.broker.specs.Layouts.{IsNamed, IsCount};
 
@@ -14,7 +15,7 @@ use broker::{Broker, Parts};
 use bytes::Bytes;
 use catalogue::Catalogue;
 use part_log::{LoggedBatch, Names};
-use std::alloc::{AllocError, Global};
+use std::alloc::{Alloc, AllocError, Global};
 use std::io::ErrorKind;
 use std::marker::Brand;
 use std::num::nearest_u64_to_f64;
@@ -95,8 +96,7 @@ fn turn<Id: Names + Send + Sync, R: Threads + Wait + Clock + Sync>(
     parts: Parts<Catalogue<&R>>,
     producers: usize,
 ) -> io::Result<f64>
-    requires cells { IsNamed Id.cells parts.cells }
-    requires outputs { parts.outputs ≡ Id.outputs }
+    requires { IsNamed Id.cells Id.inputs Id.outputs parts }
 {
     let made: Broker<Id, Catalogue<&R>> = Broker::new(alloc, parts)?;
     let broker = &made;
@@ -143,8 +143,7 @@ fn ends<Id: Names, R: Wait + Clock>(
     alloc: Global,
     parts: Parts<Catalogue<&R>>,
 ) -> io::Result<(f64, f64)>
-    requires cells { IsNamed Id.cells parts.cells }
-    requires outputs { parts.outputs ≡ Id.outputs }
+    requires { IsNamed Id.cells Id.inputs Id.outputs parts }
 {
     let broker: Broker<Id, Catalogue<&R>> = Broker::new(alloc, parts)?;
     let start = Instant::now(rt)?;
@@ -171,7 +170,7 @@ fn measure_ends<R: Wait + Clock + Print>(rt: &R, alloc: Global, turns: u32) -> i
     )
 }
 
-fn measure_all<R: Threads + Wait + Clock + Print + Sync>(
+fn measure_all<R: Threads + Wait + Clock + Files + Alloc + Print + Sync>(
     rt: &R,
     alloc: Global,
     turns: u32,
@@ -185,7 +184,8 @@ fn measure_all<R: Threads + Wait + Clock + Print + Sync>(
         }
     }
     finds::measure(rt, alloc, 1, turns)?;
-    finds::measure(rt, alloc, 4, turns)
+    finds::measure(rt, alloc, 4, turns)?;
+    loads::measure(rt, alloc)
 }
 
 fn main(rt: HostRuntime) -> io::Result<()> {

@@ -1,6 +1,5 @@
 //! What a step of a book takes, after few and after many items.
 
-ghost use Rattle.std.specs.Prelude.{◌≡◌};
 ghost use Rattle.broker.specs.Layouts.{IsNamed};
 
 use crate::appends::{Open, Target, are_done, deploy, fill};
@@ -26,7 +25,7 @@ const STEPS: usize = 1_000;
 /// Takes the next item into a book; whether there was one.
 fn step<Id: Names, C>(alloc: Global, broker: &Broker<Id, C>, book: &mut Book<Id>) -> bool {
     let _some = broker.inputs();
-    if book.inputs() == 0 || book.done(0) >= broker.cells(0) {
+    if book.done(0) >= broker.cells(0) {
         return false;
     }
     let mut note = broker.note(0, book.done(0));
@@ -44,8 +43,7 @@ fn after<Id: Names + Send + Sync, R: Threads + Wait + Clock + Sync>(
     parts: Parts<Catalogue<&R>>,
     items: usize,
 ) -> Option<f64>
-    requires cells { IsNamed Id.cells parts.cells }
-    requires outputs { parts.outputs ≡ Id.outputs }
+    requires { IsNamed Id.cells Id.inputs Id.outputs parts }
 {
     let broker: Broker<Id, Catalogue<&R>> = Broker::new(alloc, parts).ok()?;
     deploy(rt, alloc, &broker, 0, Target::First)?;

@@ -1,6 +1,5 @@
 //! How many records a second workers make rows of.
 
-ghost use Rattle.std.specs.Prelude.{◌≡◌};
 ghost use Rattle.broker.specs.Layouts.{IsNamed, IsCount};
 
 use crate::appends::{Open, RECORDS, Target, are_done, deploy, fill, rows};
@@ -72,8 +71,7 @@ fn turn<Id: Names + Send + Sync, R: Threads + Wait + Clock + Sync>(
     target: Target,
     batches: usize,
 ) -> Option<Times>
-    requires cells { IsNamed Id.cells parts.cells }
-    requires outputs { parts.outputs ≡ Id.outputs }
+    requires { IsNamed Id.cells Id.inputs Id.outputs parts }
 {
     let broker: Broker<Id, Catalogue<&R>> = Broker::new(alloc, parts).ok()?;
     let each = batches / broker.inputs();

@@ -1,5 +1,5 @@
 -- What a broker is made of.
-use Rattle.std.specs.Prelude.{◌≡◌, ℕ, ◌≤◌, List, [], get_or, Some, slice_get}
+use Rattle.std.specs.Prelude.{◌≡◌, ℕ, ◌≤◌, List, [], length, get_or, Some, slice_get}
 
 -- the names of the cells of each input partition, and how many output partitions there are
 pub record Layout : Type 0 where
@@ -14,8 +14,14 @@ abbrev pub IsCount : ℕ → Type 0
 IsCount n = (1 ≤ n) × (n ≤ 64)
 
 -- the cells of each input partition have the names that are given to them, and past the last one there is none
-abbrev pub IsNamed : (ℕ → List ℕ) → List (List ℕ) → Type 0
-IsNamed names cells = (input : ℕ) → names input ≡ get_or cells input []
+abbrev pub AreNamed : (ℕ → List ℕ) → List (List ℕ) → Type 0
+AreNamed names cells = (input : ℕ) → names input ≡ get_or cells input []
+
+-- a broker's cells have these names, and it has this number of input and output partitions
+pub record IsNamed (cells : ℕ → List ℕ) (inputs outputs : ℕ) (parts : Layout) : Type 0 where
+  pub cells_are : AreNamed cells parts.cells
+  pub inputs_are : inputs ≡ length parts.cells
+  pub outputs_are : outputs ≡ parts.outputs
 
 -- past the last input partition no cell is named
 abbrev pub IsWhole : (ℕ → List ℕ) → ℕ → Type 0

@@ -26,7 +26,7 @@ impl<Id: Names, C> Broker<Id, C> {
         known: &Known,
     ) -> Result<(Receipt<Id>, u32), BrokerFault>
         ensures deployed { DeployIs self.now input name.now known.now finder.old result finder.new }
-        ensures never_back { (other : List ℕ) → IsNoOlder (among finder.old other) (among finder.new other) }
+        ensures never_back { (other : List ℕ) → IsNoOlder (among finder.old.versions other) (among finder.new.versions other) }
     {
         let log = self.log(input)?;
         let (version, program) = match finder.find(alloc, name, known) {

@@ -20,7 +20,7 @@ impl<Id: Names, C> Broker<Id, C> {
         place: usize,
         max: usize,
     ) -> Result<Option<Vec<u8>>, BrokerFault>
-        ensures ok { IfOk result (λ found. IsFetch Id.outputs output place max (option_map (λ bytes. bytes.items) found)) }
+        ensures ok { IfOk result (λ found. IsFetch Id.cells Id.inputs Id.outputs output place max (option_map (λ bytes. bytes.items) found)) }
         ensures err { IfErr result (IsFetchFault Id.outputs output) }
     {
         if output >= self.outputs() {
@@ -39,7 +39,7 @@ fn fetched<Id: Names>(
     max: usize,
 ) -> Result<Option<Vec<u8>>, BrokerFault>
     requires { output < Id.outputs }
-    ensures ok { IfOk result (λ found. IsFetch Id.outputs output place max (option_map (λ bytes. bytes.items) found)) }
+    ensures ok { IfOk result (λ found. IsFetch Id.cells Id.inputs Id.outputs output place max (option_map (λ bytes. bytes.items) found)) }
     ensures err { IfErr result (IsFetchFault Id.outputs output) }
 {
     if book.output() != output {

@@ -33,7 +33,7 @@ impl<Id: Names, W: Wait + Drop> Broker<Id, Catalogue<W>> {
 
     /// A finder, which has seen no version yet.
     pub fn finder<R: Wait>(&self, rt: &R, alloc: Global) -> Result<Finder, BrokerFault>
-        ensures ok { IfOk result (λ finder. finder ≡ []) }
+        ensures ok { IfOk result (λ finder. finder ≡ record { versions = []; readings = record { times = 0; loads = [] } }) }
         ensures err { IfErr result IsNoReader }
     {
         let catalogue = self.catalogue().lock(rt);

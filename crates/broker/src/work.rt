@@ -1,6 +1,9 @@
 //! What the worker of an input partition does.
 
-ghost use Rattle.std.specs.Prelude.{◌≡◌, ◌<◌, ◌+◌, length, IfOk};
+ghost use Rattle.std.specs.Prelude.{◌≡◌, ◌<◌, ◌+◌, List, length, IfOk};
+ghost use Rattle.log_spec.specs.declared.row.Row.{Row};
+ghost use Rattle.worker.specs.Processed.{AreInTurn};
+ghost use Rattle.worker.specs.Walks.{AreRowsOfLast};
 
 use crate::broker::Broker;
 use crate::ended::{Ended, Until};
@@ -50,7 +53,7 @@ impl<'a, Id: Names, C, R: Wait, G: Gate> Worker<'a, Id, C, R, G> {
     /// Takes items until the worker is to end, or ends early. Returns how many are done then.
     fn take_all(&self, until: Until) -> Result<usize, Ended> {
         let log = self.broker.log(self.input).map_err(Ended::Fault)?;
-        let _few = self.broker.inputs();
+        let _all = self.broker.inputs();
         let mut walk = self.done_everywhere().map_err(Ended::Fault)?;
         let trail = self
             .broker
@@ -142,7 +145,7 @@ impl<'a, Id: Names, C, R: Wait, G: Gate> Worker<'a, Id, C, R, G> {
         requires walk { walk.now.partition ≡ log.now }
         requires few { log.now < 64 }
         requires item { 0 < length walk.now.items }
-        ensures { IfOk result (λ deliveries. length deliveries.items ≡ Id.outputs) }
+        ensures { IfOk result (λ deliveries. (all : List (List Row)) × AreRowsOfLast Id.outputs walk.now all × AreInTurn walk.now all deliveries.items) }
     {
         let results = process(self.alloc, walk, log, self.broker.outputs())?;
         results.into_deliveries(self.alloc)
@@ -163,6 +166,7 @@ impl<'a, Id: Names, C, R: Wait, G: Gate> Worker<'a, Id, C, R, G> {
 
     /// A walk over the items that are done in every output partition.
     fn done_everywhere(&self) -> Result<Walk<Id>, BrokerFault>
+        requires { self.now.input < Id.inputs }
         ensures { IfOk result (λ walk. walk.partition ≡ self.now.input) }
     {
         let outputs = self.broker.outputs();
@@ -178,11 +182,12 @@ impl<'a, Id: Names, C, R: Wait, G: Gate> Worker<'a, Id, C, R, G> {
 
     /// A walk over the items that are done in an output partition.
     fn done_in(&self, output: usize) -> Result<Walk<Id>, BrokerFault>
-        requires { output < Id.outputs }
+        requires output { output < Id.outputs }
+        requires input { self.now.input < Id.inputs }
         ensures { IfOk result (λ walk. walk.partition ≡ self.now.input) }
     {
         let book = self.broker.book(output).lock(self.rt);
-        if book.output() != output || self.input >= book.inputs() {
+        if book.output() != output {
             return Err(BrokerFault::Book(BookFault::Partition));
         }
         Ok(book.walk(self.input).again())

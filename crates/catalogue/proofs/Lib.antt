@@ -1,4 +1,5 @@
 pub mod CoreLaws
 pub mod LoadFaults
-pub mod TableLaws
+pub mod LoadLaws
+pub mod PublicationLaws
 pub mod VersionLaws

@@ -1,11 +1,11 @@
 -- Which refusals a load has.
 use Rattle.std.proofs.Common.{◌≡◌, ℕ, Bool, true, false, not, ◌&&◌, cond, List, length, Option, Some, None, subst, ◌^◌, ◌-◌}
-use Rattle.std.specs.Prelude.{nat_le}
+use Rattle.std.specs.Prelude.{nat_le, is_none}
 use Rattle.std.proofs.lemmas.Option.{same_Some, none-some}
 use Rattle.machine_spec.specs.Image.{Program}
 use Rattle.log_spec.specs.declared.event.Refusal.{Refusal}
 use Rattle.log_spec.specs.declared.event.Refusal.TheVariants as refusal
-use Rattle.log_spec.specs.Catalogue.{Table, has_name, is_name, programs_of, name_refusal, IsProgramRefusal, IsFirstRefusal, IsLoadRefusal}
+use Rattle.log_spec.specs.Catalogue.{LiveTable, among, count_of, is_name, live_refusal, IsProgramRefusal, IsFirstRefusal, IsLiveRefusal}
 use Rattle.program_table.specs.Tables.{RefusedAs}
 use Rattle.catalogue.specs.Faults.{IsOfLoad}
 
@@ -34,13 +34,13 @@ of_first : (earlier : Option Refusal) (program : Program) (r : Refusal) → (ear
 of_first (Some early) program r early_is h = early_is h
 of_first None program r early_is h = of_program program r h
 
-is_first : (table : Table) (name : List ℕ) (program : Program) (r : Refusal) → IsLoadRefusal table name program (Some r) → IsOfLoad r
+is_first : (table : LiveTable) (name : List ℕ) (program : Program) (r : Refusal) → IsLiveRefusal table name program (Some r) → IsOfLoad r
 is_first table name program r h =
-    of_first (name_refusal table name) program r
-    (by_tests (not (is_name name)) (not (has_name table name) && nat_le 64 (length table)) (nat_le (2 ^ 32 - 1) (length (programs_of table name))) r) h
+    of_first (live_refusal table name) program r
+    (by_tests (not (is_name name)) (not (not (is_none (among table name))) && nat_le 64 (length table)) (nat_le (2 ^ 32 - 1) (count_of (among table name))) r) h
 
 -- a load is refused as a load, or because memory ran out
-pub refused_of_load : (table : Table) (name : List ℕ) (program : Program) (r : Refusal) → RefusedAs (IsLoadRefusal table name program) r → IsOfLoad r
+pub refused_of_load : (table : LiveTable) (name : List ℕ) (program : Program) (r : Refusal) → RefusedAs (IsLiveRefusal table name program) r → IsOfLoad r
 refused_of_load table name program refusal.Memory h = tt
 refused_of_load table name program refusal.Name h = tt
 refused_of_load table name program refusal.Full h = tt

@@ -1,6 +1,6 @@
 -- Versions of names: the newest of several, and what is kept of each name.
 use Rattle.std.proofs.Common.{◌≡◌, ℕ, zero, suc, ◌<◌, Bool, true, false, List, [], ◌∷◌, ◌++◌, length, take, get_or, set, refl, sym, ap, subst, inl, inr, ◌∙◌, arith}
-use Rattle.std.specs.Prelude.{◌≢◌, nat_lt, Some, None, Option, Result, Ok, Err, IfOk, OnErr, if◌then◌else◌}
+use Rattle.std.specs.Prelude.{◌≢◌, nat_lt, Some, None, Option, Result, Ok, Err, IfOk, OnOk, OnErr, if◌then◌else◌}
 use Rattle.std.proofs.lemmas.Bool.Decides.{nat_tests}
 use Rattle.std.proofs.lemmas.Bool.{cases_Bool, cond_both, false_from_ne_true}
 use Rattle.std.specs.Str.{bytes_eq}
@@ -9,7 +9,8 @@ use Rattle.std.specs.declared.sync.Arc.{Arc}
 use Rattle.machine_spec.specs.Image.{Program}
 use Rattle.log_item.specs.declared.program.Program.{Program as Loaded}
 use Rattle.catalogue.specs.declared.fault.CatFault.{CatFault}
-use Rattle.catalogue.specs.Versions.{Version, number_and_program, under_name, among, newer, Finds, Keeps, IsNoOlder, IsThisOrLater}
+use Rattle.log_spec.specs.Catalogue.{Version, among, with_version}
+use Rattle.catalogue.specs.Versions.{number_and_program, under_name, newer, SeesNewest, Keeps, IsNoOlder, IsThisOrLater}
 
 none_split : (b : Bool) (x : ℕ × Program) (y : Option (ℕ × Program)) → (if b then Some x else y) ≡ None → (b ≡ false) × (y ≡ None)
 none_split true x y e = absurd cc
@@ -42,53 +43,63 @@ bytes_eq-different xs ys ne = false_from_ne_true (bytes_eq xs ys) (λ e. ne ((by
 pub same_bytes : (xs ys : List ℕ) → bytes_eq xs ys ≡ true → xs ≡ ys
 same_bytes xs ys e = (bytes_eq-Decides xs ys).0 e
 
--- ---- keeping a version
+-- ---- putting a version in
 
-among-set : (seen : List Version) (i : ℕ) (d version : Version) (name : List ℕ) → i < length seen → among (take i seen) name ≡ None
-    → version.name ≡ name → among (set seen i version) name ≡ Some (version.number, version.program)
-among-set [] i d version name lt h e = absurd (omega arith)
-among-set (first ∷ seen) zero d version name lt h e = rw (bytes_eq-same version.name name e) refl
-among-set (first ∷ seen) (suc i) d version name lt h e =
-    let p = none_split (bytes_eq first.name name) (first.number, first.program) (among (take i seen) name) h in
-    let below : i < length seen = omega arith in
-    rw p.0 (among-set seen i d version name below p.1 e)
+pub with_version-set : (list : List Version) (i : ℕ) (d version : Version) → i < length list → among (take i list) version.name ≡ None
+    → bytes_eq (get_or list i d).name version.name ≡ true → set list i version ≡ with_version list version
+with_version-set [] i d version lt h e = absurd (omega arith)
+with_version-set (first ∷ list) zero d version lt h e = rw e refl
+with_version-set (first ∷ list) (suc i) d version lt h e =
+    let p = none_split (bytes_eq first.name version.name) (first.number, first.program) (among (take i list) version.name) h in
+    let below : i < length list = omega arith in
+    rw p.0 (ap (λ (rest : List Version). first ∷ rest) (with_version-set list i d version below p.1 e))
 
-among-set_other : (seen : List Version) (i : ℕ) (d version : Version) (other : List ℕ) → bytes_eq (get_or seen i d).name other ≡ false
-    → bytes_eq version.name other ≡ false → among (set seen i version) other ≡ among seen other
-among-set_other [] i d version other e f = refl
-among-set_other (first ∷ seen) zero d version other e f = rw (e, f) refl
-among-set_other (first ∷ seen) (suc i) d version other e f =
-    ap (λ (rest : Option (ℕ × Program)). if bytes_eq first.name other then Some (first.number, first.program) else rest) (among-set_other seen i d version other e f)
+pub with_version-push : (list : List Version) (version : Version) → among list version.name ≡ None → list ++ version ∷ [] ≡ with_version list version
+with_version-push [] version h = refl
+with_version-push (first ∷ list) version h =
+    let p = none_split (bytes_eq first.name version.name) (first.number, first.program) (among list version.name) h in
+    rw p.0 (ap (λ (rest : List Version). first ∷ rest) (with_version-push list version p.1))
 
-among-push : (seen : List Version) (version : Version) (name : List ℕ) → among seen name ≡ None → version.name ≡ name
-    → among (seen ++ version ∷ []) name ≡ Some (version.number, version.program)
-among-push [] version name h e = rw (bytes_eq-same version.name name e) refl
-among-push (first ∷ seen) version name h e =
-    let p = none_split (bytes_eq first.name name) (first.number, first.program) (among seen name) h in
-    rw p.0 (among-push seen version name p.1 e)
+pub among-with_version : (list : List Version) (version : Version) → among (with_version list version) version.name ≡ Some (version.number, version.program)
+among-with_version [] version = rw (bytes_eq-same version.name version.name refl) refl
+among-with_version (first ∷ list) version =
+    elim (cases_Bool (bytes_eq first.name version.name)) [
+      | inl e ↦ rw (e, bytes_eq-same version.name version.name refl) refl
+      | inr e ↦ rw (e, e) (among-with_version list version)
+    ]
 
-among-push_other : (seen : List Version) (version : Version) (other : List ℕ) → bytes_eq version.name other ≡ false
-    → among (seen ++ version ∷ []) other ≡ among seen other
-among-push_other [] version other f = rw f refl
-among-push_other (first ∷ seen) version other f =
-    ap (λ (rest : Option (ℕ × Program)). if bytes_eq first.name other then Some (first.number, first.program) else rest) (among-push_other seen version other f)
+pub among-with_version_other : (list : List Version) (version : Version) (other : List ℕ) → other ≢ version.name
+    → among (with_version list version) other ≡ among list other
+among-with_version_other list version other ne = go list
+  where
+    mine : bytes_eq version.name other ≡ false
+    mine = bytes_eq-different version.name other (λ same. ne (sym same))
 
-pub keeps-set : (seen : List Version) (i : ℕ) (d version : Version) (name : List ℕ) → i < length seen → among (take i seen) name ≡ None
-    → bytes_eq (get_or seen i d).name name ≡ true → version.name ≡ name → Keeps seen (set seen i version) name (version.number, version.program)
-keeps-set seen i d version name lt h named e = record {
-  kept = among-set seen i d version name lt h e;
+    go : (list : List Version) → among (with_version list version) other ≡ among list other
+    go [] = rw mine refl
+    go (first ∷ list) =
+        elim (cases_Bool (bytes_eq first.name version.name)) [
+          | inl e ↦
+              let its : bytes_eq first.name other ≡ false = subst (λ (n : List ℕ). bytes_eq n other ≡ false) (sym (same_bytes first.name version.name e)) mine in
+              rw (e, mine, its) refl
+          | inr e ↦ rw e (ap (λ (rest : Option (ℕ × Program)). if bytes_eq first.name other then Some (first.number, first.program) else rest) (go list))
+        ]
+
+pub keeps : (old new : List Version) (version : Version) (name : List ℕ) → version.name ≡ name → new ≡ with_version old version
+    → Keeps old new name (version.number, version.program)
+keeps old new version name named e = record {
+  kept = subst (λ (n : List ℕ). among new n ≡ Some (version.number, version.program)) named (ap (λ (list : List Version). among list version.name) e ∙ among-with_version old version);
   others = λ other ne.
-      among-set_other seen i d version other
-      (bytes_eq-different (get_or seen i d).name other (λ same. ne (sym same ∙ same_bytes (get_or seen i d).name name named)))
-      (bytes_eq-different version.name other (λ same. ne (sym same ∙ e)));
+      ap (λ (list : List Version). among list other) e ∙ among-with_version_other old version other (λ same. ne (same ∙ named));
 }
 
-pub keeps-push : (seen : List Version) (version : Version) (name : List ℕ) → among seen name ≡ None → version.name ≡ name
-    → Keeps seen (seen ++ version ∷ []) name (version.number, version.program)
-keeps-push seen version name h e = record {
-  kept = among-push seen version name h e;
-  others = λ other ne. among-push_other seen version other (bytes_eq-different version.name other (λ same. ne (sym same ∙ e)));
-}
+-- the same of a call that may fail
+pub keeps-put : {A E : Type 0} (old new : List Version) (version : Version) (name named : List ℕ) (number : ℕ) (program : Program) (result : Result A E)
+    → OnOk result (new ≡ with_version old version) → version ≡ record { name = named; number = number; program = program } → named ≡ name
+    → OnOk result (Keeps old new name (number, program))
+keeps-put old new version name named number program (Ok done) put is same =
+    subst (λ (v : Version). Keeps old new name (v.number, v.program)) is (keeps old new version name (ap (λ (v : Version). v.name) is ∙ same) put)
+keeps-put old new version name named number program (Err failed) put is same = tt
 
 -- ---- no version goes back
 
@@ -118,7 +129,7 @@ no_older-second (Some first) (Some second) =
     (λ lt. omega arith) (λ ge. grind (arith, nat_tests))
 
 pub never_back : (known : Version) (name : List ℕ) (read : Option (ℕ × Program)) (old new : List Version) (found : Option (ℕ × Program))
-    → Finds known name read old new found → (other : List ℕ) → IsNoOlder (among old other) (among new other)
+    → SeesNewest known name read old new found → (other : List ℕ) → IsNoOlder (among old other) (among new other)
 never_back known name read old new found finds other =
     let before = among old name in let mine = under_name known name in
     let here : IsNoOlder before found =
@@ -144,7 +155,7 @@ this_or_later-newer known (Some first) (Some second) h =
     (λ lt. let above : first.0 < second.0 = grind (arith, nat_tests) in (omega (arith, h.0), λ same. absurd (omega (arith, h.0)))) (λ ge. h)
 
 pub known_found : (known : Version) (name : List ℕ) (read : Option (ℕ × Program)) (old new : List Version) (found : Option (ℕ × Program))
-    → Finds known name read old new found → known.name ≡ name → IsThisOrLater known found
+    → SeesNewest known name read old new found → known.name ≡ name → IsThisOrLater known found
 known_found known name read old new found finds e =
     let before = among old name in let mine = under_name known name in
     let itself : mine ≡ Some (known.number, known.program) = rw (bytes_eq-same known.name name e) refl in
@@ -155,17 +166,8 @@ known_found known name read old new found finds e =
 
 -- the same of a call that fails, too
 pub never_back-result : {Z : Type 0} (known : Version) (name : List ℕ) (read : Option (ℕ × Program)) (old new : List Version)
-    (result : Result (Option (ℕ × Arc Loaded Z)) CatFault) → IfOk result (λ found. Finds known name read old new (number_and_program found))
+    (result : Result (Option (ℕ × Arc Loaded Z)) CatFault) → IfOk result (λ found. SeesNewest known name read old new (number_and_program found))
     → OnErr result (new ≡ old) → (other : List ℕ) → IsNoOlder (among old other) (among new other)
 never_back-result known name read old new (Ok found) ok err other = never_back known name read old new (number_and_program found) ok other
 never_back-result known name read old new (Err fault) ok err other =
     subst (λ (seen : List Version). IsNoOlder (among old other) (among seen other)) (sym err) (no_older-same (among old other))
-
--- a version is its parts
-pub version_is : (version : Version) (name : List ℕ) (program : Program) (number : ℕ) → version.name ≡ name → version.number ≡ number → version.program ≡ program
-    → version ≡ record { name = name; number = number; program = program }
-version_is version name program number named numbered is =
-    let by_name : List ℕ → Version = λ n. record { name = n; number = version.number; program = version.program } in
-    let by_number : ℕ → Version = λ k. record { name = name; number = k; program = version.program } in
-    let by_program : Program → Version = λ p. record { name = name; number = number; program = p } in
-    ap by_name named ∙ (ap by_number numbered ∙ ap by_program is)

@@ -4,12 +4,11 @@ use Rattle.machine_spec.specs.Image.{program_of}
 use Rattle.log_spec.specs.declared.event.Event.TheVariants as event
 use Rattle.log_spec.specs.declared.event.Refusal.{Refusal}
 use Rattle.log_spec.specs.declared.event.Reply.TheVariants.{Loaded}
-use Rattle.log_spec.specs.Catalogue.{Table}
+use Rattle.log_spec.specs.Catalogue.{Version, LiveTable, IsLive, with_program}
 use Rattle.log_spec.specs.Worlds.{World, IsRefusal, Happens}
 use Rattle.catalogue.specs.declared.fault.CatFault.{CatFault}
 use Rattle.log_spec.specs.declared.event.Refusal.TheVariants as refusal
 use Rattle.catalogue.specs.declared.fault.CatFault.TheVariants as fault
-use Rattle.catalogue.specs.Versions.{Version}
 use Rattle.catalogue.specs.Catalogues.{Publishes}
 
 -- The refusal of the core with the fault's number; none for a fault that the core doesn't have, and for memory.
@@ -21,16 +20,18 @@ refusal_for fault.NoReader = None
 refusal_for fault.Versions = Some refusal.Versions
 refusal_for fault.Memory = None
 
--- The core doesn't refuse the event either, and has its reply and its table; or, where memory didn't run out, it refuses the
--- event for the same, and both tables stay.
-abbrev pub DoesInCore : World → List ℕ → List ℕ → Result (ℕ × Version) CatFault → Table → Type 0
-DoesInCore w name image (Ok loaded) next =
-    IsRefusal w (event.Load name image) None × Happens w (event.Load name image) (Loaded loaded.0) (record w { table = next })
-DoesInCore w name image (Err reported) next =
-    (next ≡ w.table) × (reported ≢ fault.Memory → (first : Refusal) × (refusal_for reported ≡ Some first) × IsRefusal w (event.Load name image) (Some first))
+-- The core doesn't refuse the event either, has its reply, and a table of which the next one is the live table; or, where
+-- memory didn't run out, it refuses the event for the same, and both tables stay.
+abbrev pub DoesInCore : World → List ℕ → List ℕ → LiveTable → Result (ℕ × Version) CatFault → LiveTable → Type 0
+DoesInCore w name image table (Ok loaded) next =
+    IsRefusal w (event.Load name image) None
+    × Happens w (event.Load name image) (Loaded loaded.0) (record w { table = with_program w.table name (program_of image) })
+    × IsLive (with_program w.table name (program_of image)) next
+DoesInCore w name image table (Err reported) next =
+    (next ≡ table) × (reported ≢ fault.Memory → (first : Refusal) × (refusal_for reported ≡ Some first) × IsRefusal w (event.Load name image) (Some first))
 
--- A load over the table of a world does there what the core's event does.
+-- A load over the live table of a world does there what the core's event does.
 abbrev pub FollowsCore : Type 0
 FollowsCore =
-    (w : World) (name image : List ℕ) (result : Result (ℕ × Version) CatFault) (next : Table) → Publishes w.table name (program_of image) result next
-    → DoesInCore w name image result next
+    (w : World) (name image : List ℕ) (table next : LiveTable) (result : Result (ℕ × Version) CatFault)
+    → IsLive w.table table → Publishes table name (program_of image) result next → DoesInCore w name image table result next

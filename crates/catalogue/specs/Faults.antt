@@ -3,7 +3,7 @@ use Rattle.std.specs.Prelude.{ℕ, List, Some}
 use Rattle.machine_spec.specs.Image.{Program}
 use Rattle.log_spec.specs.declared.event.Refusal.{Refusal}
 use Rattle.log_spec.specs.declared.event.Refusal.TheVariants as refusal
-use Rattle.log_spec.specs.Catalogue.{Table, IsLoadRefusal}
+use Rattle.log_spec.specs.Catalogue.{LiveTable, IsLiveRefusal}
 use Rattle.catalogue.specs.declared.fault.CatFault.{CatFault}
 use Rattle.catalogue.specs.declared.fault.CatFault.TheVariants as fault
 
@@ -21,12 +21,12 @@ IsOfLoad refusal.LogFull = ⊥
 IsOfLoad refusal.NoItem = ⊥
 
 -- The fault of a load is its first refusal, memory aside. A load never answers NoReader.
-abbrev pub IsFaultOf : Table → List ℕ → Program → CatFault → Type 0
-IsFaultOf table name program fault.Name = IsLoadRefusal table name program (Some refusal.Name)
-IsFaultOf table name program fault.Full = IsLoadRefusal table name program (Some refusal.Full)
-IsFaultOf table name program (fault.Load refused) = IsLoadRefusal table name program (Some (refusal.Load refused))
+abbrev pub IsFaultOf : LiveTable → List ℕ → Program → CatFault → Type 0
+IsFaultOf table name program fault.Name = IsLiveRefusal table name program (Some refusal.Name)
+IsFaultOf table name program fault.Full = IsLiveRefusal table name program (Some refusal.Full)
+IsFaultOf table name program (fault.Load refused) = IsLiveRefusal table name program (Some (refusal.Load refused))
 IsFaultOf table name program fault.NoReader = ⊥
-IsFaultOf table name program fault.Versions = IsLoadRefusal table name program (Some refusal.Versions)
+IsFaultOf table name program fault.Versions = IsLiveRefusal table name program (Some refusal.Versions)
 IsFaultOf table name program fault.Memory = Unit {0}
 
 -- A find fails where it gets no reading or memory runs out, and for nothing else.

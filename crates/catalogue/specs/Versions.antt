@@ -1,16 +1,11 @@
 -- Versions of names, and the newest of several.
-use Rattle.std.specs.Prelude.{◌≡◌, ◌≢◌, ℕ, ◌≤◌, nat_lt, if◌then◌else◌, List, [], ◌∷◌, Option, Some, None}
+use Rattle.std.specs.Prelude.{◌≡◌, ◌≢◌, ℕ, ◌≤◌, nat_lt, if◌then◌else◌, List, Option, Some, None}
 use Rattle.std.specs.Str.{bytes_eq}
 use Rattle.std.specs.Arc.{arc_value}
 use Rattle.std.specs.declared.sync.Arc.{Arc}
 use Rattle.machine_spec.specs.Image.{Program}
 use Rattle.log_item.specs.declared.program.Program.{Program as Loaded}
-
--- a version of a name, with the program that was loaded as it
-pub record Version : Type 0 where
-  pub name : List ℕ
-  pub number : ℕ
-  pub program : Program
+pub use Rattle.log_spec.specs.Catalogue.{Version, among}
 
 -- a number with a program, as it is seen
 abbrev pub number_and_program : {Z : Type 0} → Option (ℕ × Arc Loaded Z) → Option (ℕ × Program)
@@ -20,11 +15,6 @@ number_and_program (Some found) = Some (found.0, arc_value found.1)
 -- the number and the program of a name's version, none where it is another name's
 abbrev pub under_name : Version → List ℕ → Option (ℕ × Program)
 under_name version name = if bytes_eq version.name name then Some (version.number, version.program) else None
-
--- the same among some versions of different names
-abbrev pub among : List Version → List ℕ → Option (ℕ × Program)
-among [] name = None
-among (version ∷ versions) name = if bytes_eq version.name name then Some (version.number, version.program) else among versions name
 
 -- the one with the greater number; of two equal ones the first
 abbrev pub newer : Option (ℕ × Program) → Option (ℕ × Program) → Option (ℕ × Program)
@@ -43,10 +33,8 @@ abbrev pub IsThisOrLater : Version → Option (ℕ × Program) → Type 0
 IsThisOrLater version None = ⊥
 IsThisOrLater version (Some found) = (version.number ≤ found.0) × (found.0 ≡ version.number → found.1 ≡ version.program)
 
--- Finding a name returns the newest of three: the version that the caller knows, the one that the
--- finder saw last, and the one that it reads now. The finder has then seen what is returned; other
--- names stay.
-pub record Finds (known : Version) (name : List ℕ) (read : Option (ℕ × Program)) (old new : List Version) (found : Option (ℕ × Program)) : Type 0 where
+-- the newest of three is seen of a name from then on; other names stay
+pub record SeesNewest (known : Version) (name : List ℕ) (read : Option (ℕ × Program)) (old new : List Version) (found : Option (ℕ × Program)) : Type 0 where
   pub newest : found ≡ newer (newer (under_name known name) (among old name)) read
   pub seen : among new name ≡ found
   pub others : (other : List ℕ) → other ≢ name → among new other ≡ among old other

@@ -1,52 +1,60 @@
-ghost use Rattle.std.specs.Prelude.{◌≡◌, ◌≢◌, [], Some, IfOk, IfErr, OnOk, OnErr};
+ghost use Rattle.std.specs.Prelude.{◌≡◌, [], IfOk, IfErr, OnOk, OnErr, drop, fold};
 ghost use Rattle.machine_spec.specs.Image.{program_of};
-ghost use Rattle.log_spec.specs.Catalogue.{programs_of};
-ghost use Rattle.program_table.specs.Tables.{LatestIs};
+ghost use Rattle.log_spec.specs.Catalogue.{LiveTable, with_version};
 ghost use Rattle.catalogue.specs.Catalogues.{Publishes};
+ghost use Rattle.catalogue.specs.Publications.{IsOneMore};
 ghost use Rattle.catalogue.specs.declared.fault.CatFault.TheVariants.{NoReader};
 
 use crate::edition::Edition;
 use crate::fault::{CatFault, fault_of};
 use crate::finder::Finder;
 use crate::known::Known;
+use crate::loading::next_version;
+use crate::publications::{Adds, Publications};
+use crate::readings::Readings;
+use crate::versions::Versions;
 use bytes::Bytes;
-use left_right::WriteHandle;
+use core::mem::replace_with;
+use left_right::writer::Writer;
 use log_spec::Name;
-use program_table::Table;
 use std::alloc::{AllocError, Global};
 use std::marker::Model;
-use std::sync::{Arc, Wait};
+use std::sync::Wait;
 
 /// How many readers there are at most at a time.
 const READERS: usize = 64;
 
+/// The writer of what is published.
+type TableWriter = Writer<Edition, Edition, Readings, Publications>;
+
 /// The loader's side. Contracts see the published table.
-#[derive(Drop)]
 pub struct Catalogue<R: Wait + Drop> {
-    writer: WriteHandle<Edition, Edition, R>,
+    writer: TableWriter,
+    rt: R,
 }
 
 impl<R: Wait + Drop> Model for Catalogue<R> {
-    ghost use Rattle.log_spec.specs.Catalogue.{Table as Loads};
-    ghost use Rattle.left_right.specs.Handles.{published};
+    ghost use Rattle.log_spec.specs.Catalogue.{LiveTable};
 
-    ghost Value = { Loads };
+    ghost Value = { LiveTable };
 
-    ghost view = { λ c. published c.writer };
+    ghost view = { λ c. c.writer.desk.shown.value };
 }
 
-/// The last version of a name that is loaded.
-fn latest_of(table: &Table, name: &Name) -> Result<Known, AllocError>
-    requires { programs_of table.now name.now ≢ [] }
-    ensures { IfOk result (λ known. (known.name ≡ name.now) × LatestIs (programs_of table.now name.now) (Some (known.number, known.program))) }
-{
-    match table.latest(name) {
-        Some((version, program)) => {
-            let program = Arc::try_clone(program)?;
-            Ok(Known::new(name.again(), version, program))
-        }
-        None => unreachable!(),
+impl<R: Wait + Drop> Drop for Catalogue<R> {
+    fn drop(self) {
+        let Self { writer, rt } = self;
+        drop(writer.take(&rt));
     }
+}
+
+/// Publishes what is pending, by which the published table has one more load.
+fn publish_pending<R: Wait>(writer: TableWriter, rt: &R) -> (TableWriter, Result<(), AllocError>)
+    requires { IsOneMore writer.desk.shown.value (fold (λ (table next : LiveTable). next) writer.desk.shown.value (drop writer.behind writer.log.items)) }
+    ensures ok { OnOk result.1 (result.0.desk.shown.value ≡ fold (λ (table next : LiveTable). next) writer.desk.shown.value (drop writer.behind writer.log.items)) }
+    ensures err { OnErr result.1 (result.0.desk.shown.value ≡ writer.desk.shown.value) }
+{
+    writer.publish_as::<Adds, R>(rt)
 }
 
 impl<R: Wait + Drop> Catalogue<R> {
@@ -54,10 +62,10 @@ impl<R: Wait + Drop> Catalogue<R> {
     pub fn new(rt: R, alloc: Global) -> Result<Catalogue<R>, AllocError>
         ensures { IfOk result (λ catalogue. catalogue ≡ []) }
     {
-        let first = Edition::new(alloc, Table::new(alloc));
-        let second = Edition::new(alloc, Table::new(alloc));
-        let writer = WriteHandle::new(alloc, rt, first, second, READERS)?;
-        Ok(Catalogue { writer })
+        let first = Edition::new(alloc, Versions::new(alloc))?;
+        let second = first.again()?;
+        let writer = Writer::new(alloc, first, second, READERS)?;
+        Ok(Catalogue { writer, rt })
     }
 
     /// Loads an image under a name and publishes the table with it. Returns the name's version,
@@ -87,42 +95,47 @@ impl<R: Wait + Drop> Catalogue<R> {
     ) -> Result<(u32, Known), CatFault>
         ensures { Publishes self.old name.now (program_of image.now) result self.new }
     {
-        let Ok(mut next) = self.writer.published().table.again(alloc) else {
-            return Err(CatFault::Memory);
-        };
-        match next.load(alloc, name, image) {
+        let table = self.writer.published().table();
+        match next_version(alloc, table, name, image) {
             Err(refusal) => Err(fault_of(refusal)),
-            Ok(version) => {
-                let Ok(known) = latest_of(&next, name) else {
+            Ok(known) => {
+                let Ok(next) = edition_with(alloc, table, &known) else {
                     return Err(CatFault::Memory);
                 };
-                let Ok(()) = self.publish(alloc, next) else {
+                let Ok(()) = self.publish(next) else {
                     return Err(CatFault::Memory);
                 };
-                Ok((version, known))
+                Ok((known.version(), known))
             }
         }
     }
 
     /// Publishes a table in the place of the one before, whatever an earlier call left pending.
-    fn publish(&mut self, alloc: Global, next: Table) -> Result<(), AllocError>
+    fn publish(&mut self, next: Edition) -> Result<(), AllocError>
+        requires { IsOneMore self.old next }
         ensures ok { OnOk result (self.new ≡ next) }
         ensures err { OnErr result (self.new ≡ self.old) }
     {
-        let operation = Edition::new(alloc, next);
-        self.writer.append(operation).map_err(|_| AllocError)?;
-        self.writer.publish()?;
-        Ok(())
+        self.writer.append(next).map_err(|_| AllocError)?;
+        replace_with(&mut self.writer, &self.rt, publish_pending)
     }
 
     /// A reader, which has seen no version yet. Fails where 64 readers are there or none can be made.
     pub fn reader(&self, alloc: Global) -> Result<Finder, CatFault>
-        ensures ok { IfOk result (λ finder. finder ≡ []) }
+        ensures ok { IfOk result (λ finder. finder ≡ record { versions = []; readings = record { times = 0; loads = [] } }) }
         ensures err { IfErr result (λ fault. fault ≡ NoReader) }
     {
-        match self.writer.handle() {
-            Ok(handle) => Ok(Finder::new(alloc, handle)),
+        match self.writer.factory().reader() {
+            Ok(reader) => Ok(Finder::new(alloc, reader)),
             Err(_) => Err(CatFault::NoReader),
         }
     }
+}
+
+/// The table with a version put in, to be published.
+fn edition_with(alloc: Global, table: &Versions, known: &Known) -> Result<Edition, AllocError>
+    ensures { IfOk result (λ next. next ≡ with_version table.now known.now) }
+{
+    let next = table.with(alloc, known.share()?)?;
+    Edition::new(alloc, next)
 }

@@ -1,43 +1,60 @@
 ghost use Rattle.std.specs.Prelude.{◌≡◌, IfOk};
 
+use crate::versions::Versions;
 use left_right::Absorb;
-use program_table::Table;
 use std::alloc::{AllocError, Global};
 use std::marker::Model;
+use std::sync::Arc;
 
-/// A table that is published, with the allocator of its copies. Contracts see the table.
+/// A table that is published: both copies, and the operation between them, own one table. Contracts
+/// see the table.
 #[derive(Drop)]
 pub struct Edition {
-    pub alloc: Global,
-    pub table: Table,
+    table: Arc<Versions>,
 }
 
 impl Model for Edition {
-    ghost use Rattle.log_spec.specs.Catalogue.{Table as Loads};
+    ghost use Rattle.std.specs.Arc.{arc_value};
+    ghost use Rattle.log_spec.specs.Catalogue.{LiveTable};
 
-    ghost Value = { Loads };
+    ghost Value = { LiveTable };
 
-    ghost view = { λ e. e.table };
+    ghost view = { λ e. arc_value e.table };
 }
 
 impl Edition {
-    pub fn new(alloc: Global, table: Table) -> Edition
-        ensures { result ≡ table }
+    pub fn new(alloc: Global, table: Versions) -> Result<Edition, AllocError>
+        ensures { IfOk result (λ edition. edition ≡ table) }
     {
-        Edition { alloc, table }
+        let table = Arc::new(alloc, table)?;
+        Ok(Edition { table })
+    }
+
+    pub fn table(&self) -> &Versions
+        ensures { result.now ≡ self.now }
+    {
+        &self.table
+    }
+
+    /// Another owner of the table.
+    pub fn again(&self) -> Result<Edition, AllocError>
+        ensures { IfOk result (λ edition. edition ≡ self.now) }
+    {
+        let table = Arc::try_clone(&self.table)?;
+        Ok(Edition { table })
     }
 }
 
 // An operation is the whole next table.
 impl Absorb<Edition> for Edition {
-    type State = Table;
+    type State = Edition;
 
     ghost state = { λ edition. edition };
 
     ghost applied = { λ state next. next };
 
     fn absorb_first(&mut self, operation: &Edition, _other: &Edition) -> Result<(), AllocError> {
-        self.table = operation.table.again(self.alloc)?;
+        *self = operation.again()?;
         Ok(())
     }
 

@@ -1,6 +1,6 @@
 ghost use Rattle.std.specs.Prelude.{ℕ, List};
 ghost use Rattle.machine_spec.specs.Image.{Program};
-ghost use Rattle.log_spec.specs.Catalogue.{Table, IsLoadRefusal};
+ghost use Rattle.log_spec.specs.Catalogue.{LiveTable, IsLiveRefusal};
 ghost use Rattle.program_table.specs.Tables.{RefusedAs};
 ghost use Rattle.catalogue.specs.Faults.{IsOfLoad, IsFaultOf};
 
@@ -34,7 +34,7 @@ pub enum CatFault {
 /// The fault of a load that the table refuses.
 pub fn fault_of(refusal: Refusal) -> CatFault
     requires { IsOfLoad refusal }
-    ensures { (table : Table) (name : List ℕ) (program : Program) → RefusedAs (IsLoadRefusal table name program) refusal → IsFaultOf table name program result }
+    ensures { (table : LiveTable) (name : List ℕ) (program : Program) → RefusedAs (IsLiveRefusal table name program) refusal → IsFaultOf table name program result }
 {
     match refusal {
         Refusal::Name => CatFault::Name,

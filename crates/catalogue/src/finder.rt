@@ -1,62 +1,44 @@
-ghost use Rattle.std.specs.Prelude.{◌≡◌, ◌≢◌, ◌<◌, List, ℕ, [], length, Option, None, Some, true, take, slice_index_or, option_map, IfOk, IfErr, IfNone, IfSome, OnOk, OnErr};
+ghost use Rattle.std.specs.Prelude.{◌≡◌, List, ℕ, [], Option, option_map, IfOk, IfErr, OnOk, OnErr};
 ghost use Rattle.std.specs.Arc.{arc_value};
-ghost use Rattle.std.specs.Str.{bytes_eq};
-ghost use Rattle.machine_spec.specs.Image.{Program};
+ghost use Rattle.left_right.specs.Sides.{view};
+ghost use Rattle.log_spec.specs.Catalogue.{LiveTable, among};
 ghost use Rattle.catalogue.specs.Faults.{IsFindFault};
-ghost use Rattle.catalogue.specs.Versions.{Version, number_and_program, under_name, among, newer, Finds, Keeps, IsNoOlder, IsThisOrLater};
+ghost use Rattle.catalogue.specs.Finders.{Finds};
+ghost use Rattle.catalogue.specs.Publications.{Reads};
+ghost use Rattle.catalogue.specs.Versions.{number_and_program, under_name, newer, Keeps, SeesNewest, IsNoOlder, IsThisOrLater};
 
 use crate::edition::Edition;
 use crate::fault::CatFault;
 use crate::known::Known;
-use left_right::ReadHandle;
+use crate::publications::{Looks, Publications};
+use crate::readings::Readings;
+use crate::versions::Versions;
+use core::mem::replace_with;
+use left_right::reader::Reader;
 use log_item::Program;
 use log_spec::Name;
 use std::alloc::{AllocError, Global};
 use std::marker::Model;
 use std::sync::Arc;
 
-/// A reader's side. Contracts see the versions that it returned, the last one of each name.
+/// A reader of what is published, between two readings.
+pub(crate) type TableReader = Reader<Edition, Readings, Publications>;
+
+/// A reader's side. Contracts see the versions that it returned, the last one of each name, and its
+/// readings.
 #[derive(Drop)]
 pub struct Finder {
-    handle: ReadHandle<Edition>,
-    seen: Vec<Known>,
+    reader: TableReader,
+    seen: Versions,
 }
 
 impl Model for Finder {
-    ghost use Rattle.std.specs.Prelude.{List};
-    ghost use Rattle.catalogue.specs.Versions.{Version};
+    ghost use Rattle.left_right.specs.Sides.{view as known_at};
+    ghost use Rattle.catalogue.specs.Finders.{Seen};
 
-    ghost Value = { List Version };
+    ghost Value = { Seen };
 
-    ghost view = { λ f. f.seen.items };
-}
-
-/// The place of a name, if a version of it is there.
-fn place_of(seen: &[Known], name: &Name) -> Option<usize>
-    ensures absent { IfNone result (among seen.now name.now ≡ None) }
-    ensures found { IfSome result (λ i. i < length seen.now) }
-    ensures first { IfSome result (λ i. among (take i seen.now) name.now ≡ None) }
-    ensures named { IfSome result (λ i. (d : Version) → bytes_eq (slice_index_or seen.now i d).name name.now ≡ true) }
-{
-    for (i, known) in seen.iter().enumerate() {
-        if known.name().text.as_str() == name.text.as_str() {
-            return Some(i);
-        }
-    }
-    None
-}
-
-/// The version of a name that was seen last.
-fn seen_version<'a>(seen: &'a [Known], name: &Name) -> Option<(u32, &'a Arc<Program>)>
-    ensures { option_map (λ found. (found.0, arc_value found.1.now)) result ≡ among seen.now name.now }
-{
-    match place_of(seen, name) {
-        None => None,
-        Some(place) => {
-            let known = &seen[place];
-            Some((known.version(), known.program()))
-        }
-    }
+    ghost view = { λ f. record { versions = f.seen; readings = known_at f.reader.place } };
 }
 
 /// What is known of a name.
@@ -106,21 +88,25 @@ fn shared(found: Option<(u32, &Arc<Program>)>) -> Result<Option<(u32, Arc<Progra
 
 /// The last version of a name in the published table.
 fn read_version(
-    handle: &mut ReadHandle<Edition>,
+    reader: TableReader,
     name: &Name,
-) -> Result<Option<(u32, Arc<Program>)>, CatFault>
-    ensures { IfErr result IsFindFault }
+) -> (TableReader, Result<Option<(u32, Arc<Program>)>, CatFault>)
+    ensures read { IfOk result.1 (λ read. (table : LiveTable) × Reads (view reader.place) table (view result.0.place) × (number_and_program read ≡ among table name.now)) }
+    ensures fault { IfErr result.1 IsFindFault }
 {
-    match handle.enter() {
-        None => Err(CatFault::NoReader),
-        Some(edition) => shared(edition.table.latest(name)),
+    match reader.enter_as::<Looks>() {
+        Err(reader) => (reader, Err(CatFault::NoReader)),
+        Ok(reading) => {
+            let read = shared(reading.get().table().get(name));
+            (reading.leave(), read)
+        }
     }
 }
 
 /// The newest of what is known, what was seen and what was read.
 fn newest(
     known: &Known,
-    seen: &[Known],
+    seen: &Versions,
     read: &Option<(u32, Arc<Program>)>,
     name: &Name,
 ) -> Result<Option<(u32, Arc<Program>)>, CatFault>
@@ -131,41 +117,32 @@ fn newest(
         Some(read) => Some((read.0, &read.1)),
         None => None,
     };
-    let newest = newer(
-        newer(known_version(known, name), seen_version(seen, name)),
-        read,
-    );
+    let newest = newer(newer(known_version(known, name), seen.get(name)), read);
     shared(newest)
 }
 
 /// Keeps a version of a name in the place of the one before.
 fn keep(
-    alloc: Global,
-    seen: &mut Vec<Known>,
+    seen: &mut Versions,
     name: &Name,
     version: u32,
     program: Arc<Program>,
 ) -> Result<(), AllocError>
-    ensures ok { OnOk result (Keeps seen.old.items seen.new.items name.now (version, arc_value program)) }
-    ensures err { OnErr result (seen.new.items ≡ seen.old.items) }
+    ensures ok { OnOk result (Keeps seen.old seen.new name.now (version, arc_value program)) }
+    ensures err { OnErr result (seen.new ≡ seen.old) }
 {
-    match place_of(seen, name) {
-        Some(place) => seen[place].renew(version, program),
-        None => seen.push(Known::new(name.again(), version, program))?,
-    }
-    Ok(())
+    seen.put(Known::new(name.again(), version, program))
 }
 
 /// The newest version of a name, which is seen from then on.
 fn find_newest(
-    alloc: Global,
-    seen: &mut Vec<Known>,
+    seen: &mut Versions,
     read: &Option<(u32, Arc<Program>)>,
     name: &Name,
     known: &Known,
 ) -> Result<Option<(u32, Arc<Program>)>, CatFault>
-    ensures ok { IfOk result (λ found. Finds known.now name.now (number_and_program read.now) seen.old.items seen.new.items (number_and_program found)) }
-    ensures err { OnErr result (seen.new.items ≡ seen.old.items) }
+    ensures ok { IfOk result (λ found. SeesNewest known.now name.now (number_and_program read.now) seen.old seen.new (number_and_program found)) }
+    ensures err { OnErr result (seen.new ≡ seen.old) }
     ensures fault { IfErr result IsFindFault }
 {
     let Some((version, program)) = newest(known, seen, read, name)? else {
@@ -174,39 +151,40 @@ fn find_newest(
     let Ok(kept) = Arc::try_clone(&program) else {
         return Err(CatFault::Memory);
     };
-    match keep(alloc, seen, name, version, kept) {
+    match keep(seen, name, version, kept) {
         Ok(()) => Ok(Some((version, program))),
         Err(_) => Err(CatFault::Memory),
     }
 }
 
 impl Finder {
-    pub(crate) fn new(alloc: Global, handle: ReadHandle<Edition>) -> Finder
-        ensures { result ≡ [] }
+    pub(crate) fn new(alloc: Global, reader: TableReader) -> Finder
+        ensures { result ≡ record { versions = []; readings = view reader.place } }
     {
         Finder {
-            handle,
-            seen: Vec::new(alloc),
+            reader,
+            seen: Versions::new(alloc),
         }
     }
 
     /// The last version of a name with its program, none where no version is published, known or
-    /// was seen. Under the name of `known` it is `known` itself or a later version; it is never an
-    /// older one than this finder returned before. Fails where the reader gets no table (the
-    /// catalogue is gone) or memory runs out, and is then as it was.
+    /// was seen. It is no older than in the table that this call reads. Under the name of `known` it
+    /// is `known` itself or a later version, and it is never an older one than this finder returned
+    /// before. Fails where the reader gets no table (the catalogue is gone) or memory runs out, and
+    /// has then seen no more versions than before.
     pub fn find(
         &mut self,
         alloc: Global,
         name: &Name,
         known: &Known,
     ) -> Result<Option<(u32, Arc<Program>)>, CatFault>
-        ensures found { IfOk result (λ found. (read : Option (ℕ × Program)) × Finds known.now name.now read self.old self.new (number_and_program found)) }
+        ensures found { IfOk result (λ found. Finds known.now name.now self.old self.new (number_and_program found)) }
         ensures known { IfOk result (λ found. known.now.name ≡ name.now → IsThisOrLater known.now (number_and_program found)) }
-        ensures never_back { (other : List ℕ) → IsNoOlder (among self.old other) (among self.new other) }
-        ensures err { OnErr result (self.new ≡ self.old) }
+        ensures never_back { (other : List ℕ) → IsNoOlder (among self.old.versions other) (among self.new.versions other) }
+        ensures err { OnErr result (self.new.versions ≡ self.old.versions) }
         ensures fault { IfErr result IsFindFault }
     {
-        let read = read_version(&mut self.handle, name)?;
-        find_newest(alloc, &mut self.seen, &read, name, known)
+        let read = replace_with(&mut self.reader, name, read_version)?;
+        find_newest(&mut self.seen, &read, name, known)
     }
 }

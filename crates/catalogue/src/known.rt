@@ -1,11 +1,11 @@
-ghost use Rattle.std.specs.Prelude.{◌≡◌, IfOk};
+ghost use Rattle.std.specs.Prelude.{◌≡◌, IfOk, IfErr};
 ghost use Rattle.std.specs.Arc.{arc_value};
-ghost use Rattle.catalogue.specs.Versions.{Version};
+ghost use Rattle.catalogue.specs.declared.fault.CatFault.TheVariants.{Memory};
 
 use crate::fault::CatFault;
 use log_item::Program;
 use log_spec::Name;
-use std::alloc::Global;
+use std::alloc::{AllocError, Global};
 use std::marker::Model;
 use std::sync::Arc;
 
@@ -19,7 +19,7 @@ pub struct Known {
 
 impl Model for Known {
     ghost use Rattle.std.specs.Arc.{arc_value};
-    ghost use Rattle.catalogue.specs.Versions.{Version};
+    ghost use Rattle.log_spec.specs.Catalogue.{Version};
 
     ghost Value = { Version };
 
@@ -35,14 +35,6 @@ impl Known {
             version,
             program,
         }
-    }
-
-    /// Another version of the same name.
-    pub(crate) fn renew(&mut self, version: u32, program: Arc<Program>)
-        ensures { self.new ≡ record { name = self.old.name; number = version; program = arc_value program } }
-    {
-        self.version = version;
-        self.program = program;
     }
 
     pub fn name(&self) -> &Name
@@ -63,13 +55,23 @@ impl Known {
         &self.program
     }
 
-    /// A second one, as for another thread.
+    /// A second one, as for another thread. Fails only where its program has no room for one more
+    /// owner.
     pub fn again(&self, alloc: Global) -> Result<Known, CatFault>
+        ensures ok { IfOk result (λ known. known ≡ self.now) }
+        ensures err { IfErr result (λ fault. fault ≡ Memory) }
+    {
+        match self.share() {
+            Ok(known) => Ok(known),
+            Err(_) => Err(CatFault::Memory),
+        }
+    }
+
+    /// Another owner of the same program, under the same name and version.
+    pub(crate) fn share(&self) -> Result<Known, AllocError>
         ensures { IfOk result (λ known. known ≡ self.now) }
     {
-        let Ok(program) = Arc::try_clone(&self.program) else {
-            return Err(CatFault::Memory);
-        };
+        let program = Arc::try_clone(&self.program)?;
         Ok(Known::new(self.name.again(), self.version, program))
     }
 }

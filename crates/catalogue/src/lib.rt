@@ -1,9 +1,10 @@
 //! The live catalogue: a loader publishes the table of programs, and any number of threads read it
 //! beside the loader, with no lock.
 //!
-//! What a load returns, and what a reader returned before, bound what a reader returns from then
-//! on: under a name that a `Known` carries never none and never an older version, and no version
-//! of a name after a later one.
+//! Each published table is the one before with one more accepted load. A finder reads a published
+//! table at each find, and returns no older version than it has. What a load returns, and what a
+//! finder returned before, bound it too: under a name that a `Known` carries it returns never none
+//! and never an older version, and no version of a name after a later one.
 #![tactic(auto)]
 
 mod catalogue;
@@ -12,6 +13,10 @@ mod fault;
 mod finder;
 mod known;
 mod laws;
+mod loading;
+mod publications;
+mod readings;
+mod versions;
 
 pub use crate::catalogue::Catalogue;
 pub use crate::fault::CatFault;

@@ -1,4 +1,3 @@
-ghost use Rattle.std.specs.Prelude.{◌≡◌};
 ghost use Rattle.broker.specs.Layouts.{IsNamed};
 
 use broker::{Broker, BrokerFault, Parts};
@@ -24,8 +23,7 @@ fn deploy_some<Id: Names, R: Wait + Abort>(
     alloc: Global,
     parts: Parts<Catalogue<&R>>,
 ) -> Result<(), Fail>
-    requires cells { IsNamed Id.cells parts.cells }
-    requires outputs { parts.outputs ≡ Id.outputs }
+    requires { IsNamed Id.cells Id.inputs Id.outputs parts }
 {
     let broker: Broker<Id, Catalogue<&R>> = Broker::new(alloc, parts)?;
     let known = load(rt, alloc, &broker)?;

@@ -5,7 +5,7 @@ use log_spec::Name;
 use machine_spec::IsaFault;
 use std::alloc::Global;
 use std::process::Abort;
-use std::sync::Wait;
+use std::sync::{Arc, Wait};
 use std::test::Fail;
 use verifier_spec::LoadFault;
 
@@ -151,5 +151,21 @@ fn a_catalogue_has_64_readers(rt: HostRuntime) -> Result<(), Fail> {
     assert_eq!(rt; catalogue.reader(alloc).err(), Some(CatFault::NoReader));
     drop(finders.pop());
     assert_eq!(rt; catalogue.reader(alloc).err(), None);
+    Ok(())
+}
+
+#[test]
+fn an_old_program_is_given_up(rt: HostRuntime) -> Result<(), Fail> {
+    let alloc = rt.alloc();
+    let mut catalogue = Catalogue::new(&rt, alloc)?;
+    let mut finder = catalogue.reader(alloc)?;
+    let known = load(alloc, &mut catalogue)?;
+    assert_eq!(rt; find(alloc, &mut finder, "fwd", &known), Ok(Some(1)));
+    for version in 2..1_001 {
+        let newer = load(alloc, &mut catalogue)?;
+        assert_eq!(rt; newer.version(), version);
+        assert_eq!(rt; find(alloc, &mut finder, "fwd", &known), Ok(Some(version)));
+    }
+    assert_eq!(rt; Arc::strong_count(known.program()), 1);
     Ok(())
 }

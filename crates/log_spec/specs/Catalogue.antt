@@ -1,5 +1,5 @@
 -- The catalogue: the programs that were loaded, by name.
-use Rattle.std.specs.Prelude.{ℕ, zero, suc, ◌-◌, ◌^◌, Bool, ◌==◌, ◌&&◌, ◌||◌, not, nat_le, if◌then◌else◌, List, [], ◌∷◌, ◌++◌, length, slice_get, Option, Some, None, ◌≡◌}
+use Rattle.std.specs.Prelude.{ℕ, zero, suc, ◌+◌, ◌-◌, ◌^◌, Bool, ◌==◌, ◌&&◌, ◌||◌, not, nat_le, if◌then◌else◌, List, [], ◌∷◌, ◌++◌, length, slice_get, Option, Some, None, is_none, ◌≡◌}
 use Rattle.std.specs.{List.list_all, List.list_any, Str.bytes_eq}
 use Rattle.machine_spec.specs.Image.{Program}
 use Rattle.verifier_spec.specs.Loading.{IsAccepted, IsRefusedWith}
@@ -32,6 +32,52 @@ with_program [] name program = record { name = name; programs = program ∷ [] }
 with_program (entry ∷ table) name program =
     if bytes_eq entry.name name then record { name = entry.name; programs = entry.programs ++ program ∷ [] } ∷ table else entry ∷ with_program table name program
 
+-- ---- the live table
+
+-- a version of a name, from 1, with the program that was loaded as it
+pub record Version : Type 0 where
+  pub name : List ℕ
+  pub number : ℕ
+  pub program : Program
+
+-- Of each name its last version alone, in the order of the names' first loads: the number is how many loads of the name
+-- were accepted.
+abbrev pub LiveTable : Type 0
+LiveTable = List Version
+
+-- the number and the program of a name's version, none where there is none
+abbrev pub among : LiveTable → List ℕ → Option (ℕ × Program)
+among [] name = None
+among (version ∷ table) name = if bytes_eq version.name name then Some (version.number, version.program) else among table name
+
+-- how many versions a name has that was found with this
+abbrev pub count_of : Option (ℕ × Program) → ℕ
+count_of None = 0
+count_of (Some found) = found.0
+
+-- the version that a load makes
+abbrev pub next_version : LiveTable → List ℕ → Program → Version
+next_version table name program = record { name = name; number = count_of (among table name) + 1; program = program }
+
+-- the table with a version in the place of the one of its name, or at the end, and nothing else changed
+abbrev pub with_version : LiveTable → Version → LiveTable
+with_version [] version = version ∷ []
+with_version (first ∷ table) version = if bytes_eq first.name version.name then version ∷ table else first ∷ with_version table version
+
+-- a name's last version: how many programs it has, and the last of them
+pub record IsLast (entry : Entry) (version : Version) : Type 0 where
+  pub name_is : version.name ≡ entry.name
+  pub number_is : version.number ≡ length entry.programs
+  pub earlier : List Program
+  pub program_is : entry.programs ≡ earlier ++ version.program ∷ []
+
+-- the live table of a table
+abbrev pub IsLive : Table → LiveTable → Type 0
+IsLive [] [] = Unit {0}
+IsLive (entry ∷ table) (version ∷ live) = IsLast entry version × IsLive table live
+IsLive [] (version ∷ live) = ⊥
+IsLive (entry ∷ table) [] = ⊥
+
 -- ---- refusals of a load
 
 -- an ASCII letter, digit or hyphen
@@ -44,12 +90,20 @@ is_name name = nat_le 1 (length name) && (nat_le (length name) MAX_NAME && list_
 abbrev pub most_names : ℕ
 most_names = 64
 
--- the first refusal of a load before its image is read: the name's form, 64 other names, its versions used up
-abbrev pub name_refusal : Table → List ℕ → Option Refusal
-name_refusal table name =
+-- The first refusal of a load before its image is read: the name's form, 64 other names, its versions used up. It asks of
+-- a table whether the name is loaded, how many names are, and how many versions the name has.
+abbrev pub first_refusal : Bool → ℕ → ℕ → List ℕ → Option Refusal
+first_refusal is_loaded names versions name =
     if not (is_name name) then Some Refusal.Name else
-    if not (has_name table name) && nat_le most_names (length table) then Some Refusal.Full else
-    if nat_le (2 ^ 32 - 1) (length (programs_of table name)) then Some Refusal.Versions else None
+    if not is_loaded && nat_le most_names names then Some Refusal.Full else
+    if nat_le (2 ^ 32 - 1) versions then Some Refusal.Versions else None
+
+abbrev pub name_refusal : Table → List ℕ → Option Refusal
+name_refusal table name = first_refusal (has_name table name) (length table) (length (programs_of table name)) name
+
+-- the same of a live table
+abbrev pub live_refusal : LiveTable → List ℕ → Option Refusal
+live_refusal table name = first_refusal (not (is_none (among table name))) (length table) (count_of (among table name)) name
 
 -- a program is refused exactly where it is not accepted, and then with its fault
 abbrev pub IsProgramRefusal : Program → Option Refusal → Type 0
@@ -64,3 +118,18 @@ IsFirstRefusal None program first = IsProgramRefusal program first
 -- the first refusal of a load, or none
 abbrev pub IsLoadRefusal : Table → List ℕ → Program → Option Refusal → Type 0
 IsLoadRefusal table name program first = IsFirstRefusal (name_refusal table name) program first
+
+abbrev pub IsLiveRefusal : LiveTable → List ℕ → Program → Option Refusal → Type 0
+IsLiveRefusal table name program first = IsFirstRefusal (live_refusal table name) program first
+
+-- ---- what loads make of the live table
+
+-- a version that is loaded over a table: the load is not refused, and the version is the next one of its name
+pub record IsLoad (table : LiveTable) (version : Version) : Type 0 where
+  pub accepted : IsLiveRefusal table version.name version.program None
+  pub next : version ≡ next_version table version.name version.program
+
+-- These versions, each loaded over the table that those before it made, make the last table of the first.
+abbrev pub Makes : LiveTable → List Version → LiveTable → Type 0
+Makes table [] last = last ≡ table
+Makes table (version ∷ versions) last = IsLoad table version × Makes (with_version table version) versions last

@@ -120,8 +120,7 @@ fn fill_one<Id: Names, R: Wait + Abort>(
     alloc: Global,
     parts: Parts<Catalogue<&R>>,
 ) -> Result<(), Fail>
-    requires cells { IsNamed Id.cells parts.cells }
-    requires outputs { parts.outputs ≡ Id.outputs }
+    requires { IsNamed Id.cells Id.inputs Id.outputs parts }
 {
     let broker: Broker<Id, Catalogue<&R>> = Broker::new(alloc, parts)?;
     let counts = (broker.inputs(), broker.outputs(), broker.cells(0));

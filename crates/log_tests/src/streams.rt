@@ -1,6 +1,5 @@
 //! Batches of a stream, appended as soon as each is whole.
 
-ghost use Rattle.std.specs.Prelude.{◌≡◌};
 ghost use Rattle.broker.specs.Layouts.{IsNamed};
 
 use broker::{Broker, BrokerFault, Parts, StreamFault};
@@ -117,8 +116,7 @@ fn append_in_pieces<Id: Names, R: Wait + Abort>(
     alloc: Global,
     parts: Parts<Catalogue<&R>>,
 ) -> Result<(), Fail>
-    requires cells { IsNamed Id.cells parts.cells }
-    requires outputs { parts.outputs ≡ Id.outputs }
+    requires { IsNamed Id.cells Id.inputs Id.outputs parts }
 {
     let broker: Broker<Id, Catalogue<&R>> = Broker::new(alloc, parts)?;
     let bytes = two_with(0, 0);
@@ -143,8 +141,7 @@ fn meet_faults<Id: Names, R: Wait + Abort>(
     alloc: Global,
     parts: Parts<Catalogue<&R>>,
 ) -> Result<(), Fail>
-    requires cells { IsNamed Id.cells parts.cells }
-    requires outputs { parts.outputs ≡ Id.outputs }
+    requires { IsNamed Id.cells Id.inputs Id.outputs parts }
 {
     let broker: Broker<Id, Catalogue<&R>> = Broker::new(alloc, parts)?;
     let two = two_with(0, 0);

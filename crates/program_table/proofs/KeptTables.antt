@@ -1,17 +1,15 @@
 -- A load keeps what a table always keeps.
-use Rattle.std.proofs.Common.{◌≡◌, ℕ, zero, suc, ◌+◌, ◌-◌, ◌^◌, ◌<◌, ◌≤◌, Bool, true, false, cond, List, [], ◌∷◌, ◌++◌, length, get_or, Option, Some, None, Result, Ok, Err, refl, sym, ap, subst, ◌⊎◌, inl, inr, arith}
+use Rattle.std.proofs.Common.{◌≡◌, ℕ, suc, ◌+◌, ◌-◌, ◌^◌, ◌<◌, ◌≤◌, Bool, true, false, cond, List, [], ◌∷◌, ◌++◌, length, Option, Some, None, Result, Ok, Err, refl, sym, ap, subst, ◌⊎◌, inl, inr, arith}
 use Rattle.std.specs.Prelude.{not, ◌&&◌, ◌||◌, nat_le}
 use Rattle.std.specs.List.{AllByRecursion}
 use Rattle.std.specs.Str.{bytes_eq}
 use Rattle.std.proofs.lemmas.Bool.{leb-false}
-use Rattle.std.proofs.lemmas.List.{length-append, length-map}
-use Rattle.std.specs.Arc.{arc_value}
+use Rattle.std.proofs.lemmas.List.{length-append}
 use Rattle.machine_spec.specs.Image.{Program}
 use Rattle.log_spec.specs.declared.event.Refusal.{Refusal}
 use Rattle.log_spec.specs.declared.event.Refusal.TheVariants as refusal
 use Rattle.log_spec.specs.Catalogue.{Table, Entry as Loaded, programs_of, has_name, is_name, with_program, IsFirstRefusal, IsLoadRefusal}
-use Rattle.program_table.specs.declared.table.Entry.{Entry}
-use Rattle.program_table.specs.Tables.{table_view, IsTable, LoadsInto}
+use Rattle.program_table.specs.Tables.{IsTable, LoadsInto}
 
 abbrev HasSome : Loaded → Type 0
 HasSome entry = 1 ≤ length entry.programs
@@ -94,12 +92,3 @@ is_table-loaded table next name program (Ok version) is loads =
       few = few-kept table name program (leb-false (2 ^ 32 - 1) (length (programs_of table name)) free.1) is.few;
     })
 is_table-loaded table next name program (Err refused) is loads = subst IsTable (sym loads.1) is
-
--- the number of programs of the entry at a place
-pub few-at : (entries : List Entry) (k : ℕ) (d : Entry) → IsTable (table_view entries) → k < length entries → length (get_or entries k d).programs.items < 2 ^ 32
-few-at entries k d is lt = go entries k is.few lt
-  where
-    go : (entries : List Entry) (k : ℕ) → AllByRecursion HasFew (table_view entries) → k < length entries → length (get_or entries k d).programs.items < 2 ^ 32
-    go [] k few lt = absurd (omega arith)
-    go (entry ∷ entries) zero few lt = omega (arith, few.0, length-map entry.programs.items (λ program. arc_value program))
-    go (entry ∷ entries) (suc k) few lt = go entries k few.1 (omega arith)

@@ -1,25 +1,21 @@
-ghost use Rattle.std.specs.Prelude.{◌≡◌, List, IfErr, ℕ, ◌<◌, ◌≤◌, ◌+◌, ◌^◌, length, Some, None, [], ◌∷◌, ◌++◌, option_map, MatchOption, OnOk, OnErr, IfOk, string_bytes, false, true, map, slice_get, slice_set, take, IfNone, IfSome, slice_index_or};
-ghost use Rattle.std.specs.List.{list_all};
+ghost use Rattle.std.specs.Prelude.{◌≡◌, ◌<◌, length, [], ◌∷◌, ◌++◌, option_map, OnOk, OnErr, IfOk, false, true, map, take, IfNone, IfSome, slice_index_or};
 ghost use Rattle.program_table.specs.declared.table.Entry.{Entry};
 ghost use Rattle.std.specs.Arc.{arc_value};
 ghost use Rattle.std.specs.Str.{bytes_eq};
 ghost use Rattle.machine_spec.specs.Image.{program_of};
-ghost use Rattle.verifier_spec.specs.Loading.{IsAccepted};
-ghost use Rattle.log_spec.specs.Catalogue.{IsProgramRefusal, programs_of, program_named, has_name, is_name, is_name_byte, with_program};
-ghost use Rattle.program_table.specs.Tables.{entry_view, table_view, LatestIs, LoadsInto, RefusedAs, version_of};
-ghost use Rattle.annotate.specs.Loads.{FaultIs};
+ghost use Rattle.log_spec.specs.Catalogue.{program_named, has_name, is_name};
+ghost use Rattle.program_table.specs.Tables.{entry_view, table_view, LoadsInto, version_of};
 ghost use Rattle.arrayvec.specs.ArrayVec.{array_vec_len};
 
+use crate::admission::{admit, has_name_form};
 use arrayvec::{ArrayString, ArrayVec};
 use bytes::Bytes;
 use log_item::Program;
-use log_spec::{MAX_NAME, Name, Refusal};
-use machine_spec::IsaFault;
+use log_spec::{Name, Refusal};
 use std::alloc::{AllocError, Global};
 use std::default::MadeWith;
 use std::marker::Model;
 use std::sync::Arc;
-use verifier_spec::{Check, LoadFault};
 
 /// How many names are loaded at most.
 const MOST_NAMES: usize = 64;
@@ -66,29 +62,6 @@ impl Model for Table {
     ghost invariant = { λ t. IsTable (table_view t.entries.items) };
 }
 
-fn is_name_char(byte: u8) -> bool
-    ensures { result ≡ is_name_byte byte }
-{
-    byte.is_ascii_alphanumeric() || byte == b'-'
-}
-
-fn are_name_chars(bytes: &[u8]) -> bool
-    ensures { result ≡ list_all is_name_byte bytes.now }
-{
-    bytes.iter().all(|byte| is_name_char(*byte))
-}
-
-/// 1 to 32 ASCII letters, digits and hyphens.
-fn has_name_form(name: &str) -> bool
-    ensures { result ≡ is_name name.now }
-{
-    let bytes = name.as_bytes();
-    if bytes.is_empty() || bytes.len() > MAX_NAME {
-        return false;
-    }
-    are_name_chars(bytes)
-}
-
 /// The place of a name, if it is loaded.
 fn place_of(entries: &[Entry], name: &Name) -> Option<usize>
     ensures absent { IfNone result (has_name (table_view entries.now) name.now ≡ false) }
@@ -102,34 +75,6 @@ fn place_of(entries: &[Entry], name: &Name) -> Option<usize>
         }
     }
     None
-}
-
-/// The refusal of a load whose image is refused.
-fn refusal_of(fault: LoadFault) -> Refusal
-    ensures { (image : List ℕ) → FaultIs image fault → RefusedAs (IsProgramRefusal (program_of image)) result }
-{
-    match fault {
-        LoadFault::Isa(IsaFault::Memory) => Refusal::Memory,
-        LoadFault::Isa(_) => Refusal::Load(fault),
-        LoadFault::Verify(refused) => match refused.kind {
-            Check::Memory => Refusal::Memory,
-            _ => Refusal::Load(fault),
-        },
-    }
-}
-
-fn program_of(alloc: Global, image: &Bytes) -> Result<Arc<Program>, Refusal>
-    ensures program { IfOk result (λ program. arc_value program ≡ program_of image.now) }
-    ensures accepted { OnOk result (IsAccepted (program_of image.now)) }
-    ensures refused { IfErr result (λ refused. RefusedAs (IsProgramRefusal (program_of image.now)) refused) }
-{
-    match Program::new(alloc, image) {
-        Err(fault) => Err(refusal_of(fault)),
-        Ok(program) => match Arc::new(alloc, program) {
-            Err(_) => Err(Refusal::Memory),
-            Ok(program) => Ok(program),
-        },
-    }
 }
 
 /// Adds a program to a name; on `Err` it has the programs that it had.
@@ -160,7 +105,7 @@ fn add_version(
     if versions >= MOST_VERSIONS {
         return Err(Refusal::Versions);
     }
-    match program_of(alloc, image) {
+    match admit(alloc, image) {
         Err(refusal) => Err(refusal),
         Ok(program) => match add_program(&mut entries[place], program) {
             Err(_) => Err(Refusal::Memory),
@@ -183,7 +128,7 @@ fn add_name(
     if entries.is_full() {
         return Err(Refusal::Full);
     }
-    match program_of(alloc, image) {
+    match admit(alloc, image) {
         Err(refusal) => Err(refusal),
         Ok(program) => match add_entry(alloc, entries, name, program) {
             Err(_) => Err(Refusal::Memory),
@@ -242,25 +187,6 @@ impl Table {
         }
     }
 
-    /// The last version of a name with its program, if the name is loaded.
-    pub fn latest(&self, name: &Name) -> Option<(u32, &Arc<Program>)>
-        ensures { LatestIs (programs_of self.now name.now) (option_map (λ found. (found.0, arc_value found.1.now)) result) }
-    {
-        let entries = self.entries.as_slice();
-        match place_of(entries, name) {
-            None => None,
-            Some(place) => last_program(&entries[place].programs),
-        }
-    }
-
-    /// Another owner of the same programs.
-    pub fn again(&self, alloc: Global) -> Result<Table, AllocError>
-        ensures { IfOk result (λ table. table ≡ self.now) }
-    {
-        let entries = copies_of_entries(alloc, &self.entries)?;
-        Ok(Table { entries })
-    }
-
     /// The program that was loaded as a version of a name, if one was.
     pub fn version(&self, name: &Name, version: u32) -> Option<&Arc<Program>>
         ensures { option_map (λ program. arc_value program.now) result ≡ program_named self.now name.now version }
@@ -285,49 +211,4 @@ fn program_at(programs: &[Arc<Program>], version: u32) -> Option<&Arc<Program>>
         return None;
     }
     Some(&programs[number])
-}
-
-/// The last of a name's programs with its version.
-fn last_program(programs: &[Arc<Program>]) -> Option<(u32, &Arc<Program>)>
-    requires { length programs.now < 2 ^ 32 }
-    ensures { LatestIs (map (λ program. arc_value program) programs.now) (option_map (λ found. (found.0, arc_value found.1.now)) result) }
-{
-    if programs.is_empty() {
-        return None;
-    }
-    Some((programs.len() as u32, &programs[programs.len() - 1]))
-}
-
-fn copies_of_programs(
-    alloc: Global,
-    programs: &[Arc<Program>],
-) -> Result<Vec<Arc<Program>>, AllocError>
-    ensures { IfOk result (λ copies. map (λ program. arc_value program) copies.items ≡ map (λ program. arc_value program) programs.now) }
-{
-    let mut copies = Vec::with_capacity(alloc, programs.len())?;
-    for program in programs {
-        copies.push(Arc::try_clone(program)?)?;
-    }
-    Ok(copies)
-}
-
-fn copy_of_entry(alloc: Global, entry: &Entry) -> Result<Entry, AllocError>
-    ensures { IfOk result (λ copy. entry_view copy ≡ entry_view entry.now) }
-{
-    let programs = copies_of_programs(alloc, &entry.programs)?;
-    Ok(Entry {
-        name: entry.name.again(),
-        programs,
-    })
-}
-
-fn copies_of_entries(alloc: Global, entries: &[Entry]) -> Result<Entries, AllocError>
-    requires { length entries.now ≤ 64 }
-    ensures { IfOk result (λ copies. table_view copies.items ≡ table_view entries.now) }
-{
-    let mut copies = ArrayVec::new_in(alloc);
-    for entry in entries {
-        copies.push(copy_of_entry(alloc, entry)?);
-    }
-    Ok(copies)
 }

@@ -43,6 +43,7 @@ fn deliver_all<Id: Names, R: Wait + Print>(
     cells: Cells,
 ) -> Result<(), Ending>
     requires cells { cells ≡ Id.cells 0 }
+    requires inputs { Id.inputs ≡ 1 }
     requires outputs { Id.outputs ≡ 2 }
 {
     let log: PartLog<Id> = PartLog::new(0, cells);

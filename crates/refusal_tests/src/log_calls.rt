@@ -1,6 +1,5 @@
 //! Loads, finds, deployments and appends.
 
-ghost use Rattle.std.specs.Prelude.{◌≡◌};
 ghost use Rattle.broker.specs.Layouts.{IsNamed};
 
 use crate::calls::{append, close, deploy, find, finder, items, load};
@@ -37,8 +36,7 @@ fn call_all<Id: Names, R: Wait + Print>(
     alloc: Global,
     parts: Parts<Catalogue<&R>>,
 ) -> Result<(), Ending>
-    requires cells { IsNamed Id.cells parts.cells }
-    requires outputs { parts.outputs ≡ Id.outputs }
+    requires { IsNamed Id.cells Id.inputs Id.outputs parts }
 {
     let made: Result<Broker<Id, Catalogue<&R>>, AllocError> = Broker::new(alloc, parts);
     let Ok(broker) = made else {

@@ -1,6 +1,5 @@
 //! Workers in threads.
 
-ghost use Rattle.std.specs.Prelude.{◌≡◌};
 ghost use Rattle.broker.specs.Layouts.{IsNamed};
 
 use crate::calls::fill;
@@ -52,8 +51,7 @@ fn start_all<Id: Names + Send + Sync, R: Threads + Wait + Print + Sync>(
     alloc: Global,
     parts: Parts<Catalogue<&R>>,
 ) -> Result<(), Ending>
-    requires cells { IsNamed Id.cells parts.cells }
-    requires outputs { parts.outputs ≡ Id.outputs }
+    requires { IsNamed Id.cells Id.inputs Id.outputs parts }
 {
     let made: Result<Broker<Id, Catalogue<&R>>, AllocError> = Broker::new(alloc, parts);
     let Ok(broker) = made else {

@@ -1,6 +1,5 @@
 //! Steps of a broker's book.
 
-ghost use Rattle.std.specs.Prelude.{◌≡◌};
 ghost use Rattle.broker.specs.Layouts.{IsNamed};
 
 use crate::calls::fill;
@@ -41,8 +40,7 @@ fn step_all<Id: Names, R: Wait + Print>(
     alloc: Global,
     parts: Parts<Catalogue<&R>>,
 ) -> Result<(), Ending>
-    requires cells { IsNamed Id.cells parts.cells }
-    requires outputs { parts.outputs ≡ Id.outputs }
+    requires { IsNamed Id.cells Id.inputs Id.outputs parts }
 {
     let made: Result<Broker<Id, Catalogue<&R>>, AllocError> = Broker::new(alloc, parts);
     let Ok(broker) = made else {
@@ -92,16 +90,13 @@ fn step<Id: Names, C, R: Wait + Print>(
     }
 }
 
-/// None where the book has no such input, or the log no further cell.
+/// None where the log has no further cell.
 fn step_once<Id: Names, C>(
     alloc: Global,
     broker: &Broker<Id, C>,
     book: &mut Book<Id>,
 ) -> Option<Result<Stepped, BrokerFault>> {
     let _some = broker.inputs();
-    if book.inputs() == 0 {
-        return None;
-    }
     let done = book.done(0);
     if done >= broker.cells(0) {
         return None;

@@ -112,7 +112,7 @@ least_end outputs n input first all of = record {
 
 -- ---- what is at a place of an output partition's list
 
-module _ (inputs input k : ℕ) (outputs : List (List Held)) (holdings : List Held) (are : AreOutputs inputs outputs) (lt : k < length outputs) (is : holdings ≡ get_or outputs k holdings) where
+module _ (inputs count input k : ℕ) (outputs : List (List Held)) (holdings : List Held) (are : AreOutputs inputs count outputs) (lt : k < length outputs) (is : holdings ≡ get_or outputs k holdings) where
   there : slice_get outputs k ≡ Some holdings
   there = slice_get_read outputs (length outputs) k holdings refl lt is
 

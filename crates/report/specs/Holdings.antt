@@ -19,13 +19,18 @@ abbrev pub IsHeld : ℕ → Held → Type 0
 IsHeld outputs h = IsRowsOf h.done.partition h.output outputs h.done.items (length h.done.items) h.rows
 
 -- what a book holds of an input partition
-pub record HoldsOf (book : Content) (input : ℕ) (h : Held) : Type 0 where
+pub record HoldsOf (outputs : ℕ) (book : Content) (input : ℕ) (h : Held) : Type 0 where
   pub output_is : h.output ≡ book.output
   pub done_is : slice_get book.logs input ≡ Some h.done
   pub partition_is : h.done.partition ≡ input
   pub rows_are : h.rows ≡ rows_from input book.rows
+  pub is_held : IsHeld outputs h
 
--- what an output partition holds of each input partition, in their order
-pub record IsOutput (output inputs : ℕ) (holdings : List Held) : Type 0 where
+-- what is held of an input partition in an output partition: the rows of the items that are done there
+abbrev pub IsHolding : ℕ → ℕ → ℕ → Held → Type 0
+IsHolding outputs output input h = (h.output ≡ output) × (h.done.partition ≡ input) × IsHeld outputs h
+
+-- what one of `outputs` output partitions holds of each input partition, in their order
+pub record IsOutput (output inputs outputs : ℕ) (holdings : List Held) : Type 0 where
   pub count : length holdings ≡ inputs
-  pub each : (input : ℕ) (h : Held) → slice_get holdings input ≡ Some h → (h.output ≡ output) × (h.done.partition ≡ input)
+  pub each : (input : ℕ) (h : Held) → slice_get holdings input ≡ Some h → IsHolding outputs output input h

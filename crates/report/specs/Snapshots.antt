@@ -5,7 +5,7 @@ use Rattle.out_book.specs.declared.fault.BookFault.TheVariants as book
 use Rattle.broker.specs.declared.fault.BrokerFault.{BrokerFault}
 use Rattle.broker.specs.declared.fault.BrokerFault.TheVariants.{Partition, NoProgram, Memory, Catalogue as CatalogueRefuses, Log as LogRefuses, Book as BookRefuses}
 use Rattle.report.specs.Holdings.{Held, IsOutput}
-use Rattle.report.specs.Totals.{Tallied}
+use Rattle.report.specs.Totals.{Tallied, IsTallied}
 
 -- what each output partition holds of each input partition, and what became of the records of each input partition
 pub record Gathered : Type 0 where
@@ -20,8 +20,8 @@ abbrev pub held_at : List (List Held) → ℕ → ℕ → Option Held
 held_at outputs output input = slice_get (slice_index_or outputs output []) input
 
 -- each output partition's is at its place
-abbrev pub AreOutputs : ℕ → List (List Held) → Type 0
-AreOutputs inputs outputs = (output : ℕ) (holdings : List Held) → slice_get outputs output ≡ Some holdings → IsOutput output inputs holdings
+abbrev pub AreOutputs : ℕ → ℕ → List (List Held) → Type 0
+AreOutputs inputs outputs all = (output : ℕ) (holdings : List Held) → slice_get all output ≡ Some holdings → IsOutput output inputs outputs holdings
 
 -- The items of an input partition that are done in every output partition: each has them as its first ones, and one of them
 -- has no other.
@@ -39,15 +39,17 @@ pub record IsShorter (one other shorter : Log) : Type 0 where
   pub in_other : take (length shorter.items) other.items ≡ shorter.items
   pub is_either : (shorter ≡ one) ⊎ (shorter ≡ other)
 
--- the records of each input partition are counted over these items
-abbrev pub AreLeast : List (List Held) → List Tallied → Type 0
-AreLeast outputs inputs = (input : ℕ) (t : Tallied) → slice_get inputs input ≡ Some t → IsLeast outputs input t.first
+-- the records of each input partition are counted over the items that are done in every output partition
+abbrev pub AreTallies : ℕ → List (List Held) → List Tallied → Type 0
+AreTallies outputs all tallies = (input : ℕ) (t : Tallied) → slice_get tallies input ≡ Some t → IsLeast all input t.first × IsTallied outputs t
 
--- a snapshot of this number of output partitions
-pub record IsGathered (outputs : ℕ) (s : Gathered) : Type 0 where
-  pub count : length s.outputs ≡ outputs
-  pub outputs_are : AreOutputs (length s.inputs) s.outputs
-  pub inputs_are : AreLeast s.outputs s.inputs
+-- A snapshot of this number of input and output partitions. Each output partition holds the rows of the items that are done
+-- there, and each count is that of what became of the records.
+pub record IsGathered (inputs outputs : ℕ) (s : Gathered) : Type 0 where
+  pub outputs_count : length s.outputs ≡ outputs
+  pub inputs_count : length s.inputs ≡ inputs
+  pub outputs_are : AreOutputs inputs outputs s.outputs
+  pub inputs_are : AreTallies outputs s.outputs s.inputs
 
 -- Memory ran out, and neither in a log nor in the catalogue nor in a book; or a book that is found under a lock is of another
 -- output partition.

@@ -2,7 +2,7 @@
 
 ghost use Rattle.std.specs.Prelude.{◌≡◌, ◌<◌, length, IfOk, IfErr};
 ghost use Rattle.report.specs.Holdings.{IsOutput};
-ghost use Rattle.report.specs.Snapshots.{AreOutputs, IsShorter, IsLeast, AreLeast, IsGatherFault};
+ghost use Rattle.report.specs.Snapshots.{AreOutputs, AreTallies, IsGathered, IsShorter, IsLeast, IsGatherFault};
 
 use crate::holding::Holdings;
 use crate::snapshot::Snapshot;
@@ -21,7 +21,7 @@ pub fn gather<Id: Names, C, R: Wait>(
     alloc: Global,
     broker: &Broker<Id, C>,
 ) -> Result<Snapshot<Id>, BrokerFault>
-    ensures ok { IfOk result (λ snapshot. (length snapshot.outputs ≡ Id.outputs) × (length snapshot.inputs ≡ broker.now)) }
+    ensures ok { IfOk result (IsGathered Id.inputs Id.outputs) }
     ensures err { IfErr result IsGatherFault }
 {
     let outputs = holdings(rt, alloc, broker)?;
@@ -37,7 +37,7 @@ fn holdings<Id: Names, C, R: Wait>(
     alloc: Global,
     broker: &Broker<Id, C>,
 ) -> Result<Vec<Holdings<Id>>, BrokerFault>
-    ensures ok { IfOk result (λ all. (length all.items ≡ Id.outputs) × AreOutputs broker.now all.items) }
+    ensures ok { IfOk result (λ all. (length all.items ≡ Id.outputs) × AreOutputs Id.inputs Id.outputs all.items) }
     ensures some { IfOk result (λ all. 0 < length all.items) }
     ensures err { IfErr result IsGatherFault }
 {
@@ -59,11 +59,11 @@ fn holdings_in<Id: Names, C, R: Wait>(
     output: usize,
 ) -> Result<Holdings<Id>, BrokerFault>
     requires { output < Id.outputs }
-    ensures ok { IfOk result (IsOutput output broker.now) }
+    ensures ok { IfOk result (IsOutput output Id.inputs Id.outputs) }
     ensures err { IfErr result IsGatherFault }
 {
     let book = broker.book(output).lock(rt);
-    if book.output() != output || book.inputs() != broker.inputs() {
+    if book.output() != output {
         return Err(BrokerFault::Book(BookFault::Partition));
     }
     match Holdings::of(alloc, &book) {
@@ -80,26 +80,22 @@ fn tallies<Id: Names, C>(
     outputs: &[Holdings<Id>],
 ) -> Result<Vec<Tally<Id>>, AllocError>
     requires some { 0 < length outputs.now }
-    requires outputs { AreOutputs broker.now outputs.now }
-    ensures { IfOk result (λ all. (length all.items ≡ broker.now) × AreLeast outputs.now all.items) }
+    requires outputs { AreOutputs Id.inputs Id.outputs outputs.now }
+    ensures { IfOk result (λ all. (length all.items ≡ Id.inputs) × AreTallies Id.outputs outputs.now all.items) }
 {
     let mut all = Vec::with_capacity(alloc, broker.inputs())?;
     for input in 0..broker.inputs() {
-        let first = least(broker, outputs, input);
+        let first = least(outputs, input);
         all.push(Tally::of(alloc, broker, first)?)?;
     }
     Ok(all)
 }
 
 /// The items of an input partition that are done in every output partition.
-fn least<'a, Id: Names, C>(
-    broker: &Broker<Id, C>,
-    outputs: &'a [Holdings<Id>],
-    input: usize,
-) -> &'a Trail<Id>
+fn least<Id: Names>(outputs: &[Holdings<Id>], input: usize) -> &Trail<Id>
     requires some { 0 < length outputs.now }
-    requires outputs { AreOutputs broker.now outputs.now }
-    requires input { input < broker.now }
+    requires outputs { AreOutputs Id.inputs Id.outputs outputs.now }
+    requires input { input < Id.inputs }
     ensures { IsLeast outputs.now input result.now }
 {
     let mut first = outputs[0].at(input).done();

@@ -35,8 +35,8 @@ impl<Id: Names> Holding<Id> {
         book: &Book<Id>,
         input: usize,
     ) -> Result<Holding<Id>, AllocError>
-        requires { input < length book.now.logs }
-        ensures { IfOk result (HoldsOf book.now input) }
+        requires { input < Id.inputs }
+        ensures { IfOk result (HoldsOf Id.outputs book.now input) }
     {
         let rows = shared(alloc, book.rows_from(input))?;
         Ok(Holding {
@@ -87,7 +87,7 @@ impl<Id: Names> Model for Holdings<Id> {
 impl<Id: Names> Holdings<Id> {
     /// What a book holds of each input partition.
     pub(crate) fn of(alloc: Global, book: &Book<Id>) -> Result<Holdings<Id>, AllocError>
-        ensures { IfOk result (λ holdings. IsOutput book.now.output (length book.now.logs) holdings) }
+        ensures { IfOk result (λ holdings. IsOutput book.now.output Id.inputs Id.outputs holdings) }
     {
         let mut list = Vec::with_capacity(alloc, book.inputs())?;
         for input in 0..book.inputs() {

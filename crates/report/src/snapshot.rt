@@ -25,12 +25,12 @@ impl<Id: Names> Model for Snapshot<Id> {
 
     ghost view = { λ s. gathered s.outputs.items s.inputs.items };
 
-    ghost invariant = { λ s. IsGathered Id.outputs (gathered s.outputs.items s.inputs.items) };
+    ghost invariant = { λ s. IsGathered Id.inputs Id.outputs (gathered s.outputs.items s.inputs.items) };
 }
 
 impl<Id: Names> Snapshot<Id> {
     pub(crate) fn new(outputs: Vec<Holdings<Id>>, inputs: Vec<Tally<Id>>) -> Snapshot<Id>
-        requires { IsGathered Id.outputs (gathered outputs.items inputs.items) }
+        requires { IsGathered Id.inputs Id.outputs (gathered outputs.items inputs.items) }
         ensures { result ≡ gathered outputs.items inputs.items }
     {
         Snapshot { outputs, inputs }
@@ -46,7 +46,8 @@ impl<Id: Names> Snapshot<Id> {
 
     /// How many input partitions there are.
     pub fn inputs(&self) -> usize
-        ensures { result ≡ length self.now.inputs }
+        ensures count { result ≡ length self.now.inputs }
+        ensures all { result ≡ Id.inputs }
     {
         self.inputs.len()
     }

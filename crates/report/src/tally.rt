@@ -1,5 +1,5 @@
 ghost use Rattle.std.specs.Prelude.{◌≡◌, ◌<◌, length, IfOk};
-ghost use Rattle.report.specs.Totals.{AreCountsOf};
+ghost use Rattle.report.specs.Totals.{AreCountsOf, IsTallied};
 
 use crate::counting::count_items;
 use crate::counts::Counts;
@@ -34,7 +34,7 @@ impl<Id: Names> Tally<Id> {
         first: &Trail<Id>,
     ) -> Result<Tally<Id>, AllocError>
         requires { first.now.partition < broker.now }
-        ensures { IfOk result (λ tally. tally.first ≡ first.now) }
+        ensures { IfOk result (λ tally. (tally.first ≡ first.now) × IsTallied Id.outputs tally) }
     {
         let counts = count_items(alloc, broker, first)?;
         Ok(Tally {

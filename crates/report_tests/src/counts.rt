@@ -1,4 +1,3 @@
-ghost use Rattle.std.specs.Prelude.{◌≡◌};
 ghost use Rattle.broker.specs.Layouts.{IsNamed};
 
 use crate::calls::{deploy, go, put, put_byte, reports};
@@ -40,8 +39,7 @@ fn keep_one<Id: Names + Send + Sync, R: Threads + Wait + Abort + Sync>(
     alloc: Global,
     parts: Parts<Catalogue<&R>>,
 ) -> Result<(), Fail>
-    requires cells { IsNamed Id.cells parts.cells }
-    requires outputs { parts.outputs ≡ Id.outputs }
+    requires { IsNamed Id.cells Id.inputs Id.outputs parts }
 {
     let broker: Broker<Id, Catalogue<&R>> = Broker::new(alloc, parts)?;
     assert_eq!(rt; deploy(rt, alloc, &broker, 0, &FORWARD), Some(0));
@@ -68,8 +66,7 @@ fn deploy_late<Id: Names + Send + Sync, R: Threads + Wait + Abort + Sync>(
     alloc: Global,
     parts: Parts<Catalogue<&R>>,
 ) -> Result<(), Fail>
-    requires cells { IsNamed Id.cells parts.cells }
-    requires outputs { parts.outputs ≡ Id.outputs }
+    requires { IsNamed Id.cells Id.inputs Id.outputs parts }
 {
     let broker: Broker<Id, Catalogue<&R>> = Broker::new(alloc, parts)?;
     assert!(rt; put(rt, alloc, &broker, 0, 5, None, Some(b"")).is_some());
@@ -97,8 +94,7 @@ fn reject_some<Id: Names + Send + Sync, R: Threads + Wait + Abort + Sync>(
     alloc: Global,
     parts: Parts<Catalogue<&R>>,
 ) -> Result<(), Fail>
-    requires cells { IsNamed Id.cells parts.cells }
-    requires outputs { parts.outputs ≡ Id.outputs }
+    requires { IsNamed Id.cells Id.inputs Id.outputs parts }
 {
     let broker: Broker<Id, Catalogue<&R>> = Broker::new(alloc, parts)?;
     assert_eq!(rt; deploy(rt, alloc, &broker, 0, &TWO_AND_FIVE), Some(0));

@@ -1,4 +1,3 @@
-ghost use Rattle.std.specs.Prelude.{◌≡◌};
 ghost use Rattle.broker.specs.Layouts.{IsNamed};
 
 use crate::calls::{deploy, go, put_byte, reports};
@@ -31,8 +30,7 @@ fn fill_two<Id: Names + Send + Sync, R: Threads + Wait + Abort + Sync>(
     alloc: Global,
     parts: Parts<Catalogue<&R>>,
 ) -> Result<(), Fail>
-    requires cells { IsNamed Id.cells parts.cells }
-    requires outputs { parts.outputs ≡ Id.outputs }
+    requires { IsNamed Id.cells Id.inputs Id.outputs parts }
 {
     let broker: Broker<Id, Catalogue<&R>> = Broker::new(alloc, parts)?;
     for (input, value) in [(1, b'B'), (0, b'A')] {
@@ -66,8 +64,7 @@ fn step_apart<Id: Names, R: Wait + Abort>(
     alloc: Global,
     parts: Parts<Catalogue<&R>>,
 ) -> Result<(), Fail>
-    requires cells { IsNamed Id.cells parts.cells }
-    requires outputs { parts.outputs ≡ Id.outputs }
+    requires { IsNamed Id.cells Id.inputs Id.outputs parts }
 {
     let broker: Broker<Id, Catalogue<&R>> = Broker::new(alloc, parts)?;
     assert!(rt;
@@ -110,9 +107,6 @@ fn step<Id: Names, C, R: Wait>(
     let _some = broker.inputs();
     let mut guard = broker.book(output).lock(rt);
     let book = &mut *guard;
-    if book.inputs() == 0 {
-        return None;
-    }
     let done = book.done(0);
     if done >= broker.cells(0) {
         return None;

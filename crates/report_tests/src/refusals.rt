@@ -1,7 +1,6 @@
 //! A report where memory runs out. The test passes as it is, and in a run in which one request for
 //! memory is refused: `tools/refuse_each.py` runs it once for each of its requests.
 
-ghost use Rattle.std.specs.Prelude.{◌≡◌};
 ghost use Rattle.broker.specs.Layouts.{IsNamed};
 
 use crate::calls::{deploy, go, put_byte};
@@ -61,8 +60,7 @@ fn report_all<Id: Names + Send + Sync, R: Threads + Wait + Print + Sync>(
     alloc: Global,
     parts: Parts<Catalogue<&R>>,
 ) -> Result<(), Ending>
-    requires cells { IsNamed Id.cells parts.cells }
-    requires outputs { parts.outputs ≡ Id.outputs }
+    requires { IsNamed Id.cells Id.inputs Id.outputs parts }
 {
     let made: Result<Broker<Id, Catalogue<&R>>, AllocError> = Broker::new(alloc, parts);
     let Ok(broker) = made else {

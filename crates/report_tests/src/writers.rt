@@ -1,4 +1,3 @@
-ghost use Rattle.std.specs.Prelude.{◌≡◌};
 ghost use Rattle.broker.specs.Layouts.{IsNamed};
 
 use crate::calls::{deploy, go, put_byte};
@@ -51,8 +50,7 @@ fn cut_short<Id: Names + Send + Sync, R: Threads + Wait + Abort + Sync>(
     alloc: Global,
     parts: Parts<Catalogue<&R>>,
 ) -> Result<(), Fail>
-    requires cells { IsNamed Id.cells parts.cells }
-    requires outputs { parts.outputs ≡ Id.outputs }
+    requires { IsNamed Id.cells Id.inputs Id.outputs parts }
 {
     let broker: Broker<Id, Catalogue<&R>> = Broker::new(alloc, parts)?;
     assert_eq!(rt; deploy(rt, alloc, &broker, 0, &FORWARD), Some(0));

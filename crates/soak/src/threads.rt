@@ -1,6 +1,5 @@
 //! The threads of a soak, and what it comes to.
 
-ghost use Rattle.std.specs.Prelude.{◌≡◌};
 ghost use Rattle.broker.specs.Layouts.{IsNamed};
 
 use crate::auditing::{AUDITED, audit_all};
@@ -88,8 +87,7 @@ pub(crate) fn soak<Id: Names + Send + Sync, R: Threads + Wait + Sync>(
     records: usize,
     seed: u64,
 ) -> Option<Soaked>
-    requires cells { IsNamed Id.cells parts.cells }
-    requires outputs { parts.outputs ≡ Id.outputs }
+    requires { IsNamed Id.cells Id.inputs Id.outputs parts }
 {
     let broker: Broker<Id, Catalogue<&R>> = Broker::new(alloc, parts).ok()?;
     let players = Players {

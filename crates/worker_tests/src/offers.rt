@@ -19,6 +19,7 @@ fn a_book_takes_items_in_order(rt: HostRuntime) -> Result<(), Fail> {
 /// Of three items the first is offered, then the third, the first again, and the second by value.
 fn offer_three<Id: Names, R: Wait + Abort>(rt: &R, alloc: Global, cells: Cells) -> Result<(), Fail>
     requires cells { cells ≡ Id.cells 0 }
+    requires inputs { Id.inputs ≡ 1 }
     requires outputs { Id.outputs ≡ 1 }
 {
     let log: PartLog<Id> = PartLog::new(0, cells);

@@ -1,4 +1,3 @@
-ghost use Rattle.std.specs.Prelude.{◌≡◌};
 ghost use Rattle.broker.specs.Layouts.{IsNamed};
 
 use crate::calls::{deploy, has, put};
@@ -23,8 +22,7 @@ fn step_two<Id: Names, R: Wait + Abort>(
     alloc: Global,
     parts: Parts<Catalogue<&R>>,
 ) -> Result<(), Fail>
-    requires cells { IsNamed Id.cells parts.cells }
-    requires outputs { parts.outputs ≡ Id.outputs }
+    requires { IsNamed Id.cells Id.inputs Id.outputs parts }
 {
     let broker: Broker<Id, Catalogue<&R>> = Broker::new(alloc, parts)?;
     assert_eq!(rt; deploy(rt, alloc, &broker, 0, &FORWARD), Some(0));
@@ -36,6 +34,8 @@ fn step_two<Id: Names, R: Wait + Abort>(
     assert_eq!(rt; count(rt, &broker, 0, &receipt), Some(1));
     assert_eq!(rt; count(rt, &broker, 1, &receipt), None);
     assert!(rt; has(rt, &broker, 0, 0, 2, &[(0, 0, b'v')]));
+    assert_eq!(rt; step_again(rt, alloc, &broker, 0), Some(Stepped::Added(1)));
+    assert!(rt; has(rt, &broker, 0, 0, 3, &[(0, 0, b'v'), (1, 0, b'w')]));
     Ok(())
 }
 
@@ -52,14 +52,36 @@ fn step<Id: Names, C, R: Wait>(
     let _some = broker.inputs();
     let mut guard = broker.book(output).lock(rt);
     let book = &mut *guard;
-    if book.inputs() == 0 {
-        return None;
-    }
     let done = book.done(0);
     if done >= broker.cells(0) {
         return None;
     }
     let mut note = broker.note(0, done);
+    broker.step(alloc, book, 0, &mut note).ok()
+}
+
+/// A step that finds nothing, and with the same note another one, after a record came.
+fn step_again<Id: Names, C, R: Wait>(
+    rt: &R,
+    alloc: Global,
+    broker: &Broker<Id, C>,
+    output: usize,
+) -> Option<Stepped> {
+    if output >= broker.outputs() {
+        return None;
+    }
+    let _some = broker.inputs();
+    let mut guard = broker.book(output).lock(rt);
+    let book = &mut *guard;
+    let done = book.done(0);
+    if done >= broker.cells(0) {
+        return None;
+    }
+    let mut note = broker.note(0, done);
+    if broker.step(alloc, book, 0, &mut note) != Ok(Stepped::Nothing) {
+        return None;
+    }
+    put(rt, alloc, broker, 0, b'w')?;
     broker.step(alloc, book, 0, &mut note).ok()
 }
 

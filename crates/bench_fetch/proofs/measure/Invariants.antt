@@ -1,6 +1,6 @@
-use Rattle.std.proofs.Common.{[], get_or}
+use Rattle.std.proofs.Common.{[], get_or, length}
 use Rattle.bench_fetch.proofs.measure.Given as goal
 
 -- the names of the cells that were just made
 abbrev pub ghosts-compare : goal.ghosts-compare
-ghosts-compare g a = record { cells = λ input. get_or a.parts.cells input []; outputs = a.parts.outputs }
+ghosts-compare g a = record { cells = λ input. get_or a.parts.cells input []; inputs = length a.parts.cells; outputs = a.parts.outputs }
