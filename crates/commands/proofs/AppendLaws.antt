@@ -86,12 +86,12 @@ unread_ends inputs input (stop.File name) old new rest is = refl
 unread_ends inputs input stop.Memory old new rest is = tt
 unread_ends inputs input other old new rest is = absurd is
 
-abbrev known_or_none : (known : Option (List ℕ)) → (bytes : List ℕ) × IfSome known (λ all. bytes ≡ all)
+known_or_none : (known : Option (List ℕ)) → (bytes : List ℕ) × IfSome known (λ all. bytes ≡ all)
 known_or_none None = ([], tt)
 known_or_none (Some all) = (all, refl)
 
 -- nothing is appended
-abbrev pub nothing : (inputs input : ℕ) (known : Option (List ℕ)) (cause : Stop) (old new : List Received) (reason : Stop) → new ≡ old
+pub nothing : (inputs input : ℕ) (known : Option (List ℕ)) (cause : Stop) (old new : List Received) (reason : Stop) → new ≡ old
     → ((rest : List ℕ) → EndsAt inputs input cause old new rest (Err reason)) → AppendsOf inputs input known cause old new (Err reason)
 nothing inputs input known cause old new reason same ends =
     let all = known_or_none known in

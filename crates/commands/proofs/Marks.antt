@@ -1,6 +1,7 @@
 -- A deployment's receipt is that of a mark.
 use Rattle.std.proofs.Common.{◌≡◌, List, ℕ, ◌<◌, ◌≤◌, Result, Ok, Err, IfErr, IsErrAnd, sym, subst}
 use Rattle.part_log.specs.Parts.{Received}
+use Rattle.catalogue.specs.Finders.{Seen}
 use Rattle.catalogue.specs.Versions.{Version}
 use Rattle.broker.specs.Deployments.{IsNoReader, DeployIs}
 use Rattle.broker.specs.declared.fault.BrokerFault.{BrokerFault}
@@ -11,11 +12,11 @@ use Rattle.commands.specs.Stops.{stop_of_broker, HasNoFinder}
 use Rattle.commands.proofs.StopLaws.{refuses}
 
 -- A broker with `number` input partitions deploys; a session has as many.
-pub deployed : (number inputs input : ℕ) (name : List ℕ) (known : Version) (old new : List Version) (marked : Received × ℕ)
+pub deployed : (number inputs input : ℕ) (name : List ℕ) (known : Version) (old new : Seen) (marked : Received × ℕ)
     → DeployIs number input name known old (Ok marked) new → number ≡ inputs → (input < inputs) × IsMark input name marked.1 marked.0
 deployed number inputs input name known old new marked is same = (subst (λ (n : ℕ). input < n) same is.0, (is.1.program, (is.1.partition_is, is.1.item_is)))
 
-pub not_deployed : {A : Type 0} (number inputs input : ℕ) (name : List ℕ) (known : Version) (old new : List Version) (fault : BrokerFault) (result : Result A Stop)
+pub not_deployed : {A : Type 0} (number inputs input : ℕ) (name : List ℕ) (known : Version) (old new : Seen) (fault : BrokerFault) (result : Result A Stop)
     → DeployIs number input name known old (Err fault) new → number ≡ inputs → IsErrAnd result (λ reason. reason ≡ stop_of_broker fault) → IfErr result (Refuses inputs input)
 not_deployed number inputs input name known old new fault (Ok x) is same stops = absurd stops
 not_deployed number inputs input name known old new fault (Err reason) is same stops =

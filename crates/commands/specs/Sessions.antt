@@ -75,16 +75,15 @@ abbrev pub Closes : ℕ → Received → Option (List ℕ) → Option (List ℕ)
 Closes input receipt before after = IsReceiptOf input Closed receipt × Appends before after (close_line input (length receipt.before.items))
 
 -- What an output partition has from a place on, at most `max` rows, was printed as one batch.
-pub record Fetches (outputs output place max : ℕ) (before after : Option (List ℕ)) : Type 0 where
+pub record Fetches (cells : ℕ → List ℕ) (inputs outputs output place max : ℕ) (before after : Option (List ℕ)) : Type 0 where
   pub found : Option (List ℕ)
-  pub fetched : IsFetch outputs output place max found
+  pub fetched : IsFetch cells inputs outputs output place max found
   pub printed : Appends before after (fetch_line found)
 
--- The report of a snapshot of `outputs` output and `inputs` input partitions was printed.
-pub record Reports (outputs inputs : ℕ) (before after : Option (List ℕ)) : Type 0 where
+-- The report of a snapshot of `inputs` input and `outputs` output partitions was printed.
+pub record Reports (inputs outputs : ℕ) (before after : Option (List ℕ)) : Type 0 where
   pub snapshot : Gathered
-  pub gathered : IsGathered outputs snapshot
-  pub inputs_are : length snapshot.inputs ≡ inputs
+  pub gathered : IsGathered inputs outputs snapshot
   pub printed : Appends before after (report_text snapshot)
 
 -- one receipt was added to a list, of which this holds
@@ -127,19 +126,19 @@ abbrev pub CloseDoes : ℕ → ℕ → List Received → List Received → Optio
 CloseDoes inputs input old new before after result =
     DoesOne inputs input (IsReceiptOf input Closed) (λ receipt. Closes input receipt before after) old new before after result
 
--- What a command does, by the broker's numbers of output and input partitions and by what is known of files: what it appends,
--- of which the receipts are added to a list, and what it prints.
-abbrev pub Does : ℕ → ℕ → (List ℕ → Option (List ℕ)) → Command → List Received → List Received → Option (List ℕ) → Option (List ℕ) → Result ⊤ Stop → Type 0
-Does outputs inputs files (Deploy input name) old new before after result = DeployDoes inputs input name old new before after result
-Does outputs inputs files (Put input timestamp key value) old new before after result = PutDoes inputs input (put_batch timestamp key value) old new before after result
-Does outputs inputs files (Close input) old new before after result = CloseDoes inputs input old new before after result
-Does outputs inputs files (Append input source) old new before after result = AppendDoes inputs files input source old new before after result
-Does outputs inputs files (Load name source) old new before after result = (new ≡ old) × OnOk result ((image : List ℕ) × IsImageIn files source image × Loads name image before after)
-Does outputs inputs files (Fetch output place max) old new before after result = (new ≡ old) × OnOk result (Fetches outputs output place max before after)
-Does outputs inputs files Go old new before after result = (new ≡ old) × OnOk result (Reports outputs inputs before after)
-Does outputs inputs files (Partitions _ _ cells) old new before after result = IsUntouched old new before after × OnOk result ⊥
+-- What a command does, by the cells of the broker's input partitions, the numbers of its input and output partitions and what is
+-- known of files: what it appends, of which the receipts are added to a list, and what it prints.
+abbrev pub Does : (ℕ → List ℕ) → ℕ → ℕ → (List ℕ → Option (List ℕ)) → Command → List Received → List Received → Option (List ℕ) → Option (List ℕ) → Result ⊤ Stop → Type 0
+Does cells inputs outputs files (Deploy input name) old new before after result = DeployDoes inputs input name old new before after result
+Does cells inputs outputs files (Put input timestamp key value) old new before after result = PutDoes inputs input (put_batch timestamp key value) old new before after result
+Does cells inputs outputs files (Close input) old new before after result = CloseDoes inputs input old new before after result
+Does cells inputs outputs files (Append input source) old new before after result = AppendDoes inputs files input source old new before after result
+Does cells inputs outputs files (Load name source) old new before after result = (new ≡ old) × OnOk result ((image : List ℕ) × IsImageIn files source image × Loads name image before after)
+Does cells inputs outputs files (Fetch output place max) old new before after result = (new ≡ old) × OnOk result (Fetches cells inputs outputs output place max before after)
+Does cells inputs outputs files Go old new before after result = (new ≡ old) × OnOk result (Reports inputs outputs before after)
+Does cells inputs outputs files (Partitions _ _ _) old new before after result = IsUntouched old new before after × OnOk result ⊥
 
 -- the same of a line, which is this command; what is none is refused
-abbrev pub LineDoes : ℕ → ℕ → (List ℕ → Option (List ℕ)) → Option Command → List Received → List Received → Option (List ℕ) → Option (List ℕ) → Result ⊤ Stop → Type 0
-LineDoes outputs inputs files (Some command) old new before after result = Does outputs inputs files command old new before after result
-LineDoes outputs inputs files None old new before after result = IsUntouched old new before after × OnOk result ⊥
+abbrev pub LineDoes : (ℕ → List ℕ) → ℕ → ℕ → (List ℕ → Option (List ℕ)) → Option Command → List Received → List Received → Option (List ℕ) → Option (List ℕ) → Result ⊤ Stop → Type 0
+LineDoes cells inputs outputs files (Some command) old new before after result = Does cells inputs outputs files command old new before after result
+LineDoes cells inputs outputs files None old new before after result = IsUntouched old new before after × OnOk result ⊥

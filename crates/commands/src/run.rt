@@ -128,8 +128,7 @@ fn run_rest<Id: Names + Send + Sync, R: Threads + Wait + Sync, F: Files, O: Writ
     parts: Parts<Catalogue<&R>>,
     begun: Begun<'_>,
 ) -> Result<(), Ended>
-    requires cells { IsNamed Id.cells parts.cells }
-    requires outputs { parts.outputs ≡ Id.outputs }
+    requires { IsNamed Id.cells Id.inputs Id.outputs parts }
 {
     let made: Result<Session<'_, Id, R>, AllocError> = Session::new(rt, alloc, parts);
     match made {

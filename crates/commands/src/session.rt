@@ -63,11 +63,13 @@ pub struct Session<'a, Id: Names, R: Wait> {
 }
 
 impl<'a, Id: Names, R: Wait> Model for Session<'a, Id, R> {
-    ghost use Rattle.std.specs.Prelude.{ℕ};
+    ghost use Rattle.std.specs.Prelude.{◌≡◌, ℕ};
 
     ghost Value = { ℕ };
 
     ghost view = { λ s. s.broker };
+
+    ghost invariant = { λ s. s.broker ≡ Id.inputs };
 }
 
 fn shared(bytes: Vec<u8>) -> Result<Bytes, AllocError>
@@ -83,8 +85,7 @@ impl<'a, Id: Names + Send + Sync, R: Threads + Wait + Sync> Session<'a, Id, R> {
         alloc: Global,
         parts: Parts<Catalogue<&'a R>>,
     ) -> Result<Session<'a, Id, R>, AllocError>
-        requires cells { IsNamed Id.cells parts.cells }
-        requires outputs { parts.outputs ≡ Id.outputs }
+        requires { IsNamed Id.cells Id.inputs Id.outputs parts }
         ensures { IfOk result (λ session. session ≡ length parts.entry.cells) }
     {
         Ok(Session {
@@ -342,7 +343,7 @@ impl<'a, Id: Names + Send + Sync, R: Threads + Wait + Sync> Session<'a, Id, R> {
     /// Prints the rows of an output partition from a place on as one record batch, or `none`.
     #[tactic(auto, using(crate::proofs::Loaded::fetches, crate::proofs::Written::same_text))]
     fn fetch<O: Write>(&self, stdout: &mut O, output: u64, place: u64, max: u64) -> Result<(), Stop>
-        ensures { OnOk result (Fetches Id.outputs output place max (O.contents stdout.old) (O.contents stdout.new)) }
+        ensures { OnOk result (Fetches Id.cells self.now Id.outputs output place max (O.contents stdout.old) (O.contents stdout.new)) }
     {
         let found = self
             .broker
@@ -354,7 +355,7 @@ impl<'a, Id: Names + Send + Sync, R: Threads + Wait + Sync> Session<'a, Id, R> {
 
     /// Runs the programs on every item that the logs have, then prints the report.
     fn go<O: Write>(&self, stdout: &mut O) -> Result<(), Stop>
-        ensures { OnOk result (Reports Id.outputs self.now (O.contents stdout.old) (O.contents stdout.new)) }
+        ensures { OnOk result (Reports self.now Id.outputs (O.contents stdout.old) (O.contents stdout.new)) }
     {
         let ended = self
             .broker
@@ -374,7 +375,7 @@ impl<'a, Id: Names + Send + Sync, R: Threads + Wait + Sync> Session<'a, Id, R> {
         line: &str,
         receipts: &mut Vec<Receipt<Id>>,
     ) -> Result<(), Stop>
-        ensures { LineDoes Id.outputs self.old (F.bytes files.old) (command_of line.now) receipts.old.items receipts.new.items (O.contents stdout.old) (O.contents stdout.new) result }
+        ensures { LineDoes Id.cells self.old Id.outputs (F.bytes files.old) (command_of line.now) receipts.old.items receipts.new.items (O.contents stdout.old) (O.contents stdout.new) result }
     {
         let Some(command) = parse(self.alloc, line)? else {
             return Err(Stop::Line(ScriptFault::Syntax));
@@ -395,7 +396,7 @@ impl<'a, Id: Names + Send + Sync, R: Threads + Wait + Sync> Session<'a, Id, R> {
         receipts: &mut Vec<Receipt<Id>>,
     ) -> Result<(), Stop>
         requires { is_in_range command ≡ true }
-        ensures { Does Id.outputs self.old (F.bytes files.old) command receipts.old.items receipts.new.items (O.contents stdout.old) (O.contents stdout.new) result }
+        ensures { Does Id.cells self.old Id.outputs (F.bytes files.old) command receipts.old.items receipts.new.items (O.contents stdout.old) (O.contents stdout.new) result }
     {
         match command {
             Command::Partitions(..) => Err(Stop::Line(ScriptFault::Order)),

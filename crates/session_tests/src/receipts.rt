@@ -1,6 +1,5 @@
 //! What the lines of a session append.
 
-ghost use Rattle.std.specs.Prelude.{◌≡◌};
 ghost use Rattle.broker.specs.Layouts.{IsNamed};
 
 use crate::running::NoFiles;
@@ -41,8 +40,7 @@ fn appended<Id: Names + Send + Sync, R: Threads + Wait + Sync>(
     parts: Parts<Catalogue<&R>>,
     lines: &Lines<'_>,
 ) -> Result<(Vec<(usize, u64)>, Vec<u8>), Fail>
-    requires cells { IsNamed Id.cells parts.cells }
-    requires outputs { parts.outputs ≡ Id.outputs }
+    requires { IsNamed Id.cells Id.inputs Id.outputs parts }
 {
     let mut session: Session<'_, Id, R> = Session::new(rt, alloc, parts)?;
     let mut receipts = Vec::new(alloc);
