@@ -74,7 +74,7 @@ some_left (byte ∷ rest) left some none = some_byte byte (rest ++ left) none
 bad_next : (inputs input : ℕ) (after : Option (List ℕ)) (cause : Stop) (old new : List Received) (rest left : List ℕ) (fault : BatchFault)
     → input < inputs → IsBadNext after rest fault → (IsAtEnd after → left ≡ []) → EndsAt inputs input cause old new (rest ++ left) (Err (stop_of_fault fault))
 bad_next inputs input after cause old new rest left fault there bad none = elim (of_fault fault) [
-    inl same ↦ subst (λ (s : Stop). EndsAt inputs input cause old new (rest ++ left) (Err s)) (sym same) tt
+  | inl same ↦ subst (λ (s : Stop). EndsAt inputs input cause old new (rest ++ left) (Err s)) (sym same) tt
   | inr (other, same) ↦
       let b = bad other in
       subst (λ (s : Stop). EndsAt inputs input cause old new (rest ++ left) (Err s)) (sym same)

@@ -25,6 +25,6 @@ of_broker fault = inr refl
 
 pub refuses : (inputs input : ℕ) (fault : BrokerFault) → (fault ≡ broker.Partition → inputs ≤ input) → Refuses inputs input (stop_of_broker fault)
 refuses inputs input fault absent = elim (of_broker fault) [
-    inl same ↦ subst (Refuses inputs input) (sym same) tt
+  | inl same ↦ subst (Refuses inputs input) (sym same) tt
   | inr same ↦ subst (Refuses inputs input) (sym same) absent
 ]

@@ -4,6 +4,7 @@
 //! text, and `dis` prints that text. A `Session` does a script line by line.
 #![tactic(auto)]
 
+mod appending;
 mod asm;
 mod batches;
 mod call;

@@ -1,23 +1,22 @@
 //! The commands of a script after its first, one after the other.
 
-ghost use Rattle.std.specs.Prelude.{◌≡◌, ◌<◌, ◌≤◌, ◌++◌, [], ◌∷◌, ℕ, length, vec_len, vec_capacity, true, Some, OnOk, IfOk, IfErr, option_map};
-ghost use Rattle.std.specs.Io.KnownBytes.{Appends};
+ghost use Rattle.std.specs.Prelude.{◌≡◌, ◌<◌, ◌≤◌, length, true, OnOk, IfOk, IfErr, option_map};
 ghost use Rattle.script.specs.Commands.{command_of};
 ghost use Rattle.script.specs.Faults.{text_size, is_in_range};
 ghost use Rattle.broker.specs.Layouts.{IsNamed};
 ghost use Rattle.broker.specs.declared.fault.BrokerFault.TheVariants.{Partition};
 ghost use Rattle.commands.specs.declared.stop.Stop.TheVariants as stop;
-ghost use Rattle.commands.specs.Appends.{append_lines, bytes_of, unread_of, AppendsOf, AppendDoes};
+ghost use Rattle.commands.specs.Appends.{AppendDoes};
 ghost use Rattle.commands.specs.Puts.{put_batch};
 ghost use Rattle.commands.specs.Sessions.{IsMark, IsImageIn, Loads, Fetches, Reports, Refuses, DeployDoes, PutDoes, CloseDoes, Does, LineDoes};
-ghost use Rattle.commands.specs.Stops.{IsUnread, IsUnwritten, HasNoFinder};
+ghost use Rattle.commands.specs.Stops.{HasNoFinder};
 
+use crate::appending::{add, append_source, make_room, print_appended};
 use crate::batches::batch_of;
 use crate::files::Files;
 use crate::image::read_image;
 use crate::printing::{print, print_line};
-use crate::reading::cause_of;
-use crate::stop::{Stop, end_of_all, end_of_stream, stop_of_unread};
+use crate::stop::{Stop, end_of_all, stop_of_unread};
 use broker::{Broker, BrokerFault, Parts, Until};
 use bytes::Bytes;
 use catalogue::{Catalogue, Finder, Known};
@@ -25,20 +24,17 @@ use log_spec::{Name, RawName};
 use part_log::{Names, Receipt};
 use report::gather;
 use script::{
-    Command, FileName, ScriptFault, Source, append_text, close_text, deploy_text, fetch_text,
-    first_fault, load_text, parse,
+    Command, ScriptFault, Source, append_text, close_text, deploy_text, fetch_text, first_fault,
+    load_text, parse,
 };
 use std::alloc::{AllocError, Global};
 use std::collections::BTreeMap;
-use std::io::{Read, Write};
+use std::io::Write;
 use std::marker::Model;
 use std::sync::Wait;
 use std::thread::Threads;
 use wire_spec::{MAX_KEY, MAX_VALUE, TIMESTAMP_END};
 use worker::Gate;
-
-/// How many bytes are read at once of batches that are appended.
-const PIECE: usize = 65_536;
 
 /// Lets every offer pass.
 #[derive(Drop)]
@@ -273,71 +269,17 @@ impl<'a, Id: Names + Send + Sync, R: Threads + Wait + Sync> Session<'a, Id, R> {
         ensures { AppendDoes self.now (F.bytes files.old) input source receipts.old.items receipts.new.items (O.contents stdout.old) (O.contents stdout.new) result }
     {
         let before = receipts.len();
-        let appended = self.append_source(files, input, source, receipts);
+        let appended = append_source(
+            self.rt,
+            self.alloc,
+            &self.broker,
+            files,
+            input,
+            source,
+            receipts,
+        );
         print_appended(self.alloc, stdout, input, &receipts[before..])?;
         appended
-    }
-
-    /// Appends the batches of a command's bytes.
-    fn append_source<F: Files>(
-        &self,
-        files: &mut F,
-        input: u64,
-        source: Source,
-        receipts: &mut Vec<Receipt<Id>>,
-    ) -> Result<(), Stop>
-        ensures { AppendsOf self.now input (bytes_of (F.bytes files.old) source) (unread_of source) receipts.old.items receipts.new.items result }
-    {
-        match source {
-            Source::Line(bytes) => self.append_bytes(input, &bytes, receipts),
-            Source::File(name) => self.append_file(files, input, name, receipts),
-        }
-    }
-
-    fn append_bytes(
-        &self,
-        input: u64,
-        bytes: &[u8],
-        receipts: &mut Vec<Receipt<Id>>,
-    ) -> Result<(), Stop>
-        ensures { AppendsOf self.now input (Some bytes.now) stop.Memory receipts.old.items receipts.new.items result }
-    {
-        let mut reader = bytes;
-        self.append_from(input, &mut reader, Stop::Memory, receipts)
-    }
-
-    /// The file is opened before its input partition is looked for, and read after it.
-    fn append_file<F: Files>(
-        &self,
-        files: &mut F,
-        input: u64,
-        name: FileName,
-        receipts: &mut Vec<Receipt<Id>>,
-    ) -> Result<(), Stop>
-        ensures { AppendsOf self.now input (F.bytes files.old name) (stop.File name) receipts.old.items receipts.new.items result }
-    {
-        match files.open(name.text.as_str()) {
-            Err(error) => Err(stop_of_unread(name, cause_of(&error))),
-            Ok(mut reader) => self.append_from(input, &mut reader, Stop::File(name), receipts),
-        }
-    }
-
-    /// Appends the batches of a reader's bytes, of which at most `PIECE` are read at once.
-    fn append_from<S: Read>(
-        &self,
-        input: u64,
-        reader: &mut S,
-        unread: Stop,
-        receipts: &mut Vec<Receipt<Id>>,
-    ) -> Result<(), Stop>
-        requires { IsUnread unread }
-        ensures { AppendsOf self.now input (S.remaining reader.old) unread receipts.old.items receipts.new.items result }
-    {
-        let input = input as usize;
-        let appended = self
-            .broker
-            .append_from(self.rt, self.alloc, input, reader, PIECE, receipts);
-        end_of_stream(appended, unread)
     }
 
     /// Prints the rows of an output partition from a place on as one record batch, or `none`.
@@ -414,44 +356,4 @@ impl<'a, Id: Names + Send + Sync, R: Threads + Wait + Sync> Session<'a, Id, R> {
             Command::Go => self.go(stdout),
         }
     }
-}
-
-/// Makes room for one more receipt.
-fn make_room<Id: Names>(receipts: &mut Vec<Receipt<Id>>) -> Result<(), Stop>
-    ensures same { receipts.new.items ≡ receipts.old.items }
-    ensures ok { OnOk result (vec_len receipts.new < vec_capacity receipts.new) }
-    ensures err { IfErr result (λ reason. reason ≡ stop.Memory) }
-{
-    match receipts.reserve(1) {
-        Ok(()) => Ok(()),
-        Err(_) => Err(Stop::Memory),
-    }
-}
-
-/// Puts a receipt at the end of a list that has room for it.
-fn add<Id: Names>(receipts: &mut Vec<Receipt<Id>>, receipt: Receipt<Id>)
-    requires { vec_len receipts.old < vec_capacity receipts.old }
-    ensures { receipts.new.items ≡ receipts.old.items ++ receipt ∷ [] }
-{
-    match receipts.push(receipt) {
-        Ok(()) => {}
-        Err(_) => unreachable!(),
-    }
-}
-
-/// Prints the lines of appended batches.
-fn print_appended<Id: Names, O: Write>(
-    alloc: Global,
-    stdout: &mut O,
-    input: u64,
-    receipts: &[Receipt<Id>],
-) -> Result<(), Stop>
-    ensures ok { OnOk result (Appends (O.contents stdout.old) (O.contents stdout.new) (append_lines input receipts.now)) }
-    ensures err { IfErr result IsUnwritten }
-{
-    for receipt in receipts {
-        let line = append_text(alloc, input, receipt.index(), receipt.base());
-        print_line(stdout, line)?;
-    }
-    Ok(())
 }

@@ -46,7 +46,11 @@ impl Files for Shelf {
             Some(bytes) => Ok(Opened {
                 bytes: Cursor::new(bytes.clone()?),
                 has_end: !name.starts_with("endless"),
-                most: if name.starts_with("slow") { 1 } else { usize::MAX },
+                most: if name.starts_with("slow") {
+                    1
+                } else {
+                    usize::MAX
+                },
             }),
         }
     }

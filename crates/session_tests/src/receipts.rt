@@ -22,10 +22,7 @@ struct Lines<'a> {
 }
 
 /// Where each item of some receipts is in its log, and how many records are before it.
-fn places<Id: Names>(
-    alloc: Global,
-    receipts: &[Receipt<Id>],
-) -> Result<Vec<(usize, u64)>, Fail> {
+fn places<Id: Names>(alloc: Global, receipts: &[Receipt<Id>]) -> Result<Vec<(usize, u64)>, Fail> {
     let mut places = Vec::new(alloc);
     for receipt in receipts {
         places.push((receipt.index(), receipt.base()))?;
