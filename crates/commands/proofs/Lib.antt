@@ -1,6 +1,7 @@
-pub mod Appended
+pub mod AppendLaws
 pub mod BatchLaws
 pub mod Loaded
 pub mod Marks
 pub mod Said
+pub mod StopLaws
 pub mod Written

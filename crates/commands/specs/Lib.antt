@@ -1,3 +1,4 @@
+pub mod Appends
 pub mod Explanations
 pub mod Images
 pub mod Puts

@@ -1,24 +1,29 @@
 -- What the lines of a script do to its broker.
-use Rattle.std.specs.Prelude.{◌≡◌, ℕ, List, [], ◌∷◌, length, drop, All, Option, Some, None, Ok}
+use Rattle.std.specs.Prelude.{◌≡◌, ℕ, ◌<◌, ◌≤◌, ◌⊎◌, List, [], ◌∷◌, ◌++◌, length, All, Option, Some, None, Result, Ok, Err, OnOk, ⊤}
 use Rattle.std.specs.Io.KnownBytes.{Appends}
 use Rattle.wire_spec.specs.declared.record.Batch.{Batch}
-use Rattle.wire_spec.specs.BatchReading.{batch_at}
 use Rattle.machine_spec.specs.Image.{Program, program_of}
-use Rattle.log_spec.specs.Logs.{Item as Kept, Records, Marked, Closed, records_among}
+use Rattle.log_spec.specs.Logs.{Records, Marked, Closed}
 use Rattle.part_log.specs.Parts.{Received}
 use Rattle.catalogue.specs.Versions.{Version}
 use Rattle.broker.specs.Layouts.{Layout}
 use Rattle.broker.specs.Deployments.{LoadIs}
 use Rattle.broker.specs.Fetches.{IsFetch}
+use Rattle.broker.specs.Streams.{IsReceiptOf}
+use Rattle.broker.specs.declared.fault.BrokerFault.TheVariants.{Partition as Absent}
 use Rattle.script.specs.declared.command.Command.{Command}
 use Rattle.script.specs.declared.command.Command.TheVariants.{Partitions, Load, Deploy, Put, Append, Close, Fetch, Go}
 use Rattle.script.specs.declared.command.Source.{Source}
 use Rattle.script.specs.declared.command.Source.TheVariants.{Line, File}
-use Rattle.script.specs.Texts.{load_line, deploy_line, append_line, close_line, fetch_line}
+use Rattle.script.specs.Texts.{load_line, deploy_line, close_line, fetch_line}
 use Rattle.report.specs.Snapshots.{Gathered, IsGathered}
 use Rattle.report.specs.Texts.{report_text}
+use Rattle.commands.specs.declared.stop.Stop.{Stop}
+use Rattle.commands.specs.declared.stop.Stop.TheVariants as stop
+use Rattle.commands.specs.Appends.{line_of, AppendDoes}
 use Rattle.commands.specs.Images.{first_bytes}
 use Rattle.commands.specs.Puts.{put_batch}
+use Rattle.commands.specs.Stops.{IsUnwritten}
 
 -- `inputs` input partitions, with `cells` cells each, and `outputs` output partitions
 pub record IsMade (inputs outputs cells : ℕ) (parts : Layout) : Type 0 where
@@ -38,20 +43,9 @@ Begins (Some (Fetch output place max)) parts = ⊥
 Begins (Some Go) parts = ⊥
 Begins None parts = ⊥
 
--- a receipt of this item in the log of this input partition
-abbrev pub IsReceiptOf : ℕ → Kept → Received → Type 0
-IsReceiptOf input item receipt = (receipt.before.partition ≡ input) × (receipt.item ≡ item)
-
 -- a receipt of a mark of this version of the name
 abbrev pub IsMark : ℕ → List ℕ → ℕ → Received → Type 0
 IsMark input name version receipt = (program : Program) × IsReceiptOf input (Marked name version program) receipt
-
--- These are receipts of the batches that the bytes begin with, one after the other, in the log of this input partition. What
--- is left of the bytes is the rest.
-abbrev pub AreAppended : ℕ → List ℕ → List Received → List ℕ → Type 0
-AreAppended input bytes [] rest = rest ≡ bytes
-AreAppended input bytes (receipt ∷ receipts) rest =
-    (batch : Batch) × (used : ℕ) × (batch_at bytes ≡ Ok (batch, used)) × IsReceiptOf input (Records batch) receipt × AreAppended input (drop used bytes) receipts rest
 
 -- the image that a command names: the bytes in its line, or the first bytes of a file, where they are known
 abbrev pub IsImageIn : (List ℕ → Option (List ℕ)) → Source → List ℕ → Type 0
@@ -74,42 +68,77 @@ Deploys input name receipt before after =
 
 -- the same of a batch
 abbrev pub Puts : ℕ → Batch → Received → Option (List ℕ) → Option (List ℕ) → Type 0
-Puts input batch receipt before after =
-    IsReceiptOf input (Records batch) receipt × Appends before after (append_line input (length receipt.before.items) (records_among receipt.before.items))
+Puts input batch receipt before after = IsReceiptOf input (Records batch) receipt × Appends before after (line_of input receipt)
 
 -- the same of the end of a log
 abbrev pub Closes : ℕ → Received → Option (List ℕ) → Option (List ℕ) → Type 0
 Closes input receipt before after = IsReceiptOf input Closed receipt × Appends before after (close_line input (length receipt.before.items))
 
 -- What an output partition has from a place on, at most `max` rows, was printed as one batch.
-pub record Fetches (outputs output place max : ℕ) (before after : Option (List ℕ)) : Type 0 where
+pub record Fetches (cells : ℕ → List ℕ) (inputs outputs output place max : ℕ) (before after : Option (List ℕ)) : Type 0 where
   pub found : Option (List ℕ)
-  pub fetched : IsFetch outputs output place max found
+  pub fetched : IsFetch cells inputs outputs output place max found
   pub printed : Appends before after (fetch_line found)
 
--- The report of a snapshot of `outputs` output and `inputs` input partitions was printed.
-pub record Reports (outputs inputs : ℕ) (before after : Option (List ℕ)) : Type 0 where
+-- The report of a snapshot of `inputs` input and `outputs` output partitions was printed.
+pub record Reports (inputs outputs : ℕ) (before after : Option (List ℕ)) : Type 0 where
   pub snapshot : Gathered
-  pub gathered : IsGathered outputs snapshot
-  pub inputs_are : length snapshot.inputs ≡ inputs
+  pub gathered : IsGathered inputs outputs snapshot
   pub printed : Appends before after (report_text snapshot)
 
--- What a command appends, if it is one item, and prints, by the broker's numbers of output and input partitions and by what
--- is known of files.
-abbrev pub Does : ℕ → ℕ → (List ℕ → Option (List ℕ)) → Command → Option Received → Option (List ℕ) → Option (List ℕ) → Type 0
-Does outputs inputs files (Deploy input name) (Some receipt) before after = Deploys input name receipt before after
-Does outputs inputs files (Deploy input name) None before after = ⊥
-Does outputs inputs files (Put input timestamp key value) (Some receipt) before after = Puts input (put_batch timestamp key value) receipt before after
-Does outputs inputs files (Put input timestamp key value) None before after = ⊥
-Does outputs inputs files (Close input) (Some receipt) before after = Closes input receipt before after
-Does outputs inputs files (Close input) None before after = ⊥
-Does outputs inputs files (Partitions _ _ cells) receipt before after = ⊥
-Does outputs inputs files (Load name source) receipt before after = (receipt ≡ None) × (image : List ℕ) × IsImageIn files source image × Loads name image before after
-Does outputs inputs files (Append input source) receipt before after = receipt ≡ None
-Does outputs inputs files (Fetch output place max) receipt before after = (receipt ≡ None) × Fetches outputs output place max before after
-Does outputs inputs files Go receipt before after = (receipt ≡ None) × Reports outputs inputs before after
+-- one receipt was added to a list, of which this holds
+abbrev pub AddsOne : (Received → Type 0) → List Received → List Received → Type 0
+AddsOne Holds old new = (receipt : Received) × Holds receipt × (new ≡ old ++ receipt ∷ [])
 
--- the same of a line, which is this command
-abbrev pub LineDoes : ℕ → ℕ → (List ℕ → Option (List ℕ)) → Option Command → Option Received → Option (List ℕ) → Option (List ℕ) → Type 0
-LineDoes outputs inputs files (Some command) receipt before after = Does outputs inputs files command receipt before after
-LineDoes outputs inputs files None receipt before after = ⊥
+-- nothing was appended, and nothing printed
+abbrev pub IsUntouched : List Received → List Received → Option (List ℕ) → Option (List ℕ) → Type 0
+IsUntouched old new before after = (new ≡ old) × (after ≡ before)
+
+-- Why a command that appends one item is refused before anything is done. There is no such input partition only where the broker
+-- says so.
+abbrev pub Refuses : ℕ → ℕ → Stop → Type 0
+Refuses inputs input (stop.Line fault) = ⊤
+Refuses inputs input (stop.Broker fault) = fault ≡ Absent → inputs ≤ input
+Refuses inputs input stop.Memory = ⊤
+Refuses inputs input (stop.Batch fault) = ⊥
+Refuses inputs input (stop.File name) = ⊥
+Refuses inputs input stop.Output = ⊥
+Refuses inputs input stop.Thread = ⊥
+
+-- What a command does that appends one item to the log of an input partition, of whose receipt `Is` holds, and prints its line,
+-- which `Says`. It ends early before anything is done, or where the item's line can't be printed.
+abbrev pub DoesOne : ℕ → ℕ → (Is Says : Received → Type 0) → List Received → List Received → Option (List ℕ) → Option (List ℕ) → Result ⊤ Stop → Type 0
+DoesOne inputs input Is Says old new before after (Ok done) = (input < inputs) × AddsOne Says old new
+DoesOne inputs input Is Says old new before after (Err reason) = (IsUntouched old new before after × Refuses inputs input reason) ⊎ (AddsOne Is old new × IsUnwritten reason)
+
+-- what `deploy` does with a name
+abbrev pub DeployDoes : ℕ → ℕ → List ℕ → List Received → List Received → Option (List ℕ) → Option (List ℕ) → Result ⊤ Stop → Type 0
+DeployDoes inputs input name old new before after result =
+    DoesOne inputs input (λ receipt. (version : ℕ) × IsMark input name version receipt) (λ receipt. Deploys input name receipt before after) old new before after result
+
+-- what `put` does with a batch
+abbrev pub PutDoes : ℕ → ℕ → Batch → List Received → List Received → Option (List ℕ) → Option (List ℕ) → Result ⊤ Stop → Type 0
+PutDoes inputs input batch old new before after result =
+    DoesOne inputs input (IsReceiptOf input (Records batch)) (λ receipt. Puts input batch receipt before after) old new before after result
+
+-- what `close` does
+abbrev pub CloseDoes : ℕ → ℕ → List Received → List Received → Option (List ℕ) → Option (List ℕ) → Result ⊤ Stop → Type 0
+CloseDoes inputs input old new before after result =
+    DoesOne inputs input (IsReceiptOf input Closed) (λ receipt. Closes input receipt before after) old new before after result
+
+-- What a command does, by the cells of the broker's input partitions, the numbers of its input and output partitions and what is
+-- known of files: what it appends, of which the receipts are added to a list, and what it prints.
+abbrev pub Does : (ℕ → List ℕ) → ℕ → ℕ → (List ℕ → Option (List ℕ)) → Command → List Received → List Received → Option (List ℕ) → Option (List ℕ) → Result ⊤ Stop → Type 0
+Does cells inputs outputs files (Deploy input name) old new before after result = DeployDoes inputs input name old new before after result
+Does cells inputs outputs files (Put input timestamp key value) old new before after result = PutDoes inputs input (put_batch timestamp key value) old new before after result
+Does cells inputs outputs files (Close input) old new before after result = CloseDoes inputs input old new before after result
+Does cells inputs outputs files (Append input source) old new before after result = AppendDoes inputs files input source old new before after result
+Does cells inputs outputs files (Load name source) old new before after result = (new ≡ old) × OnOk result ((image : List ℕ) × IsImageIn files source image × Loads name image before after)
+Does cells inputs outputs files (Fetch output place max) old new before after result = (new ≡ old) × OnOk result (Fetches cells inputs outputs output place max before after)
+Does cells inputs outputs files Go old new before after result = (new ≡ old) × OnOk result (Reports inputs outputs before after)
+Does cells inputs outputs files (Partitions _ _ _) old new before after result = IsUntouched old new before after × OnOk result ⊥
+
+-- the same of a line, which is this command; what is none is refused
+abbrev pub LineDoes : (ℕ → List ℕ) → ℕ → ℕ → (List ℕ → Option (List ℕ)) → Option Command → List Received → List Received → Option (List ℕ) → Option (List ℕ) → Result ⊤ Stop → Type 0
+LineDoes cells inputs outputs files (Some command) old new before after result = Does cells inputs outputs files command old new before after result
+LineDoes cells inputs outputs files None old new before after result = IsUntouched old new before after × OnOk result ⊥

@@ -1,16 +1,21 @@
 -- Why a script ends early, by what refuses its line, and the status that the program then ends with.
-use Rattle.std.specs.Prelude.{ℕ, List, [], ◌∷◌, Result, Ok, Err}
+use Rattle.std.specs.Prelude.{◌≡◌, ℕ, List, [], ◌∷◌, Result, Ok, Err, ⊤}
 use Rattle.wire_spec.specs.declared.fault.BatchFault.{BatchFault}
 use Rattle.wire_spec.specs.declared.fault.BatchFault.TheVariants as fault
 use Rattle.part_log.specs.declared.fault.LogFault.TheVariants as log
 use Rattle.catalogue.specs.declared.fault.CatFault.TheVariants as catalogue
 use Rattle.out_book.specs.declared.fault.BookFault.TheVariants as book
+use Rattle.broker.specs.Deployments.{IsNoReader}
 use Rattle.broker.specs.declared.fault.BrokerFault.{BrokerFault}
 use Rattle.broker.specs.declared.fault.BrokerFault.TheVariants as broker
+use Rattle.broker.specs.declared.stream.StreamFault.{StreamFault}
+use Rattle.broker.specs.declared.stream.StreamFault.TheVariants as stream
 use Rattle.broker.specs.declared.ended.Ended.{Ended}
 use Rattle.broker.specs.declared.ended.Ended.TheVariants as ended
 use Rattle.report.specs.declared.fault.ReportFault.{ReportFault}
 use Rattle.report.specs.declared.fault.ReportFault.TheVariants as report
+use Rattle.commands.specs.declared.reading.Unread.{Unread}
+use Rattle.commands.specs.declared.reading.Unread.TheVariants as unread
 use Rattle.commands.specs.declared.stop.Stop.{Stop}
 use Rattle.commands.specs.declared.stop.Stop.TheVariants as stop
 use Rattle.commands.specs.declared.image.Refused.{Refused}
@@ -34,6 +39,10 @@ stop_of_broker (broker.Log log.Memory) = stop.Memory
 stop_of_broker (broker.Book (book.Gap expected)) = stop.Broker (broker.Book (book.Gap expected))
 stop_of_broker (broker.Book book.Partition) = stop.Broker (broker.Book book.Partition)
 stop_of_broker (broker.Book book.Memory) = stop.Memory
+
+-- the broker gives no finder
+abbrev pub HasNoFinder : Stop → Type 0
+HasNoFinder reason = (fault : BrokerFault) × IsNoReader fault × (reason ≡ stop_of_broker fault)
 
 -- a report that is not written to its end
 abbrev pub stop_of_report : ReportFault → Stop
@@ -69,6 +78,42 @@ stop_of_fault fault.Count = stop.Batch fault.Count
 stop_of_fault (fault.Record place) = stop.Batch (fault.Record place)
 stop_of_fault fault.Timestamp = stop.Batch fault.Timestamp
 stop_of_fault fault.Memory = stop.Memory
+
+-- a file that can't be read
+abbrev pub stop_of_unread : List ℕ → Unread → Stop
+stop_of_unread name unread.File = stop.File name
+stop_of_unread name unread.Memory = stop.Memory
+
+-- a stream of which no further batch is appended; where it can't be read, this is the cause
+abbrev pub stop_of_stream : Stop → StreamFault → Stop
+stop_of_stream cause stream.Read = cause
+stop_of_stream cause (stream.Batch fault) = stop_of_fault fault
+stop_of_stream cause (stream.Broker fault) = stop_of_broker fault
+
+-- how a command ends that appends a stream
+abbrev pub end_of_stream : Stop → Result ℕ StreamFault → Result ⊤ Stop
+end_of_stream cause (Ok count) = Ok tt
+end_of_stream cause (Err fault) = Err (stop_of_stream cause fault)
+
+-- bytes can't be read: a file can't, or memory ran out
+abbrev pub IsUnread : Stop → Type 0
+IsUnread (stop.File name) = ⊤
+IsUnread stop.Memory = ⊤
+IsUnread (stop.Line fault) = ⊥
+IsUnread (stop.Broker fault) = ⊥
+IsUnread (stop.Batch fault) = ⊥
+IsUnread stop.Output = ⊥
+IsUnread stop.Thread = ⊥
+
+-- a text can't be printed: standard output can't be written, or memory ran out
+abbrev pub IsUnwritten : Stop → Type 0
+IsUnwritten stop.Output = ⊤
+IsUnwritten stop.Memory = ⊤
+IsUnwritten (stop.Line fault) = ⊥
+IsUnwritten (stop.Broker fault) = ⊥
+IsUnwritten (stop.Batch fault) = ⊥
+IsUnwritten (stop.File name) = ⊥
+IsUnwritten stop.Thread = ⊥
 
 -- 1 where the line is refused, 3 where a file, standard output, a thread or memory fails
 abbrev pub status_of : Stop → ℕ

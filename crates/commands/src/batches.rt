@@ -1,26 +1,13 @@
-//! The batches that a script appends.
+//! The batches that `put` appends.
 
-ghost use Rattle.std.specs.Prelude.{◌≡◌, ◌<◌, ◌≤◌, length, IfOk};
+ghost use Rattle.std.specs.Prelude.{◌≡◌, ◌<◌, ◌≤◌, IfOk};
 ghost use Rattle.script.specs.Faults.{text_size};
 ghost use Rattle.log_spec.specs.Logs.{FitsLog};
-ghost use Rattle.wire_spec.specs.BatchReading.{batch_at};
-ghost use Rattle.wire_spec.specs.Memory.{AnswersAs};
-ghost use Rattle.wire_spec.specs.declared.fault.BatchFault.TheVariants.{Memory};
 ghost use Rattle.commands.specs.Puts.{put_batch};
 
-use batch::{BatchFault, decode};
 use bytes::Bytes;
 use std::alloc::{AllocError, Global};
 use wire_spec::{Batch, Headers, MAX_KEY, MAX_VALUE, Record, Records, TIMESTAMP_END};
-
-/// The batch at the front of the bytes, and how many of them it takes, or why there is none.
-pub fn next_batch(alloc: Global, bytes: &Bytes) -> Result<(Batch, usize), BatchFault>
-    ensures fits { IfOk result (λ x. FitsLog x.0) }
-    ensures used { IfOk result (λ x. (0 < x.1) × (x.1 ≤ length bytes.now)) }
-    ensures gives { AnswersAs Memory (λ x. x) result (batch_at bytes.now) }
-{
-    decode(alloc, bytes.clone()?)
-}
 
 /// A batch of one record.
 #[tactic(auto, using(crate::proofs::BatchLaws::put_fits))]

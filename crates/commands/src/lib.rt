@@ -1,9 +1,10 @@
 //! What a call of the program does: `command` does what its words ask for, with the files, standard
 //! input, output and error that it is given. `run` does the commands of a script, `check` verifies
 //! a program, `explain` prints what the verifier knows of one, `asm` makes the image of a program's
-//! text, and `dis` prints that text.
+//! text, and `dis` prints that text. A `Session` does a script line by line.
 #![tactic(auto)]
 
+mod appending;
 mod asm;
 mod batches;
 mod call;
@@ -20,3 +21,5 @@ mod words;
 
 pub use crate::call::{command, tell_no_words};
 pub use crate::files::Files;
+pub use crate::session::Session;
+pub use crate::stop::Stop;

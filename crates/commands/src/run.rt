@@ -98,16 +98,19 @@ struct Begun<'a> {
 
 /// The lines of a script that are not done, up to the first that is refused.
 fn run_after<Id: Names + Send + Sync, R: Threads + Wait + Sync, F: Files, O: Write>(
+    alloc: Global,
     session: &mut Session<'_, Id, R>,
     files: &mut F,
     stdout: &mut O,
     begun: Begun<'_>,
 ) -> Result<(), Ended> {
+    let mut receipts = Vec::new(alloc);
     let mut line = 0u64;
     for text in begun.script.split('\n') {
         line = line.saturating_add(1);
         if line > begun.done && !is_skipped(text) {
-            if let Err(stop) = session.line(files, stdout, text) {
+            receipts.clear();
+            if let Err(stop) = session.line(files, stdout, text, &mut receipts) {
                 return Err(Ended { line, stop });
             }
         }
@@ -125,12 +128,11 @@ fn run_rest<Id: Names + Send + Sync, R: Threads + Wait + Sync, F: Files, O: Writ
     parts: Parts<Catalogue<&R>>,
     begun: Begun<'_>,
 ) -> Result<(), Ended>
-    requires cells { IsNamed Id.cells parts.cells }
-    requires outputs { parts.outputs ≡ Id.outputs }
+    requires { IsNamed Id.cells Id.inputs Id.outputs parts }
 {
     let made: Result<Session<'_, Id, R>, AllocError> = Session::new(rt, alloc, parts);
     match made {
-        Ok(mut session) => run_after(&mut session, files, stdout, begun),
+        Ok(mut session) => run_after(alloc, &mut session, files, stdout, begun),
         Err(_) => Err(Ended {
             line: begun.done,
             stop: Stop::Memory,

@@ -1,21 +1,22 @@
 //! The commands of a script after its first, one after the other.
 
-ghost use Rattle.std.specs.Prelude.{◌≡◌, ◌<◌, ◌≤◌, [], true, OnOk, IfOk, IfErr, option_map};
+ghost use Rattle.std.specs.Prelude.{◌≡◌, ◌<◌, ◌≤◌, length, true, OnOk, IfOk, IfErr, option_map};
 ghost use Rattle.script.specs.Commands.{command_of};
 ghost use Rattle.script.specs.Faults.{text_size, is_in_range};
-ghost use Rattle.log_spec.specs.Logs.{FitsLog};
 ghost use Rattle.broker.specs.Layouts.{IsNamed};
 ghost use Rattle.broker.specs.declared.fault.BrokerFault.TheVariants.{Partition};
 ghost use Rattle.commands.specs.declared.stop.Stop.TheVariants as stop;
+ghost use Rattle.commands.specs.Appends.{AppendDoes};
 ghost use Rattle.commands.specs.Puts.{put_batch};
-ghost use Rattle.commands.specs.Sessions.{IsMark, IsImageIn, AreAppended, Loads, Deploys, Puts, Closes, Fetches, Reports, Does, LineDoes};
+ghost use Rattle.commands.specs.Sessions.{IsMark, IsImageIn, Loads, Fetches, Reports, Refuses, DeployDoes, PutDoes, CloseDoes, Does, LineDoes};
+ghost use Rattle.commands.specs.Stops.{HasNoFinder};
 
-use crate::batches::{batch_of, next_batch};
+use crate::appending::{add, append_source, make_room, print_appended};
+use crate::batches::batch_of;
 use crate::files::Files;
 use crate::image::read_image;
-use crate::printing::print;
-use crate::reading::{Unread, cause_of, read_whole};
-use crate::stop::{Stop, end_of_all};
+use crate::printing::{print, print_line};
+use crate::stop::{Stop, end_of_all, stop_of_unread};
 use broker::{Broker, BrokerFault, Parts, Until};
 use bytes::Bytes;
 use catalogue::{Catalogue, Finder, Known};
@@ -23,15 +24,16 @@ use log_spec::{Name, RawName};
 use part_log::{Names, Receipt};
 use report::gather;
 use script::{
-    Command, FileName, ScriptFault, Source, append_text, close_text, deploy_text, fetch_text,
-    first_fault, load_text, parse,
+    Command, ScriptFault, Source, append_text, close_text, deploy_text, fetch_text, first_fault,
+    load_text, parse,
 };
 use std::alloc::{AllocError, Global};
 use std::collections::BTreeMap;
 use std::io::Write;
+use std::marker::Model;
 use std::sync::Wait;
 use std::thread::Threads;
-use wire_spec::{Batch, MAX_KEY, MAX_VALUE, TIMESTAMP_END};
+use wire_spec::{MAX_KEY, MAX_VALUE, TIMESTAMP_END};
 use worker::Gate;
 
 /// Lets every offer pass.
@@ -45,7 +47,8 @@ impl Gate for Open {
 }
 
 /// What a script works on once `partitions` made it: its broker, the finder that its first `deploy`
-/// made, and what is known of each name that it loaded.
+/// made, and what is known of each name that it loaded. Contracts see how many input partitions it
+/// has.
 #[derive(Drop)]
 pub struct Session<'a, Id: Names, R: Wait> {
     rt: &'a R,
@@ -55,12 +58,14 @@ pub struct Session<'a, Id: Names, R: Wait> {
     loaded: BTreeMap<String, Known>,
 }
 
-/// Why a command stops whose file can't be read.
-fn stopped_by(name: FileName, cause: Unread) -> Stop {
-    match cause {
-        Unread::File => Stop::File(name),
-        Unread::Memory => Stop::Memory,
-    }
+impl<'a, Id: Names, R: Wait> Model for Session<'a, Id, R> {
+    ghost use Rattle.std.specs.Prelude.{◌≡◌, ℕ};
+
+    ghost Value = { ℕ };
+
+    ghost view = { λ s. s.broker };
+
+    ghost invariant = { λ s. s.broker ≡ Id.inputs };
 }
 
 fn shared(bytes: Vec<u8>) -> Result<Bytes, AllocError>
@@ -76,8 +81,8 @@ impl<'a, Id: Names + Send + Sync, R: Threads + Wait + Sync> Session<'a, Id, R> {
         alloc: Global,
         parts: Parts<Catalogue<&'a R>>,
     ) -> Result<Session<'a, Id, R>, AllocError>
-        requires cells { IsNamed Id.cells parts.cells }
-        requires outputs { parts.outputs ≡ Id.outputs }
+        requires { IsNamed Id.cells Id.inputs Id.outputs parts }
+        ensures { IfOk result (λ session. session ≡ length parts.entry.cells) }
     {
         Ok(Session {
             rt,
@@ -98,8 +103,8 @@ impl<'a, Id: Names + Send + Sync, R: Threads + Wait + Sync> Session<'a, Id, R> {
 
     /// Whether there is such an input partition is asked before anything is read for it.
     fn known_input(&self, input: u64) -> Result<(), Stop>
-        ensures ok { OnOk result (input < self.now.broker) }
-        ensures err { IfErr result (λ reported. (self.now.broker ≤ input) × (reported ≡ stop.Broker Partition)) }
+        ensures ok { OnOk result (input < self.now) }
+        ensures err { IfErr result (λ reported. (self.now ≤ input) × (reported ≡ stop.Broker Partition)) }
     {
         if input < self.broker.inputs() as u64 {
             Ok(())
@@ -115,29 +120,8 @@ impl<'a, Id: Names + Send + Sync, R: Threads + Wait + Sync> Session<'a, Id, R> {
         match source {
             Source::Line(image) => Ok(image),
             Source::File(name) => match read_image(self.alloc, files, name.text.as_str()) {
-                Err(cause) => Err(stopped_by(name, cause)),
+                Err(cause) => Err(stop_of_unread(name, cause)),
                 Ok(bytes) => Ok(shared(bytes)?),
-            },
-        }
-    }
-
-    /// The bytes of batches that are to be appended. Their file is opened before their input
-    /// partition is looked for, and read after it.
-    fn batches<F: Files>(&self, files: &mut F, input: u64, source: Source) -> Result<Bytes, Stop> {
-        match source {
-            Source::Line(bytes) => {
-                self.known_input(input)?;
-                Ok(bytes)
-            }
-            Source::File(name) => match files.open(name.text.as_str()) {
-                Err(error) => Err(stopped_by(name, cause_of(&error))),
-                Ok(mut reader) => {
-                    self.known_input(input)?;
-                    match read_whole(self.alloc, &mut reader) {
-                        Err(cause) => Err(stopped_by(name, cause)),
-                        Ok(bytes) => Ok(shared(bytes)?),
-                    }
-                }
             },
         }
     }
@@ -164,7 +148,10 @@ impl<'a, Id: Names + Send + Sync, R: Threads + Wait + Sync> Session<'a, Id, R> {
     }
 
     /// The finder of the session, for whoever takes it to give it back. The first call makes it.
-    fn taken_finder(&mut self) -> Result<Finder, Stop> {
+    fn taken_finder(&mut self) -> Result<Finder, Stop>
+        ensures same { self.new ≡ self.old }
+        ensures err { IfErr result HasNoFinder }
+    {
         match self.finder.take() {
             Some(finder) => Ok(finder),
             None => Ok(self.broker.finder(self.rt, self.alloc)?),
@@ -172,9 +159,10 @@ impl<'a, Id: Names + Send + Sync, R: Threads + Wait + Sync> Session<'a, Id, R> {
     }
 
     /// Appends the mark of a loaded name.
-    #[tactic(auto, using(crate::proofs::Marks::deployed))]
+    #[tactic(auto, using(crate::proofs::Marks::no_finder))]
     fn mark(&mut self, input: u64, name: &Name) -> Result<(Receipt<Id>, u32), Stop>
-        ensures { IfOk result (λ marked. IsMark input name.now marked.1 marked.0) }
+        ensures ok { IfOk result (λ marked. (input < self.old) × IsMark input name.now marked.1 marked.0) }
+        ensures err { IfErr result (Refuses self.old input) }
     {
         let mut finder = self.taken_finder()?;
         let Some(known) = self.loaded.get(name.text.as_str()) else {
@@ -189,10 +177,7 @@ impl<'a, Id: Names + Send + Sync, R: Threads + Wait + Sync> Session<'a, Id, R> {
             known,
         );
         self.finder = Some(finder);
-        match marked {
-            Ok(marked) => Ok(marked),
-            Err(fault) => Err(Stop::from(fault)),
-        }
+        Ok(marked?)
     }
 
     /// Deploys a loaded name, and prints where its mark is. No text that is too long for a name is
@@ -202,37 +187,35 @@ impl<'a, Id: Names + Send + Sync, R: Threads + Wait + Sync> Session<'a, Id, R> {
         stdout: &mut O,
         input: u64,
         name: RawName,
-    ) -> Result<Receipt<Id>, Stop>
-        ensures { IfOk result (λ receipt. Deploys input name receipt (O.contents stdout.old) (O.contents stdout.new)) }
+        receipts: &mut Vec<Receipt<Id>>,
+    ) -> Result<(), Stop>
+        ensures { DeployDoes self.old input name receipts.old.items receipts.new.items (O.contents stdout.old) (O.contents stdout.new) result }
     {
         match Name::new(name.text.as_str()) {
             None => Err(Stop::Line(ScriptFault::Order)),
-            Some(name) => self.deploy_named(stdout, input, &name),
+            Some(name) => self.deploy_named(stdout, input, &name, receipts),
         }
     }
 
-    #[tactic(auto, using(crate::proofs::Marks::deploys, crate::proofs::Written::same_text))]
     fn deploy_named<O: Write>(
         &mut self,
         stdout: &mut O,
         input: u64,
         name: &Name,
-    ) -> Result<Receipt<Id>, Stop>
-        ensures { IfOk result (λ receipt. Deploys input name.now receipt (O.contents stdout.old) (O.contents stdout.new)) }
+        receipts: &mut Vec<Receipt<Id>>,
+    ) -> Result<(), Stop>
+        ensures { DeployDoes self.old input name.now receipts.old.items receipts.new.items (O.contents stdout.old) (O.contents stdout.new) result }
     {
         self.known_input(input)?;
+        make_room(receipts)?;
         let (receipt, version) = self.mark(input, name)?;
-        let line = deploy_text(
-            self.alloc,
-            input,
-            receipt.index(),
-            name.text.as_str(),
-            version,
-        )?;
-        print(stdout, line.as_str())?;
-        Ok(receipt)
+        let text = name.text.as_str();
+        let line = deploy_text(self.alloc, input, receipt.index(), text, version);
+        add(receipts, receipt);
+        print_line(stdout, line)
     }
 
+    /// Appends a record, and prints where it is.
     fn put<O: Write>(
         &self,
         stdout: &mut O,
@@ -240,75 +223,69 @@ impl<'a, Id: Names + Send + Sync, R: Threads + Wait + Sync> Session<'a, Id, R> {
         timestamp: u64,
         key: Option<Bytes>,
         value: Option<Bytes>,
-    ) -> Result<Receipt<Id>, Stop>
+        receipts: &mut Vec<Receipt<Id>>,
+    ) -> Result<(), Stop>
         requires timestamp { timestamp < TIMESTAMP_END }
         requires key { text_size key ≤ MAX_KEY }
         requires value { text_size value ≤ MAX_VALUE }
-        ensures { IfOk result (λ receipt. Puts input (put_batch timestamp key value) receipt (O.contents stdout.old) (O.contents stdout.new)) }
+        ensures { PutDoes self.now input (put_batch timestamp key value) receipts.old.items receipts.new.items (O.contents stdout.old) (O.contents stdout.new) result }
     {
-        self.known_input(input)?;
+        make_room(receipts)?;
         let batch = batch_of(self.alloc, timestamp, key, value)?;
-        self.append(stdout, input, batch)
-    }
-
-    /// Appends a batch, and prints where it is.
-    #[tactic(auto, using(crate::proofs::Written::same_text))]
-    fn append<O: Write>(
-        &self,
-        stdout: &mut O,
-        input: u64,
-        batch: Batch,
-    ) -> Result<Receipt<Id>, Stop>
-        requires { FitsLog batch }
-        ensures { IfOk result (λ receipt. Puts input batch receipt (O.contents stdout.old) (O.contents stdout.new)) }
-    {
         let receipt = self
             .broker
             .append(self.rt, self.alloc, input as usize, batch)?;
-        let line = append_text(self.alloc, input, receipt.index(), receipt.base())?;
-        print(stdout, line.as_str())?;
-        Ok(receipt)
+        let line = append_text(self.alloc, input, receipt.index(), receipt.base());
+        add(receipts, receipt);
+        print_line(stdout, line)
     }
 
-    /// Appends the batches that some bytes contain one after the other, and returns their receipts.
-    /// Those before a faulty one stay.
-    #[tactic(auto, using(crate::proofs::Appended::one_more, crate::proofs::Appended::at_end))]
-    fn append_all<O: Write>(
+    /// Closes a log, and prints where its end is.
+    fn close<O: Write>(
         &self,
         stdout: &mut O,
         input: u64,
-        bytes: Bytes,
-    ) -> Result<Vec<Receipt<Id>>, Stop>
-        ensures { IfOk result (λ receipts. AreAppended input bytes receipts.items []) }
+        receipts: &mut Vec<Receipt<Id>>,
+    ) -> Result<(), Stop>
+        ensures { CloseDoes self.now input receipts.old.items receipts.new.items (O.contents stdout.old) (O.contents stdout.new) result }
     {
-        let mut receipts = Vec::new(self.alloc);
-        let mut rest = bytes;
-        while !rest.is_empty() {
-            let (batch, used) = next_batch(self.alloc, &rest)?;
-            let receipt = self.append(stdout, input, batch)?;
-            let Ok(()) = receipts.push(receipt) else {
-                return Err(Stop::Memory);
-            };
-            rest.advance(used);
-        }
-        Ok(receipts)
+        make_room(receipts)?;
+        let receipt = self.broker.close(self.rt, self.alloc, input as usize)?;
+        let line = close_text(self.alloc, input, receipt.index());
+        add(receipts, receipt);
+        print_line(stdout, line)
     }
 
-    #[tactic(auto, using(crate::proofs::Written::same_text))]
-    fn close<O: Write>(&self, stdout: &mut O, input: u64) -> Result<Receipt<Id>, Stop>
-        ensures { IfOk result (λ receipt. Closes input receipt (O.contents stdout.old) (O.contents stdout.new)) }
+    /// Appends the batches of a command's bytes, and prints a line for each, also for those before a
+    /// fault.
+    fn append<F: Files, O: Write>(
+        &self,
+        files: &mut F,
+        stdout: &mut O,
+        input: u64,
+        source: Source,
+        receipts: &mut Vec<Receipt<Id>>,
+    ) -> Result<(), Stop>
+        ensures { AppendDoes self.now (F.bytes files.old) input source receipts.old.items receipts.new.items (O.contents stdout.old) (O.contents stdout.new) result }
     {
-        self.known_input(input)?;
-        let receipt = self.broker.close(self.rt, self.alloc, input as usize)?;
-        let line = close_text(self.alloc, input, receipt.index())?;
-        print(stdout, line.as_str())?;
-        Ok(receipt)
+        let before = receipts.len();
+        let appended = append_source(
+            self.rt,
+            self.alloc,
+            &self.broker,
+            files,
+            input,
+            source,
+            receipts,
+        );
+        print_appended(self.alloc, stdout, input, &receipts[before..])?;
+        appended
     }
 
     /// Prints the rows of an output partition from a place on as one record batch, or `none`.
     #[tactic(auto, using(crate::proofs::Loaded::fetches, crate::proofs::Written::same_text))]
     fn fetch<O: Write>(&self, stdout: &mut O, output: u64, place: u64, max: u64) -> Result<(), Stop>
-        ensures { OnOk result (Fetches Id.outputs output place max (O.contents stdout.old) (O.contents stdout.new)) }
+        ensures { OnOk result (Fetches Id.cells self.now Id.outputs output place max (O.contents stdout.old) (O.contents stdout.new)) }
     {
         let found = self
             .broker
@@ -320,7 +297,7 @@ impl<'a, Id: Names + Send + Sync, R: Threads + Wait + Sync> Session<'a, Id, R> {
 
     /// Runs the programs on every item that the logs have, then prints the report.
     fn go<O: Write>(&self, stdout: &mut O) -> Result<(), Stop>
-        ensures { OnOk result (Reports Id.outputs self.now.broker (O.contents stdout.old) (O.contents stdout.new)) }
+        ensures { OnOk result (Reports self.now Id.outputs (O.contents stdout.old) (O.contents stdout.new)) }
     {
         let ended = self
             .broker
@@ -331,16 +308,16 @@ impl<'a, Id: Names + Send + Sync, R: Threads + Wait + Sync> Session<'a, Id, R> {
         Ok(())
     }
 
-    /// What a line asks for that is a command. Returns the receipt of what it appends, if that is one
-    /// item.
-    #[tactic(auto, using(crate::proofs::Said::line_does))]
+    /// What a line asks for. The receipts of all that it appends are put at the end of the list, also
+    /// before a fault.
     pub fn line<F: Files, O: Write>(
         &mut self,
         files: &mut F,
         stdout: &mut O,
         line: &str,
-    ) -> Result<Option<Receipt<Id>>, Stop>
-        ensures { IfOk result (λ receipt. LineDoes Id.outputs self.old.broker (F.bytes files.old) (command_of line.now) receipt (O.contents stdout.old) (O.contents stdout.new)) }
+        receipts: &mut Vec<Receipt<Id>>,
+    ) -> Result<(), Stop>
+        ensures { LineDoes Id.cells self.old Id.outputs (F.bytes files.old) (command_of line.now) receipts.old.items receipts.new.items (O.contents stdout.old) (O.contents stdout.new) result }
     {
         let Some(command) = parse(self.alloc, line)? else {
             return Err(Stop::Line(ScriptFault::Syntax));
@@ -349,7 +326,7 @@ impl<'a, Id: Names + Send + Sync, R: Threads + Wait + Sync> Session<'a, Id, R> {
         if let Some(fault) = first_fault(&command, true, is_loaded) {
             return Err(Stop::Line(fault));
         }
-        self.act(files, stdout, command)
+        self.act(files, stdout, command, receipts)
     }
 
     /// What a command asks for.
@@ -358,35 +335,25 @@ impl<'a, Id: Names + Send + Sync, R: Threads + Wait + Sync> Session<'a, Id, R> {
         files: &mut F,
         stdout: &mut O,
         command: Command,
-    ) -> Result<Option<Receipt<Id>>, Stop>
+        receipts: &mut Vec<Receipt<Id>>,
+    ) -> Result<(), Stop>
         requires { is_in_range command ≡ true }
-        ensures { IfOk result (λ receipt. Does Id.outputs self.old.broker (F.bytes files.old) command receipt (O.contents stdout.old) (O.contents stdout.new)) }
+        ensures { Does Id.cells self.old Id.outputs (F.bytes files.old) command receipts.old.items receipts.new.items (O.contents stdout.old) (O.contents stdout.new) result }
     {
         match command {
             Command::Partitions(..) => Err(Stop::Line(ScriptFault::Order)),
             Command::Load(name, source) => {
                 let image = self.image(files, source)?;
-                self.load(stdout, name, image)?;
-                Ok(None)
+                self.load(stdout, name, image)
             }
-            Command::Deploy(input, name) => Ok(Some(self.deploy(stdout, input, name)?)),
+            Command::Deploy(input, name) => self.deploy(stdout, input, name, receipts),
             Command::Put(input, timestamp, key, value) => {
-                Ok(Some(self.put(stdout, input, timestamp, key, value)?))
+                self.put(stdout, input, timestamp, key, value, receipts)
             }
-            Command::Append(input, source) => {
-                let bytes = self.batches(files, input, source)?;
-                self.append_all(stdout, input, bytes)?;
-                Ok(None)
-            }
-            Command::Close(input) => Ok(Some(self.close(stdout, input)?)),
-            Command::Fetch(output, place, max) => {
-                self.fetch(stdout, output, place, max)?;
-                Ok(None)
-            }
-            Command::Go => {
-                self.go(stdout)?;
-                Ok(None)
-            }
+            Command::Append(input, source) => self.append(files, stdout, input, source, receipts),
+            Command::Close(input) => self.close(stdout, input, receipts),
+            Command::Fetch(output, place, max) => self.fetch(stdout, output, place, max),
+            Command::Go => self.go(stdout),
         }
     }
 }

@@ -4,10 +4,11 @@ ghost use Rattle.std.specs.Prelude.{◌≡◌, ◌≢◌};
 ghost use Rattle.std.specs.IoError.{error_kind};
 ghost use Rattle.std.specs.declared.io.ErrorKind.TheVariants.{OutOfMemory};
 ghost use Rattle.commands.specs.declared.stop.Stop.TheVariants as stop;
-ghost use Rattle.commands.specs.Stops.{stop_of_fault, stop_of_broker, stop_of_report, status_of, end_of, end_of_all};
+ghost use Rattle.commands.specs.Stops.{stop_of_fault, stop_of_broker, stop_of_report, stop_of_unread, stop_of_stream, end_of_stream, status_of, end_of, end_of_all, IsUnwritten};
 
+use crate::reading::Unread;
 use batch::BatchFault;
-use broker::{BrokerFault, Ended};
+use broker::{BrokerFault, Ended, StreamFault};
 use catalogue::CatFault;
 use out_book::BookFault;
 use part_log::LogFault;
@@ -79,6 +80,38 @@ impl From<ReportFault> for Stop {
     }
 }
 
+/// Why a command stops whose file can't be read.
+pub fn stop_of_unread(name: FileName, cause: Unread) -> Stop
+    ensures { result ≡ stop_of_unread name cause }
+{
+    match cause {
+        Unread::File => Stop::File(name),
+        Unread::Memory => Stop::Memory,
+    }
+}
+
+/// Why a command stops that appends no further batch of a stream; `unread`, where the stream can't be
+/// read.
+fn stop_of_stream(fault: StreamFault, unread: Stop) -> Stop
+    ensures { result ≡ stop_of_stream unread fault }
+{
+    match fault {
+        StreamFault::Read => unread,
+        StreamFault::Batch(fault) => Stop::from(fault),
+        StreamFault::Broker(fault) => Stop::from(fault),
+    }
+}
+
+/// How a command ends that appended a stream.
+pub fn end_of_stream(appended: Result<u64, StreamFault>, unread: Stop) -> Result<(), Stop>
+    ensures { result ≡ end_of_stream unread appended }
+{
+    match appended {
+        Ok(_) => Ok(()),
+        Err(fault) => Err(stop_of_stream(fault, unread)),
+    }
+}
+
 /// Why a script ends where a worker ended so, if it does. The gate of a script's workers stops none.
 fn end_of(ended: Ended) -> Result<(), Stop>
     ensures { result ≡ end_of ended }
@@ -119,6 +152,7 @@ pub fn unwritten(error: &io::Error) -> Stop
     ensures memory { error_kind error.now ≡ OutOfMemory → result ≡ stop.Memory }
     ensures output { error_kind error.now ≢ OutOfMemory → result ≡ stop.Output }
     ensures status { status_of result ≡ 3 }
+    ensures is { IsUnwritten result }
 {
     match error.kind() {
         io::ErrorKind::OutOfMemory => Stop::Memory,

@@ -1,6 +1,10 @@
 use crate::scripts::BEGIN;
-use crate::shelf::called;
+use crate::shelf::{BATCHES, called, called_with, empty_shelf};
+use commands::Files;
+use std::alloc::Global;
+use std::sync::Wait;
 use std::test::Fail;
+use std::thread::Threads;
 
 /// A batch of one record: key `k`, value `v`, timestamp 0.
 const ONE: &str =
@@ -116,5 +120,74 @@ fn keeps_the_batches_before_a_faulty_one(rt: HostRuntime) -> Result<(), Fail> {
         assert!(rt; printed.as_str() == out, "{line}: {printed}");
         assert!(rt; reported == status, "{line}: {reported}");
     }
+    Ok(())
+}
+
+/// What a script does whose second line appends a file of two batches and the first `cut` bytes of a
+/// third to an input partition.
+fn appended<R: Threads + Wait + Sync>(
+    rt: &R,
+    alloc: Global,
+    input: u64,
+    name: &str,
+    cut: usize,
+) -> Result<(u8, String, String), Fail> {
+    let mut bytes = Vec::from_slice(alloc, &BATCHES)?;
+    bytes.extend_from_slice(BATCHES.get(..cut).ok_or("cut")?)?;
+    let mut files = empty_shelf(alloc);
+    files.write(name, &bytes)?;
+    let script = format!(in alloc; "partitions 1 1 8\nappend {input} {name}\n")?;
+    called_with(rt, alloc, &mut files, &["run", "stdin"], script.as_bytes())
+}
+
+/// The lines of two batches, of one record and of four.
+const TWO: &str = "append 0 index 0 base 0\nappend 0 index 1 base 1\n";
+
+/// Files by the partition that they are appended to, their name and how much of a third batch they
+/// have, with what is printed on both outputs and the status. Of one that is `endless` no end can be
+/// read, and one that is `slow` gives a byte a read.
+const FILES: [(u64, &str, usize, &str, &str, u8); 7] = [
+    (0, "whole", 0, TWO, "", 0),
+    (0, "slow", 0, TWO, "", 0),
+    (0, "cut", 30, TWO, "line 2: B1 Short\n", 1),
+    (0, "slow-cut", 30, TWO, "line 2: B1 Short\n", 1),
+    (0, "endless", 0, TWO, "file endless\n", 3),
+    (0, "endless-cut", 30, TWO, "file endless-cut\n", 3),
+    (1, "endless", 0, "", "line 2: P1 Partition\n", 1),
+];
+
+#[test]
+fn appends_the_batches_before_the_end_of_a_file(rt: HostRuntime) -> Result<(), Fail> {
+    let alloc = rt.alloc();
+    for (input, name, cut, out, err, status) in FILES {
+        let (reported, printed, fault) = appended(&rt, alloc, input, name, cut)?;
+        assert!(rt; fault.as_str() == err, "{name}: {fault}");
+        assert!(rt; printed.as_str() == out, "{name}: {printed}");
+        assert!(rt; reported == status, "{name}: {reported}");
+    }
+    Ok(())
+}
+
+/// A file of 300 times two batches is longer than what is read at once.
+#[test]
+fn appends_a_long_file(rt: HostRuntime) -> Result<(), Fail> {
+    let alloc = rt.alloc();
+    let mut files = empty_shelf(alloc);
+    let mut bytes = Vec::new(alloc);
+    let mut lines = String::new(alloc);
+    for pair in 0..300u32 {
+        bytes.extend_from_slice(&BATCHES)?;
+        let (index, base) = (2 * pair, 5 * pair);
+        write!(lines, "append 0 index {index} base {base}\n")?;
+        let (index, base) = (2 * pair + 1, 5 * pair + 1);
+        write!(lines, "append 0 index {index} base {base}\n")?;
+    }
+    assert!(rt; bytes.len() == 78_900);
+    files.write("long", &bytes)?;
+    let script = b"partitions 1 1 600\nappend 0 long\n";
+    let (status, out, err) = called_with(&rt, alloc, &mut files, &["run", "stdin"], script)?;
+    assert!(rt; err.as_str() == "", "{err}");
+    assert!(rt; out.as_str() == lines.as_str());
+    assert!(rt; status == 0);
     Ok(())
 }

@@ -16,16 +16,19 @@ pub(crate) struct Shelf {
     pub(crate) files: BTreeMap<String, Vec<u8>>,
 }
 
-/// An opened file, of which no more can be read than its bytes, or its bytes and then its end.
+/// An opened file, of which no more can be read than its bytes, or its bytes and then its end; and at
+/// most `most` of them at once.
 #[derive(Drop)]
 pub(crate) struct Opened {
     bytes: Cursor<Vec<u8>>,
     has_end: bool,
+    most: usize,
 }
 
 impl Read for Opened {
     fn read(&mut self, buf: &mut [u8]) -> io::Result<usize> {
-        let count = self.bytes.read(buf)?;
+        let most = self.most.min(buf.len());
+        let count = self.bytes.read(&mut buf[..most])?;
         if count > 0 || self.has_end {
             Ok(count)
         } else {
@@ -43,6 +46,11 @@ impl Files for Shelf {
             Some(bytes) => Ok(Opened {
                 bytes: Cursor::new(bytes.clone()?),
                 has_end: !name.starts_with("endless"),
+                most: if name.starts_with("slow") {
+                    1
+                } else {
+                    usize::MAX
+                },
             }),
         }
     }

@@ -4,6 +4,8 @@
 #[cfg(test)]
 mod examples;
 #[cfg(test)]
+mod receipts;
+#[cfg(test)]
 mod rows;
 #[cfg(test)]
 mod running;

@@ -10,7 +10,7 @@ use std::thread::Threads;
 
 /// No files: none can be read, and none can be written.
 #[derive(Drop)]
-struct NoFiles;
+pub(crate) struct NoFiles;
 
 impl Files for NoFiles {
     type Reader = Cursor<Vec<u8>>;

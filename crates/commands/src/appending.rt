@@ -1,0 +1,139 @@
+//! The batches that `append` appends, and the receipts of what lines append.
+
+ghost use Rattle.std.specs.Prelude.{◌≡◌, ◌<◌, ◌++◌, [], ◌∷◌, vec_len, vec_capacity, Some, OnOk, IfErr};
+ghost use Rattle.std.specs.Io.KnownBytes.{Appends};
+ghost use Rattle.commands.specs.declared.stop.Stop.TheVariants as stop;
+ghost use Rattle.commands.specs.Appends.{append_lines, bytes_of, unread_of, AppendsOf};
+ghost use Rattle.commands.specs.Stops.{IsUnread, IsUnwritten};
+
+use crate::files::Files;
+use crate::printing::print_line;
+use crate::reading::cause_of;
+use crate::stop::{Stop, end_of_stream, stop_of_unread};
+use broker::Broker;
+use part_log::{Names, Receipt};
+use script::{FileName, Source, append_text};
+use std::alloc::Global;
+use std::io::{Read, Write};
+use std::sync::Wait;
+
+/// How many bytes are read at once of batches that are appended.
+const PIECE: usize = 65_536;
+
+/// Appends the batches of a command's bytes.
+pub fn append_source<Id: Names, C, W: Wait, F: Files>(
+    rt: &W,
+    alloc: Global,
+    broker: &Broker<Id, C>,
+    files: &mut F,
+    input: u64,
+    source: Source,
+    receipts: &mut Vec<Receipt<Id>>,
+) -> Result<(), Stop>
+    ensures { AppendsOf broker.now input (bytes_of (F.bytes files.old) source) (unread_of source) receipts.old.items receipts.new.items result }
+{
+    match source {
+        Source::Line(bytes) => append_bytes(rt, alloc, broker, input, &bytes, receipts),
+        Source::File(name) => append_file(rt, alloc, broker, files, input, name, receipts),
+    }
+}
+
+fn append_bytes<Id: Names, C, W: Wait>(
+    rt: &W,
+    alloc: Global,
+    broker: &Broker<Id, C>,
+    input: u64,
+    bytes: &[u8],
+    receipts: &mut Vec<Receipt<Id>>,
+) -> Result<(), Stop>
+    ensures { AppendsOf broker.now input (Some bytes.now) stop.Memory receipts.old.items receipts.new.items result }
+{
+    let mut reader = bytes;
+    append_from(
+        rt,
+        alloc,
+        broker,
+        input,
+        &mut reader,
+        Stop::Memory,
+        receipts,
+    )
+}
+
+/// The file is opened before its input partition is looked for, and read after it.
+fn append_file<Id: Names, C, W: Wait, F: Files>(
+    rt: &W,
+    alloc: Global,
+    broker: &Broker<Id, C>,
+    files: &mut F,
+    input: u64,
+    name: FileName,
+    receipts: &mut Vec<Receipt<Id>>,
+) -> Result<(), Stop>
+    ensures { AppendsOf broker.now input (F.bytes files.old name) (stop.File name) receipts.old.items receipts.new.items result }
+{
+    match files.open(name.text.as_str()) {
+        Err(error) => Err(stop_of_unread(name, cause_of(&error))),
+        Ok(mut reader) => {
+            let unread = Stop::File(name);
+            append_from(rt, alloc, broker, input, &mut reader, unread, receipts)
+        }
+    }
+}
+
+/// Appends the batches of a reader's bytes, of which at most `PIECE` are read at once.
+fn append_from<Id: Names, C, W: Wait, R: Read>(
+    rt: &W,
+    alloc: Global,
+    broker: &Broker<Id, C>,
+    input: u64,
+    reader: &mut R,
+    unread: Stop,
+    receipts: &mut Vec<Receipt<Id>>,
+) -> Result<(), Stop>
+    requires { IsUnread unread }
+    ensures { AppendsOf broker.now input (R.remaining reader.old) unread receipts.old.items receipts.new.items result }
+{
+    let appended = broker.append_from(rt, alloc, input as usize, reader, PIECE, receipts);
+    end_of_stream(appended, unread)
+}
+
+/// Prints the lines of appended batches.
+pub fn print_appended<Id: Names, O: Write>(
+    alloc: Global,
+    stdout: &mut O,
+    input: u64,
+    receipts: &[Receipt<Id>],
+) -> Result<(), Stop>
+    ensures ok { OnOk result (Appends (O.contents stdout.old) (O.contents stdout.new) (append_lines input receipts.now)) }
+    ensures err { IfErr result IsUnwritten }
+{
+    for receipt in receipts {
+        let line = append_text(alloc, input, receipt.index(), receipt.base());
+        print_line(stdout, line)?;
+    }
+    Ok(())
+}
+
+/// Makes room for one more receipt.
+pub fn make_room<Id: Names>(receipts: &mut Vec<Receipt<Id>>) -> Result<(), Stop>
+    ensures same { receipts.new.items ≡ receipts.old.items }
+    ensures ok { OnOk result (vec_len receipts.new < vec_capacity receipts.new) }
+    ensures err { IfErr result (λ reason. reason ≡ stop.Memory) }
+{
+    match receipts.reserve(1) {
+        Ok(()) => Ok(()),
+        Err(_) => Err(Stop::Memory),
+    }
+}
+
+/// Puts a receipt at the end of a list that has room for it.
+pub fn add<Id: Names>(receipts: &mut Vec<Receipt<Id>>, receipt: Receipt<Id>)
+    requires { vec_len receipts.old < vec_capacity receipts.old }
+    ensures { receipts.new.items ≡ receipts.old.items ++ receipt ∷ [] }
+{
+    match receipts.push(receipt) {
+        Ok(()) => {}
+        Err(_) => unreachable!(),
+    }
+}
