@@ -1,7 +1,9 @@
 #!/usr/bin/env python3
-"""Compiles the transforms of examples/c/transforms, makes their images, has klog check and run them, and prints a table of them.
+"""Compiles the transforms of a folder, makes their images, has klog check and run them, and prints a table of them.
 
-    tools/transforms.py [--compiler COMPILER] [--options OPTIONS] [--klog KLOG]
+    tools/transforms.py [FOLDER] [--compiler COMPILER] [--options OPTIONS] [--klog KLOG]
+
+FOLDER is examples/c/transforms, if it is not given; docs/transforms.md has what is printed of it, and of examples/c/tried.
 
 NAME.c is a transform as anyone would write it who has read the head of klog.h. Where it is refused, NAME_klog.c is one that is
 accepted, and its comment says why and what is changed. The comment of NAME.c has examples: a record's key and value, and what is
@@ -99,7 +101,7 @@ class Klog:
     """A built program."""
 
     def __init__(self, program, folder):
-        self.program, self.path, self.name = program, os.path.join(folder, "checked.bin"), program
+        self.program, self.path, self.name = program, os.path.join(folder, "checked.bin"), "klog"
 
     def call(self, *words, given=None):
         return subprocess.run([self.program, *words], input=given, capture_output=True, text=True, check=False)
@@ -132,6 +134,14 @@ def judge(given, folder):
 
 
 # ---- the table
+
+HEAD = "| transform | what it does | as first written | what was wrong, and the mended form | instructions |\n|---|---|---|---|---|"
+
+
+def code(text):
+    """A text as it was printed, in Markdown."""
+    return f"`` {text} ``" if "`" in text else f"`{text}`"
+
 
 class Transforms:
     """Compiles and tries transforms; `wrong` has what is not as it must be."""
@@ -172,16 +182,17 @@ class Transforms:
         if not cases:
             self.wrong.append(f"{name} has no examples")
         if fault is None:
-            return f"| {name} | {what} | accepted, {count} instructions | |", True, True
+            return f"| {name} | {what} | accepted | | {count} |", True, True
         if not os.path.exists(mended):
-            return f"| {name} | {what} | `{fault}` | none |", False, False
+            return f"| {name} | {what} | {code(fault)} | none | |", False, False
         count, last = self.tried(mended, cases)
         why = " ".join(comment(mended)[1])
-        return f"| {name} | {what} | `{fault}` | {why} {f'Accepted, {count} instructions.' if last is None else f'`{last}`'} |", False, last is None
+        return f"| {name} | {what} | {code(fault)} | {why} | {count if last is None else code(last)} |", False, last is None
 
 
 def main():
-    words = argparse.ArgumentParser(description="Compiles, checks and runs the transforms of examples/c/transforms.")
+    words = argparse.ArgumentParser(description="Compiles, checks and runs the transforms of a folder.")
+    words.add_argument("folder", metavar="FOLDER", nargs="?", default=FOLDER)
     words.add_argument("--compiler", default="clang")
     words.add_argument("--options", default="-O2 -mcpu=v3")
     words.add_argument("--klog")
@@ -191,13 +202,13 @@ def main():
     with tempfile.TemporaryDirectory() as folder:
         judging = judge(given.klog, folder)
         transforms = Transforms(call, folder, judging)
-        paths = sorted(path for path in glob.glob(os.path.join(FOLDER, "*.c")) if not path.endswith("_klog.c"))
+        paths = sorted(path for path in glob.glob(os.path.join(given.folder, "*.c")) if not path.endswith("_klog.c"))
         rows = [transforms.row(path) for path in paths]
-    print("| transform | what it does | as first written | mended |\n|---|---|---|---|")
+    print(HEAD)
     for text, _, _ in rows:
         print(text)
     first, last = (sum(row[k] for row in rows) for k in (1, 2))
-    print(f"\n{first} of {len(rows)} accepted as first written, {last} mended or as they are; {version}, {given.options}, checked by {judging.name}")
+    print(f"\n{first} of {len(rows)} accepted as first written, {last} with the mended forms; {version}, {code(given.options)}, checked by {judging.name}.")
     for text in transforms.wrong:
         print(text, file=sys.stderr)
     sys.exit(int(last < len(rows) or bool(transforms.wrong)))

@@ -14,6 +14,8 @@
  *   - A variable that is emitted is set on every path: begin it with `= {0}`. There are 512 bytes of stack.
  *   - Divide unsigned numbers: compilers have no division of signed ones before -mcpu=v4.
  *   - There are no globals and no constants in memory: a text is a variable, `u8 text[] = "..";`.
+ *   - Addresses are not compared and not kept in arrays: test a bit of nulls, compare lengths. Of a variable's address and a
+ *     number that is no constant make a pointer of its own: `u8 *at = text + n; AS_WRITTEN(at);`, then at[0], at[1] and so on.
  *   - The record's bytes are emitted as they lie, from a place and by a length that are constants or with the record's own
  *     length. For others: emit_cut, emit_rest, copy_value.
  */
