@@ -19,6 +19,7 @@ import re
 import shutil
 import subprocess
 import sys
+import textwrap
 
 TOP = os.path.dirname(os.path.dirname(os.path.abspath(__file__)))
 
@@ -30,6 +31,7 @@ Verdict = collections.namedtuple("Verdict", "fault at lines")
 TESTS = {"jeq": ("=", "≠"), "jne": ("≠", "="), "jgt": (">", "≤"), "jge": ("≥", "<"), "jlt": ("<", "≥"), "jle": ("≤", ">"),
          "jset": ("has a bit of", "has no bit of")}
 UNREACHED = "unreached"
+WIDTH = 60
 
 
 # ---- what klog prints
@@ -169,7 +171,8 @@ def box(number, block, refused):
         is_refused = refused is not None and refused.at == i.number
         text += line_of(f"{i.number}: {i.text}", "gray40" if grey else "red" if is_refused else None)
         if is_refused:
-            text += "".join(line_of(line, "red") for line in [f"{refused.fault} at {refused.at}", *refused.lines])
+            said = [part for line in refused.lines for part in textwrap.wrap(line, WIDTH)]
+            text += "".join(line_of(line, "red") for line in [f"{refused.fault} at {refused.at}", *said])
     style = 'style=filled, fillcolor=gray90, color=gray' if grey else 'style=dashed' if block[0].known is None else 'style=solid'
     return f"\tb{number} [label=<{text}>, {style}];"
 
