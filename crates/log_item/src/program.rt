@@ -37,8 +37,10 @@ impl Program {
         ensures { ProgramIs image.now result }
     {
         let verified = annotate::load(alloc, image)?;
-        let image = image.clone().map_err(|_| LoadFault::Isa(IsaFault::Memory))?;
-        Ok(Program { image, verified })
+        match image.clone() {
+            Ok(image) => Ok(Program { image, verified }),
+            Err(_) => Err(LoadFault::Isa(IsaFault::Memory)),
+        }
     }
 
     /// What the program means on a record: an exit within as many instructions as it has, with no
