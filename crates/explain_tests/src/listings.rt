@@ -17,6 +17,7 @@ const PROGRAMS: [(&str, &str, &str); 4] = [
 3 slot 4: ld32 r0, [r1+1]
   r0: 0  r1: value+0  r2: length of value  r3: key+0  r4: length of key  r5: 0 to 3  r6: 4294967296  r10: stack+512
   value: 4 to 65536 bytes
+refused: V7 RecordBounds at 3
 ",
         "V7 RecordBounds at 3
 r1 (value+0) reaches bytes 1 to 4 of the value, whose length may be as low as 4
@@ -40,6 +41,8 @@ r1 (value+0) reaches bytes 1 to 4 of the value, whose length may be as low as 4
   r1: value+0  r2: length of value  r3: key+0  r4: length of key  r5: 0 to 3  r10: stack+512
   stack set: 496
   stack set: 504 to 511
+never reached: 1 of 5 instructions
+refused: V9 StackUnset at 4
 ",
         "V9 StackUnset at 4
 r10 (stack+512) reaches bytes 502 to 505 of the stack, and byte 502 may not be set
@@ -58,6 +61,7 @@ r10 (stack+512) reaches bytes 502 to 505 of the stack, and byte 502 may not be s
   r1: 0  r2: length of value  r3: key+0  r4: length of key  r5: 0 to 3  r6: value+0 to +3  r10: stack+512
 4 slot 4: ld8 r0, [r1+0]
   r0: 0 to 3  r6: value+0 to +3  r10: stack+512
+refused: V4 Unset at 4
 ",
         "V4 Unset at 4
 r1 is read and may hold nothing

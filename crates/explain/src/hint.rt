@@ -1,0 +1,144 @@
+//! What usually leads to a refusal, and what to do about it.
+
+use crate::shown::region_word;
+use machine_spec::Region;
+use std::fmt;
+
+/// What usually leads to a refusal, and what to do about it, beside what it is about.
+#[derive(Clone, Copy, Debug, PartialEq, Eq)]
+pub enum Hint {
+    /// A small number is used as an address, as the place of a global or of a constant table is.
+    Global,
+    /// Another number is used as an address.
+    NoPointer,
+    /// A length is used as an address.
+    Length,
+    /// An address is stored.
+    Spilled,
+    /// Addresses are compared.
+    Compared,
+    /// An address is computed with in another way than by a sum of 64 bits.
+    Computed,
+    /// A number that moves an address may be anything.
+    Unbounded,
+    /// The key or the value is written.
+    ReadOnly,
+    /// The key or the value may lack bytes. Fields: which, the first byte and the last.
+    Missing(Region, i128, i128),
+    /// No key, value or stack has such bytes. Fields: which, the first byte and the last.
+    NoBytes(Region, i128, i128),
+    /// Bytes of the stack may not be set. Fields: the first and the last.
+    Unset(u64, u64),
+    /// Room is not on the stack.
+    Room,
+    /// Room may have no byte.
+    NoRoom,
+    /// The code from a slot on comes to the jump at another, which leads back to the first.
+    Loop(i64, usize),
+    /// It doesn't come to that jump.
+    Order(i64, usize),
+}
+
+/// Bytes from the first to the last.
+#[derive(Clone, Copy)]
+struct Bytes(i128, i128);
+
+impl fmt::Display for Bytes {
+    fn fmt<W: fmt::Write>(&self, f: &mut fmt::Formatter<W>) -> fmt::Result {
+        let (first, last) = (self.0, self.1);
+        if first == last {
+            write!(f, "byte {first}")
+        } else {
+            write!(f, "bytes {first} to {last}")
+        }
+    }
+}
+
+/// What to do where a key or a value may lack bytes.
+fn write_missing<W: fmt::Write>(
+    f: &mut fmt::Formatter<W>,
+    region: Region,
+    first: i128,
+    last: i128,
+) -> fmt::Result {
+    let bytes = Bytes(first, last);
+    let name = region_word(region);
+    let least = last.saturating_add(1);
+    write!(
+        f,
+        "{bytes} of the {name} may be missing: test first that its length is at least {least}, unsigned, in 64 bits and against a constant"
+    )
+}
+
+/// What to do where no key, value or stack has such bytes.
+fn write_no_bytes<W: fmt::Write>(
+    f: &mut fmt::Formatter<W>,
+    region: Region,
+    first: i128,
+    last: i128,
+) -> fmt::Result {
+    let bytes = Bytes(first, last);
+    let name = region_word(region);
+    write!(
+        f,
+        "no {name} has {bytes}: bound the length, or what is added to the address, by an unsigned test in 64 bits against a constant"
+    )
+}
+
+impl fmt::Display for Hint {
+    fn fmt<W: fmt::Write>(&self, f: &mut fmt::Formatter<W>) -> fmt::Result {
+        match *self {
+            Hint::Global => write!(
+                f,
+                "a small number as address is a global, a text or a table of constants: klog has none, so use a variable of the function, set there"
+            ),
+            Hint::NoPointer => write!(
+                f,
+                "a number that was loaded or computed is no address: move the addresses of the value, the key or a variable"
+            ),
+            Hint::Length => write!(
+                f,
+                "a length is no address: transform takes the value, its length, the key, its length"
+            ),
+            Hint::Spilled => write!(
+                f,
+                "an address is stored, mostly since registers ran out: compile with -O2, and keep fewer values over a call"
+            ),
+            Hint::Compared => write!(
+                f,
+                "addresses are not compared: compare places or lengths, and test the fifth argument for a null"
+            ),
+            Hint::Computed => write!(
+                f,
+                "an address is only moved, by sums of 64 bits: compute with places, which are numbers"
+            ),
+            Hint::Unbounded => write!(
+                f,
+                "bound the number first, by an unsigned test in 64 bits against a constant: one of 32 bits or of two registers says nothing of it"
+            ),
+            Hint::ReadOnly => write!(f, "copy the bytes to a variable and write there"),
+            Hint::Missing(region, first, last) => write_missing(f, region, first, last),
+            Hint::NoBytes(region, first, last) => write_no_bytes(f, region, first, last),
+            Hint::Unset(first, last) => {
+                let bytes = Bytes(first.into(), last.into());
+                write!(
+                    f,
+                    "stack {bytes} may not be set, as padding or on some way: begin the variable with `= {{0}}`"
+                )
+            }
+            Hint::Room => write!(f, "room is on the stack: pass the address of a variable"),
+            Hint::Loop(first, jump) => write!(
+                f,
+                "a loop: the code from slot {first} on comes to slot {jump} again; give the loop a constant number of rounds, and UNROLLED before it (klog.h)"
+            ),
+            Hint::Order(first, jump) => write!(
+                f,
+                "no loop: the code from slot {first} on does not come to slot {jump} again; make the image by `tools/image.py OBJECT IMAGE`, which orders it so that jumps lead forward"
+            ),
+            Hint::NoRoom => write!(
+                f,
+                "the length may be 0: test first that it is at least 1, unsigned, in 64 bits and against a constant"
+            ),
+        }
+    }
+}
