@@ -3,6 +3,7 @@ pub mod Unknown
 pub mod Places
 pub mod Counted
 pub mod Rounds
+pub mod Back
 pub mod Verdicts
 pub mod Reasoned
 pub mod UnsetBytes

@@ -16,6 +16,7 @@ use Rattle.explain.specs.declared.reason.{Reached.Reached, Reason.Reason}
 use Rattle.explain.specs.declared.hint.Hint.{Hint}
 use Rattle.explain.specs.Reasons.{first_below, is_unset_in}
 use Rattle.explain.specs.Loops.{back_hint}
+use Rattle.explain.specs.Meetings.{lost_hint}
 
 -- ---- kinds
 
@@ -122,11 +123,12 @@ abbrev pub hint_where : Placed → Option Abstract → Option Reason → Option 
 hint_where placed (Some s) reason = hint_with s (summary_of placed.instruction) reason
 hint_where placed None reason = None
 
-abbrev pub placed_hint : Option Placed → Option Abstract → Option Reason → Option Hint
-placed_hint (Some placed) known reason = hint_where placed known reason
-placed_hint None known reason = None
+-- Of a fault at an instruction with these states: of a jump back whether it closes a loop, of a register that may hold nothing
+-- where it was lost, and else by what the fault is about.
+abbrev pub placed_hint : List Placed → Claims → ℕ → Option Reason → Option Placed → Option Hint
+placed_hint code claims pc reason (Some placed) =
+    option_or (option_or (back_hint code pc (Some placed)) (lost_hint code claims pc reason)) (hint_where placed (claim_at claims pc) reason)
+placed_hint code claims pc reason None = None
 
--- Of a fault of code with these states: of a jump back whether it closes a loop, and else by what the fault is about.
 abbrev pub hint_at : List Placed → Claims → VerifyFault → Option Reason → Option Hint
-hint_at code claims fault reason =
-    option_or (back_hint code fault.pc (slice_get code fault.pc)) (placed_hint (slice_get code fault.pc) (claim_at claims fault.pc) reason)
+hint_at code claims fault reason = placed_hint code claims fault.pc reason (slice_get code fault.pc)

@@ -1,8 +1,17 @@
 //! What usually leads to a refusal, and what to do about it.
 
-use crate::shown::region_word;
+use crate::shown::{Shown, region_word};
 use machine_spec::Region;
 use std::fmt;
+use verifier_spec::Abs;
+
+/// What is known of a register on one of the ways to an instruction, and the slot of the instruction
+/// that the way comes from.
+#[derive(Clone, Copy, Debug, PartialEq, Eq)]
+pub struct Way {
+    pub kind: Abs,
+    pub slot: usize,
+}
 
 /// What usually leads to a refusal, and what to do about it, beside what it is about.
 #[derive(Clone, Copy, Debug, PartialEq, Eq)]
@@ -37,6 +46,12 @@ pub enum Hint {
     Loop(i64, usize),
     /// It doesn't come to that jump.
     Order(i64, usize),
+    /// Two ways know a register as different kinds. Field: the slot where they meet.
+    Met(Way, Way, usize),
+    /// The call at a slot leaves nothing in a register.
+    Called(usize),
+    /// No way sets a register.
+    NeverSet,
 }
 
 /// Bytes from the first to the last.
@@ -82,6 +97,21 @@ fn write_no_bytes<W: fmt::Write>(
     write!(
         f,
         "no {name} has {bytes}: bound the length, or what is added to the address, by an unsigned test in 64 bits against a constant"
+    )
+}
+
+/// What two ways know of a register, and where they meet.
+fn write_met<W: fmt::Write>(
+    f: &mut fmt::Formatter<W>,
+    first: Way,
+    second: Way,
+    slot: usize,
+) -> fmt::Result {
+    let (kind, from) = (Shown(first.kind), first.slot);
+    let (other_kind, other) = (Shown(second.kind), second.slot);
+    write!(
+        f,
+        "{kind} from slot {from} and {other_kind} from slot {other} meet at slot {slot}: set it on both ways, to one kind of value"
     )
 }
 
@@ -135,6 +165,12 @@ impl fmt::Display for Hint {
                 f,
                 "no loop: the code from slot {first} on does not come to slot {jump} again; make the image by `tools/image.py OBJECT IMAGE`, which orders it so that jumps lead forward"
             ),
+            Hint::Met(first, second, slot) => write_met(f, first, second, slot),
+            Hint::Called(slot) => write!(
+                f,
+                "the call at slot {slot} leaves nothing in r1 to r5: keep values in r6 to r9"
+            ),
+            Hint::NeverSet => write!(f, "no way to here sets it: a variable is read before it is set"),
             Hint::NoRoom => write!(
                 f,
                 "the length may be 0: test first that it is at least 1, unsigned, in 64 bits and against a constant"

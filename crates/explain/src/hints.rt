@@ -8,6 +8,7 @@ ghost use Rattle.explain.specs.Reasons.{first_below};
 use crate::accesses::{first_unset, is_unset_in};
 use crate::hint::Hint;
 use crate::loops::back_hint;
+use crate::meeting::lost_hint;
 use crate::reason::{Reached, Reason};
 use abstract_regs::State;
 use bpf_isa::Code;
@@ -291,5 +292,7 @@ pub fn hint_at(
     }
     let placed = code.get(fault.pc);
     let back = back_hint(alloc, code, fault.pc, placed)?;
-    Ok(back.or(hint_where(placed, claim_at(states, fault.pc), reason)))
+    let lost = lost_hint(code, states, fault.pc, reason);
+    let found = hint_where(placed, claim_at(states, fault.pc), reason);
+    Ok(back.or(lost).or(found))
 }

@@ -11,6 +11,7 @@ mod hints;
 mod image_fault;
 mod listing;
 mod loops;
+mod meeting;
 mod operands;
 mod reason;
 mod registers;
@@ -18,6 +19,6 @@ mod shown;
 mod slot_bytes;
 
 pub use explanation::{Explanation, Refusal, explain_image};
-pub use hint::Hint;
+pub use hint::{Hint, Way};
 pub use image_fault::image_fault_text;
 pub use reason::{Reached, Reason};

@@ -3,7 +3,7 @@ use std::test::Fail;
 
 /// Refused programs, each with what is said of its fault. Those of several lines are what clang 14
 /// makes with `-O2 -target bpf -mcpu=v3` of the C above them.
-const HINTS: [(&str, &str); 26] = [
+const HINTS: [(&str, &str); 31] = [
     // static const u8 table[256] = {..}; if (value_length < 1) return 1; return table[value[0]];
     (
         "mov64 r0, 1\njeq64 r2, 0, +5\nld8 r1, [r1+0]\nimm64 r2, 0\nadd64 r2, r1\nld8 r0, [r2+0]\nexit\n",
@@ -176,6 +176,40 @@ a loop: the code from slot 3 on comes to slot 9 again; give the loop a constant 
         "V2 BackJump at 13
 the jump leads back to slot 3
 no loop: the code from slot 3 on does not come to slot 13 again; make the image by `tools/image.py OBJECT IMAGE`, which orders it so that jumps lead forward",
+    ),
+    // if (value_length < 4 || key_length < 4) return 1; const u8 *from = nulls & 2 ? value : key;
+    // u32 hash = from[0] * 31 + from[1] * 7 + from[3]; if (hash % 7 == 3) return 2; return emit_record(hash & 3);
+    (
+        "mov64 r0, 1\njlt64 r2, 4, +20\njlt64 r4, 4, +19\nand64 r5, 2\njeq64 r5, 0, +1\nmov64 r3, r1\nld8 r2, [r3+0]\nmul32 r2, 31\nld8 r1, [r3+1]\nmul32 r1, 7\nadd32 r1, r2\nld8 r2, [r3+3]\nadd32 r1, r2\nmov64 r0, 2\nmov32 r2, r1\ndiv32 r2, 7\nmul32 r2, 7\nmov32 r3, r1\nsub32 r3, r2\njeq32 r3, 3, +2\nand32 r1, 3\ncall 3\nexit\n",
+        "V4 Unset at 6
+r3 is read and may hold nothing
+key+0 from slot 4 and value+0 from slot 5 meet at slot 6: set it on both ways, to one kind of value",
+    ),
+    // They meet before the instruction that reads the register, and a slot is that of no instruction.
+    (
+        "imm64 r0, 0\njeq64 r2, 0, +1\nmov64 r6, 5\nmov64 r7, 0\nmov64 r8, 0\nadd64 r0, r6\nexit\n",
+        "V4 Unset at 5
+r6 is read and may hold nothing
+nothing known from slot 2 and 5 from slot 3 meet at slot 4: set it on both ways, to one kind of value",
+    ),
+    (
+        "jeq64 r2, 0, +1\nja +0\nmov64 r6, r1\nmov64 r1, 0\ncall 3\nmov64 r0, r1\nexit\n",
+        "V4 Unset at 5
+r1 is read and may hold nothing
+the call at slot 4 leaves nothing in r1 to r5: keep values in r6 to r9",
+    ),
+    (
+        "exit\n",
+        "V4 Unset at 0
+r0 is read and may hold nothing
+no way to here sets it: a variable is read before it is set",
+    ),
+    // A jump to the next instruction, where both edges meet.
+    (
+        "mov64 r6, 1\njeq64 r2, 0, +0\nadd64 r9, r6\nexit\n",
+        "V4 Unset at 2
+r9 is read and may hold nothing
+no way to here sets it: a variable is read before it is set",
     ),
     // A jump back to where no instruction begins, and other faults, have none.
     (
