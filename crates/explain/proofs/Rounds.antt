@@ -1,6 +1,5 @@
 -- Rounds of marks: after n of them what is marked comes to an instruction in at most n steps.
-use Rattle.std.proofs.Common.{◌≡◌, ℕ, zero, suc, ◌+◌, ◌-◌, ◌<◌, ◌≤◌, Bool, true, false, ◌==◌, ◌||◌, List, [], ◌∷◌, ◌++◌, length, Option, Some, None, refl, sym, ap, ◌∙◌, subst, get_or, add-one, arith, inl, inr, length-append}
-use Rattle.std.specs.Prelude.{slice_get, slice_index_or}
+use Rattle.std.proofs.Common.{◌≡◌, ℕ, zero, suc, ◌+◌, ◌<◌, ◌≤◌, Bool, false, ◌==◌, List, [], ◌∷◌, ◌++◌, length, refl, sym, ap, ◌∙◌, subst, get_or, add-one, arith, inl, inr, length-append}
 use Rattle.std.proofs.lemmas.Bool.{cases_lt}
 use Rattle.std.proofs.lemmas.Bool.Decides.{nat_tests}
 use Rattle.std.proofs.lemmas.List.{get_or_past}
@@ -42,15 +41,15 @@ read_past test n k past = get_or_past (list_below n test) k false (omega (arith,
 
 -- ---- rounds
 
+pub start : (code : List Placed) (to : ℕ) → list_below (length code) (λ k. k == to) ≡ list_below (length code) (comes_to code to 0)
+unfolding comes_to
+start code to = refl
+
 module _ (code : List Placed) (to : ℕ) (within : to < length code) where
   none_past : (steps k : ℕ) → length code ≤ k → comes_to code to steps k ≡ false
   unfolding comes_to
   none_past zero k past = grind (arith, nat_tests)
   none_past (suc steps) k past = rw (none_past steps k past) (ap (leads_to_marked code (comes_to code to steps) k) (slice_get_past code k past))
-
-  pub start : list_below (length code) (λ k. k == to) ≡ list_below (length code) (comes_to code to 0)
-  unfolding comes_to
-  start = refl
 
   reads : (steps k : ℕ) → is_marked (list_below (length code) (comes_to code to steps)) k ≡ comes_to code to steps k
   reads steps k = elim (cases_lt k (length code)) [

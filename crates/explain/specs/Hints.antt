@@ -57,9 +57,12 @@ no_bytes bytes =
     then Hint.NoBytes bytes.region bytes.first (int_min bytes.last (neg_ℤ (pos 1)))
     else Hint.NoBytes bytes.region (int_max bytes.first (pos (limit bytes.region))) bytes.last
 
--- no test of a length helps where no key or value has all of the bytes
+-- a test of the length helps where it leaves more than the greatest keys or values
 abbrev pub record_hint : Reached → ℕ → Hint
-record_hint bytes some = if leaves_region bytes then no_bytes bytes else Hint.Missing bytes.region (first_missing bytes some) bytes.last
+record_hint bytes some =
+    if int_lt bytes.first (pos 0) then no_bytes bytes else
+    if int_le (pos (limit bytes.region) +ℤ neg_ℤ (pos 1)) bytes.last then Hint.Far bytes.region bytes.last else
+    Hint.Missing bytes.region (first_missing bytes some) bytes.last
 
 -- ---- the stack
 

@@ -1,5 +1,5 @@
 -- What is said of an image that has no code, after its fault.
-use Rattle.std.specs.Prelude.{ℕ, ◌+◌, ◌*◌, ◌/◌, ◌%◌, Bool, false, ◌==◌, ◌&&◌, nat_eq, nat_lt, nat_le, if◌then◌else◌, List, [], ◌∷◌, ◌++◌, length, drop, slice_index, Option, Some, None, codes, decimal}
+use Rattle.std.specs.Prelude.{ℕ, ◌*◌, ◌/◌, ◌%◌, Bool, false, ◌==◌, ◌&&◌, nat_eq, nat_lt, nat_le, if◌then◌else◌, List, [], ◌∷◌, ◌++◌, length, drop, slice_index, Option, Some, None, codes, decimal}
 use Rattle.std.specs.{Fmt.digit_glyph, List.starts_with}
 use Rattle.machine_spec.specs.declared.limits.TheConstants.{MAX_SLOTS}
 use Rattle.machine_spec.specs.declared.instruction.{Instruction.Instruction, IsaFault.IsaFault}
@@ -18,9 +18,12 @@ byte_text byte = codes " " ++ digit_glyph false (byte / 16) ∷ digit_glyph fals
 abbrev pub bytes_text : List ℕ → List ℕ
 bytes_text bytes = texts_below 8 (λ i. byte_text (slice_index bytes i))
 
+abbrev pub bytes_line : List ℕ → List ℕ
+bytes_line bytes = bytes_text bytes ++ 10 ∷ []
+
 -- `slot 0: 95 00 00 00 01 00 00 00`, with the bytes that begin there
 abbrev pub slot_text : ℕ → List ℕ → List ℕ
-slot_text slot bytes = codes "slot " ++ (decimal slot ++ (codes ":" ++ (bytes_text bytes ++ 10 ∷ [])))
+slot_text slot bytes = codes "slot " ++ (decimal slot ++ (codes ":" ++ bytes_line bytes))
 
 abbrev pub field_text : Bool → List ℕ → List ℕ
 field_text is_cleared name = if is_cleared then codes " " ++ (name ++ codes "=0") else []
@@ -72,8 +75,11 @@ order_text None = codes "the imm of a byte order is 16, 32 or 64" ++ 10 ∷ []
 abbrev pub unused_text : List ℕ → List ℕ
 unused_text bytes = repair_text bytes ++ order_text (mended bytes (wrong_fields bytes))
 
+abbrev pub second_slot_text : List ℕ → List ℕ
+second_slot_text bytes = codes "second slot:" ++ bytes_line bytes
+
 abbrev pub second_text : List ℕ → List ℕ
-second_text bytes = if nat_lt (length bytes) 16 then codes "no second slot" ++ 10 ∷ [] else codes "second slot:" ++ (bytes_text (drop 8 bytes) ++ 10 ∷ [])
+second_text bytes = if nat_lt (length bytes) 16 then codes "no second slot" ++ 10 ∷ [] else second_slot_text (drop 8 bytes)
 
 abbrev pub wide_text : List ℕ → List ℕ
 wide_text bytes = second_text bytes ++ (codes "a 64-bit immediate has a second slot that begins with 00 00 00 00" ++ 10 ∷ [])

@@ -1,5 +1,5 @@
 -- Whether the code that a jump back leads to comes to the jump again.
-use Rattle.std.specs.Prelude.{ℕ, zero, suc, ◌+◌, ℤ, pos, Bool, true, false, ◌==◌, ◌&&◌, ◌||◌, not, int_lt, if◌then◌else◌, List, [], ◌∷◌, ◌++◌, length, slice_get, slice_index_or, unsigned_abs, Option, Some, None}
+use Rattle.std.specs.Prelude.{ℕ, zero, suc, ◌+◌, ℤ, pos, Bool, false, ◌==◌, ◌&&◌, ◌||◌, not, int_lt, if◌then◌else◌, List, [], ◌∷◌, ◌++◌, length, slice_get, slice_index_or, unsigned_abs, Option, Some, None}
 use Rattle.machine_spec.specs.declared.instruction.Placed.{Placed}
 use Rattle.machine_spec.specs.declared.summary.Summary.{Summary}
 use Rattle.machine_spec.specs.Summaries.{summary_of}

@@ -2,7 +2,7 @@
 use Rattle.std.specs.Prelude.{ℕ, zero, suc, ◌+◌, Bool, true, false, ◌==◌, ◌&&◌, ◌||◌, not, if◌then◌else◌, List, length, slice_get, Option, Some, None, option_map, is_some, is_none, unwrap_or}
 use Rattle.std.specs.Option.{option_or}
 use Rattle.machine_spec.specs.declared.helper.TheConstants.{HELPERS}
-use Rattle.machine_spec.specs.declared.instruction.{Region.Region, Instruction.Instruction, Placed.Placed}
+use Rattle.machine_spec.specs.declared.instruction.{Placed.Placed}
 use Rattle.machine_spec.specs.Image.{target_of}
 use Rattle.verifier_spec.specs.declared.state.{Abs.Abs, Abstract.Abstract}
 use Rattle.verifier_spec.specs.Kinds.{kind_at, is_unknown, is_number_kind, same_region}
@@ -10,7 +10,7 @@ use Rattle.verifier_spec.specs.Checks.{failed_check, jump_of}
 use Rattle.verifier_spec.specs.Transfer.{falls_to, jumps_to}
 use Rattle.verifier_spec.specs.Annotation.{Claims, claim_at}
 use Rattle.explain.specs.declared.hint.{Hint.Hint, Way.Way}
-use Rattle.explain.specs.declared.{meeting.Step.Step, reason.Reason.Reason}
+use Rattle.explain.specs.declared.{meeting.Loss.Loss, reason.Reason.Reason}
 use Rattle.explain.specs.Reasons.{first_below}
 
 -- ---- the kind that an edge propagates
@@ -52,6 +52,12 @@ abbrev pub is_other : Abs → Option Abs → Bool
 is_other kind (Some other) = not (same_sort kind other)
 is_other kind None = false
 
+abbrev pub arrives : List Placed → Claims → ℕ → ℕ → ℕ → Bool
+arrives code claims r j k = is_some (arrival code claims r j k)
+
+abbrev pub differs : List Placed → Claims → ℕ → ℕ → Abs → ℕ → Bool
+differs code claims r j kind k = is_other kind (arrival code claims r j k)
+
 -- ---- one instruction
 
 abbrev pub slot_in : Option Placed → ℕ
@@ -70,32 +76,32 @@ is_lost_before r (Some s) = is_unknown (kind_at s r)
 is_lost_before r None = true
 
 -- what propagates nothing of a register leaves nothing in it, or had nothing of it
-abbrev pub lost_in : List Placed → Claims → ℕ → ℕ → Step
-lost_in code claims r k = if is_lost_before r (claim_at claims k) then Step.Before k else Step.Lost (Hint.Called (slot_of code k))
+abbrev pub lost_in : List Placed → Claims → ℕ → ℕ → Loss
+lost_in code claims r k = if is_lost_before r (claim_at claims k) then Loss.Before k else Loss.Here (Hint.Called (slot_of code k))
 
-abbrev pub met_with : List Placed → Claims → ℕ → ℕ → ℕ → Abs → Option ℕ → Step
+abbrev pub met_with : List Placed → Claims → ℕ → ℕ → ℕ → Abs → Option ℕ → Loss
 met_with code claims r j k kind (Some other) =
-    Step.Lost (Hint.Met (way_from code k kind) (way_from code other (unwrap_or (arrival code claims r j other) Abs.None)) (slot_of code j))
+    Loss.Here (Hint.Met (way_from code k kind) (way_from code other (unwrap_or (arrival code claims r j other) Abs.None)) (slot_of code j))
 met_with code claims r j k kind None = lost_in code claims r k
 
-abbrev pub met_from : List Placed → Claims → ℕ → ℕ → ℕ → Option Abs → Step
-met_from code claims r j k (Some kind) = met_with code claims r j k kind (first_below j (λ i. is_other kind (arrival code claims r j i)))
-met_from code claims r j k None = Step.Lost Hint.NeverSet
+abbrev pub met_from : List Placed → Claims → ℕ → ℕ → ℕ → Option Abs → Loss
+met_from code claims r j k (Some kind) = met_with code claims r j k kind (first_below j (differs code claims r j kind))
+met_from code claims r j k None = Loss.Here Hint.NeverSet
 
-abbrev pub met_first : List Placed → Claims → ℕ → ℕ → Option ℕ → Step
+abbrev pub met_first : List Placed → Claims → ℕ → ℕ → Option ℕ → Loss
 met_first code claims r j (Some k) = met_from code claims r j k (arrival code claims r j k)
-met_first code claims r j None = Step.Lost Hint.NeverSet
+met_first code claims r j None = Loss.Here Hint.NeverSet
 
 -- At an instruction before which nothing is known of a register: the first two instructions that lead to it and know
 -- kinds of different sorts; else the first that leads to it, which is a call or knows nothing before it either.
-unfoldable pub step : List Placed → Claims → ℕ → ℕ → Step
-step code claims r j = met_first code claims r j (first_below j (λ k. is_some (arrival code claims r j k)))
+unfoldable pub step : List Placed → Claims → ℕ → ℕ → Loss
+step code claims r j = met_first code claims r j (first_below j (arrives code claims r j))
 
 -- ---- from one instruction back to another
 
-abbrev pub after_step : (ℕ → Option Hint) → Step → Option Hint
-after_step before (Step.Lost hint) = Some hint
-after_step before (Step.Before k) = before k
+abbrev pub after_step : (ℕ → Option Hint) → Loss → Option Hint
+after_step before (Loss.Here hint) = Some hint
+after_step before (Loss.Before k) = before k
 
 -- where it is lost, as far back as a number of instructions
 unfoldable pub lost_within : List Placed → Claims → ℕ → ℕ → ℕ → Option Hint

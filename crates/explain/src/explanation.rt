@@ -6,9 +6,9 @@ ghost use Rattle.explain.specs.Explanations as definitions;
 ghost use Rattle.explain.specs.Explanations.{ExplainsAs, HasVerdict};
 
 use crate::causes::reason_at;
+use crate::ending::push_end;
 use crate::hint::Hint;
 use crate::hints::hint_at;
-use crate::ending::push_end;
 use crate::listing::push_first;
 use crate::reason::Reason;
 use abstract_regs::State;

@@ -34,6 +34,8 @@ pub enum Hint {
     ReadOnly,
     /// The key or the value may lack bytes. Fields: which, the first byte and the last.
     Missing(Region, i128, i128),
+    /// A byte of the key or the value is too far for a test of its length. Fields: which, the byte.
+    Far(Region, i128),
     /// No key, value or stack has such bytes. Fields: which, the first byte and the last.
     NoBytes(Region, i128, i128),
     /// Bytes of the stack may not be set. Fields: the first and the last.
@@ -53,6 +55,9 @@ pub enum Hint {
     /// No way sets a register.
     NeverSet,
 }
+
+/// Which tests tell nothing.
+const NO_TEST: &str = "a test of 32 bits, of two registers or of signed numbers says nothing of it";
 
 /// Bytes from the first to the last.
 #[derive(Clone, Copy)]
@@ -81,7 +86,16 @@ fn write_missing<W: fmt::Write>(
     let least = last.saturating_add(1);
     write!(
         f,
-        "{bytes} of the {name} may be missing: test first that its length is at least {least}, unsigned, in 64 bits and against a constant"
+        "{bytes} of the {name} may be missing: test first that its length is at least {least} (at_least of klog.h); {NO_TEST}"
+    )
+}
+
+/// What to do where a byte is too far for a test of the length.
+fn write_far<W: fmt::Write>(f: &mut fmt::Formatter<W>, region: Region, last: i128) -> fmt::Result {
+    let name = region_word(region);
+    write!(
+        f,
+        "bytes up to {last} of the {name} may be meant: bound the place (index_below of klog.h), or emit a part of it by emit_cut, emit_rest or copy_value"
     )
 }
 
@@ -96,7 +110,7 @@ fn write_no_bytes<W: fmt::Write>(
     let name = region_word(region);
     write!(
         f,
-        "no {name} has {bytes}: bound the length, or what is added to the address, by an unsigned test in 64 bits against a constant"
+        "no {name} has {bytes}: bound the place or the length (index_below and is_within of klog.h)"
     )
 }
 
@@ -120,7 +134,7 @@ impl fmt::Display for Hint {
         match *self {
             Hint::Global => write!(
                 f,
-                "a small number as address is a global, a text or a table of constants: klog has none, so use a variable of the function, set there"
+                "a small number as address is a global, a text or a table of constants: klog has none, so use a variable of the function, as `u8 text[] = \"..\";`"
             ),
             Hint::NoPointer => write!(
                 f,
@@ -144,10 +158,11 @@ impl fmt::Display for Hint {
             ),
             Hint::Unbounded => write!(
                 f,
-                "bound the number first, by an unsigned test in 64 bits against a constant: one of 32 bits or of two registers says nothing of it"
+                "bound the number first (index_below or bounded of klog.h); {NO_TEST}"
             ),
             Hint::ReadOnly => write!(f, "copy the bytes to a variable and write there"),
             Hint::Missing(region, first, last) => write_missing(f, region, first, last),
+            Hint::Far(region, last) => write_far(f, region, last),
             Hint::NoBytes(region, first, last) => write_no_bytes(f, region, first, last),
             Hint::Unset(first, last) => {
                 let bytes = Bytes(first.into(), last.into());
@@ -170,10 +185,13 @@ impl fmt::Display for Hint {
                 f,
                 "the call at slot {slot} leaves nothing in r1 to r5: keep values in r6 to r9"
             ),
-            Hint::NeverSet => write!(f, "no way to here sets it: a variable is read before it is set"),
+            Hint::NeverSet => write!(
+                f,
+                "no way to here sets it: a variable is read before it is set"
+            ),
             Hint::NoRoom => write!(
                 f,
-                "the length may be 0: test first that it is at least 1, unsigned, in 64 bits and against a constant"
+                "the length may be 0: test first that it is at least 1 (is_within of klog.h); {NO_TEST}"
             ),
         }
     }

@@ -91,12 +91,15 @@ fn no_bytes(bytes: Reached) -> Hint
     }
 }
 
-/// The hint where a key or a value may lack bytes. No test of a length helps where none has them.
+/// The hint where a key or a value may lack bytes. A test of the length helps where it leaves more
+/// than the greatest keys or values.
 fn record_hint(bytes: Reached, least: u32) -> Hint
     ensures { result ≡ definitions.record_hint bytes least }
 {
-    if leaves_region(bytes) {
+    if bytes.first < 0 {
         no_bytes(bytes)
+    } else if bytes.last >= limit(bytes.region) - 1 {
+        Hint::Far(bytes.region, bytes.last)
     } else {
         Hint::Missing(bytes.region, first_missing(bytes, least), bytes.last)
     }
@@ -268,11 +271,7 @@ fn hint_where(placed: Placed, claim: Option<&State>, reason: Option<Reason>) -> 
     ensures { result ≡ definitions.hint_where placed (option_copied claim.entry) reason }
 {
     match claim {
-        Some(state) => hint_with(
-            state.as_abstract(),
-            Summary::of(placed.instruction),
-            reason,
-        ),
+        Some(state) => hint_with(state.as_abstract(), Summary::of(placed.instruction), reason),
         None => None,
     }
 }

@@ -29,13 +29,20 @@ fn push_bytes(text: &mut String, bytes: &[u8]) -> Result<(), AllocError>
     Ok(())
 }
 
+/// Appends the first eight bytes of some as the end of a line.
+fn push_bytes_line(text: &mut String, bytes: &[u8]) -> Result<(), AllocError>
+    ensures { OnOk result (string_bytes text.new ≡ string_bytes text.old ++ definitions.bytes_line bytes.now) }
+{
+    push_bytes(text, bytes)?;
+    text.push_str("\n")
+}
+
 /// Appends the line of a slot, with the bytes that begin there.
 fn push_slot(text: &mut String, slot: usize, bytes: &[u8]) -> Result<(), AllocError>
     ensures { OnOk result (string_bytes text.new ≡ string_bytes text.old ++ definitions.slot_text slot bytes.now) }
 {
     write!(text, "slot {slot}:")?;
-    push_bytes(text, bytes)?;
-    text.push_str("\n")
+    push_bytes_line(text, bytes)
 }
 
 /// Appends that a field is 0, where it is cleared.
@@ -160,16 +167,23 @@ fn push_unused(text: &mut String, bytes: &[u8]) -> Result<(), AllocError>
     push_order(text, mended(bytes, wrong_fields(bytes)))
 }
 
-/// Appends the line of a second slot, if there is one.
+/// Appends the line of a second slot.
+fn push_second_slot(text: &mut String, bytes: &[u8]) -> Result<(), AllocError>
+    ensures { OnOk result (string_bytes text.new ≡ string_bytes text.old ++ definitions.second_slot_text bytes.now) }
+{
+    text.push_str("second slot:")?;
+    push_bytes_line(text, bytes)
+}
+
+/// Appends the line of the slot after the first of some bytes, or that there is none.
 fn push_second(text: &mut String, bytes: &[u8]) -> Result<(), AllocError>
     ensures { OnOk result (string_bytes text.new ≡ string_bytes text.old ++ definitions.second_text bytes.now) }
 {
     if bytes.len() < 16 {
-        return text.push_str("no second slot\n");
+        text.push_str("no second slot\n")
+    } else {
+        push_second_slot(text, &bytes[8..])
     }
-    text.push_str("second slot:")?;
-    push_bytes(text, &bytes[8..])?;
-    text.push_str("\n")
 }
 
 fn push_wide(text: &mut String, bytes: &[u8]) -> Result<(), AllocError>
@@ -235,11 +249,7 @@ fn push_lines(text: &mut String, image: &[u8], fault: IsaFault) -> Result<(), Al
 
 /// What the fault of an image without code is about, in lines: that the image is an object file,
 /// what is wrong with its length, or the bytes of the slot, what they would be, and the usual cause.
-pub fn image_fault_text(
-    alloc: Global,
-    image: &[u8],
-    fault: IsaFault,
-) -> Result<String, AllocError>
+pub fn image_fault_text(alloc: Global, image: &[u8], fault: IsaFault) -> Result<String, AllocError>
     ensures { IfOk result (λ text. string_bytes text ≡ definitions.image_fault_text image.now fault) }
 {
     let mut text = String::new(alloc);

@@ -78,8 +78,7 @@ fn leads_to_marked(code: &Code, marks: &[bool], k: usize, placed: Placed) -> boo
     ensures { result ≡ definitions.leads_to_marked code.now (is_marked marks.now) k (Some placed) }
 {
     let summary = Summary::of(placed.instruction);
-    falls_to_marked(marks, k, summary)
-        || jumps_to_marked(code, marks, placed.slot, summary.jump)
+    falls_to_marked(marks, k, summary) || jumps_to_marked(code, marks, placed.slot, summary.jump)
 }
 
 // ---- rounds
@@ -110,7 +109,7 @@ fn more_marks(alloc: Global, code: &Code, marks: &[bool]) -> Result<Vec<bool>, A
 }
 
 /// Whether the code from one instruction on comes to another.
-#[tactic(auto, using(crate::proofs::Rounds::start, crate::proofs::Rounds::round, crate::proofs::Rounds::found))]
+#[tactic(auto, using(crate::proofs::Rounds::round, crate::proofs::Rounds::found))]
 fn comes_to(alloc: Global, code: &Code, from: usize, to: usize) -> Result<bool, AllocError>
     requires { to < length code.now }
     ensures { IfOk result (λ comes. comes ≡ definitions.comes_to code.now to (length code.now) from) }

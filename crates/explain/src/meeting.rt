@@ -66,13 +66,7 @@ fn kind_from(
 
 /// What an instruction propagates of a register to another.
 #[tactic(auto, unfolding(crate::specs::Meetings::arrival))]
-fn arrival(
-    code: &Code,
-    states: &[Option<State>],
-    register: u8,
-    j: usize,
-    k: usize,
-) -> Option<Abs>
+fn arrival(code: &Code, states: &[Option<State>], register: u8, j: usize, k: usize) -> Option<Abs>
     ensures { result ≡ arrival code.now states.now register j k }
 {
     if k >= code.len() {
@@ -113,13 +107,34 @@ fn is_other(kind: Abs, other: Option<Abs>) -> bool
     }
 }
 
+/// Whether an instruction propagates something of a register to another.
+fn arrives(code: &Code, states: &[Option<State>], register: u8, j: usize, k: usize) -> bool
+    ensures { result ≡ definitions.arrives code.now states.now register j k }
+{
+    arrival(code, states, register, j, k).is_some()
+}
+
+/// Whether it propagates a kind of another sort.
+fn differs(
+    code: &Code,
+    states: &[Option<State>],
+    register: u8,
+    j: usize,
+    kind: Abs,
+    k: usize,
+) -> bool
+    ensures { result ≡ definitions.differs code.now states.now register j kind k }
+{
+    is_other(kind, arrival(code, states, register, j, k))
+}
+
 /// The first instruction that propagates something of a register to another.
 #[tactic(auto, using(crate::proofs::Places::none_first, crate::proofs::Places::none_more, crate::proofs::Places::found_first))]
 fn first_arrival(code: &Code, states: &[Option<State>], register: u8, j: usize) -> Option<usize>
-    ensures { result ≡ first_below j (λ k. is_some (arrival code.now states.now register j k)) }
+    ensures { result ≡ first_below j (definitions.arrives code.now states.now register j) }
 {
     for k in 0..j {
-        if arrival(code, states, register, j, k).is_some() {
+        if arrives(code, states, register, j, k) {
             return Some(k);
         }
     }
@@ -135,10 +150,10 @@ fn first_other(
     j: usize,
     kind: Abs,
 ) -> Option<usize>
-    ensures { result ≡ first_below j (λ k. definitions.is_other kind (arrival code.now states.now register j k)) }
+    ensures { result ≡ first_below j (definitions.differs code.now states.now register j kind) }
 {
     for k in 0..j {
-        if is_other(kind, arrival(code, states, register, j, k)) {
+        if differs(code, states, register, j, kind, k) {
             return Some(k);
         }
     }
@@ -149,9 +164,9 @@ fn first_other(
 
 /// What is said of an instruction before which nothing is known of a register.
 #[derive(Clone, Copy)]
-pub enum Step {
+pub enum Loss {
     /// It was lost here.
-    Lost(Hint),
+    Here(Hint),
     /// Nothing is known of it before this instruction either.
     Before(usize),
 }
@@ -181,13 +196,13 @@ fn is_lost_before(register: u8, claim: Option<&State>) -> bool
     }
 }
 
-fn lost_in(code: &Code, states: &[Option<State>], register: u8, k: usize) -> Step
+fn lost_in(code: &Code, states: &[Option<State>], register: u8, k: usize) -> Loss
     ensures { result ≡ definitions.lost_in code.now states.now register k }
 {
     if is_lost_before(register, claim_at(states, k)) {
-        Step::Before(k)
+        Loss::Before(k)
     } else {
-        Step::Lost(Hint::Called(slot_of(code, k)))
+        Loss::Here(Hint::Called(slot_of(code, k)))
     }
 }
 
@@ -198,13 +213,13 @@ fn met_with(
     j: usize,
     first: (usize, Abs),
     other: Option<usize>,
-) -> Step
+) -> Loss
     ensures { result ≡ definitions.met_with code.now states.now register j first.0 first.1 other }
 {
     match other {
         Some(other) => {
             let kind = arrival(code, states, register, j, other).unwrap_or(Abs::None);
-            Step::Lost(Hint::Met(
+            Loss::Here(Hint::Met(
                 way_from(code, first.0, first.1),
                 way_from(code, other, kind),
                 slot_of(code, j),
@@ -214,13 +229,7 @@ fn met_with(
     }
 }
 
-fn met_from(
-    code: &Code,
-    states: &[Option<State>],
-    register: u8,
-    j: usize,
-    k: usize,
-) -> Step
+fn met_from(code: &Code, states: &[Option<State>], register: u8, j: usize, k: usize) -> Loss
     ensures { result ≡ definitions.met_from code.now states.now register j k (arrival code.now states.now register j k) }
 {
     match arrival(code, states, register, j, k) {
@@ -228,33 +237,33 @@ fn met_from(
             let other = first_other(code, states, register, j, kind);
             met_with(code, states, register, j, (k, kind), other)
         }
-        None => Step::Lost(Hint::NeverSet),
+        None => Loss::Here(Hint::NeverSet),
     }
 }
 
 /// What is said of an instruction before which nothing is known of a register.
 #[tactic(auto, unfolding(crate::specs::Meetings::step))]
-fn step(code: &Code, states: &[Option<State>], register: u8, j: usize) -> Step
+fn step(code: &Code, states: &[Option<State>], register: u8, j: usize) -> Loss
     ensures { result ≡ definitions.step code.now states.now register j }
 {
     match first_arrival(code, states, register, j) {
         Some(k) => met_from(code, states, register, j, k),
-        None => Step::Lost(Hint::NeverSet),
+        None => Loss::Here(Hint::NeverSet),
     }
 }
 
 // ---- from one instruction back to another
 
 /// Where a register that may hold nothing before an instruction was lost.
-#[tactic(auto, using(crate::proofs::Back::one_back, crate::proofs::Back::none_left, crate::proofs::Back::all_left))]
+#[tactic(auto, using(crate::proofs::Back::one_back, crate::proofs::Back::all_left))]
 fn lost_at(code: &Code, states: &[Option<State>], register: u8, pc: usize) -> Option<Hint>
     ensures { result ≡ definitions.lost_within code.now states.now register (length code.now) pc }
 {
     let mut at = pc;
     for _step in 0..code.len() {
         match step(code, states, register, at) {
-            Step::Lost(hint) => return Some(hint),
-            Step::Before(k) => at = k,
+            Loss::Here(hint) => return Some(hint),
+            Loss::Before(k) => at = k,
         }
     }
     None

@@ -27,7 +27,7 @@ const ALL: Cleared = Cleared {
 pub fn from_slot(image: &[u8], slot: usize) -> &[u8]
     ensures { result.now ≡ drop (8 * slot) image.now }
 {
-    if slot < image.len() / 8 {
+    if slot <= image.len() / 8 {
         &image[8 * slot..]
     } else {
         &[]

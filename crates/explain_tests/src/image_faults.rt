@@ -163,6 +163,9 @@ fn says_that_an_image_is_too_long(rt: HostRuntime) -> Result<(), Fail> {
     let alloc = rt.alloc();
     let image = vec![in alloc; 0x95; 32769]?;
     let lines = fault_lines(alloc, &image)?;
-    assert_eq!(rt; lines.as_str(), "I1 Size\nthe image has more than 4096 slots of 8 bytes\n");
+    assert_eq!(rt;
+        lines.as_str(),
+        "I1 Size\nthe image has more than 4096 slots of 8 bytes\n"
+    );
     Ok(())
 }

@@ -4,7 +4,7 @@ use machine_spec::IsaFault;
 use std::test::Fail;
 
 /// Programs, each with the lines of its instructions and those of its refusal.
-const PROGRAMS: [(&str, &str, &str); 4] = [
+const PROGRAMS: [(&str, &str, &str); 5] = [
     // The value has at least four bytes, and the fifth is loaded.
     (
         "imm64 r6, 4294967296\nmov64 r0, 0\njlt64 r2, 4, +2\nld32 r0, [r1+1]\nexit\nexit\n",
@@ -83,6 +83,24 @@ r1 is read and may hold nothing
   value: 1 to 65536 bytes
 4 slot 4: exit
   r0: 0 to 255  r1: value+0  r2: length of value  r3: key+0  r4: length of key  r5: 0 to 3  r10: stack+512
+ok
+",
+        "",
+    ),
+    // The condition of the jump never holds, and nothing else leads to the last two.
+    (
+        "jgt64 r5, 3, +2\nmov64 r0, 0\nexit\nja +0\nexit\n",
+        "0 slot 0: jgt64 r5, 3, +2
+  r1: value+0  r2: length of value  r3: key+0  r4: length of key  r5: 0 to 3  r10: stack+512
+1 slot 1: mov64 r0, 0
+  r1: value+0  r2: length of value  r3: key+0  r4: length of key  r5: 0 to 3  r10: stack+512
+2 slot 2: exit
+  r0: 0  r1: value+0  r2: length of value  r3: key+0  r4: length of key  r5: 0 to 3  r10: stack+512
+3 slot 3: ja +0
+  unreached
+4 slot 4: exit
+  unreached
+never reached: 2 of 5 instructions
 ok
 ",
         "",

@@ -2,5 +2,5 @@ use Rattle.std.proofs.Common.{◌≡◌, ◌-◌, length}
 use Rattle.explain.specs.Meetings.{lost_within}
 use Rattle.explain.proofs.meeting.lost_at.Given as goal
 
-abbrev pub invariant-loop-_step : goal.invariant-loop-_step
-invariant-loop-_step l = lost_within l.code l.states l.register (length l.code) l.pc ≡ lost_within l.code l.states l.register (length l.code - l._step) l.at
+abbrev pub invariant-loop-step : goal.invariant-loop-step
+invariant-loop-step l = lost_within l.code l.states l.register (length l.code) l.pc ≡ lost_within l.code l.states l.register (length l.code - l._step) l.at
