@@ -14,7 +14,7 @@ ghost use Rattle.commands.specs.Texts as texts;
 
 use crate::asm::{read_text, utf8, write_image};
 use crate::dis::{disassembly, refusal_of};
-use crate::explaining::{refusal_text, status_of_explained};
+use crate::explaining::{no_code_text, refusal_text, status_of_explained};
 use crate::files::Files;
 use crate::image::{Refused, check, read_image};
 use crate::reading::{Unread, read_file, read_whole};
@@ -286,11 +286,14 @@ fn print_explanation<O: Write, E: Write>(
 }
 
 /// Says why an image has no code, and answers the status.
-fn tell_no_code<E: Write>(alloc: Global, stderr: &mut E, fault: IsaFault) -> u8
+fn tell_no_code<E: Write>(alloc: Global, stderr: &mut E, image: &[u8], fault: IsaFault) -> u8
     ensures refused { fault ≢ isa.Memory → (result ≡ 1) ⊎ (result ≡ 3) }
     ensures memory { fault ≡ isa.Memory → result ≡ 3 }
 {
-    tell_refused(alloc, stderr, refusal_of(fault))
+    match fault {
+        IsaFault::Memory => tell_memory(stderr),
+        _ => tell_text(stderr, no_code_text(alloc, image, fault), REFUSED),
+    }
 }
 
 /// Prints what the verifier knows of an image's program, or says why it has none; answers the status.
@@ -304,7 +307,7 @@ fn explain_bytes<O: Write, E: Write>(
 {
     match explain_image(alloc, image) {
         Ok(explanation) => print_explanation(alloc, stdout, stderr, &explanation),
-        Err(fault) => tell_no_code(alloc, stderr, fault),
+        Err(fault) => tell_no_code(alloc, stderr, image, fault),
     }
 }
 

@@ -1,18 +1,21 @@
-//! What `explain` says of a refused program.
+//! What `explain` says of a refused image.
 
 ghost use Rattle.std.specs.Prelude.{◌≡◌};
 ghost use Rattle.commands.specs.Explanations as definitions;
 
-use explain::{Explanation, Refusal};
+use explain::{Explanation, Refusal, image_fault_text};
+use machine_spec::IsaFault;
 use std::alloc::{AllocError, Global};
 
-/// The fault of a program, and what it is about, each in a line.
+/// The fault of a program, what it is about, and its usual cause, each in a line.
 pub fn refusal_text(alloc: Global, refusal: &Refusal) -> Result<String, AllocError> {
-    let fault = refusal.fault;
-    match refusal.reason {
-        Some(reason) => format!(in alloc; "{fault}\n{reason}\n"),
-        None => format!(in alloc; "{fault}\n"),
-    }
+    format!(in alloc; "{refusal}\n")
+}
+
+/// The fault of an image without code, and what it is about.
+pub fn no_code_text(alloc: Global, image: &[u8], fault: IsaFault) -> Result<String, AllocError> {
+    let why = image_fault_text(alloc, image, fault)?;
+    format!(in alloc; "{fault}\n{why}")
 }
 
 /// The status that reports whether a program is refused.

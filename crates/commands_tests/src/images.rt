@@ -14,7 +14,16 @@ const IMAGES: [(&[u8], &str, &str, u8); 8] = [
     (b"", "", "I1 Size\n", 1),
     (b"\x95\0\0\0\0\0\0\0\0\0\0\0", "", "I1 Size\n", 1),
     (b"\xdb\0\0\0\0\0\0\0", "", "I6 NotInProfile slot 0\n", 1),
-    (b"\xb7\x0b\0\0\0\0\0\0", "", "I3 Register slot 0\n", 1),
+    (
+        b"\xb7\x0b\0\0\x05\0\0\0",
+        "",
+        "I3 Register slot 0
+slot 0: b7 0b 00 00 05 00 00 00
+with dst=0 this is: mov64 r0, 5
+registers are r0 to r10
+",
+        1,
+    ),
     (b"\xb7\0\0\0\0\0\0\0", "", "V3 RunsOff at 0\n", 1),
     (
         b"\x71\x10\0\0\0\0\0\0\x95\0\0\0\0\0\0\0",
@@ -55,13 +64,24 @@ ok
         b"\x71\x10\0\0\0\0\0\0\x95\0\0\0\0\0\0\0",
         "0 slot 0: ld8 r0, [r1+0]
   r1: value+0  r2: length of value  r3: key+0  r4: length of key  r5: 0 to 3  r10: stack+512
+refused: V7 RecordBounds at 0
 ",
         "V7 RecordBounds at 0
 r1 (value+0) reaches byte 0 of the value, whose length may be as low as 0
+byte 0 of the value may be missing: test first that its length is at least 1 (at_least of klog.h); a test of 32 bits, of two registers or of signed numbers says nothing of it
 ",
         1,
     ),
-    (b"\xb7\x0b\0\0\0\0\0\0", "", "I3 Register slot 0\n", 1),
+    (
+        b"\xb7\x0b\0\0\x05\0\0\0",
+        "",
+        "I3 Register slot 0
+slot 0: b7 0b 00 00 05 00 00 00
+with dst=0 this is: mov64 r0, 5
+registers are r0 to r10
+",
+        1,
+    ),
 ];
 
 #[test]

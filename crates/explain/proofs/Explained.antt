@@ -1,6 +1,6 @@
 -- What is explained of an image, from the parts that are found of it.
 use Rattle.std.proofs.Common.{◌≡◌, ℕ, List, Option, Some, None, Ok, sym, ap, ◌∙◌, subst, string_bytes}
-use Rattle.std.specs.Prelude.{option_map, is_some, true, IfSome}
+use Rattle.std.specs.Prelude.{option_map, IfSome}
 use Rattle.machine_spec.specs.declared.helper.TheConstants.{HELPERS}
 use Rattle.machine_spec.specs.declared.instruction.Placed.{Placed}
 use Rattle.machine_spec.specs.Image.{read_image, IsCodeOf}

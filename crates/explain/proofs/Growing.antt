@@ -1,5 +1,5 @@
 -- A text that grows by the texts of one number after another.
-use Rattle.std.proofs.Common.{◌≡◌, ℕ, zero, suc, ◌+◌, List, [], ◌++◌, refl, sym, ap, ◌∙◌, add-one, append_assoc}
+use Rattle.std.proofs.Common.{◌≡◌, ℕ, ◌+◌, List, ◌++◌, refl, sym, ap, ◌∙◌, add-one, append_assoc}
 use Rattle.std.specs.Prelude.{slice_get, Option, Some}
 use Rattle.std.proofs.lemmas.List.{append-nil}
 use Rattle.machine_spec.specs.declared.instruction.Placed.{Placed}

@@ -1,6 +1,9 @@
 pub mod Growing
 pub mod Unknown
 pub mod Places
+pub mod Counted
+pub mod Rounds
+pub mod Back
 pub mod Verdicts
 pub mod Reasoned
 pub mod UnsetBytes

@@ -6,7 +6,7 @@ use Rattle.std.specs.Option.{option_or}
 use Rattle.std.proofs.lemmas.List.Folds.{find-append}
 use Rattle.machine_spec.specs.declared.helper.Argument.{Argument}
 use Rattle.machine_spec.specs.declared.summary.Summary.{Summary}
-use Rattle.machine_spec.specs.Traps.{operand_registers, base_registers, condition_registers, argument_registers, call_registers, read_registers}
+use Rattle.machine_spec.specs.Traps.{operand_registers, base_registers, condition_registers, argument_registers, call_registers}
 use Rattle.verifier_spec.specs.declared.state.Abstract.{Abstract}
 use Rattle.verifier_spec.specs.Kinds.{kind_at, is_unknown}
 use Rattle.explain.specs.Reasons.{unknown_register}

@@ -7,11 +7,11 @@ use Rattle.machine_spec.specs.declared.limits.TheConstants.{STACK_SIZE}
 use Rattle.machine_spec.specs.declared.instruction.Region.{Region}
 use Rattle.machine_spec.specs.declared.summary.{Direction.Direction, MemoryOperand.MemoryOperand}
 use Rattle.machine_spec.specs.Values.{byte_count}
-use Rattle.machine_spec.specs.Traps.{is_read, is_stack}
+use Rattle.machine_spec.specs.Traps.{is_read}
 use Rattle.verifier_spec.specs.declared.state.{Abs.Abs, StackSet.StackSet, Abstract.Abstract}
 use Rattle.verifier_spec.specs.Kinds.{is_set, kind_at, is_proper_kind}
 use Rattle.verifier_spec.specs.States.{is_proper}
-use Rattle.verifier_spec.specs.Checks.{reach_at, reach_of, may_leave_stack, are_set, reach_length, may_read_unset}
+use Rattle.verifier_spec.specs.Checks.{reach_at, reach_of, may_leave_stack, are_set, may_read_unset}
 use Rattle.verifier_spec.proofs.InRange.{kind_at_proper}
 use Rattle.verifier_spec.proofs.Whole.{le_z-true, le-le_z, le_trans_z, negative, gap_is}
 use Rattle.explain.specs.declared.reason.{Reached.Reached, Reason.Reason}

@@ -5,7 +5,7 @@ use Rattle.machine_spec.specs.declared.helper.TheConstants.{HELPERS}
 use Rattle.machine_spec.specs.Image.{program_of, read_image}
 use Rattle.machine_spec.specs.declared.instruction.{IsaFault.IsaFault, Placed.Placed}
 use Rattle.verifier_spec.specs.declared.fault.VerifyFault.{VerifyFault}
-use Rattle.verifier_spec.specs.declared.fault.LoadFault.{LoadFault, TheVariants.Isa, TheVariants.Verify}
+use Rattle.verifier_spec.specs.declared.fault.LoadFault.{TheVariants.Isa, TheVariants.Verify}
 use Rattle.verifier_spec.specs.Loading.{load_fault, code_fault}
 
 not_verified : (o : Option VerifyFault) (f : IsaFault) → option_map Verify o ≡ Some (Isa f) → ⊥

@@ -1,5 +1,5 @@
 -- What is explained of an image.
-use Rattle.std.specs.Prelude.{◌≡◌, ◌≢◌, ℕ, ◌+◌, min, List, [], ◌∷◌, ◌++◌, length, Option, Some, None, option_map, is_some, true, Result, Ok, Err, IfSome, codes, string_bytes}
+use Rattle.std.specs.Prelude.{◌≡◌, ◌≢◌, ℕ, ◌+◌, min, List, ◌++◌, length, Option, Some, None, option_map, is_some, true, Result, Ok, Err, IfSome, string_bytes}
 use Rattle.machine_spec.specs.declared.helper.TheConstants.{HELPERS}
 use Rattle.machine_spec.specs.Image.{program_of, read_image}
 use Rattle.machine_spec.specs.declared.instruction.{IsaFault.IsaFault, Placed.Placed}
@@ -10,7 +10,9 @@ use Rattle.verifier_spec.specs.JoinedStates.{joined_states}
 use Rattle.verifier_spec.specs.Loading.{IsAccepted, IsRefusedWith}
 use Rattle.explain.specs.declared.explanation.{Explanation.Explanation, Refusal.Refusal}
 use Rattle.explain.specs.Texts.{texts_below, lines_at}
+use Rattle.explain.specs.Endings.{ending_text}
 use Rattle.explain.specs.Reasons.{reason_at}
+use Rattle.explain.specs.Hints.{hint_at}
 
 -- An image is accepted, or refused at an instruction with its fault.
 abbrev pub IsVerdict : List ℕ → Option VerifyFault → Type 0
@@ -22,16 +24,11 @@ abbrev pub printed_count : List Placed → Option VerifyFault → ℕ
 printed_count code None = length code
 printed_count code (Some fault) = min (fault.pc + 1) (length code)
 
--- the last line of an accepted program is `ok`
-abbrev pub end_of : Option VerifyFault → List ℕ
-end_of None = codes "ok" ++ 10 ∷ []
-end_of (Some fault) = []
-
 abbrev pub listing : List Placed → Claims → Option VerifyFault → List ℕ
-listing code claims fault = texts_below (printed_count code fault) (lines_at code claims) ++ end_of fault
+listing code claims fault = texts_below (printed_count code fault) (lines_at code claims) ++ ending_text claims (printed_count code fault) fault
 
 abbrev pub refusal_at : List Placed → Claims → VerifyFault → Refusal
-refusal_at code claims fault = record { fault = fault; reason = reason_at code claims fault }
+refusal_at code claims fault = record { fault = fault; reason = reason_at code claims fault; hint = hint_at code claims fault (reason_at code claims fault) }
 
 -- what a refusal is about is there
 abbrev pub HasReason : Refusal → Type 0

@@ -1,8 +1,8 @@
 -- What a refusal is about: the register that a check asks for something else of, the bytes that an access may reach.
-use Rattle.std.specs.Prelude.{ℕ, zero, suc, ℤ, pos, ◌+ℤ◌, neg_ℤ, Bool, true, false, ◌&&◌, not, int_le, if◌then◌else◌, List, Option, Some, None, option_map, unwrap_or, find, slice_get}
+use Rattle.std.specs.Prelude.{ℕ, zero, suc, ℤ, pos, ◌+ℤ◌, neg_ℤ, Bool, ◌&&◌, not, int_le, if◌then◌else◌, List, Option, Some, None, option_map, unwrap_or, find, slice_get}
 use Rattle.std.specs.Option.{option_or}
 use Rattle.machine_spec.specs.declared.limits.TheConstants.{STACK_SIZE}
-use Rattle.machine_spec.specs.declared.instruction.{Region.Region, Source.Source, Source.TheVariants.Register, Source.TheVariants.Immediate, Placed.Placed}
+use Rattle.machine_spec.specs.declared.instruction.{Source.Source, Source.TheVariants.Register, Source.TheVariants.Immediate, Placed.Placed}
 use Rattle.machine_spec.specs.declared.operation.{Width.Width, Operation.Operation}
 use Rattle.machine_spec.specs.declared.helper.Argument.{Argument}
 use Rattle.machine_spec.specs.declared.summary.{Operands.Operands, MemoryOperand.MemoryOperand, Condition.Condition, Summary.Summary}

@@ -81,7 +81,7 @@ pub fn outside_stack(bytes: Option<Reached>) -> Option<Reason>
 }
 
 /// Whether a place of the stack is among some bytes and may not be set.
-fn is_unset_in(set: &StackSet, bytes: Reached, place: u64) -> bool
+pub fn is_unset_in(set: &StackSet, bytes: Reached, place: u64) -> bool
     ensures { result ≡ definitions.is_unset_in set.now bytes place }
 {
     bytes.first <= place as i128 && place as i128 <= bytes.last && !contains_all(set, place, 1)
@@ -89,7 +89,7 @@ fn is_unset_in(set: &StackSet, bytes: Reached, place: u64) -> bool
 
 /// The first place of the stack that is among some bytes and may not be set.
 #[tactic(auto, using(crate::proofs::Places::none_first, crate::proofs::Places::none_more, crate::proofs::Places::found_first))]
-fn first_unset(set: &StackSet, bytes: Reached) -> Option<u64>
+pub fn first_unset(set: &StackSet, bytes: Reached) -> Option<u64>
     ensures { result ≡ first_below STACK_SIZE (definitions.is_unset_in set.now bytes) }
 {
     for place in 0..STACK_SIZE as u64 {

@@ -1,11 +1,14 @@
 //! What is explained of an image.
 
-ghost use Rattle.std.specs.Prelude.{◌≡◌, ℕ, List, ◌≤◌, ◌++◌, length, option_map, IfOk, OnOk, string_bytes};
+ghost use Rattle.std.specs.Prelude.{◌≡◌, ℕ, List, ◌≤◌, length, option_map, IfOk, string_bytes};
 ghost use Rattle.annotate.specs.Loads.{FaultIs};
 ghost use Rattle.explain.specs.Explanations as definitions;
 ghost use Rattle.explain.specs.Explanations.{ExplainsAs, HasVerdict};
 
 use crate::causes::reason_at;
+use crate::ending::push_end;
+use crate::hint::Hint;
+use crate::hints::hint_at;
 use crate::listing::push_first;
 use crate::reason::Reason;
 use abstract_regs::State;
@@ -13,6 +16,7 @@ use annotate::{LoadFault, joined_states, load};
 use bpf_isa::{Code, decode};
 use machine_spec::IsaFault;
 use std::alloc::{AllocError, Global};
+use std::fmt;
 use verifier_spec::{Check, VerifyFault};
 
 /// Why a program is refused.
@@ -22,13 +26,29 @@ pub struct Refusal {
     pub fault: VerifyFault,
     /// What the check fails on.
     pub reason: Option<Reason>,
+    /// What usually leads to it, and what to do.
+    pub hint: Option<Hint>,
+}
+
+impl fmt::Display for Refusal {
+    fn fmt<W: fmt::Write>(&self, f: &mut fmt::Formatter<W>) -> fmt::Result {
+        let fault = self.fault;
+        write!(f, "{fault}")?;
+        if let Some(reason) = self.reason {
+            write!(f, "\n{reason}")?;
+        }
+        if let Some(hint) = self.hint {
+            write!(f, "\n{hint}")?;
+        }
+        Ok(())
+    }
 }
 
 /// What the verifier knows of a program.
 #[derive(Debug, Drop)]
 pub struct Explanation {
-    /// The instructions, each with what is known before it, up to the one that is refused, or all
-    /// and then `ok`.
+    /// The instructions, each with what is known before it, all or up to the one that is refused; then
+    /// how many of them are never reached, if any, and the verdict.
     pub lines: String,
     /// Why the program is refused, if it is.
     pub refusal: Option<Refusal>,
@@ -70,16 +90,6 @@ fn printed_count(code: &Code, fault: Option<VerifyFault>) -> usize
     }
 }
 
-/// Appends what follows on the instructions.
-fn push_end_of(text: &mut String, fault: Option<VerifyFault>) -> Result<(), AllocError>
-    ensures { OnOk result (string_bytes text.new ≡ string_bytes text.old ++ definitions.end_of fault) }
-{
-    match fault {
-        Some(_) => Ok(()),
-        None => text.push_str("ok\n"),
-    }
-}
-
 /// The instructions, each with what is known before it, up to the one that is refused.
 fn listing(
     alloc: Global,
@@ -90,25 +100,60 @@ fn listing(
     ensures { IfOk result (λ text. string_bytes text ≡ definitions.listing code.now states.now fault) }
 {
     let mut text = String::new(alloc);
-    push_first(&mut text, code, states, printed_count(code, fault))?;
-    push_end_of(&mut text, fault)?;
+    let count = printed_count(code, fault);
+    push_first(&mut text, code, states, count)?;
+    push_end(&mut text, states, count, fault)?;
     Ok(text)
 }
 
+/// What is said of a fault.
+fn refusal_at(
+    alloc: Global,
+    code: &Code,
+    states: &[Option<State>],
+    fault: VerifyFault,
+) -> Result<Refusal, AllocError>
+    ensures { IfOk result (λ refusal. refusal ≡ definitions.refusal_at code.now states.now fault) }
+{
+    let reason = reason_at(code, states, fault);
+    let hint = hint_at(alloc, code, states, fault, reason)?;
+    Ok(Refusal {
+        fault,
+        reason,
+        hint,
+    })
+}
+
 fn refusal_with(
+    alloc: Global,
     code: &Code,
     states: &[Option<State>],
     fault: Option<VerifyFault>,
-) -> Option<Refusal>
-    ensures { result ≡ option_map (definitions.refusal_at code.now states.now) fault }
+) -> Result<Option<Refusal>, AllocError>
+    ensures { IfOk result (λ refusal. refusal ≡ option_map (definitions.refusal_at code.now states.now) fault) }
 {
     match fault {
-        Some(fault) => Some(Refusal {
-            fault,
-            reason: reason_at(code, states, fault),
-        }),
-        None => None,
+        Some(fault) => match refusal_at(alloc, code, states, fault) {
+            Ok(refusal) => Ok(Some(refusal)),
+            Err(error) => Err(error),
+        },
+        None => Ok(None),
     }
+}
+
+/// What is said of code, its states and its fault.
+fn explained(
+    alloc: Global,
+    code: &Code,
+    states: &[Option<State>],
+    fault: Option<VerifyFault>,
+) -> Result<Explanation, AllocError>
+    ensures lines { IfOk result (λ e. string_bytes e.lines ≡ definitions.listing code.now states.now fault) }
+    ensures refusal { IfOk result (λ e. e.refusal ≡ option_map (definitions.refusal_at code.now states.now) fault) }
+{
+    let refusal = refusal_with(alloc, code, states, fault)?;
+    let lines = listing(alloc, code, states, fault)?;
+    Ok(Explanation { lines, refusal })
 }
 
 /// What the verifier knows of an image's program, or why the image has no code. The states are those
@@ -121,11 +166,8 @@ pub fn explain_image(alloc: Global, image: &[u8]) -> Result<Explanation, IsaFaul
     let Ok(states) = joined_states(alloc, &code) else {
         return Err(IsaFault::Memory);
     };
-    match listing(alloc, &code, &states, fault) {
-        Ok(lines) => Ok(Explanation {
-            lines,
-            refusal: refusal_with(&code, &states, fault),
-        }),
+    match explained(alloc, &code, &states, fault) {
+        Ok(explanation) => Ok(explanation),
         Err(_) => Err(IsaFault::Memory),
     }
 }

@@ -4,12 +4,21 @@
 
 mod accesses;
 mod causes;
+mod ending;
 mod explanation;
+mod hint;
+mod hints;
+mod image_fault;
 mod listing;
+mod loops;
+mod meeting;
 mod operands;
 mod reason;
 mod registers;
 mod shown;
+mod slot_bytes;
 
 pub use explanation::{Explanation, Refusal, explain_image};
+pub use hint::{Hint, Way};
+pub use image_fault::image_fault_text;
 pub use reason::{Reached, Reason};

@@ -2,6 +2,10 @@
 #![tactic(auto)]
 
 #[cfg(test)]
+mod hints;
+#[cfg(test)]
+mod image_faults;
+#[cfg(test)]
 mod images;
 #[cfg(test)]
 mod listings;

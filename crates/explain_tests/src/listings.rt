@@ -4,7 +4,7 @@ use machine_spec::IsaFault;
 use std::test::Fail;
 
 /// Programs, each with the lines of its instructions and those of its refusal.
-const PROGRAMS: [(&str, &str, &str); 4] = [
+const PROGRAMS: [(&str, &str, &str); 5] = [
     // The value has at least four bytes, and the fifth is loaded.
     (
         "imm64 r6, 4294967296\nmov64 r0, 0\njlt64 r2, 4, +2\nld32 r0, [r1+1]\nexit\nexit\n",
@@ -17,6 +17,7 @@ const PROGRAMS: [(&str, &str, &str); 4] = [
 3 slot 4: ld32 r0, [r1+1]
   r0: 0  r1: value+0  r2: length of value  r3: key+0  r4: length of key  r5: 0 to 3  r6: 4294967296  r10: stack+512
   value: 4 to 65536 bytes
+refused: V7 RecordBounds at 3
 ",
         "V7 RecordBounds at 3
 r1 (value+0) reaches bytes 1 to 4 of the value, whose length may be as low as 4
@@ -40,6 +41,8 @@ r1 (value+0) reaches bytes 1 to 4 of the value, whose length may be as low as 4
   r1: value+0  r2: length of value  r3: key+0  r4: length of key  r5: 0 to 3  r10: stack+512
   stack set: 496
   stack set: 504 to 511
+never reached: 1 of 5 instructions
+refused: V9 StackUnset at 4
 ",
         "V9 StackUnset at 4
 r10 (stack+512) reaches bytes 502 to 505 of the stack, and byte 502 may not be set
@@ -58,6 +61,7 @@ r10 (stack+512) reaches bytes 502 to 505 of the stack, and byte 502 may not be s
   r1: 0  r2: length of value  r3: key+0  r4: length of key  r5: 0 to 3  r6: value+0 to +3  r10: stack+512
 4 slot 4: ld8 r0, [r1+0]
   r0: 0 to 3  r6: value+0 to +3  r10: stack+512
+refused: V4 Unset at 4
 ",
         "V4 Unset at 4
 r1 is read and may hold nothing
@@ -79,6 +83,24 @@ r1 is read and may hold nothing
   value: 1 to 65536 bytes
 4 slot 4: exit
   r0: 0 to 255  r1: value+0  r2: length of value  r3: key+0  r4: length of key  r5: 0 to 3  r10: stack+512
+ok
+",
+        "",
+    ),
+    // The condition of the jump never holds, and nothing else leads to the last two.
+    (
+        "jgt64 r5, 3, +2\nmov64 r0, 0\nexit\nja +0\nexit\n",
+        "0 slot 0: jgt64 r5, 3, +2
+  r1: value+0  r2: length of value  r3: key+0  r4: length of key  r5: 0 to 3  r10: stack+512
+1 slot 1: mov64 r0, 0
+  r1: value+0  r2: length of value  r3: key+0  r4: length of key  r5: 0 to 3  r10: stack+512
+2 slot 2: exit
+  r0: 0  r1: value+0  r2: length of value  r3: key+0  r4: length of key  r5: 0 to 3  r10: stack+512
+3 slot 3: ja +0
+  unreached
+4 slot 4: exit
+  unreached
+never reached: 2 of 5 instructions
 ok
 ",
         "",

@@ -1,0 +1,8 @@
+use Rattle.std.proofs.Common.{◌≡◌}
+use Rattle.std.specs.Prelude.{None}
+use Rattle.explain.specs.Reasons.{first_below}
+use Rattle.explain.specs.Meetings.{arrives}
+use Rattle.explain.proofs.meeting.first_arrival.Given as goal
+
+abbrev pub invariant-loop-k : goal.invariant-loop-k
+invariant-loop-k l = first_below l.k (arrives l.code l.states l.register l.j) ≡ None

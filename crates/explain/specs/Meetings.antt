@@ -1,0 +1,122 @@
+-- Where a register that may hold nothing was lost: two ways met that know different kinds of it, or a call left nothing in it.
+use Rattle.std.specs.Prelude.{ℕ, zero, suc, ◌+◌, Bool, true, false, ◌==◌, ◌&&◌, ◌||◌, not, if◌then◌else◌, List, length, slice_get, Option, Some, None, option_map, is_some, is_none, unwrap_or}
+use Rattle.std.specs.Option.{option_or}
+use Rattle.machine_spec.specs.declared.helper.TheConstants.{HELPERS}
+use Rattle.machine_spec.specs.declared.instruction.{Placed.Placed}
+use Rattle.machine_spec.specs.Image.{target_of}
+use Rattle.verifier_spec.specs.declared.state.{Abs.Abs, Abstract.Abstract}
+use Rattle.verifier_spec.specs.Kinds.{kind_at, is_unknown, is_number_kind, same_region}
+use Rattle.verifier_spec.specs.Checks.{failed_check, jump_of}
+use Rattle.verifier_spec.specs.Transfer.{falls_to, jumps_to}
+use Rattle.verifier_spec.specs.Annotation.{Claims, claim_at}
+use Rattle.explain.specs.declared.hint.{Hint.Hint, Way.Way}
+use Rattle.explain.specs.declared.{meeting.Loss.Loss, reason.Reason.Reason}
+use Rattle.explain.specs.Reasons.{first_below}
+
+-- ---- the kind that an edge propagates
+
+abbrev pub is_number_of : Option ℕ → ℕ → Bool
+is_number_of (Some k) j = k == j
+is_number_of None j = false
+
+-- the kind of a register along an edge that is there
+abbrev pub kind_along : Bool → ℕ → Option Abstract → Option Abs
+kind_along leads r edge = if leads then option_map (λ s. kind_at s r) edge else None
+
+-- the kind along the edges of instruction number k, where they lead to instruction number j
+abbrev pub kind_from : List Placed → ℕ → ℕ → ℕ → Placed → Abstract → Option Abs
+kind_from code r j k placed s =
+    option_or
+    (kind_along (k + 1 == j) r (falls_to placed.instruction s))
+    (kind_along (is_number_of (target_of code placed.slot (jump_of placed.instruction)) j) r (jumps_to placed.instruction s))
+
+-- an instruction that is not reached or fails a check propagates nothing
+abbrev pub kind_passed : List Placed → ℕ → ℕ → ℕ → Option Placed → Option Abstract → Option Abs
+kind_passed code r j k (Some placed) (Some s) = if is_none (failed_check HELPERS placed.instruction s) then kind_from code r j k placed s else None
+kind_passed code r j k _ _ = None
+
+-- what instruction number k propagates of a register to instruction number j
+unfoldable pub arrival : List Placed → Claims → ℕ → ℕ → ℕ → Option Abs
+arrival code claims r j k = kind_passed code r j k (slice_get code k) (claim_at claims k)
+
+-- ---- two kinds that nothing is known of together
+
+abbrev pub same_address : Abs → Abs → Bool
+same_address (Abs.Addr a _ _) (Abs.Addr b _ _) = same_region a b
+same_address _ _ = false
+
+abbrev pub same_sort : Abs → Abs → Bool
+same_sort a b = (is_unknown a && is_unknown b) || ((is_number_kind a && is_number_kind b) || same_address a b)
+
+abbrev pub is_other : Abs → Option Abs → Bool
+is_other kind (Some other) = not (same_sort kind other)
+is_other kind None = false
+
+abbrev pub arrives : List Placed → Claims → ℕ → ℕ → ℕ → Bool
+arrives code claims r j k = is_some (arrival code claims r j k)
+
+abbrev pub differs : List Placed → Claims → ℕ → ℕ → Abs → ℕ → Bool
+differs code claims r j kind k = is_other kind (arrival code claims r j k)
+
+-- ---- one instruction
+
+abbrev pub slot_in : Option Placed → ℕ
+slot_in (Some placed) = placed.slot
+slot_in None = 0
+
+abbrev pub slot_of : List Placed → ℕ → ℕ
+slot_of code k = slot_in (slice_get code k)
+
+abbrev pub way_from : List Placed → ℕ → Abs → Way
+way_from code k kind = record { kind = kind; slot = slot_of code k }
+
+-- nothing is known of a register before an instruction
+abbrev pub is_lost_before : ℕ → Option Abstract → Bool
+is_lost_before r (Some s) = is_unknown (kind_at s r)
+is_lost_before r None = true
+
+-- what propagates nothing of a register leaves nothing in it, or had nothing of it
+abbrev pub lost_in : List Placed → Claims → ℕ → ℕ → Loss
+lost_in code claims r k = if is_lost_before r (claim_at claims k) then Loss.Before k else Loss.Here (Hint.Called (slot_of code k))
+
+abbrev pub met_with : List Placed → Claims → ℕ → ℕ → ℕ → Abs → Option ℕ → Loss
+met_with code claims r j k kind (Some other) =
+    Loss.Here (Hint.Met (way_from code k kind) (way_from code other (unwrap_or (arrival code claims r j other) Abs.None)) (slot_of code j))
+met_with code claims r j k kind None = lost_in code claims r k
+
+abbrev pub met_from : List Placed → Claims → ℕ → ℕ → ℕ → Option Abs → Loss
+met_from code claims r j k (Some kind) = met_with code claims r j k kind (first_below j (differs code claims r j kind))
+met_from code claims r j k None = Loss.Here Hint.NeverSet
+
+abbrev pub met_first : List Placed → Claims → ℕ → ℕ → Option ℕ → Loss
+met_first code claims r j (Some k) = met_from code claims r j k (arrival code claims r j k)
+met_first code claims r j None = Loss.Here Hint.NeverSet
+
+-- At an instruction before which nothing is known of a register: the first two instructions that lead to it and know
+-- kinds of different sorts; else the first that leads to it, which is a call or knows nothing before it either.
+unfoldable pub step : List Placed → Claims → ℕ → ℕ → Loss
+step code claims r j = met_first code claims r j (first_below j (arrives code claims r j))
+
+-- ---- from one instruction back to another
+
+abbrev pub after_step : (ℕ → Option Hint) → Loss → Option Hint
+after_step before (Loss.Here hint) = Some hint
+after_step before (Loss.Before k) = before k
+
+-- where it is lost, as far back as a number of instructions
+unfoldable pub lost_within : List Placed → Claims → ℕ → ℕ → ℕ → Option Hint
+lost_within code claims r zero j = None
+lost_within code claims r (suc n) j = after_step (lost_within code claims r n) (step code claims r j)
+
+-- the register that a refusal finds nothing in
+abbrev pub lost_register : Option Reason → Option ℕ
+lost_register (Some (Reason.Unknown r)) = Some r
+lost_register _ = None
+
+abbrev pub lost_hint_of : List Placed → Claims → ℕ → Option ℕ → Option Hint
+lost_hint_of code claims pc (Some r) = lost_within code claims r (length code) pc
+lost_hint_of code claims pc None = None
+
+-- of a refusal at an instruction for what is given
+abbrev pub lost_hint : List Placed → Claims → ℕ → Option Reason → Option Hint
+lost_hint code claims pc reason = lost_hint_of code claims pc (lost_register reason)
