@@ -1,7 +1,10 @@
 //! Measures how fast `batch` reads and writes batches, and reads them of a stream in pieces. Given how many times to do so in a turn, it takes
-//! ten turns with each batch and prints the bytes and records a second of the best; given nothing, it
-//! prints nothing.
+//! ten turns with each batch and prints the bytes and records a second of the best. Given `cuts` and a
+//! number, it cuts a stream of 1,000 batches at random places so often, and prints how often other batches
+//! came out; given nothing, it prints nothing.
 #![tactic(auto)]
+
+mod cuts;
 
 ghost use Rattle.wire_spec.specs.BatchSpelling.{BatchFits};
 
@@ -21,6 +24,7 @@ const TURNS: u32 = 10;
 const PIECE: usize = 65_536;
 
 /// What the records of a batch are like; lengths are of bytes.
+#[derive(Drop)]
 struct Shape {
     name: &'static str,
     records: usize,
@@ -51,6 +55,14 @@ const HEADED: Shape = Shape {
     key: Some(8),
     value: 64,
     headers: 4,
+};
+
+const TINY: Shape = Shape {
+    name: "a few of 16 bytes",
+    records: 1,
+    key: Some(4),
+    value: 16,
+    headers: 1,
 };
 
 /// `len` bytes, which are text.
@@ -274,9 +286,30 @@ fn compare_all<R: Print + Clock>(rt: &R, alloc: Global, times: u32) -> io::Resul
     compare(rt, alloc, &HEADED, times)
 }
 
+/// The bytes of a batch of so many records.
+fn bytes_of(alloc: Global, records: usize) -> io::Result<Vec<u8>> {
+    let batch = batch_of(alloc, &Shape { records, ..TINY })?;
+    if !fits(&batch) {
+        return Err(ErrorKind::InvalidData.into());
+    }
+    Ok(encode(alloc, &batch)?)
+}
+
+/// Cuts a stream of batches of 1 to 20 records at random places.
+fn cut_all<R: Print>(rt: &R, alloc: Global, times: u32) -> io::Result<()> {
+    let mut batches = Vec::new(alloc);
+    for records in 1..=20 {
+        batches.push(bytes_of(alloc, records)?)?;
+    }
+    let wrong = cuts::wrong_cuts(alloc, &batches, times)?;
+    println!(rt; "{times} cuts of 1,000 batches, {wrong} with other batches")
+}
+
 fn main(rt: HostRuntime) -> io::Result<()> {
-    match env::args(&rt)?.nth(1) {
-        Some(times) => compare_all(&rt, rt.alloc(), times.parse::<u32>().unwrap_or(20)),
-        None => Ok(()),
+    let mut words = env::args(&rt)?.skip(1);
+    match (words.next(), words.next()) {
+        (Some(_), Some(times)) => cut_all(&rt, rt.alloc(), times.parse::<u32>().unwrap_or(100)),
+        (Some(times), None) => compare_all(&rt, rt.alloc(), times.parse::<u32>().unwrap_or(20)),
+        (None, _) => Ok(()),
     }
 }
