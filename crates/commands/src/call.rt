@@ -13,7 +13,7 @@ ghost use Rattle.commands.specs.Stops.{status_of, status_of_refused};
 ghost use Rattle.commands.specs.Texts as texts;
 
 use crate::asm::{read_text, utf8, write_image};
-use crate::dis::{disassembly, refusal_of};
+use crate::dis::disassembly;
 use crate::explaining::{no_code_text, refusal_text, status_of_explained};
 use crate::files::Files;
 use crate::image::{Refused, check, read_image};

@@ -7,12 +7,12 @@ use explain::{Explanation, Refusal, image_fault_text};
 use machine_spec::IsaFault;
 use std::alloc::{AllocError, Global};
 
-/// The fault of a program, what it is about, and its usual cause, each in a line.
+/// The fault of a program, what it is about and what to do, each in a line.
 pub fn refusal_text(alloc: Global, refusal: &Refusal) -> Result<String, AllocError> {
     format!(in alloc; "{refusal}\n")
 }
 
-/// The fault of an image without code, and what it is about.
+/// The fault of an image without code, and what it is about, in lines.
 pub fn no_code_text(alloc: Global, image: &[u8], fault: IsaFault) -> Result<String, AllocError> {
     let why = image_fault_text(alloc, image, fault)?;
     format!(in alloc; "{fault}\n{why}")

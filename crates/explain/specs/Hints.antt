@@ -42,9 +42,9 @@ limit Region.Stack = STACK_SIZE
 limit Region.Key = MAX_KEY
 limit Region.Value = MAX_VALUE
 
--- the first of some bytes that a region may lack, which has some at least
+-- the first of the bytes that a region may lack, which is known to have as many
 abbrev pub first_missing : Reached → ℕ → ℤ
-first_missing bytes some = int_min (int_max bytes.first (pos some)) bytes.last
+first_missing bytes known = int_min (int_max bytes.first (pos known)) bytes.last
 
 -- the bytes are not all among those that their region may have
 abbrev pub leaves_region : Reached → Bool
@@ -59,10 +59,10 @@ no_bytes bytes =
 
 -- a test of the length helps where it leaves more than the greatest keys or values
 abbrev pub record_hint : Reached → ℕ → Hint
-record_hint bytes some =
+record_hint bytes known =
     if int_lt bytes.first (pos 0) then no_bytes bytes else
     if int_le (pos (limit bytes.region) +ℤ neg_ℤ (pos 1)) bytes.last then Hint.Far bytes.region bytes.last else
-    Hint.Missing bytes.region (first_missing bytes some) bytes.last
+    Hint.Missing bytes.region (first_missing bytes known) bytes.last
 
 -- ---- the stack
 
@@ -111,7 +111,7 @@ hint_of s m (Reason.NoAddress _ kind) = address_hint kind
 hint_of s m (Reason.NoSign _ _ _) = Some Hint.Unbounded
 hint_of s m (Reason.TooFar _ _ _ _) = Some Hint.Unbounded
 hint_of s m (Reason.ReadOnly _) = Some Hint.ReadOnly
-hint_of s m (Reason.OutsideRecord bytes some) = Some (record_hint bytes some)
+hint_of s m (Reason.OutsideRecord bytes known) = Some (record_hint bytes known)
 hint_of s m (Reason.OutsideStack bytes) = Some (no_bytes bytes)
 hint_of s m (Reason.UnsetByte bytes place) = unset_from s.set bytes (Some place)
 hint_of s m (Reason.WrongBytes address kind _ count) = bytes_hint s (named address kind (range_of s count))

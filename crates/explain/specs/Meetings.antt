@@ -1,4 +1,5 @@
--- Where a register that may hold nothing was lost: two ways met that know different kinds of it, or a call left nothing in it.
+-- Where a register that may hold nothing was lost: two edges met that propagate different kinds of it, or a call left nothing in
+-- it.
 use Rattle.std.specs.Prelude.{ℕ, zero, suc, ◌+◌, Bool, true, false, ◌==◌, ◌&&◌, ◌||◌, not, if◌then◌else◌, List, length, slice_get, Option, Some, None, option_map, is_some, is_none, unwrap_or}
 use Rattle.std.specs.Option.{option_or}
 use Rattle.machine_spec.specs.declared.helper.TheConstants.{HELPERS}
@@ -9,7 +10,7 @@ use Rattle.verifier_spec.specs.Kinds.{kind_at, is_unknown, is_number_kind, same_
 use Rattle.verifier_spec.specs.Checks.{failed_check, jump_of}
 use Rattle.verifier_spec.specs.Transfer.{falls_to, jumps_to}
 use Rattle.verifier_spec.specs.Annotation.{Claims, claim_at}
-use Rattle.explain.specs.declared.hint.{Hint.Hint, Way.Way}
+use Rattle.explain.specs.declared.hint.{Hint.Hint, Edge.Edge}
 use Rattle.explain.specs.declared.{meeting.Loss.Loss, reason.Reason.Reason}
 use Rattle.explain.specs.Reasons.{first_below}
 
@@ -67,8 +68,8 @@ slot_in None = 0
 abbrev pub slot_of : List Placed → ℕ → ℕ
 slot_of code k = slot_in (slice_get code k)
 
-abbrev pub way_from : List Placed → ℕ → Abs → Way
-way_from code k kind = record { kind = kind; slot = slot_of code k }
+abbrev pub edge_from : List Placed → ℕ → Abs → Edge
+edge_from code k kind = record { kind = kind; slot = slot_of code k }
 
 -- nothing is known of a register before an instruction
 abbrev pub is_lost_before : ℕ → Option Abstract → Bool
@@ -81,7 +82,7 @@ lost_in code claims r k = if is_lost_before r (claim_at claims k) then Loss.Befo
 
 abbrev pub met_with : List Placed → Claims → ℕ → ℕ → ℕ → Abs → Option ℕ → Loss
 met_with code claims r j k kind (Some other) =
-    Loss.Here (Hint.Met (way_from code k kind) (way_from code other (unwrap_or (arrival code claims r j other) Abs.None)) (slot_of code j))
+    Loss.Here (Hint.Met (edge_from code k kind) (edge_from code other (unwrap_or (arrival code claims r j other) Abs.None)) (slot_of code j))
 met_with code claims r j k kind None = lost_in code claims r k
 
 abbrev pub met_from : List Placed → Claims → ℕ → ℕ → ℕ → Option Abs → Loss
@@ -92,8 +93,8 @@ abbrev pub met_first : List Placed → Claims → ℕ → ℕ → Option ℕ →
 met_first code claims r j (Some k) = met_from code claims r j k (arrival code claims r j k)
 met_first code claims r j None = Loss.Here Hint.NeverSet
 
--- At an instruction before which nothing is known of a register: the first two instructions that lead to it and know
--- kinds of different sorts; else the first that leads to it, which is a call or knows nothing before it either.
+-- At an instruction before which nothing is known of a register: the first edges to it that propagate kinds of different sorts;
+-- else the instruction that the first edge to it begins at, which is a call, or before which nothing is known of it either.
 unfoldable pub step : List Placed → Claims → ℕ → ℕ → Loss
 step code claims r j = met_first code claims r j (first_below j (arrives code claims r j))
 

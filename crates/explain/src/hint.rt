@@ -5,10 +5,9 @@ use machine_spec::Region;
 use std::fmt;
 use verifier_spec::Abs;
 
-/// What is known of a register on one of the ways to an instruction, and the slot of the instruction
-/// that the way comes from.
+/// What an edge propagates of a register, and the slot of the instruction that it begins at.
 #[derive(Clone, Copy, Debug, PartialEq, Eq)]
-pub struct Way {
+pub struct Edge {
     pub kind: Abs,
     pub slot: usize,
 }
@@ -48,11 +47,11 @@ pub enum Hint {
     Loop(i64, usize),
     /// It doesn't come to that jump.
     Order(i64, usize),
-    /// Two ways know a register as different kinds. Field: the slot where they meet.
-    Met(Way, Way, usize),
+    /// Two edges propagate different kinds of a register. Fields: the edges, the slot where they meet.
+    Met(Edge, Edge, usize),
     /// The call at a slot leaves nothing in a register.
     Called(usize),
-    /// No way sets a register.
+    /// No path sets a register.
     NeverSet,
 }
 
@@ -95,7 +94,7 @@ fn write_far<W: fmt::Write>(f: &mut fmt::Formatter<W>, region: Region, last: i12
     let name = region_word(region);
     write!(
         f,
-        "bytes up to {last} of the {name} may be meant: bound the place (index_below of klog.h), or emit a part of it by emit_cut, emit_rest or copy_value"
+        "bytes up to {last} of the {name} may be reached: bound the index (index_below of klog.h), or emit a part of it by emit_cut, emit_rest or copy_value"
     )
 }
 
@@ -110,22 +109,22 @@ fn write_no_bytes<W: fmt::Write>(
     let name = region_word(region);
     write!(
         f,
-        "no {name} has {bytes}: bound the place or the length (index_below and is_within of klog.h)"
+        "no {name} has {bytes}: bound the index or the length (index_below and is_within of klog.h)"
     )
 }
 
-/// What two ways know of a register, and where they meet.
+/// What two edges propagate of a register, and where they meet.
 fn write_met<W: fmt::Write>(
     f: &mut fmt::Formatter<W>,
-    first: Way,
-    second: Way,
+    first: Edge,
+    second: Edge,
     slot: usize,
 ) -> fmt::Result {
     let (kind, from) = (Shown(first.kind), first.slot);
     let (other_kind, other) = (Shown(second.kind), second.slot);
     write!(
         f,
-        "{kind} from slot {from} and {other_kind} from slot {other} meet at slot {slot}: set it on both ways, to one kind of value"
+        "{kind} from slot {from} and {other_kind} from slot {other} meet at slot {slot}: set it on both paths, to one kind of value"
     )
 }
 
@@ -146,15 +145,15 @@ impl fmt::Display for Hint {
             ),
             Hint::Spilled => write!(
                 f,
-                "an address is stored, mostly since registers ran out: compile with -O2, and keep fewer values over a call"
+                "an address is stored, mostly because registers ran out: compile with -O2 and keep fewer values over a call"
             ),
             Hint::Compared => write!(
                 f,
-                "addresses are not compared: compare places or lengths, and test the fifth argument for a null"
+                "addresses are not compared: compare indices or lengths, and for a null key test `nulls & KEY_IS_NULL`"
             ),
             Hint::Computed => write!(
                 f,
-                "an address is only moved, by sums of 64 bits: compute with places, which are numbers"
+                "an address is only moved, by a 64-bit sum with a number: compute with indices"
             ),
             Hint::Unbounded => write!(
                 f,
@@ -168,7 +167,7 @@ impl fmt::Display for Hint {
                 let bytes = Bytes(first.into(), last.into());
                 write!(
                     f,
-                    "stack {bytes} may not be set, as padding or on some way: begin the variable with `= {{0}}`"
+                    "stack {bytes} may not be set: padding, or set on some paths only; begin the variable with `= {{0}}`"
                 )
             }
             Hint::Room => write!(f, "room is on the stack: pass the address of a variable"),
@@ -187,7 +186,7 @@ impl fmt::Display for Hint {
             ),
             Hint::NeverSet => write!(
                 f,
-                "no way to here sets it: a variable is read before it is set"
+                "no path to here sets it: a variable is read before it is set"
             ),
             Hint::NoRoom => write!(
                 f,

@@ -1,5 +1,6 @@
 //! Why the verifier accepts or refuses a program: its instructions, each with what is known before
-//! it, up to the first that is refused, and then which register or which bytes the refusal is about.
+//! it, up to the first that is refused, and then which register or which bytes the refusal is about,
+//! and what usually leads to it. Of an image without code: what its bytes are.
 #![tactic(auto)]
 
 mod accesses;
@@ -19,6 +20,6 @@ mod shown;
 mod slot_bytes;
 
 pub use explanation::{Explanation, Refusal, explain_image};
-pub use hint::{Hint, Way};
+pub use hint::{Edge, Hint};
 pub use image_fault::image_fault_text;
 pub use reason::{Reached, Reason};

@@ -8,7 +8,7 @@ ghost use Rattle.explain.specs.Meetings as definitions;
 ghost use Rattle.explain.specs.Meetings.{arrival};
 ghost use Rattle.explain.specs.Reasons.{first_below};
 
-use crate::hint::{Hint, Way};
+use crate::hint::{Edge, Hint};
 use crate::reason::Reason;
 use abstract_regs::State;
 use bpf_isa::Code;
@@ -177,10 +177,10 @@ fn slot_of(code: &Code, k: usize) -> usize
     if k < code.len() { code.get(k).slot } else { 0 }
 }
 
-fn way_from(code: &Code, k: usize, kind: Abs) -> Way
-    ensures { result ≡ definitions.way_from code.now k kind }
+fn edge_from(code: &Code, k: usize, kind: Abs) -> Edge
+    ensures { result ≡ definitions.edge_from code.now k kind }
 {
-    Way {
+    Edge {
         kind,
         slot: slot_of(code, k),
     }
@@ -220,8 +220,8 @@ fn met_with(
         Some(other) => {
             let kind = arrival(code, states, register, j, other).unwrap_or(Abs::None);
             Loss::Here(Hint::Met(
-                way_from(code, first.0, first.1),
-                way_from(code, other, kind),
+                edge_from(code, first.0, first.1),
+                edge_from(code, other, kind),
                 slot_of(code, j),
             ))
         }

@@ -28,21 +28,21 @@ a length is no address: transform takes the value, its length, the key, its leng
         "stx64 [r10-8], r1\nexit\n",
         "V5 Type at 0
 r1 (value+0) is no number, and a number is needed
-an address is stored, mostly since registers ran out: compile with -O2, and keep fewer values over a call",
+an address is stored, mostly because registers ran out: compile with -O2 and keep fewer values over a call",
     ),
     // if (!key) return 1; return emit_record(0);
     (
         "mov64 r0, 1\njeq64 r3, 0, +2\nmov64 r1, 0\ncall 3\nexit\n",
         "V5 Type at 1
 r3 (key+0) is no number, and a number is needed
-addresses are not compared: compare places or lengths, and test the fifth argument for a null",
+addresses are not compared: compare indices or lengths, and for a null key test `nulls & KEY_IS_NULL`",
     ),
     // return emit_record((u64)value % 4);
     (
         "and64 r1, 3\ncall 3\nexit\n",
         "V5 Type at 0
 r1 (value+0) is no number, and a number is needed
-an address is only moved, by sums of 64 bits: compute with places, which are numbers",
+an address is only moved, by a 64-bit sum with a number: compute with indices",
     ),
     // if (value_length < 8) return 1; u64 place = *(const u64 *)value; if (place >= value_length) return 2;
     // return emit_record(value[place] & 3);
@@ -90,20 +90,20 @@ byte 4 of the value may be missing: test first that its length is at least 5 (at
         "add64 r3, r5\nld16 r0, [r3-1]\nexit\n",
         "V7 RecordBounds at 1
 r3 (key+0 to +3) reaches bytes -1 to 3 of the key, whose length may be as low as 0
-no key has byte -1: bound the place or the length (index_below and is_within of klog.h)",
+no key has byte -1: bound the index or the length (index_below and is_within of klog.h)",
     ),
     // u8 seen[16] = {0}; if (value_length < 1) return 1; seen[value[0]] = 1; return emit_value(0, seen, 16);
     (
         "mov64 r3, 0\nstx64 [r10-8], r3\nstx64 [r10-16], r3\nmov64 r0, 1\njeq64 r2, 0, +10\nld8 r1, [r1+0]\nmov64 r2, r10\nadd64 r2, -16\nmov64 r3, r2\nadd64 r3, r1\nmov32 r1, 1\nstx8 [r3+0], r1\nmov64 r1, 0\nmov64 r3, 16\ncall 4\nexit\n",
         "V8 StackBounds at 11
 r3 (stack+496 to +751) reaches bytes 496 to 751 of the stack, which has bytes 0 to 511
-no stack has bytes 512 to 751: bound the place or the length (index_below and is_within of klog.h)",
+no stack has bytes 512 to 751: bound the index or the length (index_below and is_within of klog.h)",
     ),
     (
         "ld64 r0, [r10-528]\nexit\n",
         "V8 StackBounds at 0
 r10 (stack+512) reaches bytes -16 to -9 of the stack, which has bytes 0 to 511
-no stack has bytes -16 to -9: bound the place or the length (index_below and is_within of klog.h)",
+no stack has bytes -16 to -9: bound the index or the length (index_below and is_within of klog.h)",
     ),
     // u8 digits[8]; if (value_length < 2) return 1; digits[0] = value[0]; digits[1] = value[1];
     // return emit_record(digits[value[0] & 3]);
@@ -111,7 +111,7 @@ no stack has bytes -16 to -9: bound the place or the length (index_below and is_
         "mov64 r0, 1\njlt64 r2, 2, +10\nld8 r2, [r1+0]\nstx8 [r10-8], r2\nld8 r1, [r1+1]\nstx8 [r10-7], r1\nand64 r2, 3\nmov64 r1, r10\nadd64 r1, -8\nadd64 r1, r2\nld8 r1, [r1+0]\ncall 3\nexit\n",
         "V9 StackUnset at 10
 r1 (stack+504 to +507) reaches bytes 504 to 507 of the stack, and byte 506 may not be set
-stack bytes 506 to 507 may not be set, as padding or on some way: begin the variable with `= {0}`",
+stack bytes 506 to 507 may not be set: padding, or set on some paths only; begin the variable with `= {0}`",
     ),
     // struct tagged { u8 tag; u64 count; } out; out.tag = 1; out.count = value_length;
     // return emit_value(0, &out, sizeof(out));
@@ -119,7 +119,7 @@ stack bytes 506 to 507 may not be set, as padding or on some way: begin the vari
         "stx64 [r10-8], r2\nmov32 r1, 1\nstx8 [r10-16], r1\nmov64 r2, r10\nadd64 r2, -16\nmov64 r1, 0\nmov64 r3, 16\ncall 4\nexit\n",
         "V12 HelperArg at 7
 r2 (stack+496) and r3 (16) name bytes that may be outside what is known to be there, or not set
-stack bytes 497 to 503 may not be set, as padding or on some way: begin the variable with `= {0}`",
+stack bytes 497 to 503 may not be set: padding, or set on some paths only; begin the variable with `= {0}`",
     ),
     // return emit_value(0, value, 16);
     (
@@ -133,20 +133,20 @@ bytes 0 to 15 of the value may be missing: test first that its length is at leas
         "mov64 r2, r3\nmov64 r1, 0\nmov64 r3, 5000\ncall 4\nexit\n",
         "V12 HelperArg at 3
 r2 (key+0) and r3 (5000) name bytes that may be outside what is known to be there, or not set
-bytes up to 4999 of the key may be meant: bound the place (index_below of klog.h), or emit a part of it by emit_cut, emit_rest or copy_value",
+bytes up to 4999 of the key may be reached: bound the index (index_below of klog.h), or emit a part of it by emit_cut, emit_rest or copy_value",
     ),
     // if (value_length < 5) return 1; return emit_value(0, value + 5, length_minus(value_length, 5));
     (
         "mov64 r3, r2\nmov64 r2, r1\nmov64 r0, 1\njlt64 r3, 5, +4\nsub64 r3, 5\nadd64 r2, 5\nmov64 r1, 0\ncall 4\nexit\n",
         "V12 HelperArg at 7
 r2 (value+5) and r3 (0 to 65531) name bytes that may be outside what is known to be there, or not set
-bytes up to 65535 of the value may be meant: bound the place (index_below of klog.h), or emit a part of it by emit_cut, emit_rest or copy_value",
+bytes up to 65535 of the value may be reached: bound the index (index_below of klog.h), or emit a part of it by emit_cut, emit_rest or copy_value",
     ),
     (
         "mov64 r1, 0\nmov64 r2, r10\nadd64 r2, -8\nmov64 r3, 9\ncall 4\nexit\n",
         "V12 HelperArg at 4
 r2 (stack+504) and r3 (9) name bytes that may be outside what is known to be there, or not set
-no stack has byte 512: bound the place or the length (index_below and is_within of klog.h)",
+no stack has byte 512: bound the index or the length (index_below and is_within of klog.h)",
     ),
     // u8 copy[100]; if (value_length > 100) return 1; if (load_value(copy, 0, value_length)) return 2;
     // return emit_value(0, copy, 1);
@@ -161,7 +161,7 @@ the length may be 0: test first that it is at least 1 (is_within of klog.h); a t
         "mov64 r3, r2\nmov64 r0, 1\njeq64 r3, 0, +12\nmov64 r1, r10\nadd64 r1, -100\nmov64 r2, 0\ncall 1\nmov64 r1, r0\nmov64 r0, 2\njne64 r1, 0, +5\nmov64 r2, r10\nadd64 r2, -100\nmov64 r1, 0\nmov64 r3, 1\ncall 4\nexit\n",
         "V12 HelperArg at 6
 r1 (stack+412) and r3 (length of value) name room that may have no byte, or not lie on the stack
-no stack has bytes 512 to 65947: bound the place or the length (index_below and is_within of klog.h)",
+no stack has bytes 512 to 65947: bound the index or the length (index_below and is_within of klog.h)",
     ),
     (
         "mov64 r2, 0\nmov64 r3, 8\ncall 2\nexit\n",
@@ -190,14 +190,14 @@ no loop: the code from slot 3 on does not come to slot 13 again; make the image 
         "mov64 r0, 1\njlt64 r2, 4, +20\njlt64 r4, 4, +19\nand64 r5, 2\njeq64 r5, 0, +1\nmov64 r3, r1\nld8 r2, [r3+0]\nmul32 r2, 31\nld8 r1, [r3+1]\nmul32 r1, 7\nadd32 r1, r2\nld8 r2, [r3+3]\nadd32 r1, r2\nmov64 r0, 2\nmov32 r2, r1\ndiv32 r2, 7\nmul32 r2, 7\nmov32 r3, r1\nsub32 r3, r2\njeq32 r3, 3, +2\nand32 r1, 3\ncall 3\nexit\n",
         "V4 Unset at 6
 r3 is read and may hold nothing
-key+0 from slot 4 and value+0 from slot 5 meet at slot 6: set it on both ways, to one kind of value",
+key+0 from slot 4 and value+0 from slot 5 meet at slot 6: set it on both paths, to one kind of value",
     ),
     // They meet before the instruction that reads the register, and a slot is that of no instruction.
     (
         "imm64 r0, 0\njeq64 r2, 0, +1\nmov64 r6, 5\nmov64 r7, 0\nmov64 r8, 0\nadd64 r0, r6\nexit\n",
         "V4 Unset at 5
 r6 is read and may hold nothing
-nothing known from slot 2 and 5 from slot 3 meet at slot 4: set it on both ways, to one kind of value",
+nothing known from slot 2 and 5 from slot 3 meet at slot 4: set it on both paths, to one kind of value",
     ),
     (
         "jeq64 r2, 0, +1\nja +0\nmov64 r6, r1\nmov64 r1, 0\ncall 3\nmov64 r0, r1\nexit\n",
@@ -209,14 +209,14 @@ the call at slot 4 leaves nothing in r1 to r5: keep values in r6 to r9",
         "exit\n",
         "V4 Unset at 0
 r0 is read and may hold nothing
-no way to here sets it: a variable is read before it is set",
+no path to here sets it: a variable is read before it is set",
     ),
     // A jump to the next instruction, where both edges meet.
     (
         "mov64 r6, 1\njeq64 r2, 0, +0\nadd64 r9, r6\nexit\n",
         "V4 Unset at 2
 r9 is read and may hold nothing
-no way to here sets it: a variable is read before it is set",
+no path to here sets it: a variable is read before it is set",
     ),
     // A jump back to where no instruction begins, and other faults, have none.
     (
