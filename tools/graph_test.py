@@ -58,7 +58,7 @@ def explained(image):
         lines += state_lines(found[k]) if found[k] else ["  unreached"]
         fault = shape_fault(code, k) or (found[k] and state_fault(code[k], found[k]))
         if fault:
-            return lines, [f"{fault} at {k}", "what it is about"]
+            return lines + [f"refused: {fault} at {k}"], [f"{fault} at {k}", "what it is about", "what to do"]
         for target, state in edges(code, k, found[k]) if found[k] else []:
             if state is not None:
                 found[target] = joined(found[target], state) if found[target] else state
