@@ -149,7 +149,7 @@ fn meet_faults<Id: Names, R: Wait + Abort>(
     for (bytes, habit, want) in cases(&two, &two_with(11, 48), &two_with(69, 1)) {
         let got = stream(rt, alloc, &broker, first, &mut reader_of(bytes, habit));
         assert_eq!(rt; got, want);
-        first += got.1;
+        first = first.saturating_add(got.1);
     }
     let mut reader = reader_of(&two, STEADY);
     let mut receipts = Vec::new(alloc);
@@ -162,7 +162,7 @@ fn meet_faults<Id: Names, R: Wait + Abort>(
 /// Bytes, how they are read, and what is answered with how many receipts, one after the other on a
 /// log of eight cells.
 fn cases<'a>(
-    two: &'a [u8],
+    two: &'a [u8; 140],
     short_length: &'a [u8],
     other_value: &'a [u8],
 ) -> [(&'a [u8], Habit, (Result<u64, StreamFault>, usize)); 8] {
@@ -198,8 +198,8 @@ fn cases<'a>(
             STEADY,
             (Err(StreamFault::Batch(BatchFault::Crc)), 1),
         ),
-        (two, failing, (Err(StreamFault::Read), 1)),
-        (two, interrupted, (Ok(2), 2)),
-        (two, STEADY, (Err(full), 1)),
+        (two.as_slice(), failing, (Err(StreamFault::Read), 1)),
+        (two.as_slice(), interrupted, (Ok(2), 2)),
+        (two.as_slice(), STEADY, (Err(full), 1)),
     ]
 }
