@@ -14,16 +14,7 @@ const IMAGES: [(&[u8], &str, &str, u8); 8] = [
     (b"", "", "I1 Size\n", 1),
     (b"\x95\0\0\0\0\0\0\0\0\0\0\0", "", "I1 Size\n", 1),
     (b"\xdb\0\0\0\0\0\0\0", "", "I6 NotInProfile slot 0\n", 1),
-    (
-        b"\xb7\x0b\0\0\x05\0\0\0",
-        "",
-        "I3 Register slot 0
-slot 0: b7 0b 00 00 05 00 00 00
-with dst=0 this is: mov64 r0, 5
-registers are r0 to r10
-",
-        1,
-    ),
+    (b"\xb7\x0b\0\0\0\0\0\0", "", "I3 Register slot 0\n", 1),
     (b"\xb7\0\0\0\0\0\0\0", "", "V3 RunsOff at 0\n", 1),
     (
         b"\x71\x10\0\0\0\0\0\0\x95\0\0\0\0\0\0\0",
