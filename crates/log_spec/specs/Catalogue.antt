@@ -10,6 +10,7 @@ pub record Entry : Type 0 where
   pub name : List ℕ
   pub programs : List Program
 
+-- the entries of a catalogue, in the order of the names' first loads
 abbrev pub Table : Type 0
 Table = List Entry
 
@@ -18,10 +19,11 @@ abbrev pub programs_of : Table → List ℕ → List Program
 programs_of [] name = []
 programs_of (entry ∷ table) name = if bytes_eq entry.name name then entry.programs else programs_of table name
 
+-- programs are loaded under the name
 abbrev pub has_name : Table → List ℕ → Bool
 has_name table name = list_any (λ entry. bytes_eq entry.name name) table
 
--- a version of a name, from 1
+-- the program of a version of a name, from 1; none where it was not loaded
 abbrev pub program_named : Table → List ℕ → ℕ → Option Program
 program_named table name zero = None
 program_named table name (suc k) = slice_get (programs_of table name) k
@@ -40,17 +42,17 @@ pub record Version : Type 0 where
   pub number : ℕ
   pub program : Program
 
--- Of each name its last version alone, in the order of the names' first loads: the number is how many loads of the name
--- were accepted.
+-- Of each name its last version alone, in the order of the names' first loads. A version's number is how many loads of
+-- the name were accepted.
 abbrev pub LiveTable : Type 0
 LiveTable = List Version
 
--- the number and the program of a name's version, none where there is none
+-- the number and the program of a name's version; none where the name is not loaded
 abbrev pub among : LiveTable → List ℕ → Option (ℕ × Program)
 among [] name = None
 among (version ∷ table) name = if bytes_eq version.name name then Some (version.number, version.program) else among table name
 
--- how many versions a name has that was found with this
+-- how many versions a name has, by its version in a live table
 abbrev pub count_of : Option (ℕ × Program) → ℕ
 count_of None = 0
 count_of (Some found) = found.0
@@ -64,7 +66,7 @@ abbrev pub with_version : LiveTable → Version → LiveTable
 with_version [] version = version ∷ []
 with_version (first ∷ table) version = if bytes_eq first.name version.name then version ∷ table else first ∷ with_version table version
 
--- a name's last version: how many programs it has, and the last of them
+-- a version is the last one of an entry: it has the number of its programs, and the last of them
 pub record IsLast (entry : Entry) (version : Version) : Type 0 where
   pub name_is : version.name ≡ entry.name
   pub number_is : version.number ≡ length entry.programs
@@ -84,24 +86,27 @@ IsLive (entry ∷ table) [] = ⊥
 abbrev pub is_name_byte : ℕ → Bool
 is_name_byte byte = (nat_le 97 byte && nat_le byte 122) || ((nat_le 65 byte && nat_le byte 90) || ((nat_le 48 byte && nat_le byte 57) || (byte == 45)))
 
+-- a name has 1 to 32 such bytes
 abbrev pub is_name : List ℕ → Bool
 is_name name = nat_le 1 (length name) && (nat_le (length name) MAX_NAME && list_all is_name_byte name)
 
+-- the most names of a catalogue
 abbrev pub most_names : ℕ
 most_names = 64
 
--- The first refusal of a load before its image is read: the name's form, 64 other names, its versions used up. It asks of
--- a table whether the name is loaded, how many names are, and how many versions the name has.
+-- The first refusal of a load before its image is read: the name's form, 64 other names, its versions used up. It takes
+-- of a table whether the name is loaded, how many names are, and how many versions the name has.
 abbrev pub first_refusal : Bool → ℕ → ℕ → List ℕ → Option Refusal
 first_refusal is_loaded names versions name =
     if not (is_name name) then Some Refusal.Name else
     if not is_loaded && nat_le most_names names then Some Refusal.Full else
     if nat_le (2 ^ 32 - 1) versions then Some Refusal.Versions else None
 
+-- the first refusal of a load before its image is read, by a table
 abbrev pub name_refusal : Table → List ℕ → Option Refusal
 name_refusal table name = first_refusal (has_name table name) (length table) (length (programs_of table name)) name
 
--- the same of a live table
+-- the same by a live table
 abbrev pub live_refusal : LiveTable → List ℕ → Option Refusal
 live_refusal table name = first_refusal (not (is_none (among table name))) (length table) (count_of (among table name)) name
 
@@ -111,14 +116,16 @@ IsProgramRefusal program None = IsAccepted program
 IsProgramRefusal program (Some (Refusal.Load fault)) = IsRefusedWith program fault
 IsProgramRefusal program (Some _) = ⊥
 
+-- the first refusal of a load, where this is its refusal before the image is read
 abbrev pub IsFirstRefusal : Option Refusal → Program → Option Refusal → Type 0
 IsFirstRefusal (Some earlier) program first = Some earlier ≡ first
 IsFirstRefusal None program first = IsProgramRefusal program first
 
--- the first refusal of a load, or none
+-- the first refusal of a load, or none, by a table
 abbrev pub IsLoadRefusal : Table → List ℕ → Program → Option Refusal → Type 0
 IsLoadRefusal table name program first = IsFirstRefusal (name_refusal table name) program first
 
+-- the same by a live table
 abbrev pub IsLiveRefusal : LiveTable → List ℕ → Program → Option Refusal → Type 0
 IsLiveRefusal table name program first = IsFirstRefusal (live_refusal table name) program first
 

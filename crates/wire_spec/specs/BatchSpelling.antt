@@ -7,30 +7,31 @@ use Rattle.wire_spec.specs.declared.record.{Record.Record, Batch.Batch}
 use Rattle.wire_spec.specs.Checksum.{checksum}
 use Rattle.wire_spec.specs.RecordSpelling.{RecordFits, record_spelling}
 
--- the most bytes of a batch, and the most records
+-- the most bytes of a batch, its header among them: 1 MiB
 abbrev pub max_batch : ℕ
 max_batch = 1048576
 
+-- the most records of a batch
 abbrev pub max_records : ℕ
 max_records = 10000
 
 -- ---- Timestamps
 
--- the timestamps of records, in milliseconds: the batch's base timestamp and the record's delta, as
--- whole numbers
+-- the timestamps of records in milliseconds: the batch's base timestamp plus each record's delta, as whole numbers
 abbrev pub timestamps : ℤ → List Record → List ℤ
 timestamps base rs = map (λ r. base +ℤ r.timestamp_delta) rs
 
--- the greatest of timestamps, none of which is negative
+-- the greatest of timestamps, none of which is negative; 0 of none, which no batch has
 abbrev pub greatest : List ℤ → ℤ
 greatest ts = fold int_max (pos 0) ts
 
+-- a whole number of milliseconds from 0 to 2^62 - 1
 abbrev pub IsTimestamp : ℤ → Type 0
 IsTimestamp t = (pos 0 ≤ℤ t) × (t <ℤ pos TIMESTAMP_END)
 
 -- ---- The bytes
 
--- a signed number, its highest byte first
+-- a signed number in two's complement, its highest byte first
 abbrev pub signed : Width → ℤ → List ℕ
 signed w z = to_be_bytes w (cast_unsigned w z)
 
@@ -39,8 +40,9 @@ abbrev pub records_spelling : ℕ → List Record → List ℕ
 records_spelling delta [] = []
 records_spelling delta (r ∷ rs) = record_spelling (pos delta) r ++ records_spelling (suc delta) rs
 
--- what the checksum covers: attributes, lastOffsetDelta, baseTimestamp, maxTimestamp, producerId,
--- producerEpoch, baseSequence, the number of records, and the records
+-- what the checksum covers: attributes, lastOffsetDelta, baseTimestamp, maxTimestamp, producerId, producerEpoch,
+-- baseSequence, the number of records, and the records. (A batch that fits has a record, so lastOffsetDelta is at least
+-- 0.)
 abbrev pub covered : Batch → List ℕ
 covered b =
     to_be_bytes w16 0 ++ (to_be_bytes w32 (length b.records - 1)
@@ -48,17 +50,18 @@ covered b =
     ++ (signed w64 b.producer_id ++ (signed w16 b.producer_epoch ++ (signed w32 b.base_sequence
     ++ (to_be_bytes w32 (length b.records) ++ records_spelling 0 b.records)))))))
 
--- what is before that, and it: baseOffset, batchLength, which counts what follows it,
--- partitionLeaderEpoch, magic, crc
+-- those bytes and what is before them: baseOffset, batchLength (how many bytes follow it), partitionLeaderEpoch, magic
+-- and crc
 abbrev pub enclosed : Batch → List ℕ → List ℕ
 enclosed b rest =
     signed w64 b.base_offset ++ (to_be_bytes w32 (9 + length rest) ++ (signed w32 b.leader_epoch ++ (2 ∷ (to_be_bytes w32 (checksum rest) ++ rest))))
 
--- a batch
+-- the bytes of a batch
 unfoldable pub batch_spelling : Batch → List ℕ
 batch_spelling b = enclosed b (covered b)
 
--- a batch that has a spelling
+-- A batch that has a spelling: its fields are in their widths, it has 1 to 10,000 records, each of which has a
+-- spelling, its timestamps are in range, and it has at most 1 MiB.
 pub record BatchFits (b : Batch) : Type 0 where
   pub base_offset : FitsSigned w64 b.base_offset
   pub leader_epoch : FitsSigned w32 b.leader_epoch

@@ -5,13 +5,13 @@ use Rattle.wire_spec.specs.declared.limits.TheConstants.{MAX_KEY, MAX_VALUE, MAX
 use Rattle.wire_spec.specs.declared.record.{Header.Header, Record.Record}
 use Rattle.wire_spec.specs.Varint.{varint, varlong}
 
--- a header that has a spelling
+-- a header that has a spelling: its key is UTF-8 of at most 255 bytes, its value null or of at most 4,096
 pub record HeaderFits (h : Header) : Type 0 where
   pub key : length h.key ≤ MAX_HEADER_KEY
   pub text : IsUtf8 h.key
   pub value : IfSome h.value (λ v. length v ≤ MAX_HEADER_VALUE)
 
--- a record that has a spelling
+-- a record that has a spelling: its parts are within the limits, and its timestamp delta has 64 bits
 pub record RecordFits (r : Record) : Type 0 where
   pub timestamp : FitsSigned w64 r.timestamp_delta
   pub key : IfSome r.key (λ k. length k ≤ MAX_KEY)
@@ -21,24 +21,25 @@ pub record RecordFits (r : Record) : Type 0 where
 
 -- ---- The bytes
 
--- a length, and that many bytes
+-- bytes after their length
 abbrev pub string : List ℕ → List ℕ
 string bytes = varint (pos (length bytes)) ++ bytes
 
--- the same, or the length -1 for null
+-- the same of bytes that may be null, which has the length -1
 abbrev pub nullable : Option (List ℕ) → List ℕ
 nullable None = varint (negsuc 0)
 nullable (Some bytes) = string bytes
 
+-- a header: its key, and its value, which may be null
 abbrev pub header : Header → List ℕ
 header h = string h.key ++ nullable h.value
 
--- what follows a record's length: attributes, timestampDelta, offsetDelta, key, value, and the headers
--- after their number
+-- what follows a record's length: attributes, timestampDelta, offsetDelta, key, value, and the headers after their
+-- number
 abbrev pub record_body : ℤ → Record → List ℕ
 record_body delta r =
     0 ∷ (varlong r.timestamp_delta ++ (varint delta ++ (nullable r.key ++ (nullable r.value ++ (varint (pos (length r.headers)) ++ flat_map header r.headers)))))
 
--- a record at this offset delta
+-- a record with this offset delta
 abbrev pub record_spelling : ℤ → Record → List ℕ
 record_spelling delta r = string (record_body delta r)
