@@ -25,12 +25,12 @@ abbrev pub after_fault : Stream → BatchFault → Stream
 after_fault stream Memory = stream
 after_fault stream fault = Ended fault
 
--- the bytes begin with no batch, of which this is the refusal; nothing is said where memory ran out
+-- the bytes begin with no batch, and this is the refusal; nothing is said where memory ran out
 abbrev pub IsRefusal : List ℕ → BatchFault → Type 0
 IsRefusal bytes fault = fault ≢ Memory → (fault ≢ Short) × (batch_at bytes ≡ Err fault)
 
--- What is given of a stream, and what is left of it: the batch that its bytes begin with; none, where they hold no whole
--- batch; the refusal of bytes that begin with no batch, which ends the stream.
+-- What is given of a stream, and what is left of it: the batch that its bytes begin with; none, where they hold no
+-- whole batch; the refusal of bytes that begin with no batch, which ends the stream.
 abbrev pub Gives : Stream → Result (Option Batch) BatchFault → Stream → Type 0
 Gives (Open bytes) (Ok (Some batch)) new = (used : ℕ) × (batch_at bytes ≡ Ok (batch, used)) × (new ≡ Open (drop used bytes))
 Gives (Open bytes) (Ok None) new = (batch_at bytes ≡ Err Short) × (new ≡ Open bytes)
@@ -40,7 +40,7 @@ Gives (Ended fault) (Err again) new = (again ≡ fault) × (new ≡ Ended fault)
 
 -- ---- What a feed keeps
 
--- the stream of the bytes that are kept, in two parts, and of the fault that is
+-- the stream of a feed that keeps these bytes, in two parts, or the fault that ended it
 abbrev pub stream : List ℕ → List ℕ → Option BatchFault → Stream
 stream ready next None = Open (ready ++ next)
 stream ready next (Some fault) = Ended fault
@@ -50,7 +50,8 @@ abbrev pub Cuts : List ℕ → Result Batch BatchFault → List ℕ → Type 0
 Cuts bytes (Ok batch) new = (used : ℕ) × (used ≤ length bytes) × (batch_at bytes ≡ Ok (batch, used)) × (new ≡ drop used bytes)
 Cuts bytes (Err fault) new = IsRefusal bytes fault × (new ≡ bytes)
 
--- Whether a batch or a refusal of one may be cut off the first part of the bytes; else all of them are a part of a batch.
+-- Whether a batch or a refusal of one may be cut off the first part of the bytes; else all of them are a part of a
+-- batch.
 abbrev pub IsReady : Bool → List ℕ → List ℕ → Type 0
 IsReady true ready next = IsPart ready → ⊥
 IsReady false ready next = IsPart (ready ++ next)

@@ -8,6 +8,6 @@ unfoldable pub after : ℕ → List ℕ → ℕ
 after r [] = r
 after r (b ∷ bs) = after (remainder 8 (bit_xor r b)) bs
 
--- the 32 coefficients of the four bytes from place i on, the first byte lowest
+-- the 32 coefficients in the four bytes from place i on, the first byte lowest
 abbrev pub word_at : List ℕ → ℕ → ℕ
 word_at bytes i = number_l 256 (chunk i 4 bytes)

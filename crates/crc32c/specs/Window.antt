@@ -1,17 +1,18 @@
 -- Blocks of 16 bytes whose part is moved to the blocks behind them, by a sparse multiple of the generator.
 --
 -- With y = x^128 the generator divides y^209 + y^144 + y^54 + y^39 + y^14 + 1. So a block may be taken away where it is
--- added to the blocks 65, 155, 170, 195 and 209 further on. The window holds the last blocks that were so taken away, as
--- they were then: a number, the earliest block lowest.
+-- added to the blocks 65, 155, 170, 195 and 209 further on. The window holds the last blocks that were so taken away,
+-- as they were then: a number, the earliest block lowest.
 use Rattle.std.specs.Prelude.{ℕ, ◌*◌, ◌/◌, ◌^◌, List, length, bit_xor}
 use Rattle.std.specs.List.{concat}
 use Rattle.std.specs.Simd.Lanes.{number_l, chunk}
 use Rattle.wire_spec.specs.Checksum.{remainder}
 
+-- the sum of five polynomials
 abbrev pub sum_of_five : ℕ → ℕ → ℕ → ℕ → ℕ → ℕ
 sum_of_five a b c d e = bit_xor (bit_xor (bit_xor (bit_xor a b) c) d) e
 
--- the window without its first blocks
+-- the window without its first blocks, the earliest ones
 abbrev pub later : ℕ → ℕ → ℕ
 later blocks window = window / 2 ^ (128 * blocks)
 
