@@ -11,8 +11,8 @@ use Rattle.verifier_spec.specs.JoinedStates.{known_after}
 abbrev pub EachIs : Claims → (ℕ → Option Abstract) → Type 0
 EachIs claims claim = (j : ℕ) → j < length claims → claim_at claims j ≡ claim j
 
--- After the first k instructions those have their joined states, which are in their ranges, and each later one has what they
--- propagate.
+-- After the first k instructions those have their joined states, which are in their ranges, and each later one has what
+-- they propagate.
 pub record IsPassed (code : List Placed) (claims : Claims) (k : ℕ) : Type 0 where
   pub long : length claims ≡ length code
   pub each : EachIs claims (λ j. known_after HELPERS code (min k j) j)

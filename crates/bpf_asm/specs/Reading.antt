@@ -12,25 +12,29 @@ use Rattle.bpf_asm.specs.Operands.{read_register, read_immediate, read_wide, rea
 
 -- ---- the parts of a line
 
+-- a space
 abbrev pub is_space : ℕ → Bool
 is_space byte = byte == 32
 
+-- a comma
 abbrev pub is_comma : ℕ → Bool
 is_comma byte = byte == 44
 
+-- a line feed
 abbrev pub is_line_feed : ℕ → Bool
 is_line_feed byte = byte == 10
 
--- without the spaces before it
+-- a text without the spaces before it
 abbrev pub after_spaces : List ℕ → List ℕ
 after_spaces [] = []
 after_spaces (byte ∷ text) = if is_space byte then after_spaces text else byte ∷ text
 
--- without the spaces at its end
+-- a text without the spaces at its end
 abbrev pub before_spaces : List ℕ → List ℕ
 before_spaces text = reverse (after_spaces (reverse text))
 
--- the texts between commas, each without the spaces before it
+-- the operands of a line: the texts between commas, each without the spaces before it; none where the line is a word
+-- alone
 abbrev pub operands_in : Option (List ℕ) → List (List ℕ)
 operands_in (Some text) = map after_spaces (slice_split is_comma text)
 operands_in None = []
@@ -41,49 +45,58 @@ rest_of line = if nat_lt (position_or_len is_space line) (length line) then Some
 
 -- ---- the operands that a form takes
 
+-- the one operand, if there is exactly one
 abbrev pub single : List (List ℕ) → Option (List ℕ)
 single (a ∷ []) = Some a
 single _ = None
 
+-- the two operands, if there are exactly two
 abbrev pub pair : List (List ℕ) → Option (List ℕ × List ℕ)
 pair (a ∷ b ∷ []) = Some (a, b)
 pair _ = None
 
+-- the three operands, if there are exactly three
 abbrev pub triple : List (List ℕ) → Option (List ℕ × List ℕ × List ℕ)
 triple (a ∷ b ∷ c ∷ []) = Some (a, b, c)
 triple _ = None
 
--- no operand is asked for
+-- there is no operand
 abbrev pub is_empty : List (List ℕ) → Bool
 is_empty [] = true
 is_empty (_ ∷ _) = false
 
+-- one operand is read; the fault Operand where there is another number of them
 abbrev pub with_one : {A : Type 0} → (List ℕ → Result A LineFault) → Option (List ℕ) → Result A LineFault
 with_one read (Some text) = read text
 with_one read None = Err fault.Operand
 
+-- two operands are read; the fault Operand where there is another number of them
 abbrev pub with_two : {A B : Type 0} → (List ℕ → Result A LineFault) → (List ℕ → Result B LineFault) → Option (List ℕ × List ℕ) → Result (A × B) LineFault
 with_two first second (Some texts) = both (first texts.0) (second texts.1)
 with_two first second None = Err fault.Operand
 
+-- three operands are read; the fault Operand where there is another number of them
 abbrev pub with_three : {A B C : Type 0} → (List ℕ → Result A LineFault) → (List ℕ → Result B LineFault) → (List ℕ → Result C LineFault) → Option (List ℕ × List ℕ × List ℕ) → Result ((A × B) × C) LineFault
 with_three first second third (Some texts) = both (both (first texts.0) (second texts.1)) (third texts.2)
 with_three first second third None = Err fault.Operand
 
+-- a change of one number with its operands: the register, of a sign extension dst and src
 abbrev pub read_change : Change → List (List ℕ) → Result Instruction LineFault
 read_change (Negate width) operands = read_as (λ dst. Unary (Negate width) dst dst) (with_one read_register (single operands))
 read_change (Order order width) operands = read_as (λ dst. Unary (Order order width) dst dst) (with_one read_register (single operands))
 read_change (SignExtend width part) operands = read_as (λ p. Unary (SignExtend width part) p.0 p.1) (with_two read_register read_register (pair operands))
 
--- a store is of a number or of a register
+-- the source of a store: a register or an immediate, as the store's word says
 abbrev pub read_stored : Source → List ℕ → Result Source LineFault
 read_stored (Register _) text = read_as Register (read_register text)
 read_stored (Immediate _) text = read_as Immediate (read_immediate text)
 
+-- the distance of a jump in any case, of 16 or of 32 bits as its word says
 abbrev pub read_distance : Distance → List ℕ → Result Distance LineFault
 read_distance (Short _) text = read_as Short (read_short text)
 read_distance (Long _) text = read_as Long (read_long text)
 
+-- an instruction of a form, with these operands in its fields
 abbrev pub read_operands : Instruction → List (List ℕ) → Result Instruction LineFault
 read_operands (Move width _ _) operands = read_as (λ p. Move width p.0 p.1) (with_two read_register read_source (pair operands))
 read_operands (Compute width operation _ _) operands = read_as (λ p. Compute width operation p.0 p.1) (with_two read_register read_source (pair operands))
@@ -98,16 +111,18 @@ read_operands Exit operands = if is_empty operands then Ok Exit else Err fault.O
 
 -- ---- lines
 
--- the operands are those of the word's form
+-- an instruction of a word's form, with the operands of the rest of the line; the fault Word where no form has the word
 abbrev pub read_form : Option Instruction → Option (List ℕ) → Result Instruction LineFault
 read_form (Some form) rest = read_operands form (operands_in rest)
 read_form None rest = Err fault.Word
 
+-- the instruction of a line that says one, or the line's fault
 abbrev pub some_read : Result Instruction LineFault → Result (Option Instruction) LineFault
 some_read (Ok i) = Ok (Some i)
 some_read (Err f) = Err f
 
--- An empty line and one that begins with `#` (35) say nothing. Others are a word, and after a space the operands.
+-- A line without the spaces around it. An empty one, and one that begins with `#` (35), says nothing. Others are a
+-- word, and after a space the operands.
 abbrev pub read_trimmed : List ℕ → Result (Option Instruction) LineFault
 read_trimmed [] = Ok None
 read_trimmed (byte ∷ text) = if byte == 35 then Ok None else some_read (read_form (form_named (before_first is_space (byte ∷ text))) (rest_of (byte ∷ text)))

@@ -19,16 +19,19 @@ use Rattle.machine_spec.specs.declared.instruction.Instruction.TheVariants.{Move
 use Rattle.machine_spec.specs.declared.opcode.TheConstants.{TEMPLATES}
 use Rattle.machine_spec.specs.{Opcodes.Fields, Opcodes.has_signed_form, Opcodes.filled}
 
+-- the bits of a width
 abbrev pub width_text : Width → List ℕ
 width_text Bits32 = codes "32"
 width_text Bits64 = codes "64"
 
+-- the bits of a load or a store
 abbrev pub size_text : Size → List ℕ
 size_text Byte = codes "8"
 size_text Half = codes "16"
 size_text Word = codes "32"
 size_text Double = codes "64"
 
+-- the word of an operation, without its width
 abbrev pub operation_text : Operation → List ℕ
 operation_text Add = codes "add"
 operation_text Sub = codes "sub"
@@ -44,6 +47,7 @@ operation_text SignedMod = codes "smod"
 operation_text Xor = codes "xor"
 operation_text ArithmeticRightShift = codes "arsh"
 
+-- the word of a jump with a condition, without its width
 abbrev pub test_text : Test → List ℕ
 test_text Equal = codes "jeq"
 test_text NotEqual = codes "jne"
@@ -57,41 +61,47 @@ test_text SignedGreaterOrEqual = codes "jsge"
 test_text SignedLess = codes "jslt"
 test_text SignedLessOrEqual = codes "jsle"
 
+-- the word of a byte order, without the bits that it keeps
 abbrev pub order_text : ByteOrder → List ℕ
 order_text LittleEndian = codes "le"
 order_text BigEndian = codes "be"
 order_text Swapped = codes "swap"
 
+-- the bits that a byte order keeps
 abbrev pub swapped_text : SwappedWidth → List ℕ
 swapped_text swapped.Bits16 = codes "16"
 swapped_text swapped.Bits32 = codes "32"
 swapped_text swapped.Bits64 = codes "64"
 
--- how many bits are extended, after a dot
+-- the bits that a sign extension reads, after a dot
 abbrev pub extended_text : ExtendedWidth → List ℕ
 extended_text extended.Bits8 = codes ".8"
 extended_text extended.Bits16 = codes ".16"
 extended_text extended.Bits32 = codes ".32"
 
+-- the word of a change of one number
 abbrev pub change_word : Change → List ℕ
 change_word (Negate width) = codes "neg" ++ width_text width
 change_word (Order order width) = order_text order ++ swapped_text width
 change_word (SignExtend width part) = codes "movsx" ++ (width_text width ++ extended_text part)
 
+-- the word of a load, without its bits: zero-extended or sign-extended
 abbrev pub load_text : Extension → List ℕ
 load_text Zero = codes "ld"
 load_text Sign = codes "lds"
 
+-- the word of a store, without its bits: of a register or of an immediate
 abbrev pub store_text : Source → List ℕ
 store_text (Register _) = codes "stx"
 store_text (Immediate _) = codes "st"
 
+-- the word of a jump in any case, whose distance has 16 or 32 bits
 abbrev pub distance_word : Distance → List ℕ
 distance_word (Short _) = codes "ja"
 distance_word (Long _) = codes "jal"
 
--- The word of an instruction, whatever its fields. A number and a register as second operand have one word, but for a
--- store.
+-- The word of an instruction, whatever its fields. An immediate and a register as second operand have one word, but for
+-- a store.
 abbrev pub word_of : Instruction → List ℕ
 word_of (Move width _ _) = codes "mov" ++ width_text width
 word_of (Compute width operation _ _) = operation_text operation ++ width_text width
@@ -106,12 +116,13 @@ word_of Exit = codes "exit"
 
 -- ---- the forms, of which each word names one
 
--- fields that are 0 but for an offset and an imm
+-- fields that are 0 but for an offset and an imm; the opcode is not used
 abbrev pub selection : ℤ → ℤ → Fields
 selection offset imm = record { opcode = 0; dst = 0; src = 0; offset = offset; imm = imm; upper = None }
 
--- What selects the other instructions of a template's opcode: the offset of a signed quotient or remainder and that of a
--- move that extends the sign of 8, 16 or 32 bits, the imm of a byte order of 32 or 64 bits (RFC 9669, sections 4.1, 4.2).
+-- What selects the other instructions of a template's opcode: the offset of a signed quotient or remainder and that of
+-- a move that extends the sign of 8, 16 or 32 bits, the imm of a byte order of 32 or 64 bits (RFC 9669, sections 4.1,
+-- 4.2).
 abbrev pub selections : Instruction → List Fields
 selections (Compute _ operation _ (Immediate _)) = if has_signed_form operation then selection (pos 1) (pos 0) ∷ [] else []
 selections (Move _ _ (Register _)) = selection (pos 8) (pos 0) ∷ selection (pos 16) (pos 0) ∷ selection (pos 32) (pos 0) ∷ []
@@ -126,6 +137,6 @@ others_of template = filter_map (filled template) (selections template)
 abbrev pub forms : List Instruction
 forms = TEMPLATES ++ flat_map others_of TEMPLATES
 
--- the form that has a word; where a second operand may be a number or a register, one with a number
+-- the form that has a word; where a second operand may be an immediate or a register, one with an immediate
 unfoldable pub form_named : List ℕ → Option Instruction
 form_named word = find (λ form. bytes_eq (word_of form) word) forms

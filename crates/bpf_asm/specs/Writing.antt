@@ -7,16 +7,18 @@ use Rattle.machine_spec.specs.declared.instruction.Placed.{Placed}
 use Rattle.machine_spec.specs.declared.instruction.Instruction.TheVariants.{Move, Compute, Load, Unary, Store, JumpIf, Jump, Wide, Call, Exit}
 use Rattle.bpf_asm.specs.{Numbers.distance_text, Operands.register_text, Operands.source_text, Operands.place_text, Words.word_of}
 
--- a sign extension has a source
+-- the operands of a change of one number: its register, of a sign extension dst and src
 abbrev pub change_operands : Change → ℕ → ℕ → List (List ℕ)
 change_operands (Negate _) dst src = register_text dst ∷ []
 change_operands (Order _ _) dst src = register_text dst ∷ []
 change_operands (SignExtend _ _) dst src = register_text dst ∷ register_text src ∷ []
 
+-- the text of the distance of a jump in any case
 abbrev pub jump_text : Distance → List ℕ
 jump_text (Short offset) = distance_text offset
 jump_text (Long offset) = distance_text offset
 
+-- the operands of an instruction, in the order of its line
 abbrev pub operands_of : Instruction → List (List ℕ)
 operands_of (Move _ dst source) = register_text dst ∷ source_text source ∷ []
 operands_of (Compute _ _ dst source) = register_text dst ∷ source_text source ∷ []
@@ -29,24 +31,25 @@ operands_of (Wide dst number) = register_text dst ∷ decimal number ∷ []
 operands_of (Call number) = signed_decimal number ∷ []
 operands_of Exit = []
 
--- a comma and a space between two
+-- operands with a comma and a space between two
 abbrev pub joined : List (List ℕ) → List ℕ
 joined [] = []
 joined (operand ∷ []) = operand
 joined (operand ∷ next ∷ operands) = operand ++ (codes ", " ++ joined (next ∷ operands))
 
--- one space before the first
+-- operands after a space, if there are some
 abbrev pub operands_text : List (List ℕ) → List ℕ
 operands_text [] = []
 operands_text (operand ∷ operands) = codes " " ++ joined (operand ∷ operands)
 
+-- the line of an instruction, without its line feed
 abbrev pub line_of : Instruction → List ℕ
 line_of i = word_of i ++ operands_text (operands_of i)
 
--- the line with its line feed
+-- the line of an instruction, with its line feed
 unfoldable pub line_text : Instruction → List ℕ
 line_text i = line_of i ++ (10 ∷ [])
 
--- one line after another
+-- the text of code: one line after another
 abbrev pub text_of : List Placed → List ℕ
 text_of code = flat_map (λ placed. line_text placed.instruction) code

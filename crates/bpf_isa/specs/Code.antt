@@ -4,13 +4,13 @@ use Rattle.machine_spec.specs.declared.instruction.Instruction.{Instruction}
 use Rattle.machine_spec.specs.declared.instruction.Placed.{Placed}
 use Rattle.machine_spec.specs.Image.{IsCodeOf, number_at}
 
--- each instruction with its slot
+-- each instruction with its slot, of two lists of one length
 abbrev pub placed_of : List ℕ → List Instruction → List Placed
 placed_of (slot ∷ slots) (instruction ∷ instructions) = record { slot = slot; instruction = instruction } ∷ placed_of slots instructions
 placed_of (slot ∷ slots) [] = []
 placed_of [] instructions = []
 
--- Each number is a byte's.
+-- each number is below 256
 abbrev pub AreBytes : List ℕ → Type 0
 AreBytes image = (i : ℕ) → slice_index image i < 256
 
@@ -20,10 +20,11 @@ pub record HasImage (code : List Placed) : Type 0 where
   pub bytes : AreBytes image
   pub is_code : IsCodeOf image code
 
--- the number that two bytes of a table stand for
+-- the instruction number that an entry of a slot's table has; 65,535 is none
 abbrev pub entry_number : ℕ → Option ℕ
 entry_number n = if n == 65535 then None else Some n
 
+-- the same of each entry, in order
 abbrev pub entry_numbers : List ℕ → List (Option ℕ)
 entry_numbers numbers = map entry_number numbers
 

@@ -6,11 +6,13 @@ use Rattle.bpf_machine.specs.declared.tagged.Tagged.{Tagged}
 use Rattle.bpf_machine.specs.declared.tagged.Tagged.TheVariants as tagged
 use Rattle.bpf_machine.specs.declared.memory.Span.{Span}
 
+-- a tagged value as the definitions have it
 abbrev pub value_of : Tagged → Value
 value_of tagged.Nothing = Nothing
 value_of (tagged.Number n) = Number n
 value_of (tagged.Address region at) = Address region at
 
+-- the same where there is one; else nothing is held
 abbrev pub value_in : Option Tagged → Value
 value_in (Some value) = value_of value
 value_in None = Nothing
@@ -23,12 +25,12 @@ registers_of registers r = value_in (slice_get registers r)
 abbrev pub stack_of : List (Option ℕ) → ℕ → Option ℕ
 stack_of bytes place = option_and_then (λ byte. byte) (slice_get bytes place)
 
--- the bytes that a span has
+-- the bytes of a span, if there is one
 abbrev pub access_in : Option Span → Option Access
 access_in (Some span) = Some (record { direction = span.direction; region = span.region; start = span.start; size = span.size })
 access_in None = None
 
--- an address so near to its region that a sum of its offset and a displacement has 128 bits
+-- the offset of an address is so small that its sum with a displacement fits in 128 bits
 abbrev pub IsNear : Value → Type 0
 IsNear Nothing = Unit {0}
 IsNear (Number _) = Unit {0}

@@ -15,8 +15,8 @@ use Rattle.verifier_spec.specs.Annotation.{Claims, claim_at, fault_of}
 
 -- ---- what follows
 
--- What falls through from instruction number k: nothing where there is none, where it is not reached or where it fails a
--- check, of its shape or in its state.
+-- What falls through from instruction number k: nothing where there is none, where it is not reached or where it fails
+-- a check, of its shape or in its state.
 abbrev pub fallen : List Placed → ℕ → Option Placed → Option Abstract → Option Abstract
 fallen code k None s = None
 fallen code k (Some placed) None = None
@@ -28,25 +28,29 @@ abbrev pub given_or : Option Abstract → Option Abstract → Option Abstract
 given_or (Some s) follows = Some s
 given_or None follows = follows
 
--- The state of an instruction: the given one, or else what falls through from the one before; of the first the entry state.
+-- The state of an instruction: the given one, or else what falls through from the one before; of the first the entry
+-- state.
 unfoldable pub derived_at : List Placed → (ℕ → Option Abstract) → ℕ → Option Abstract
 derived_at code given zero = given_or (given 0) (Some entry_state)
 derived_at code given (suc k) = given_or (given (suc k)) (fallen code k (slice_get code k) (derived_at code given k))
 
+-- the states of these instructions, of which the first has the number k
 abbrev pub derived_from : List Placed → (ℕ → Option Abstract) → ℕ → List Placed → Claims
 derived_from code given k [] = []
 derived_from code given k (placed ∷ rest) = derived_at code given k ∷ derived_from code given (k + 1) rest
 
--- those of all instructions
+-- the states of all instructions
 unfoldable pub derived : List Placed → (ℕ → Option Abstract) → Claims
 derived code given = derived_from code given 0 code
 
 -- ---- jump targets
 
+-- a jump's target, if it has one, is instruction number k
 abbrev pub leads_to : Option ℕ → ℕ → Bool
 leads_to (Some target) k = target == k
 leads_to None k = false
 
+-- the instruction is a jump to instruction number k
 abbrev pub jumps_at : List Placed → ℕ → Placed → Bool
 jumps_at code k placed = leads_to (target_of code placed.slot (jump_of placed.instruction)) k
 
@@ -54,7 +58,7 @@ jumps_at code k placed = leads_to (target_of code placed.slot (jump_of placed.in
 unfoldable pub is_target : List Placed → ℕ → Bool
 is_target code k = list_any (jumps_at code k) code
 
--- of a list's claims those at jump targets
+-- the claims of a list at jump targets; none elsewhere
 abbrev pub at_targets : List Placed → Claims → ℕ → Option Abstract
 at_targets code claims k = if is_target code k then claim_at claims k else None
 
@@ -64,21 +68,22 @@ settled code claims = derived code (at_targets code claims)
 
 -- ---- states with the numbers of their instructions
 
--- the first state with a number
+-- the state with a number; the first where there are several
 abbrev pub pair_at : List (ℕ × Abstract) → ℕ → Option Abstract
 pair_at [] k = None
 pair_at (pair ∷ pairs) k = if pair.0 == k then Some pair.1 else pair_at pairs k
 
--- the state of instruction number k, where it is reached and wanted
+-- the state of instruction number k, if it is reached and wanted
 abbrev pub kept_claim : Bool → ℕ → Option Abstract → List (ℕ × Abstract)
 kept_claim true k (Some s) = (k, s) ∷ []
 kept_claim _ _ _ = []
 
+-- the states at jump targets of these claims, of which the first is of instruction number k
 abbrev pub kept_from : List Placed → ℕ → Claims → List (ℕ × Abstract)
 kept_from code k [] = []
 kept_from code k (claim ∷ claims) = kept_claim (is_target code k) k claim ++ kept_from code (k + 1) claims
 
--- The states at the jump targets that are reached, in order.
+-- The states at the jump targets that are reached, in order, with their numbers.
 unfoldable pub kept_states : List Placed → Claims → List (ℕ × Abstract)
 kept_states code claims = kept_from code 0 claims
 
@@ -91,13 +96,13 @@ targets_from code k (placed ∷ rest) = (if is_target code k then 1 else 0) + ta
 unfoldable pub target_count : List Placed → ℕ
 target_count code = targets_from code 0 code
 
--- each number is below a limit and greater than the one before, and the first is at least the least
+-- the numbers rise, from at least `least` on, and each is below `limit`
 abbrev pub are_rising : ℕ → ℕ → List (ℕ × Abstract) → Bool
 are_rising least limit [] = true
 are_rising least limit (pair ∷ pairs) = (nat_lt pair.0 limit && nat_le least pair.0) && are_rising (pair.0 + 1) limit pairs
 
--- The refusal that is reported for states with numbers: at 0, that the numbers don't rise or are past the code's end; else
--- that of the list that follows from them.
+-- The refusal that is reported for states with numbers: at 0, that the numbers don't rise or are past the code's end;
+-- else that of the list that follows from them.
 unfoldable pub pairs_fault : List Placed → List (ℕ × Abstract) → Option VerifyFault
 pairs_fault code pairs = if are_rising 0 (length code) pairs then fault_of HELPERS code (derived code (pair_at pairs)) else Some (record { pc = 0; kind = Check.Notes })
 

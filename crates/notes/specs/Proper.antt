@@ -4,14 +4,14 @@ use Rattle.verifier_spec.specs.declared.state.Abstract.{Abstract}
 use Rattle.verifier_spec.specs.States.{is_proper}
 use Rattle.verifier_spec.specs.Annotation.{Claims, claim_at}
 
--- the state of an instruction is, if it has one
+-- the state of instruction number k, if it has one, is in its ranges
 abbrev pub IsProperAt : Claims → ℕ → Type 0
 IsProperAt claims k = (s : Abstract) → claim_at claims k ≡ Some s → is_proper s ≡ true
 
--- those of the first n instructions are
+-- the states of the first n instructions are in their ranges
 abbrev pub AreProperBelow : Claims → ℕ → Type 0
 AreProperBelow claims n = (k : ℕ) → k < n → IsProperAt claims k
 
--- all of them are
+-- all states of the list are in their ranges
 abbrev pub AreProper : Claims → Type 0
 AreProper claims = (k : ℕ) → IsProperAt claims k
