@@ -1,4 +1,4 @@
--- What loads and deployments answer.
+-- What loads and deployments return.
 use Rattle.std.specs.Prelude.{◌≡◌, ℕ, ◌<◌, ◌≤◌, List, Option, Some, None, Result, Ok, Err}
 use Rattle.machine_spec.specs.Image.{Program}
 use Rattle.log_spec.specs.Catalogue.{Version, LiveTable}
@@ -12,7 +12,7 @@ use Rattle.catalogue.specs.declared.fault.CatFault.TheVariants.{NoReader}
 use Rattle.broker.specs.declared.fault.BrokerFault.{BrokerFault}
 use Rattle.broker.specs.declared.fault.BrokerFault.TheVariants.{Partition, NoProgram, Memory, Catalogue as CatalogueRefuses, Log as LogRefuses, Book as BookRefuses}
 
--- The catalogue was found with some table, over which a load has this result.
+-- Over some table that the catalogue had, a load has this result.
 abbrev pub LoadIs : List ℕ → Program → Result (ℕ × Version) BrokerFault → Type 0
 LoadIs name program (Ok loaded) = (table : LiveTable) × (next : LiveTable) × Publishes table name program (Ok loaded) next
 LoadIs name program (Err (CatalogueRefuses fault)) = (table : LiveTable) × (next : LiveTable) × Publishes table name program (Err fault) next
@@ -31,7 +31,8 @@ IsNoReader Memory = ⊥
 IsNoReader (LogRefuses fault) = ⊥
 IsNoReader (BookRefuses fault) = ⊥
 
--- The finder found this under a name, in a reading of the published table: what is known under the name, or a later version.
+-- The finder found this under a name, in a reading of the published table: what is known under the name, or a later
+-- version.
 pub record IsFound (name : List ℕ) (known : Version) (old new : Seen) (found : Option (ℕ × Program)) : Type 0 where
   pub finds : Finds known name old new found
   pub fresh : known.name ≡ name → IsThisOrLater known found
@@ -43,8 +44,8 @@ pub record IsDeployed (input : ℕ) (name : List ℕ) (known : Version) (old : S
   pub item_is : receipt.item ≡ Marked name version program
   pub found : IsFound name known old new (Some (version, program))
 
--- Of a broker with `inputs` input partitions, by a finder that had seen the old versions and has seen the new ones then. The
--- first that holds is answered: there is no such partition, the finder gets no reading, it finds none, the log refuses the
+-- Of a broker with `inputs` input partitions, by a finder that is seen as `old` before and as `new` after. The first
+-- that holds is returned: there is no such partition, the finder gets no reading, it finds none, the log refuses the
 -- mark.
 abbrev pub DeployIs : ℕ → ℕ → List ℕ → Version → Seen → Result (Received × ℕ) BrokerFault → Seen → Type 0
 DeployIs inputs input name known old (Ok deployed) new = (input < inputs) × IsDeployed input name known old deployed.0 deployed.1 new

@@ -6,14 +6,15 @@ pub record Layout : Type 0 where
   pub cells : List (List ℕ)
   pub outputs : ℕ
 
+-- a layout of these parts
 abbrev pub layout : List (List ℕ) → ℕ → Layout
 layout cells outputs = record { cells = cells; outputs = outputs }
 
--- how many partitions there may be
+-- a number of partitions that a broker may have, 1 to 64
 abbrev pub IsCount : ℕ → Type 0
 IsCount n = (1 ≤ n) × (n ≤ 64)
 
--- the cells of each input partition have the names that are given to them, and past the last one there is none
+-- the cells of each input partition have these names, and past the last partition there is none
 abbrev pub AreNamed : (ℕ → List ℕ) → List (List ℕ) → Type 0
 AreNamed names cells = (input : ℕ) → names input ≡ get_or cells input []
 

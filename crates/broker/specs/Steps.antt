@@ -24,8 +24,8 @@ pub record IsRead (source : Source) (old : Content) (note : CellNote) (item : Ke
   pub cell : done_of old.logs source.input < source.cells
   pub reads : Reads note (Some item) after
 
--- The item that was read is done now, and the rows that it gives by the program in force for it were added; `count` is their
--- number.
+-- The item that was read is done now, and the rows that it gives by the program in force for it were added; `count` is
+-- how many they are.
 pub record IsStep (source : Source) (old : Content) (note : CellNote) (count : ℕ) (new : Content) (after : CellNote) : Type 0 where
   pub item : Kept
   pub read : IsRead source old note item after
@@ -35,7 +35,8 @@ pub record IsStep (source : Source) (old : Content) (note : CellNote) (count : �
   pub count_is : count ≡ length here
   pub new_is : new ≡ content old.output (slice_set old.logs source.input (log_with (log_in old.logs source.input) item)) (old.rows ++ here)
 
--- There is no item to take: the log has no such cell, or it was read and found empty. The book and the note are as they were.
+-- There is no item to take: the log has no such cell, or it was read and found empty. The book and the note are as they
+-- were.
 pub record IsNoStep (source : Source) (old : Content) (note : CellNote) (new : Content) (after : CellNote) : Type 0 where
   pub input : source.input < source.inputs
   pub empty : done_of old.logs source.input < source.cells → note.known ≡ None
@@ -53,14 +54,14 @@ IsStepFault source old note NoProgram after = ⊥
 IsStepFault source old note (CatalogueRefuses fault) after = ⊥
 IsStepFault source old note (LogRefuses fault) after = ⊥
 
--- A step of a book over an input partition, with a note of the first cell whose item is not done. The note after it knows
--- the item that was read, if one was.
+-- A step of a book over an input partition, with a note of the first cell whose item is not done. The note after it
+-- knows the item that was read, if one was.
 abbrev pub StepIs : Source → Content → CellNote → Result Stepped BrokerFault → Content → CellNote → Type 0
 StepIs source old note (Ok (Added count)) new after = IsStep source old note count new after
 StepIs source old note (Ok Nothing) new after = IsNoStep source old note new after
 StepIs source old note (Err fault) new after = (new ≡ old) × IsStepFault source old note fault after
 
--- The item at a walk's position is added to a book that waits for it, or memory ran out.
+-- The item at a walk's position is added to a book of which it is the next one, or memory ran out.
 abbrev pub PutIs : ℕ → Content → Log → Result ℕ BrokerFault → Content → Type 0
 PutIs outputs old walk (Ok count) new =
     (here : List Row) × IsRowsAt walk.partition old.output outputs walk.items (last walk.items) here × (count ≡ length here)

@@ -12,7 +12,8 @@ abbrev pub LoadsAs : LiveTable → List ℕ → Program → Result Version Refus
 LoadsAs table name program (Ok version) = IsLiveRefusal table name program None × (version ≡ next_version table name program)
 LoadsAs table name program (Err refused) = RefusedAs (IsLiveRefusal table name program) refused
 
--- A load that isn't refused returns the name's next version and publishes the table with it. Else the table stays.
+-- A load that isn't refused returns the name's next version and publishes the table with it; else the table is as it
+-- was.
 abbrev pub Publishes : LiveTable → List ℕ → Program → Result (ℕ × Version) CatFault → LiveTable → Type 0
 Publishes table name program (Ok loaded) next =
     IsLiveRefusal table name program None

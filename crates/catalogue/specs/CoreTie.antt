@@ -11,7 +11,7 @@ use Rattle.log_spec.specs.declared.event.Refusal.TheVariants as refusal
 use Rattle.catalogue.specs.declared.fault.CatFault.TheVariants as fault
 use Rattle.catalogue.specs.Catalogues.{Publishes}
 
--- The refusal of the core with the fault's number; none for a fault that the core doesn't have, and for memory.
+-- The refusal of the core for which a load has this fault; none for a fault that the core doesn't have, and for memory.
 abbrev pub refusal_for : CatFault → Option Refusal
 refusal_for fault.Name = Some refusal.Name
 refusal_for fault.Full = Some refusal.Full
@@ -20,8 +20,8 @@ refusal_for fault.NoReader = None
 refusal_for fault.Versions = Some refusal.Versions
 refusal_for fault.Memory = None
 
--- The core doesn't refuse the event either, has its reply, and a table of which the next one is the live table; or, where
--- memory didn't run out, it refuses the event for the same, and both tables stay.
+-- The core doesn't refuse the event either, has its reply, and a table of which the next one is the live table. Or,
+-- unless memory ran out, it refuses the event with the same refusal, and both tables are as they were.
 abbrev pub DoesInCore : World → List ℕ → List ℕ → LiveTable → Result (ℕ × Version) CatFault → LiveTable → Type 0
 DoesInCore w name image table (Ok loaded) next =
     IsRefusal w (event.Load name image) None
@@ -30,7 +30,7 @@ DoesInCore w name image table (Ok loaded) next =
 DoesInCore w name image table (Err reported) next =
     (next ≡ table) × (reported ≢ fault.Memory → (first : Refusal) × (refusal_for reported ≡ Some first) × IsRefusal w (event.Load name image) (Some first))
 
--- A load over the live table of a world does there what the core's event does.
+-- A load over the live table of a world does in the core what it does to this table.
 abbrev pub FollowsCore : Type 0
 FollowsCore =
     (w : World) (name image : List ℕ) (table next : LiveTable) (result : Result (ℕ × Version) CatFault)

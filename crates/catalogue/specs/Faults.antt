@@ -7,7 +7,7 @@ use Rattle.log_spec.specs.Catalogue.{LiveTable, IsLiveRefusal}
 use Rattle.catalogue.specs.declared.fault.CatFault.{CatFault}
 use Rattle.catalogue.specs.declared.fault.CatFault.TheVariants as fault
 
--- a load is refused for nothing else
+-- a load may be refused so: for its name, a full table, its versions used up, its image, or memory
 abbrev pub IsOfLoad : Refusal → Type 0
 IsOfLoad refusal.Name = Unit {0}
 IsOfLoad refusal.Full = Unit {0}
@@ -20,7 +20,7 @@ IsOfLoad refusal.LogClosed = ⊥
 IsOfLoad refusal.LogFull = ⊥
 IsOfLoad refusal.NoItem = ⊥
 
--- The fault of a load is its first refusal, memory aside. A load never answers NoReader.
+-- The fault of a load is its first refusal; of Memory nothing is said. A load never returns NoReader.
 abbrev pub IsFaultOf : LiveTable → List ℕ → Program → CatFault → Type 0
 IsFaultOf table name program fault.Name = IsLiveRefusal table name program (Some refusal.Name)
 IsFaultOf table name program fault.Full = IsLiveRefusal table name program (Some refusal.Full)
@@ -29,7 +29,7 @@ IsFaultOf table name program fault.NoReader = ⊥
 IsFaultOf table name program fault.Versions = IsLiveRefusal table name program (Some refusal.Versions)
 IsFaultOf table name program fault.Memory = Unit {0}
 
--- A find fails where it gets no reading or memory runs out, and for nothing else.
+-- a find fails so: it gets no reading, or memory runs out
 abbrev pub IsFindFault : CatFault → Type 0
 IsFindFault fault.Name = ⊥
 IsFindFault fault.Full = ⊥

@@ -13,8 +13,8 @@ pub record Seen : Type 0 where
   pub readings : Readings
 
 -- Finding a name reads a table that was published, and returns the newest of three: the version that the caller knows,
--- the one that the finder saw last, and the one in the table that it reads now. The finder has then seen what is returned;
--- other names stay.
+-- the one that the finder returned last, and the one in the table that it reads now. The finder's versions then have
+-- the one that is returned; those of other names are as they were.
 pub record Finds (known : Version) (name : List ℕ) (old new : Seen) (found : Option (ℕ × Program)) : Type 0 where
   pub table : LiveTable
   pub reads : Reads old.readings table new.readings

@@ -5,17 +5,18 @@ use lib.ListN.{get_elem?}
 use Rattle.log_spec.specs.Catalogue.{Version, LiveTable, IsLoad, Makes, with_version}
 use Rattle.catalogue.specs.declared.readings.Readings.{Readings}
 
--- these loads begin with those
+-- the loads begin with these first ones
 abbrev pub StartsWith : List Version → List Version → Type 0
 StartsWith loads first = (later : List Version) × (loads ≡ first ++ later)
 
--- Some accepted loads, one after the other, made the published table of the empty one. They begin with the loads that each reader knows.
+-- Some accepted loads, one after the other, made the published table of the empty one. They begin with the loads that
+-- each reader knows.
 pub record IsPublished (table : LiveTable) (views : List Readings) : Type 0 where
   pub loads : List Version
   pub made : Makes [] loads table
   pub known : (seat : ℕ) (v : Readings) → get_elem? views seat ≡ some v → StartsWith loads v.loads
 
--- A reading of the table: it is one more, and the loads that made the table begin with those of the reading before.
+-- A reading of the table: it is counted, and the loads that made the table begin with those of the reading before.
 pub record Reads (v : Readings) (table : LiveTable) (w : Readings) : Type 0 where
   pub times_is : w.times ≡ v.times + 1
   pub later : StartsWith w.loads v.loads

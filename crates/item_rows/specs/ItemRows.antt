@@ -6,14 +6,14 @@ use Rattle.log_spec.specs.declared.row.Row.{Row}
 use Rattle.log_spec.specs.Logs.{Item as Kept, IsItemRows, RowFits}
 use Rattle.item_rows.specs.declared.origin.Origin.{Origin}
 
--- The numbers of an origin are in their ranges: each record of an item there has an offset below 2^62.
+-- An origin is in the ranges of a broker: each record of an item there has an offset below 2^62.
 pub record IsOrigin (origin : Origin) : Type 0 where
   pub input : origin.input < 64
   pub offset : origin.offset + 10000 ≤ TIMESTAMP_END
   pub some_output : 1 ≤ origin.outputs
   pub outputs : origin.outputs ≤ 64
 
--- the rows in an output, of a list that has the rows of each output
+-- the rows in an output, of a list that has the rows of each output; past the last output there are none
 abbrev pub rows_in : List (List Row) → ℕ → List Row
 rows_in all output = get_or all output []
 
@@ -22,18 +22,18 @@ pub record GivesRows (origin : Origin) (program : Option Program) (item : Kept) 
   pub are : IsItemRows origin.input output origin.outputs program origin.offset item rows
   pub fit : All RowFits rows
 
--- a list for each output has the item's rows there, each within the limits of a record
+-- a list has the item's rows in each output, all within the limits of a record
 pub record AreItemRows (origin : Origin) (program : Option Program) (item : Kept) (all : List (List Row)) : Type 0 where
   pub outputs : length all ≡ origin.outputs
   pub each : (output : ℕ) → output < origin.outputs → IsItemRows origin.input output origin.outputs program origin.offset item (rows_in all output)
   pub fit : (output : ℕ) → output < origin.outputs → All RowFits (rows_in all output)
 
--- no rows in each of `outputs` outputs
+-- there are no rows in any of `outputs` outputs
 pub record AreEmpty (outputs : ℕ) (all : List (List Row)) : Type 0 where
   pub count : length all ≡ outputs
   pub each : (output : ℕ) → rows_in all output ≡ []
 
--- In each output, rows are added at the end for which a fact holds of the output and of them.
+-- In each output rows are added at the end, and a fact holds of the output and of these rows.
 pub record Adds (old new : List (List Row)) (Holds : ℕ → List Row → Type 0) : Type 0 where
   pub count : length new ≡ length old
   pub each : (output : ℕ) → output < length old → (here : List Row) × Holds output here × (rows_in new output ≡ rows_in old output ++ here)

@@ -20,14 +20,14 @@ abbrev pub ProgramIs : List ℕ → Result Program LoadFault → Type 0
 ProgramIs image (Ok program) = (program ≡ program_of image) × IsAccepted (program_of image)
 ProgramIs image (Err fault) = FaultIs image fault
 
--- the bytes that an argument of a helper names, or the room
+-- the bytes that an argument of a helper names, or the room; of another argument none
 abbrev pub argument_access : Registers → Argument → Option Access
 argument_access registers (Argument.Bytes address count) = named Read (registers address) (registers count)
 argument_access registers (Argument.Room address count) = named Write (registers address) (registers count)
 argument_access registers _ = None
 
--- bytes that an instruction reads or writes by address: those of a load or a store, or those that an argument of the
--- helper that it calls names
+-- the bytes are read or written by address: those of a load or a store, or those that an argument of the called helper
+-- names
 abbrev pub IsAccess : Summary → Registers → Access → Type 0
 IsAccess m registers a =
     (access_of m.memory registers ≡ Some a)

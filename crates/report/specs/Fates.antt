@@ -9,7 +9,7 @@ use Rattle.log_spec.specs.Logs.{Item, Records, Marked, Closed, in_force, offset_
 use Rattle.report.specs.declared.fate.Fate.{Fate}
 use Rattle.report.specs.declared.fate.Fate.TheVariants.{Unprogrammed, Kept, Rejected}
 
--- what a program's outcome is for its record
+-- what becomes of a record with this outcome
 abbrev pub fate_of : Outcome → Fate
 fate_of (ending.Kept emissions) = Kept
 fate_of (ending.Rejected code) = Rejected code
@@ -19,20 +19,21 @@ abbrev pub IsFate : Option Program → Place → Record → Fate → Type 0
 IsFate None place given fate = fate ≡ Unprogrammed
 IsFate (Some program) place given fate = (outcome : Outcome) × (n : ℕ) × Means program (record { given = given; place = place }) outcome n × (fate ≡ fate_of outcome)
 
--- of a batch's records, in order; each record has the offset after the one before
+-- what becomes of a batch's records, in order; each record has the offset after the one before
 abbrev pub AreRecordsFates : ℕ → ℕ → Option Program → Batch → ℕ → List Record → List Fate → Type 0
 AreRecordsFates input outputs program batch offset [] fates = fates ≡ []
 AreRecordsFates input outputs program batch offset (given ∷ others) fates =
     (here : Fate) × (later : List Fate) × IsFate program (place_of input outputs offset batch given) given here
     × AreRecordsFates input outputs program batch (offset + 1) others later × (fates ≡ here ∷ later)
 
--- of an item's records: a mark and the end have none
+-- what becomes of an item's records; a mark and the end have none
 abbrev pub AreItemFates : ℕ → ℕ → Option Program → ℕ → Item → List Fate → Type 0
 AreItemFates input outputs program offset (Records batch) fates = AreRecordsFates input outputs program batch offset batch.records fates
 AreItemFates input outputs program offset (Marked name version marked) fates = fates ≡ []
 AreItemFates input outputs program offset Closed fates = fates ≡ []
 
--- of the records of the first n items of a log: each record by the program whose mark is the last before it
+-- what becomes of the records of the first n items of a log: each record runs by the program whose mark is the last
+-- before it
 abbrev pub AreFatesOf : ℕ → ℕ → List Item → ℕ → List Fate → Type 0
 AreFatesOf input outputs items zero fates = fates ≡ []
 AreFatesOf input outputs items (suc k) fates =

@@ -11,10 +11,11 @@ pub record Held : Type 0 where
   pub done : Log
   pub rows : List Row
 
+-- a holding of these parts
 abbrev pub held : ℕ → Log → List Row → Held
 held output done rows = record { output = output; done = done; rows = rows }
 
--- the rows are those of the items: in order, and each once
+-- the rows are those of the items, in order and each once
 abbrev pub IsHeld : ℕ → Held → Type 0
 IsHeld outputs h = IsRowsOf h.done.partition h.output outputs h.done.items (length h.done.items) h.rows
 
@@ -26,11 +27,11 @@ pub record HoldsOf (outputs : ℕ) (book : Content) (input : ℕ) (h : Held) : T
   pub rows_are : h.rows ≡ rows_from input book.rows
   pub is_held : IsHeld outputs h
 
--- what is held of an input partition in an output partition: the rows of the items that are done there
+-- what an output partition holds of an input partition: the rows of the items that are done there
 abbrev pub IsHolding : ℕ → ℕ → ℕ → Held → Type 0
 IsHolding outputs output input h = (h.output ≡ output) × (h.done.partition ≡ input) × IsHeld outputs h
 
--- what one of `outputs` output partitions holds of each input partition, in their order
+-- what one of `outputs` output partitions holds of each input partition, in the order of these
 pub record IsOutput (output inputs outputs : ℕ) (holdings : List Held) : Type 0 where
   pub count : length holdings ≡ inputs
   pub each : (input : ℕ) (h : Held) → slice_get holdings input ≡ Some h → IsHolding outputs output input h

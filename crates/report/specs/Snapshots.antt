@@ -12,19 +12,20 @@ pub record Gathered : Type 0 where
   pub outputs : List (List Held)
   pub inputs : List Tallied
 
+-- a snapshot of these parts
 abbrev pub gathered : List (List Held) → List Tallied → Gathered
 gathered outputs inputs = record { outputs = outputs; inputs = inputs }
 
--- what an output partition holds of an input partition
+-- what an output partition holds of an input partition, if both are there
 abbrev pub held_at : List (List Held) → ℕ → ℕ → Option Held
 held_at outputs output input = slice_get (slice_index_or outputs output []) input
 
--- each output partition's is at its place
+-- what each output partition holds is at its place
 abbrev pub AreOutputs : ℕ → ℕ → List (List Held) → Type 0
 AreOutputs inputs outputs all = (output : ℕ) (holdings : List Held) → slice_get all output ≡ Some holdings → IsOutput output inputs outputs holdings
 
--- The items of an input partition that are done in every output partition: each has them as its first ones, and one of them
--- has no other.
+-- The items of an input partition that are done in every output partition: each has them as its first ones, and one of
+-- them has no other.
 pub record IsLeast (outputs : List (List Held)) (input : ℕ) (first : Log) : Type 0 where
   pub partition_is : first.partition ≡ input
   pub in_each : (output : ℕ) (h : Held) → held_at outputs output input ≡ Some h → take (length first.items) h.done.items ≡ first.items
@@ -43,15 +44,15 @@ pub record IsShorter (one other shorter : Log) : Type 0 where
 abbrev pub AreTallies : ℕ → List (List Held) → List Tallied → Type 0
 AreTallies outputs all tallies = (input : ℕ) (t : Tallied) → slice_get tallies input ≡ Some t → IsLeast all input t.first × IsTallied outputs t
 
--- A snapshot of this number of input and output partitions. Each output partition holds the rows of the items that are done
--- there, and each count is that of what became of the records.
+-- A snapshot of this number of input and output partitions. Each output partition holds the rows of the items that are
+-- done there, and each count is that of what became of the records.
 pub record IsGathered (inputs outputs : ℕ) (s : Gathered) : Type 0 where
   pub outputs_count : length s.outputs ≡ outputs
   pub inputs_count : length s.inputs ≡ inputs
   pub outputs_are : AreOutputs inputs outputs s.outputs
   pub inputs_are : AreTallies outputs s.outputs s.inputs
 
--- Memory ran out, and neither in a log nor in the catalogue nor in a book; or a book that is found under a lock is of another
+-- Memory ran out outside the logs, the catalogue and the books; or a book that is found under a lock is of another
 -- output partition.
 abbrev pub IsGatherFault : BrokerFault → Type 0
 IsGatherFault Memory = Unit {0}

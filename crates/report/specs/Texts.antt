@@ -21,25 +21,27 @@ items_line input items records unprogrammed kept =
 abbrev pub reject_line : ℕ → ℕ → ℕ → List ℕ
 reject_line input code count = codes "in " ++ (decimal input ++ (codes " reject " ++ (decimal code ++ (codes " count " ++ (decimal count ++ 10 ∷ [])))))
 
--- the rows that an output partition holds of an input partition
+-- the lines of the rows that an output partition holds of an input partition
 abbrev pub held_rows : Held → List ℕ
 held_rows h = flat_map (row_line h.output) h.rows
 
+-- the lines of the rows that an output partition holds, by input partition
 abbrev pub output_rows : List Held → List ℕ
 output_rows holdings = flat_map held_rows holdings
 
--- how many items are done, and how many rows they have
+-- the line of how many items are done, and how many rows they have
 abbrev pub held_line : Held → List ℕ
 held_line h = out_line h.output h.done.partition (length h.done.items) (length h.rows)
 
+-- those lines of an output partition, by input partition
 abbrev pub output_lines : List Held → List ℕ
 output_lines holdings = flat_map held_line holdings
 
--- how many records each code rejected
+-- the lines of how many records each code rejected, by rising code
 abbrev pub rejects_text : ℕ → List (ℕ × ℕ) → List ℕ
 rejects_text input rejects = flat_map (λ listed. reject_line input listed.0 listed.1) rejects
 
--- what became of the records of an input partition
+-- the lines of what became of the records of an input partition
 abbrev pub tally_text : Tallied → List ℕ
 tally_text t =
     items_line t.first.partition (length t.first.items) t.totals.records t.totals.unprogrammed t.totals.kept ++ rejects_text t.first.partition t.totals.rejects

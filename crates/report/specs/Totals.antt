@@ -16,19 +16,23 @@ pub record Totals : Type 0 where
   pub kept : ℕ
   pub rejects : List (ℕ × ℕ)
 
+-- counts of these parts
 abbrev pub totals : ℕ → ℕ → ℕ → List (ℕ × ℕ) → Totals
 totals records unprogrammed kept rejects = record { records = records; unprogrammed = unprogrammed; kept = kept; rejects = rejects }
 
+-- no program ran on the record
 abbrev pub is_unprogrammed : Fate → Bool
 is_unprogrammed Unprogrammed = true
 is_unprogrammed Kept = false
 is_unprogrammed (Rejected code) = false
 
+-- the record's emissions were kept
 abbrev pub is_kept : Fate → Bool
 is_kept Unprogrammed = false
 is_kept Kept = true
 is_kept (Rejected code) = false
 
+-- the record was rejected with this code
 abbrev pub is_rejected_by : ℕ → Fate → Bool
 is_rejected_by code Unprogrammed = false
 is_rejected_by code Kept = false
@@ -43,7 +47,7 @@ abbrev pub listed_count : ℕ → Option ℕ
 listed_count zero = None
 listed_count (suc n) = Some (suc n)
 
--- These are the counts of the fates. The codes rise, and those are listed that rejected a record.
+-- These are the counts of the fates. The reject codes rise, and only those are listed that rejected a record.
 pub record AreCounts (fates : List Fate) (counts : Totals) : Type 0 where
   pub records_are : counts.records ≡ length fates
   pub unprogrammed_are : counts.unprogrammed ≡ count_by is_unprogrammed fates
@@ -57,7 +61,7 @@ pub record AreCountsOf (input outputs : ℕ) (items : List Item) (n : ℕ) (coun
   pub fates_are : AreFatesOf input outputs items n fates
   pub counts_are : AreCounts fates counts
 
--- Fates for which a fact holds are counted beside those that were.
+-- Fates of which a fact holds are counted beside those before.
 pub record AreCounted (Holds : List Fate → Type 0) (old new : Totals) : Type 0 where
   pub here : List Fate
   pub holds : Holds here
@@ -74,8 +78,10 @@ pub record Tallied : Type 0 where
   pub first : Log
   pub totals : Totals
 
+-- a tally of these parts
 abbrev pub tallied : Log → Totals → Tallied
 tallied first counts = record { first = first; totals = counts }
 
+-- the counts of a tally are those of its items
 abbrev pub IsTallied : ℕ → Tallied → Type 0
 IsTallied outputs t = AreCountsOf t.first.partition outputs t.first.items (length t.first.items) t.totals

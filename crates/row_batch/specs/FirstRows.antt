@@ -10,14 +10,14 @@ use Rattle.row_batch.specs.RowBatches.{record_of, batch_of}
 abbrev pub size_with : List Record → ℕ
 size_with records = 61 + length (records_spelling 0 records)
 
--- these are the records of the first rows, and with one more row they would be too many for one batch
+-- these are the records of the first rows, and with the record of one more row their batch would have too many bytes
 pub record AreFirst (base : ℕ) (rows : List Row) (records : List Record) : Type 0 where
   pub are : records ≡ map (record_of base) (take (length records) rows)
   pub there : length records ≤ length rows
   pub few_bytes : size_with records ≤ max_batch
   pub full : length records < length rows → max_batch < size_with (map (record_of base) (take (length records + 1) rows))
 
--- the batch of the first `count` rows, which fits; with one more it would not
+-- the batch of the first `count` rows, which fits; with one more it would have too many bytes
 pub record IsFirst (place : ℕ) (rows : List Row) (count : ℕ) (batch : Batch) : Type 0 where
   pub some : 1 ≤ count
   pub there : count ≤ length rows

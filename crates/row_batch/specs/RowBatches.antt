@@ -8,13 +8,13 @@ use Rattle.log_spec.specs.declared.row.Row.{Row}
 abbrev pub record_of : ℕ → Row → Record
 record_of base row = record { timestamp_delta = pos row.timestamp -ℤ pos base; key = row.key; value = row.value; headers = row.headers }
 
--- the timestamp of the first row
+-- the timestamp of the first row; 0 without rows, of which no batch is made
 abbrev pub first_timestamp : List Row → ℕ
 first_timestamp [] = 0
 first_timestamp (row ∷ rows) = row.timestamp
 
--- The batch of some rows, of which the first has this place: that is its base offset, and the first row's timestamp is its
--- base timestamp. No producer is named.
+-- The batch of some rows, of which the first has this place: that is its base offset, and the first row's timestamp is
+-- its base timestamp. No producer is named.
 abbrev pub batch_of : ℕ → List Row → Batch
 batch_of place rows = record {
   base_offset = pos place;
@@ -26,8 +26,8 @@ batch_of place rows = record {
   records = map (record_of (first_timestamp rows)) rows;
 }
 
--- `count` rows from a place on may be in one batch: they are no more than are wanted and there, and their batch has no more
--- records and bytes than one may have.
+-- `count` rows from a place on may be in one batch: they are no more than are wanted and there, and their batch has no
+-- more records and bytes than one may have.
 pub record MayTake (rows : List Row) (place max count : ℕ) : Type 0 where
   pub some : 1 ≤ count
   pub wanted : count ≤ max
@@ -35,13 +35,13 @@ pub record MayTake (rows : List Row) (place max count : ℕ) : Type 0 where
   pub few_records : count ≤ max_records
   pub few_bytes : length (batch_spelling (batch_of place (take count (drop place rows)))) ≤ max_batch
 
--- it is the greatest such number
+-- this is the greatest number of rows that may be in one batch
 pub record TakesMost (rows : List Row) (place max count : ℕ) : Type 0 where
   pub may : MayTake rows place max count
   pub most : (more : ℕ) → MayTake rows place max more → more ≤ count
 
--- The bytes of the batch of as many rows from a place on as may be in one, or none where no row is there or wanted. The
--- batch is one that is read again from its bytes.
+-- The bytes of the batch of as many rows from a place on as may be in one; none where no row is there or wanted. The
+-- batch fits, so it is read again from its bytes.
 abbrev pub IsFetched : List Row → ℕ → ℕ → Option (List ℕ) → Type 0
 IsFetched rows place max None = (length rows ≤ place) ⊎ (max ≡ 0)
 IsFetched rows place max (Some bytes) =

@@ -11,6 +11,7 @@ pub record Processed : Type 0 where
   pub walk : Log
   pub rows : List (List Row)
 
+-- an item that was processed, of these parts
 abbrev pub processed : Log → List (List Row) → Processed
 processed walk rows = record { walk = walk; rows = rows }
 
@@ -20,6 +21,7 @@ pub record OutputShare : Type 0 where
   pub output : ℕ
   pub rows : List Row
 
+-- a share of these parts
 abbrev pub output_share : Log → ℕ → List Row → OutputShare
 output_share walk output rows = record { walk = walk; output = output; rows = rows }
 
@@ -29,7 +31,7 @@ pub record IsOfLast (outputs : ℕ) (share : OutputShare) : Type 0 where
   pub rows_are : IsRowsAt share.walk.partition share.output outputs share.walk.items (last share.walk.items) share.rows
   pub fit : All RowFits share.rows
 
--- the rows for each output in turn
+-- one share for each output in turn, with its rows
 pub record AreInTurn (walk : Log) (all : List (List Row)) (shares : List OutputShare) : Type 0 where
   pub count : length shares ≡ length all
   pub each : (output : ℕ) (share : OutputShare) → slice_get shares output ≡ Some share → share ≡ output_share walk output (rows_in all output)
