@@ -6,11 +6,12 @@ use Rattle.machine_spec.specs.Image.{read_image}
 use Rattle.explain.specs.declared.explanation.{Explanation.Explanation, Refusal.Refusal}
 use Rattle.explain.specs.Explanations.{Explains}
 
--- 0 where the program is accepted, 1 where it is refused
+-- the status of a verdict: 0 where the program is accepted, 1 where it is refused
 abbrev pub status_of_refusal : Option Refusal → ℕ
 status_of_refusal None = 0
 status_of_refusal (Some _) = 1
 
+-- the status of an explanation's verdict
 abbrev pub status_of_explained : Explanation → ℕ
 status_of_explained explanation = status_of_refusal explanation.refusal
 
@@ -21,7 +22,7 @@ pub record PrintsExplained (image : List ℕ) (status : ℕ) (before after : Opt
   pub status_is : status ≡ status_of_explained explanation
   pub printed : Appends before after (string_bytes explanation.lines)
 
--- an image with none is refused
+-- an image without code is refused
 pub record IsNoCode (image : List ℕ) (status : ℕ) : Type 0 where
   pub fault : IsaFault
   pub refused : read_image image ≡ Err fault

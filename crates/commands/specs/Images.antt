@@ -6,7 +6,7 @@ use Rattle.verifier_spec.specs.Loading.{IsAccepted, IsRefusedWith}
 use Rattle.commands.specs.declared.image.Refused.{Refused}
 use Rattle.commands.specs.declared.image.Refused.TheVariants as refused
 
--- as much of a file as is read of an image: one byte more than the greatest has
+-- as much of a file as is read of an image: one byte more than the greatest image has
 abbrev pub first_bytes : List ℕ → List ℕ
 first_bytes bytes = take (MAX_SLOTS * 8 + 1) bytes
 

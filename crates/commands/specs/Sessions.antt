@@ -25,7 +25,7 @@ use Rattle.commands.specs.Images.{first_bytes}
 use Rattle.commands.specs.Puts.{put_batch}
 use Rattle.commands.specs.Stops.{IsUnwritten}
 
--- `inputs` input partitions, with `cells` cells each, and `outputs` output partitions
+-- a broker has `inputs` input partitions, with `cells` cells each, and `outputs` output partitions
 pub record IsMade (inputs outputs cells : ℕ) (parts : Layout) : Type 0 where
   pub inputs_are : length parts.cells ≡ inputs
   pub outputs_are : parts.outputs ≡ outputs
@@ -52,8 +52,8 @@ abbrev pub IsImageIn : (List ℕ → Option (List ℕ)) → Source → List ℕ 
 IsImageIn files (Line bytes) image = image ≡ bytes
 IsImageIn files (File name) image = (bytes : List ℕ) → files name ≡ Some bytes → image ≡ first_bytes bytes
 
--- An image was loaded under a name, as the core's event of a load does it to a table, and its line was printed between these
--- contents of standard output.
+-- An image was loaded under a name, as the core's event of a load does it to a table, and its line was printed between
+-- these contents of standard output.
 pub record Loads (name image : List ℕ) (before after : Option (List ℕ)) : Type 0 where
   pub version : ℕ
   pub known : Version
@@ -66,11 +66,13 @@ abbrev pub Deploys : ℕ → List ℕ → Received → Option (List ℕ) → Opt
 Deploys input name receipt before after =
     (version : ℕ) × IsMark input name version receipt × Appends before after (deploy_line input (length receipt.before.items) name version)
 
--- the same of a batch
+-- A batch was appended to the log of the input partition, and its line was printed between these contents of standard
+-- output.
 abbrev pub Puts : ℕ → Batch → Received → Option (List ℕ) → Option (List ℕ) → Type 0
 Puts input batch receipt before after = IsReceiptOf input (Records batch) receipt × Appends before after (line_of input receipt)
 
--- the same of the end of a log
+-- The end of the log of the input partition was appended, and its line was printed between these contents of standard
+-- output.
 abbrev pub Closes : ℕ → Received → Option (List ℕ) → Option (List ℕ) → Type 0
 Closes input receipt before after = IsReceiptOf input Closed receipt × Appends before after (close_line input (length receipt.before.items))
 
@@ -86,7 +88,7 @@ pub record Reports (inputs outputs : ℕ) (before after : Option (List ℕ)) : T
   pub gathered : IsGathered inputs outputs snapshot
   pub printed : Appends before after (report_text snapshot)
 
--- one receipt was added to a list, of which this holds
+-- one receipt was added to a list, and this holds of it
 abbrev pub AddsOne : (Received → Type 0) → List Received → List Received → Type 0
 AddsOne Holds old new = (receipt : Received) × Holds receipt × (new ≡ old ++ receipt ∷ [])
 
@@ -94,8 +96,8 @@ AddsOne Holds old new = (receipt : Received) × Holds receipt × (new ≡ old ++
 abbrev pub IsUntouched : List Received → List Received → Option (List ℕ) → Option (List ℕ) → Type 0
 IsUntouched old new before after = (new ≡ old) × (after ≡ before)
 
--- Why a command that appends one item is refused before anything is done. There is no such input partition only where the broker
--- says so.
+-- Why a command that appends one item is refused before anything is done. There is no such input partition only where
+-- the broker says so.
 abbrev pub Refuses : ℕ → ℕ → Stop → Type 0
 Refuses inputs input (stop.Line fault) = ⊤
 Refuses inputs input (stop.Broker fault) = fault ≡ Absent → inputs ≤ input
@@ -105,29 +107,29 @@ Refuses inputs input (stop.File name) = ⊥
 Refuses inputs input stop.Output = ⊥
 Refuses inputs input stop.Thread = ⊥
 
--- What a command does that appends one item to the log of an input partition, of whose receipt `Is` holds, and prints its line,
--- which `Says`. It ends early before anything is done, or where the item's line can't be printed.
+-- What a command does that appends one item to the log of an input partition, of whose receipt `Is` holds, and prints
+-- its line, which `Says`. It ends early before anything is done, or where the item's line can't be printed.
 abbrev pub DoesOne : ℕ → ℕ → (Is Says : Received → Type 0) → List Received → List Received → Option (List ℕ) → Option (List ℕ) → Result ⊤ Stop → Type 0
 DoesOne inputs input Is Says old new before after (Ok done) = (input < inputs) × AddsOne Says old new
 DoesOne inputs input Is Says old new before after (Err reason) = (IsUntouched old new before after × Refuses inputs input reason) ⊎ (AddsOne Is old new × IsUnwritten reason)
 
--- what `deploy` does with a name
+-- what `deploy` does with a name: it appends a mark of a version of the name, and prints its line
 abbrev pub DeployDoes : ℕ → ℕ → List ℕ → List Received → List Received → Option (List ℕ) → Option (List ℕ) → Result ⊤ Stop → Type 0
 DeployDoes inputs input name old new before after result =
     DoesOne inputs input (λ receipt. (version : ℕ) × IsMark input name version receipt) (λ receipt. Deploys input name receipt before after) old new before after result
 
--- what `put` does with a batch
+-- what `put` does with a batch: it appends the batch, and prints its line
 abbrev pub PutDoes : ℕ → ℕ → Batch → List Received → List Received → Option (List ℕ) → Option (List ℕ) → Result ⊤ Stop → Type 0
 PutDoes inputs input batch old new before after result =
     DoesOne inputs input (IsReceiptOf input (Records batch)) (λ receipt. Puts input batch receipt before after) old new before after result
 
--- what `close` does
+-- what `close` does: it appends the end of the log, and prints its line
 abbrev pub CloseDoes : ℕ → ℕ → List Received → List Received → Option (List ℕ) → Option (List ℕ) → Result ⊤ Stop → Type 0
 CloseDoes inputs input old new before after result =
     DoesOne inputs input (IsReceiptOf input Closed) (λ receipt. Closes input receipt before after) old new before after result
 
--- What a command does, by the cells of the broker's input partitions, the numbers of its input and output partitions and what is
--- known of files: what it appends, of which the receipts are added to a list, and what it prints.
+-- What a command does, by the cells of the broker's input partitions, the numbers of its input and output partitions
+-- and what is known of files: what it appends, of which the receipts are added to a list, and what it prints.
 abbrev pub Does : (ℕ → List ℕ) → ℕ → ℕ → (List ℕ → Option (List ℕ)) → Command → List Received → List Received → Option (List ℕ) → Option (List ℕ) → Result ⊤ Stop → Type 0
 Does cells inputs outputs files (Deploy input name) old new before after result = DeployDoes inputs input name old new before after result
 Does cells inputs outputs files (Put input timestamp key value) old new before after result = PutDoes inputs input (put_batch timestamp key value) old new before after result
@@ -138,7 +140,7 @@ Does cells inputs outputs files (Fetch output place max) old new before after re
 Does cells inputs outputs files Go old new before after result = (new ≡ old) × OnOk result (Reports inputs outputs before after)
 Does cells inputs outputs files (Partitions _ _ _) old new before after result = IsUntouched old new before after × OnOk result ⊥
 
--- the same of a line, which is this command; what is none is refused
+-- What a line does that is this command; one that is none is refused.
 abbrev pub LineDoes : (ℕ → List ℕ) → ℕ → ℕ → (List ℕ → Option (List ℕ)) → Option Command → List Received → List Received → Option (List ℕ) → Option (List ℕ) → Result ⊤ Stop → Type 0
 LineDoes cells inputs outputs files (Some command) old new before after result = Does cells inputs outputs files command old new before after result
 LineDoes cells inputs outputs files None old new before after result = IsUntouched old new before after × OnOk result ⊥

@@ -21,7 +21,7 @@ use Rattle.commands.specs.declared.stop.Stop.TheVariants as stop
 use Rattle.commands.specs.declared.image.Refused.{Refused}
 use Rattle.commands.specs.declared.image.Refused.TheVariants as refused
 
--- a call that the broker refuses; want of memory is reported as such
+-- why a script ends at a call that the broker refuses; that memory ran out is a reason of its own
 abbrev pub stop_of_broker : BrokerFault → Stop
 stop_of_broker broker.Partition = stop.Broker broker.Partition
 stop_of_broker broker.NoProgram = stop.Broker broker.NoProgram
@@ -40,11 +40,11 @@ stop_of_broker (broker.Book (book.Gap expected)) = stop.Broker (broker.Book (boo
 stop_of_broker (broker.Book book.Partition) = stop.Broker (broker.Book book.Partition)
 stop_of_broker (broker.Book book.Memory) = stop.Memory
 
--- the broker gives no finder
+-- a script ends because the broker gives no finder
 abbrev pub HasNoFinder : Stop → Type 0
 HasNoFinder reason = (fault : BrokerFault) × IsNoReader fault × (reason ≡ stop_of_broker fault)
 
--- a report that is not written to its end
+-- why a script ends whose report is not written to its end
 abbrev pub stop_of_report : ReportFault → Stop
 stop_of_report report.Write = stop.Output
 stop_of_report report.Memory = stop.Memory
@@ -56,17 +56,17 @@ end_of (ended.Stopped index output) = Ok tt
 end_of (ended.Fault fault) = Err (stop_of_broker fault)
 end_of ended.NoThread = Err stop.Thread
 
--- the first end or the others'
+-- the first end's reason if it has one, else the others'
 abbrev pub or_else_ends : Result (Unit {0}) Stop → Result (Unit {0}) Stop → Result (Unit {0}) Stop
 or_else_ends (Ok done) others = others
 or_else_ends (Err reported) others = Err reported
 
--- why a script ends whose workers ended so: what the first of them met that did not end its work
+-- how a script ends whose workers ended so: with the reason of the first worker that did not end its work
 abbrev pub end_of_all : List Ended → Result (Unit {0}) Stop
 end_of_all [] = Ok tt
 end_of_all (first ∷ others) = or_else_ends (end_of first) (end_of_all others)
 
--- bytes that begin with no batch
+-- why a script ends at bytes that begin with no batch
 abbrev pub stop_of_fault : BatchFault → Stop
 stop_of_fault fault.Short = stop.Batch fault.Short
 stop_of_fault fault.Length = stop.Batch fault.Length
@@ -79,12 +79,12 @@ stop_of_fault (fault.Record place) = stop.Batch (fault.Record place)
 stop_of_fault fault.Timestamp = stop.Batch fault.Timestamp
 stop_of_fault fault.Memory = stop.Memory
 
--- a file that can't be read
+-- why a script ends at a file that can't be read
 abbrev pub stop_of_unread : List ℕ → Unread → Stop
 stop_of_unread name unread.File = stop.File name
 stop_of_unread name unread.Memory = stop.Memory
 
--- a stream of which no further batch is appended; where it can't be read, this is the cause
+-- why a script ends at a stream of which no further batch is appended; `cause`, where it can't be read
 abbrev pub stop_of_stream : Stop → StreamFault → Stop
 stop_of_stream cause stream.Read = cause
 stop_of_stream cause (stream.Batch fault) = stop_of_fault fault
@@ -95,7 +95,7 @@ abbrev pub end_of_stream : Stop → Result ℕ StreamFault → Result ⊤ Stop
 end_of_stream cause (Ok count) = Ok tt
 end_of_stream cause (Err fault) = Err (stop_of_stream cause fault)
 
--- bytes can't be read: a file can't, or memory ran out
+-- bytes couldn't be read: a file couldn't, or memory ran out
 abbrev pub IsUnread : Stop → Type 0
 IsUnread (stop.File name) = ⊤
 IsUnread stop.Memory = ⊤
@@ -105,7 +105,7 @@ IsUnread (stop.Batch fault) = ⊥
 IsUnread stop.Output = ⊥
 IsUnread stop.Thread = ⊥
 
--- a text can't be printed: standard output can't be written, or memory ran out
+-- a text couldn't be printed: standard output couldn't be written, or memory ran out
 abbrev pub IsUnwritten : Stop → Type 0
 IsUnwritten stop.Output = ⊤
 IsUnwritten stop.Memory = ⊤
@@ -115,7 +115,8 @@ IsUnwritten (stop.Batch fault) = ⊥
 IsUnwritten (stop.File name) = ⊥
 IsUnwritten stop.Thread = ⊥
 
--- 1 where the line is refused, 3 where a file, standard output, a thread or memory fails
+-- the status of a script that ends so: 1 where the line is refused, 3 where a file, standard output, a thread or memory
+-- fails
 abbrev pub status_of : Stop → ℕ
 status_of (stop.Line _) = 1
 status_of (stop.Broker _) = 1
@@ -125,7 +126,7 @@ status_of stop.Output = 3
 status_of stop.Thread = 3
 status_of stop.Memory = 3
 
--- the same of a call on an image
+-- the status of a call on an image that is refused, or for which memory ran out
 abbrev pub status_of_refused : Refused → ℕ
 status_of_refused (refused.Image _) = 1
 status_of_refused refused.Memory = 3

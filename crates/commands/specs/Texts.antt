@@ -13,7 +13,7 @@ use Rattle.commands.specs.declared.image.Refused.{Refused}
 use Rattle.commands.specs.declared.image.Refused.TheVariants as refused
 use Rattle.commands.specs.Stops.{status_of_refused}
 
--- the refusal of an image that has no code; want of memory is reported as such
+-- the refusal of an image that has no code; that memory ran out is a refusal of its own
 abbrev pub refusal_of : IsaFault → Refused
 refusal_of fault.Size = refused.Image (Isa fault.Size)
 refusal_of (fault.Opcode slot) = refused.Image (Isa (fault.Opcode slot))
@@ -23,6 +23,7 @@ refusal_of (fault.Wide slot) = refused.Image (Isa (fault.Wide slot))
 refusal_of (fault.NotInProfile slot) = refused.Image (Isa (fault.NotInProfile slot))
 refusal_of fault.Memory = refused.Memory
 
+-- the text of code that was read, or the image's refusal
 abbrev pub disassembly_of : Result (List Placed) IsaFault → Result (List ℕ) Refused
 disassembly_of (Ok code) = Ok (text_of code)
 disassembly_of (Err reported) = Err (refusal_of reported)
@@ -31,13 +32,13 @@ disassembly_of (Err reported) = Err (refusal_of reported)
 abbrev pub disassembly : List ℕ → Result (List ℕ) Refused
 disassembly image = disassembly_of (read_image image)
 
--- A call that prints an answer, seen by view, ends with this status: standard output got all of the text, or the refusal was
--- reported, unless a file, standard output or memory failed.
+-- A call that prints an answer, seen by view, ends with this status: standard output got all of the text, or the
+-- refusal was reported, unless a file, standard output or memory failed.
 abbrev pub PrintsAs : {X : Type 0} → (X → List ℕ) → Result X Refused → ℕ → Option (List ℕ) → Option (List ℕ) → Type 0
 PrintsAs view (Ok text) status before after = (status ≡ 3) ⊎ ((status ≡ 0) × Appends before after (view text))
 PrintsAs view (Err reported) status before after = (status ≡ 3) ⊎ (status ≡ status_of_refused reported)
 
--- 1 where a line is refused, 3 where memory ran out
+-- the status of a text's fault: 1 where a line is refused, 3 where memory ran out
 abbrev pub status_of_fault : AsmFault → ℕ
 status_of_fault (asm.Word _) = 1
 status_of_fault (asm.Operand _) = 1
@@ -46,8 +47,8 @@ status_of_fault (asm.Register _) = 1
 status_of_fault (asm.Size _) = 1
 status_of_fault asm.Memory = 3
 
--- A call that writes the image of a text ends with this status: the file has the image, or the text's fault was reported,
--- unless a file or memory failed.
+-- A call that writes the image of a text ends with this status: the file has the image, or the text's fault was
+-- reported, unless a file or memory failed.
 abbrev pub WritesAs : Result (List ℕ) AsmFault → ℕ → Option (List ℕ) → Type 0
 WritesAs (Ok image) status file = (status ≡ 3) ⊎ ((status ≡ 0) × IfSome file (λ bytes. bytes ≡ image))
 WritesAs (Err reported) status file = (status ≡ 3) ⊎ (status ≡ status_of_fault reported)

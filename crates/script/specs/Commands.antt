@@ -8,14 +8,17 @@ use Rattle.script.specs.declared.command.Source.{Source}
 use Rattle.script.specs.declared.command.Source.TheVariants.{Line, File}
 use Rattle.script.specs.Words.{words_of, word_at, decimal_of, spelled_bytes, hex_bytes}
 
+-- the source of a word after `hex:`: the bytes that it spells; a word that spells none is a file's name
 abbrev pub hex_source : Option (List ℕ) → List ℕ → Source
 hex_source (Some bytes) word = Line bytes
 hex_source None word = File word
 
--- `hex:` and pairs of lower-case hex digits are those bytes; every other word is a file's name
+-- where a command's bytes come from: `hex:` and pairs of lower-case hex digits are those bytes, every other word is a
+-- file's name
 abbrev pub source_of : List ℕ → Source
 source_of word = if starts_with nat_eq word (codes "hex:") then hex_source (hex_bytes (drop 4 word)) word else File word
 
+-- the command, if each of its words is a number
 abbrev pub partitions_of : Option ℕ → Option ℕ → Option ℕ → Option Command
 partitions_of (Some inputs) (Some outputs) (Some cells) = Some (Partitions inputs outputs cells)
 partitions_of _ _ _ = None
@@ -28,6 +31,7 @@ partitions_line words = if length words == 4 then partitions_of (decimal_of (wor
 abbrev pub load_line : List (List ℕ) → Option Command
 load_line words = if length words == 3 then Some (Load (word_at words 1) (source_of (word_at words 2))) else None
 
+-- the command, if its first word is a number
 abbrev pub deploy_of : Option ℕ → List ℕ → Option Command
 deploy_of (Some input) name = Some (Deploy input name)
 deploy_of None name = None
@@ -36,6 +40,7 @@ deploy_of None name = None
 abbrev pub deploy_line : List (List ℕ) → Option Command
 deploy_line words = if length words == 3 then deploy_of (decimal_of (word_at words 1)) (word_at words 2) else None
 
+-- the command, if each of its words spells a number or bytes
 abbrev pub put_of : Option ℕ → Option ℕ → Option (Option (List ℕ)) → Option (Option (List ℕ)) → Option Command
 put_of (Some input) (Some timestamp) (Some key) (Some value) = Some (Put input timestamp key value)
 put_of _ _ _ _ = None
@@ -47,6 +52,7 @@ put_line words =
     then put_of (decimal_of (word_at words 1)) (decimal_of (word_at words 2)) (spelled_bytes (word_at words 3)) (spelled_bytes (word_at words 4))
     else None
 
+-- the command, if its first word is a number
 abbrev pub append_of : Option ℕ → Source → Option Command
 append_of (Some input) source = Some (Append input source)
 append_of None source = None
@@ -55,6 +61,7 @@ append_of None source = None
 abbrev pub append_line : List (List ℕ) → Option Command
 append_line words = if length words == 3 then append_of (decimal_of (word_at words 1)) (source_of (word_at words 2)) else None
 
+-- the command, if its word is a number
 abbrev pub close_of : Option ℕ → Option Command
 close_of (Some input) = Some (Close input)
 close_of None = None
@@ -63,6 +70,7 @@ close_of None = None
 abbrev pub close_line : List (List ℕ) → Option Command
 close_line words = if length words == 2 then close_of (decimal_of (word_at words 1)) else None
 
+-- the command, if each of its words is a number
 abbrev pub fetch_of : Option ℕ → Option ℕ → Option ℕ → Option Command
 fetch_of (Some output) (Some place) (Some max) = Some (Fetch output place max)
 fetch_of _ _ _ = None
@@ -75,6 +83,7 @@ fetch_line words = if length words == 4 then fetch_of (decimal_of (word_at words
 abbrev pub go_line : List (List ℕ) → Option Command
 go_line words = if length words == 1 then Some Go else None
 
+-- the command that the first word names, if the others are what it takes
 abbrev pub command_of_words : List (List ℕ) → Option Command
 command_of_words words =
     if bytes_eq (word_at words 0) (codes "partitions") then partitions_line words else
@@ -86,7 +95,7 @@ command_of_words words =
     if bytes_eq (word_at words 0) (codes "fetch") then fetch_line words else
     if bytes_eq (word_at words 0) (codes "go") then go_line words else None
 
--- the command of words, none of which is empty
+-- the command of words, of which none is empty
 abbrev pub command_from : List (List ℕ) → Option Command
 command_from words = if list_all (λ word. nat_lt 0 (length word)) words then command_of_words words else None
 

@@ -7,7 +7,7 @@ use Rattle.script.specs.declared.command.Command.TheVariants.{Partitions, Load, 
 use Rattle.script.specs.declared.fault.ScriptFault.{ScriptFault}
 use Rattle.script.specs.declared.fault.ScriptFault.TheVariants.{Order, Range}
 
--- `partitions` is first and occurs once, and a program is deployed after it was loaded
+-- a command may come here: `partitions` is first and occurs once, and a program is deployed after it was loaded
 abbrev pub is_in_order : Command → (has_begun is_loaded : Bool) → Bool
 is_in_order (Partitions inputs outputs cells) has_begun is_loaded = not has_begun
 is_in_order (Load name source) has_begun is_loaded = has_begun
@@ -18,16 +18,17 @@ is_in_order (Close input) has_begun is_loaded = has_begun
 is_in_order (Fetch output place max) has_begun is_loaded = has_begun
 is_in_order Go has_begun is_loaded = has_begun
 
--- null has no bytes
+-- how many bytes a key or a value has; null has none
 abbrev pub text_size : Option (List ℕ) → ℕ
 text_size None = 0
 text_size (Some bytes) = length bytes
 
+-- a number is from 1 to the most
 abbrev pub is_count : (number most : ℕ) → Bool
 is_count number most = nat_le 1 number && nat_le number most
 
--- 1 to 64 input and output partitions, 1 to 65536 cells; timestamps below 2^62, keys of at most 4096 bytes and values of
--- at most 65536
+-- the numbers of a command are in range: 1 to 64 input and output partitions, 1 to 65,536 cells; timestamps below 2^62,
+-- keys of at most 4,096 bytes and values of at most 65,536
 abbrev pub is_in_range : Command → Bool
 is_in_range (Partitions inputs outputs cells) = is_count inputs MAX_PARTITIONS && (is_count outputs MAX_PARTITIONS && is_count cells MAX_CELLS)
 is_in_range (Load name source) = true
@@ -38,6 +39,6 @@ is_in_range (Close input) = true
 is_in_range (Fetch output place max) = true
 is_in_range Go = true
 
--- the order is looked at before the numbers
+-- why a command is refused before anything is done: Order, or else Range
 abbrev pub fault_of : Command → (has_begun is_loaded : Bool) → Option ScriptFault
 fault_of command has_begun is_loaded = if not (is_in_order command has_begun is_loaded) then Some Order else if not (is_in_range command) then Some Range else None

@@ -7,15 +7,15 @@ use Rattle.log_spec.specs.declared.row.Row.{Row}
 abbrev pub hex_glyph : ℕ → ℕ
 hex_glyph digit = if nat_lt digit 10 then 48 + digit else 97 + (digit - 10)
 
--- the high digit is first
+-- a byte as two lower-case hex digits, the high one first
 abbrev pub byte_text : ℕ → List ℕ
 byte_text byte = hex_glyph (byte / 16) ∷ hex_glyph (byte % 16) ∷ []
 
--- two lower-case hex digits a byte
+-- bytes in hex, two digits each
 abbrev pub hex_text : List ℕ → List ℕ
 hex_text bytes = flat_map byte_text bytes
 
--- null is `-`, and no bytes are `.`
+-- a key or a value: null is `-`, no bytes are `.`, others are in hex
 abbrev pub bytes_text : Option (List ℕ) → List ℕ
 bytes_text None = 45 ∷ []
 bytes_text (Some []) = 46 ∷ []
@@ -43,6 +43,7 @@ abbrev pub found_text : Option (List ℕ) → List ℕ
 found_text None = codes "none"
 found_text (Some bytes) = hex_text bytes
 
+-- `none`, or the bytes of a batch in hex
 abbrev pub fetch_line : Option (List ℕ) → List ℕ
 fetch_line found = found_text found ++ 10 ∷ []
 

@@ -14,7 +14,7 @@ words_of line = slice_split (λ b. b == 32) line
 abbrev pub word_at : List (List ℕ) → ℕ → List ℕ
 word_at words k = slice_index_or words k []
 
--- what borrowed words spell
+-- the texts of borrowed words
 abbrev pub texts : List (Bor (List ℕ)) → List (List ℕ)
 texts words = map (λ w. w.now) words
 
@@ -34,11 +34,13 @@ decimal_of word = if is_number word then Some (min (digits_value 10 word) (2 ^ 6
 abbrev pub hex_digit : ℕ → Option ℕ
 hex_digit b = if nat_le 48 b && nat_le b 57 then Some (b - 48) else if nat_le 97 b && nat_le b 102 then Some (b - 87) else None
 
+-- the byte that two hex digits spell, if both are digits
 abbrev pub pair_of : Option ℕ → Option ℕ → Option ℕ
 pair_of (Some high) (Some low) = Some (high * 16 + low)
 pair_of (Some high) None = None
 pair_of None low = None
 
+-- a byte before others, if both are spelled
 abbrev pub before_bytes : Option ℕ → Option (List ℕ) → Option (List ℕ)
 before_bytes (Some byte) (Some bytes) = Some (byte ∷ bytes)
 before_bytes (Some byte) None = None
@@ -50,6 +52,7 @@ hex_bytes [] = Some []
 hex_bytes (a ∷ []) = None
 hex_bytes (a ∷ b ∷ word) = before_bytes (pair_of (hex_digit a) (hex_digit b)) (hex_bytes word)
 
+-- bytes that are not null, if some are spelled
 abbrev pub some_bytes : Option (List ℕ) → Option (Option (List ℕ))
 some_bytes (Some bytes) = Some (Some bytes)
 some_bytes None = None
