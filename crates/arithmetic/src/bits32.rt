@@ -1,10 +1,11 @@
-//! Operations on the low 32 bits; the upper 32 of what they give are 0.
+//! Operations on the low 32 bits of numbers; the upper 32 bits of their results are 0.
 ghost use Rattle.std.specs.Prelude.{◌≡◌};
 ghost use Rattle.machine_spec.specs.Arithmetic.{number_of, changed_number, holds};
 
 use crate::low::{low_8, low_16, low_32};
 use machine_spec::{Change, ExtendedWidth, Operation, Test, Width};
 
+/// The sum, which wraps at 2^32.
 #[inline(always)]
 pub fn add(a: u64, b: u64) -> u64
     ensures { result ≡ number_of Width.Bits32 Operation.Add a b }
@@ -12,6 +13,7 @@ pub fn add(a: u64, b: u64) -> u64
     low_32(a).wrapping_add(low_32(b)) as u64
 }
 
+/// `a` minus `b`, which wraps at 2^32.
 #[inline(always)]
 pub fn sub(a: u64, b: u64) -> u64
     ensures { result ≡ number_of Width.Bits32 Operation.Sub a b }
@@ -19,6 +21,7 @@ pub fn sub(a: u64, b: u64) -> u64
     low_32(a).wrapping_sub(low_32(b)) as u64
 }
 
+/// The product, which wraps at 2^32.
 #[inline(always)]
 pub fn mul(a: u64, b: u64) -> u64
     ensures { result ≡ number_of Width.Bits32 Operation.Mul a b }
@@ -35,7 +38,8 @@ pub fn div(a: u64, b: u64) -> u64
     if b == 0 { 0 } else { (a / b) as u64 }
 }
 
-/// The quotient rounded toward 0, or 0 of a division by 0. That of the least number by -1 wraps.
+/// The quotient rounded toward 0, or 0 of a division by 0. That of the least number by -1 is the
+/// least number.
 #[inline(always)]
 pub fn signed_div(a: u64, b: u64) -> u64
     ensures { result ≡ number_of Width.Bits32 Operation.SignedDiv a b }
@@ -49,6 +53,7 @@ pub fn signed_div(a: u64, b: u64) -> u64
         .cast_unsigned() as u64
 }
 
+/// The bits that one of the two has, or both.
 #[inline(always)]
 pub fn or(a: u64, b: u64) -> u64
     ensures { result ≡ number_of Width.Bits32 Operation.Or a b }
@@ -56,6 +61,7 @@ pub fn or(a: u64, b: u64) -> u64
     (low_32(a) | low_32(b)) as u64
 }
 
+/// The bits that both have.
 #[inline(always)]
 pub fn and(a: u64, b: u64) -> u64
     ensures { result ≡ number_of Width.Bits32 Operation.And a b }
@@ -63,7 +69,7 @@ pub fn and(a: u64, b: u64) -> u64
     (low_32(a) & low_32(b)) as u64
 }
 
-/// The count is taken modulo 32, here and in the other shifts.
+/// `a` shifted to the left by `b` modulo 32; bits past the top are lost.
 #[inline(always)]
 pub fn left_shift(a: u64, b: u64) -> u64
     ensures { result ≡ number_of Width.Bits32 Operation.LeftShift a b }
@@ -71,6 +77,7 @@ pub fn left_shift(a: u64, b: u64) -> u64
     (low_32(a) << (low_32(b) % 32)) as u64
 }
 
+/// `a` shifted to the right by `b` modulo 32, with 0 from the left.
 #[inline(always)]
 pub fn right_shift(a: u64, b: u64) -> u64
     ensures { result ≡ number_of Width.Bits32 Operation.RightShift a b }
@@ -78,7 +85,7 @@ pub fn right_shift(a: u64, b: u64) -> u64
     (low_32(a) >> (low_32(b) % 32)) as u64
 }
 
-/// The remainder, or `a` of a division by 0.
+/// The remainder, or the low 32 bits of `a` of a division by 0.
 #[inline(always)]
 pub fn remainder(a: u64, b: u64) -> u64
     ensures { result ≡ number_of Width.Bits32 Operation.Mod a b }
@@ -91,7 +98,8 @@ pub fn remainder(a: u64, b: u64) -> u64
     }
 }
 
-/// The remainder with the sign of `a`, or `a` of a division by 0.
+/// The remainder with the sign of `a`, or the low 32 bits of `a` of a division by 0. That of the
+/// least number by -1 is 0.
 #[inline(always)]
 pub fn signed_remainder(a: u64, b: u64) -> u64
     ensures { result ≡ number_of Width.Bits32 Operation.SignedMod a b }
@@ -105,6 +113,7 @@ pub fn signed_remainder(a: u64, b: u64) -> u64
         .cast_unsigned() as u64
 }
 
+/// The bits that exactly one of the two has.
 #[inline(always)]
 pub fn xor(a: u64, b: u64) -> u64
     ensures { result ≡ number_of Width.Bits32 Operation.Xor a b }
@@ -112,6 +121,7 @@ pub fn xor(a: u64, b: u64) -> u64
     (low_32(a) ^ low_32(b)) as u64
 }
 
+/// `a` shifted to the right by `b` modulo 32, with its sign from the left.
 #[inline(always)]
 pub fn arithmetic_right_shift(a: u64, b: u64) -> u64
     ensures { result ≡ number_of Width.Bits32 Operation.ArithmeticRightShift a b }
@@ -119,7 +129,7 @@ pub fn arithmetic_right_shift(a: u64, b: u64) -> u64
     (low_32(a).cast_signed() >> (low_32(b) % 32)).cast_unsigned() as u64
 }
 
-/// An operation on two numbers.
+/// An operation on two numbers (RFC 9669, section 4.1).
 pub fn compute(operation: Operation, a: u64, b: u64) -> u64
     ensures { result ≡ number_of Width.Bits32 operation a b }
 {
@@ -140,6 +150,7 @@ pub fn compute(operation: Operation, a: u64, b: u64) -> u64
     }
 }
 
+/// 0 minus `a`, which wraps at 2^32.
 #[inline(always)]
 pub fn negate(a: u64) -> u64
     ensures { result ≡ changed_number (Change.Negate Width.Bits32) a }
@@ -147,6 +158,7 @@ pub fn negate(a: u64) -> u64
     0u32.wrapping_sub(low_32(a)) as u64
 }
 
+/// The low 8 bits, read as signed, in 32 bits.
 #[inline(always)]
 pub fn sign_extend_8(a: u64) -> u64
     ensures { result ≡ changed_number (Change.SignExtend Width.Bits32 ExtendedWidth.Bits8) a }
@@ -154,6 +166,7 @@ pub fn sign_extend_8(a: u64) -> u64
     i32::from(low_8(a).cast_signed()).cast_unsigned() as u64
 }
 
+/// The low 16 bits, read as signed, in 32 bits.
 #[inline(always)]
 pub fn sign_extend_16(a: u64) -> u64
     ensures { result ≡ changed_number (Change.SignExtend Width.Bits32 ExtendedWidth.Bits16) a }
@@ -161,6 +174,7 @@ pub fn sign_extend_16(a: u64) -> u64
     i32::from(low_16(a).cast_signed()).cast_unsigned() as u64
 }
 
+/// The low 32 bits as they are.
 #[inline(always)]
 pub fn sign_extend_32(a: u64) -> u64
     ensures { result ≡ changed_number (Change.SignExtend Width.Bits32 ExtendedWidth.Bits32) a }
@@ -168,7 +182,7 @@ pub fn sign_extend_32(a: u64) -> u64
     low_32(a) as u64
 }
 
-/// The low bits, read as signed.
+/// The low 8, 16 or 32 bits, read as signed, in 32 bits.
 pub fn sign_extend(part: ExtendedWidth, a: u64) -> u64
     ensures { result ≡ changed_number (Change.SignExtend Width.Bits32 part) a }
 {
@@ -179,7 +193,7 @@ pub fn sign_extend(part: ExtendedWidth, a: u64) -> u64
     }
 }
 
-/// Whether a test of two numbers holds.
+/// Whether a test of two numbers holds (RFC 9669, section 4.3).
 pub fn test(test: Test, a: u64, b: u64) -> bool
     ensures { result ≡ holds Width.Bits32 test a b }
 {

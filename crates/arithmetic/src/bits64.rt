@@ -1,10 +1,11 @@
-//! Operations on 64 bits.
+//! Operations on numbers of 64 bits.
 ghost use Rattle.std.specs.Prelude.{◌≡◌};
 ghost use Rattle.machine_spec.specs.Arithmetic.{number_of, changed_number, holds};
 
 use crate::low::{low_8, low_16, low_32};
 use machine_spec::{Change, ExtendedWidth, Operation, Test, Width};
 
+/// The sum, which wraps at 2^64.
 #[inline(always)]
 pub fn add(a: u64, b: u64) -> u64
     ensures { result ≡ number_of Width.Bits64 Operation.Add a b }
@@ -12,6 +13,7 @@ pub fn add(a: u64, b: u64) -> u64
     a.wrapping_add(b)
 }
 
+/// `a` minus `b`, which wraps at 2^64.
 #[inline(always)]
 pub fn sub(a: u64, b: u64) -> u64
     ensures { result ≡ number_of Width.Bits64 Operation.Sub a b }
@@ -19,6 +21,7 @@ pub fn sub(a: u64, b: u64) -> u64
     a.wrapping_sub(b)
 }
 
+/// The product, which wraps at 2^64.
 #[inline(always)]
 pub fn mul(a: u64, b: u64) -> u64
     ensures { result ≡ number_of Width.Bits64 Operation.Mul a b }
@@ -34,7 +37,8 @@ pub fn div(a: u64, b: u64) -> u64
     if b == 0 { 0 } else { a / b }
 }
 
-/// The quotient rounded toward 0, or 0 of a division by 0. That of the least number by -1 wraps.
+/// The quotient rounded toward 0, or 0 of a division by 0. That of the least number by -1 is the
+/// least number.
 #[inline(always)]
 pub fn signed_div(a: u64, b: u64) -> u64
     ensures { result ≡ number_of Width.Bits64 Operation.SignedDiv a b }
@@ -47,6 +51,7 @@ pub fn signed_div(a: u64, b: u64) -> u64
         .cast_unsigned()
 }
 
+/// The bits that one of the two has, or both.
 #[inline(always)]
 pub fn or(a: u64, b: u64) -> u64
     ensures { result ≡ number_of Width.Bits64 Operation.Or a b }
@@ -54,6 +59,7 @@ pub fn or(a: u64, b: u64) -> u64
     a | b
 }
 
+/// The bits that both have.
 #[inline(always)]
 pub fn and(a: u64, b: u64) -> u64
     ensures { result ≡ number_of Width.Bits64 Operation.And a b }
@@ -61,7 +67,7 @@ pub fn and(a: u64, b: u64) -> u64
     a & b
 }
 
-/// The count is taken modulo 64, here and in the other shifts.
+/// `a` shifted to the left by `b` modulo 64; bits past the top are lost.
 #[inline(always)]
 pub fn left_shift(a: u64, b: u64) -> u64
     ensures { result ≡ number_of Width.Bits64 Operation.LeftShift a b }
@@ -69,6 +75,7 @@ pub fn left_shift(a: u64, b: u64) -> u64
     a << (b % 64)
 }
 
+/// `a` shifted to the right by `b` modulo 64, with 0 from the left.
 #[inline(always)]
 pub fn right_shift(a: u64, b: u64) -> u64
     ensures { result ≡ number_of Width.Bits64 Operation.RightShift a b }
@@ -84,7 +91,8 @@ pub fn remainder(a: u64, b: u64) -> u64
     if b == 0 { a } else { a % b }
 }
 
-/// The remainder with the sign of `a`, or `a` of a division by 0.
+/// The remainder with the sign of `a`, or `a` of a division by 0. That of the least number by -1 is
+/// 0.
 #[inline(always)]
 pub fn signed_remainder(a: u64, b: u64) -> u64
     ensures { result ≡ number_of Width.Bits64 Operation.SignedMod a b }
@@ -97,6 +105,7 @@ pub fn signed_remainder(a: u64, b: u64) -> u64
         .cast_unsigned()
 }
 
+/// The bits that exactly one of the two has.
 #[inline(always)]
 pub fn xor(a: u64, b: u64) -> u64
     ensures { result ≡ number_of Width.Bits64 Operation.Xor a b }
@@ -104,6 +113,7 @@ pub fn xor(a: u64, b: u64) -> u64
     a ^ b
 }
 
+/// `a` shifted to the right by `b` modulo 64, with its sign from the left.
 #[inline(always)]
 pub fn arithmetic_right_shift(a: u64, b: u64) -> u64
     ensures { result ≡ number_of Width.Bits64 Operation.ArithmeticRightShift a b }
@@ -111,7 +121,7 @@ pub fn arithmetic_right_shift(a: u64, b: u64) -> u64
     (a.cast_signed() >> (b % 64)).cast_unsigned()
 }
 
-/// An operation on two numbers.
+/// An operation on two numbers (RFC 9669, section 4.1).
 pub fn compute(operation: Operation, a: u64, b: u64) -> u64
     ensures { result ≡ number_of Width.Bits64 operation a b }
 {
@@ -132,6 +142,7 @@ pub fn compute(operation: Operation, a: u64, b: u64) -> u64
     }
 }
 
+/// 0 minus `a`, which wraps at 2^64.
 #[inline(always)]
 pub fn negate(a: u64) -> u64
     ensures { result ≡ changed_number (Change.Negate Width.Bits64) a }
@@ -139,6 +150,7 @@ pub fn negate(a: u64) -> u64
     0u64.wrapping_sub(a)
 }
 
+/// The low 8 bits, read as signed, in 64 bits.
 #[inline(always)]
 pub fn sign_extend_8(a: u64) -> u64
     ensures { result ≡ changed_number (Change.SignExtend Width.Bits64 ExtendedWidth.Bits8) a }
@@ -146,6 +158,7 @@ pub fn sign_extend_8(a: u64) -> u64
     i64::from(low_8(a).cast_signed()).cast_unsigned()
 }
 
+/// The low 16 bits, read as signed, in 64 bits.
 #[inline(always)]
 pub fn sign_extend_16(a: u64) -> u64
     ensures { result ≡ changed_number (Change.SignExtend Width.Bits64 ExtendedWidth.Bits16) a }
@@ -153,6 +166,7 @@ pub fn sign_extend_16(a: u64) -> u64
     i64::from(low_16(a).cast_signed()).cast_unsigned()
 }
 
+/// The low 32 bits, read as signed, in 64 bits.
 #[inline(always)]
 pub fn sign_extend_32(a: u64) -> u64
     ensures { result ≡ changed_number (Change.SignExtend Width.Bits64 ExtendedWidth.Bits32) a }
@@ -160,7 +174,7 @@ pub fn sign_extend_32(a: u64) -> u64
     i64::from(low_32(a).cast_signed()).cast_unsigned()
 }
 
-/// The low bits, read as signed.
+/// The low 8, 16 or 32 bits, read as signed, in 64 bits.
 pub fn sign_extend(part: ExtendedWidth, a: u64) -> u64
     ensures { result ≡ changed_number (Change.SignExtend Width.Bits64 part) a }
 {
@@ -171,7 +185,7 @@ pub fn sign_extend(part: ExtendedWidth, a: u64) -> u64
     }
 }
 
-/// Whether a test of two numbers holds.
+/// Whether a test of two numbers holds (RFC 9669, section 4.3).
 pub fn test(test: Test, a: u64, b: u64) -> bool
     ensures { result ≡ holds Width.Bits64 test a b }
 {

@@ -4,7 +4,8 @@ ghost use Rattle.machine_spec.specs.Arithmetic.{number_of, ordered, changed_numb
 use crate::{bits32, bits64, order};
 use machine_spec::{ByteOrder, Change, ExtendedWidth, Operation, SwappedWidth, Test, Width};
 
-/// An operation on two numbers.
+/// An operation on two numbers (RFC 9669, section 4.1). At 32 bits it takes their low 32 bits, and
+/// the upper 32 of the result are 0.
 pub fn compute(width: Width, operation: Operation, a: u64, b: u64) -> u64
     ensures { result ≡ number_of width operation a b }
 {
@@ -42,7 +43,7 @@ fn sign_extend(width: Width, part: ExtendedWidth, a: u64) -> u64
     }
 }
 
-/// A change of one number.
+/// A change of one number (RFC 9669, sections 4.1 and 4.2).
 pub fn change(change: Change, a: u64) -> u64
     ensures { result ≡ changed_number change a }
 {
@@ -53,7 +54,7 @@ pub fn change(change: Change, a: u64) -> u64
     }
 }
 
-/// Whether a test of two numbers holds.
+/// Whether a test of two numbers holds (RFC 9669, section 4.3), at 32 bits of their low 32 bits.
 pub fn test(width: Width, test: Test, a: u64, b: u64) -> bool
     ensures { result ≡ holds width test a b }
 {

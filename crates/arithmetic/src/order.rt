@@ -5,7 +5,7 @@ ghost use Rattle.machine_spec.specs.Arithmetic.{ordered};
 use crate::low::{low_16, low_32};
 use machine_spec::{ByteOrder, SwappedWidth};
 
-/// The low bits, and 0 above them.
+/// The low 16, 32 or 64 bits, and 0 above them: a little-endian order (RFC 9669, section 4.2).
 #[inline(always)]
 pub fn keep(width: SwappedWidth, a: u64) -> u64
     ensures { result ≡ ordered ByteOrder.LittleEndian width a }
@@ -17,7 +17,8 @@ pub fn keep(width: SwappedWidth, a: u64) -> u64
     }
 }
 
-/// The low bytes in reverse order, and 0 above them.
+/// The low 2, 4 or 8 bytes in reverse order, and 0 above them: a big-endian order, and a swap (RFC
+/// 9669, section 4.2).
 #[inline(always)]
 pub fn swap(width: SwappedWidth, a: u64) -> u64
     ensures { result ≡ ordered ByteOrder.Swapped width a }

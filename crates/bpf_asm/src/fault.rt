@@ -66,7 +66,7 @@ fn first_fault(one: LineFault, other: LineFault) -> LineFault
     }
 }
 
-/// Two readings of a line, or the fault that is reported for the line.
+/// Two readings of a line: both results, or the fault that is reported for the line.
 pub fn both<A: Copy, B: Copy>(
     one: Result<A, LineFault>,
     other: Result<B, LineFault>,

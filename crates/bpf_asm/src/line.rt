@@ -76,7 +76,7 @@ fn first(text: &[u8]) -> (&[u8], Option<&[u8]>)
     }
 }
 
-/// The operand, where there is one and no other.
+/// The operand of the rest of a line, if there is exactly one.
 pub fn one(rest: Option<&[u8]>) -> Option<&[u8]>
     ensures { option_map (λ r. r.now) result ≡ definitions.single (operands_in (option_map (λ r. r.now) rest.entry)) }
 {
@@ -87,7 +87,7 @@ pub fn one(rest: Option<&[u8]>) -> Option<&[u8]>
     }
 }
 
-/// The operands, where there are two.
+/// The operands of the rest of a line, if there are exactly two.
 pub fn two(rest: Option<&[u8]>) -> Option<(&[u8], &[u8])>
     ensures { option_map (λ r. (r.0.now, r.1.now)) result ≡ definitions.pair (operands_in (option_map (λ r. r.now) rest.entry)) }
 {
@@ -97,7 +97,7 @@ pub fn two(rest: Option<&[u8]>) -> Option<(&[u8], &[u8])>
     Some((operand, second))
 }
 
-/// The operands, where there are three.
+/// The operands of the rest of a line, if there are exactly three.
 pub fn three(rest: Option<&[u8]>) -> Option<(&[u8], &[u8], &[u8])>
     ensures { option_map (λ r. (r.0.now, r.1.now, r.2.now)) result ≡ definitions.triple (operands_in (option_map (λ r. r.now) rest.entry)) }
 {

@@ -56,7 +56,7 @@ fn value(digits: &[u8]) -> u128
     number
 }
 
-/// The number that a text spells without a sign, if it spells one.
+/// The number that a text spells without a sign, if it spells one; one past 2^64 counts as 2^64.
 pub fn natural(text: &[u8]) -> Option<u128>
     ensures is { result ≡ definitions.natural text.now }
     ensures is_small { IfSome result (λ n. n ≤ 2 ^ 64) }
@@ -88,7 +88,8 @@ fn negative(number: Option<u128>) -> Option<i128>
     }
 }
 
-/// The number that a text spells, if it spells one.
+/// The number that a text spells, with `-` where it is below 0, if it spells one; one past 2^64 in
+/// size counts as 2^64.
 pub fn number(text: &[u8]) -> Option<i128>
     ensures { result ≡ definitions.written_number text.now }
 {
@@ -99,7 +100,8 @@ pub fn number(text: &[u8]) -> Option<i128>
     }
 }
 
-/// The distance that a text spells, if it spells one; it has a sign.
+/// The distance that a text spells, with `+` or `-`, if it spells one; one past 2^64 in size counts
+/// as 2^64.
 pub fn distance(text: &[u8]) -> Option<i128>
     ensures { result ≡ definitions.distance_of text.now }
 {

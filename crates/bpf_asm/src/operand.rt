@@ -21,7 +21,8 @@ fn register_named(number: Option<u128>) -> Result<u8, LineFault>
     }
 }
 
-/// The register that a text names.
+/// The register that a text names. It fails as `Operand` where the text isn't `r` and digits, as
+/// `Register` where it is none of r0 to r10.
 pub fn register(text: &[u8]) -> Result<u8, LineFault>
     ensures is { result ≡ definitions.read_register text.now }
     ensures is_register { IfOk result (λ r. r ≤ 10) }
@@ -44,7 +45,8 @@ fn ranged(low: i128, high: i128, number: Option<i128>) -> Result<i128, LineFault
     }
 }
 
-/// The signed number of 32 bits that a text spells.
+/// The signed number of 32 bits that a text spells. It fails as `Operand` where it spells no
+/// number, as `Number` where that is out of range.
 pub fn immediate(text: &[u8]) -> Result<i32, LineFault>
     ensures { result ≡ definitions.read_immediate text.now }
 {
@@ -52,7 +54,7 @@ pub fn immediate(text: &[u8]) -> Result<i32, LineFault>
     Ok(number as i32)
 }
 
-/// The number of 64 bits that a text spells.
+/// The unsigned number of 64 bits that a text spells. It fails as `immediate` does.
 pub fn wide(text: &[u8]) -> Result<u64, LineFault>
     ensures { result ≡ definitions.read_wide text.now }
 {
@@ -60,7 +62,7 @@ pub fn wide(text: &[u8]) -> Result<u64, LineFault>
     Ok(number as u64)
 }
 
-/// The distance of 16 bits that a text spells.
+/// The distance of 16 bits that a text spells, with its sign. It fails as `immediate` does.
 pub fn short(text: &[u8]) -> Result<i16, LineFault>
     ensures { result ≡ definitions.read_short text.now }
 {
@@ -68,7 +70,7 @@ pub fn short(text: &[u8]) -> Result<i16, LineFault>
     Ok(distance as i16)
 }
 
-/// The distance of 32 bits that a text spells.
+/// The distance of 32 bits that a text spells, with its sign. It fails as `immediate` does.
 pub fn long(text: &[u8]) -> Result<i32, LineFault>
     ensures { result ≡ definitions.read_long text.now }
 {
@@ -76,7 +78,8 @@ pub fn long(text: &[u8]) -> Result<i32, LineFault>
     Ok(distance as i32)
 }
 
-/// The register or the number that a text spells.
+/// The register or the immediate that a text spells: a register where it begins with `r`. It fails
+/// as `register` or `immediate` does.
 pub fn source(text: &[u8]) -> Result<Source, LineFault>
     ensures { result ≡ definitions.read_source text.now }
 {
@@ -114,7 +117,8 @@ fn between(text: &[u8]) -> Result<(u8, i16), LineFault>
     both(register(base), short(offset))
 }
 
-/// The register and the distance that a text has in brackets.
+/// The base register and the offset in bytes that a text has in brackets. It fails with the first
+/// fault of the two, or as `Operand` where it has no brackets.
 pub fn place(text: &[u8]) -> Result<(u8, i16), LineFault>
     ensures { result ≡ definitions.read_place text.now }
 {
@@ -124,14 +128,15 @@ pub fn place(text: &[u8]) -> Result<(u8, i16), LineFault>
     between(&text[1..text.len() - 1])
 }
 
-/// Appends the text of a register.
+/// Appends the text of a register. It fails only where memory runs out; the text may then end
+/// within it.
 pub fn push_register(text: &mut String, register: u8) -> Result<(), AllocError>
     ensures { OnOk result (string_bytes text.new ≡ string_bytes text.old ++ definitions.register_text register) }
 {
     write!(text, "r{register}")
 }
 
-/// Appends the text of a distance.
+/// Appends the text of a distance. It fails as `push_register` does.
 pub fn push_distance(text: &mut String, distance: i32) -> Result<(), AllocError>
     ensures { OnOk result (string_bytes text.new ≡ string_bytes text.old ++ distance_text distance) }
 {
@@ -142,7 +147,7 @@ pub fn push_distance(text: &mut String, distance: i32) -> Result<(), AllocError>
     }
 }
 
-/// Appends the text of a register or a number.
+/// Appends the text of a register or an immediate. It fails as `push_register` does.
 pub fn push_source(text: &mut String, source: Source) -> Result<(), AllocError>
     ensures { OnOk result (string_bytes text.new ≡ string_bytes text.old ++ definitions.source_text source) }
 {
@@ -152,7 +157,7 @@ pub fn push_source(text: &mut String, source: Source) -> Result<(), AllocError>
     }
 }
 
-/// Appends the text of a place in memory.
+/// Appends the text of a place in memory. It fails as `push_register` does.
 pub fn push_place(text: &mut String, base: u8, offset: i16) -> Result<(), AllocError>
     ensures { OnOk result (string_bytes text.new ≡ string_bytes text.old ++ definitions.place_text base offset) }
 {

@@ -295,7 +295,8 @@ fn first_named(word: &[u8], forms: &[Instruction]) -> Option<Instruction>
     None
 }
 
-/// The instruction that has a word, with 0 in its fields.
+/// The instruction that has a word, with 0 in its fields; where a second operand may be an
+/// immediate or a register, with an immediate.
 #[tactic(auto, unfolding(crate::specs::Words::form_named))]
 pub fn form_named(word: &[u8]) -> Option<Instruction>
     ensures { result ≡ definitions.form_named word.now }

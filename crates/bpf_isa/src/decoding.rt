@@ -90,8 +90,9 @@ fn read_code(alloc: Global, image: &[u8]) -> Result<Code, IsaFault>
     Ok(Code { placed, numbers })
 }
 
-/// The code of an image, or why it has none: the size first, then the first slot that holds no
-/// instruction of the profile.
+/// The code of an image (RFC 9669, section 3). It fails with the first refusal: of the size, then
+/// of the lowest slot that holds no instruction of the profile; or as `Memory` where memory runs
+/// out.
 #[tactic(auto, unfolding(machine_spec::specs::Image::read_image))]
 pub fn decode(alloc: Global, image: &[u8]) -> Result<Code, IsaFault>
     // What it answers is what the image reads as, unless memory runs out.

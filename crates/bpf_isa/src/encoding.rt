@@ -188,7 +188,8 @@ fn put_second(out: &mut Vec<u8>, upper: Option<u32>) -> Result<(), AllocError>
     }
 }
 
-/// Appends the bytes of an instruction. It fails only where memory runs out.
+/// Appends the bytes of an instruction: 8, of a 64-bit immediate 16. It fails only where memory
+/// runs out; some of the bytes may then be there.
 #[tactic(auto, unfolding(crate::specs::Spelling::spelling))]
 pub fn put(out: &mut Vec<u8>, instruction: Instruction) -> Result<(), AllocError>
     requires { HasRegisters instruction }
@@ -201,7 +202,7 @@ pub fn put(out: &mut Vec<u8>, instruction: Instruction) -> Result<(), AllocError
     Ok(())
 }
 
-/// The image that has this code.
+/// The one image that has this code. It fails only where memory runs out.
 pub fn encode(alloc: Global, code: &Code) -> Result<Vec<u8>, AllocError>
     // The code is the image's.
     ensures is_code { IfOk result (λ v. IsCodeOf v.items code.now) }

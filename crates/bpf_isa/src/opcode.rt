@@ -185,7 +185,8 @@ fn is_other_kind(fields: SlotFields) -> bool
     (fields.opcode == 0x18 || fields.opcode == 0x85) && fields.src != 0
 }
 
-/// The profile's instruction with the opcode of some fields, with 0 in its own.
+/// The profile's instruction with the opcode of some fields, with 0 in its own; the first where an
+/// opcode has several.
 #[tactic(auto, unfolding(machine_spec::specs::Opcodes::template_of))]
 pub fn template_of(fields: SlotFields) -> Option<Instruction>
     ensures { result ≡ definitions.template_of (view fields) }

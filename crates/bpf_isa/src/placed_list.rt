@@ -25,7 +25,7 @@ impl Model for PlacedList {
 }
 
 impl PlacedList {
-    /// No instructions, with room for a number of them.
+    /// No instructions, with room for a number of them. It fails only where memory runs out.
     pub fn with_capacity(alloc: Global, capacity: usize) -> Result<PlacedList, AllocError>
         ensures { IfOk result (λ p. p ≡ []) }
     {
@@ -53,7 +53,8 @@ impl PlacedList {
         }
     }
 
-    /// Appends an instruction.
+    /// Appends an instruction. It fails only where memory runs out; no contract says what the list
+    /// is then.
     pub fn push(&mut self, placed: Placed) -> Result<(), AllocError>
         requires { placed.slot < MAX_SLOTS }
         ensures { OnOk result (self.new ≡ self.old ++ placed ∷ []) }

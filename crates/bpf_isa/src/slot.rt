@@ -115,7 +115,8 @@ fn accepted(
     if_filled(slot, fields, form::filled(template, fields))
 }
 
-/// The instruction at a slot, or why there is none.
+/// The instruction at a slot, or the slot's refusal, the first of opcode, registers, unused fields
+/// and second slot.
 #[tactic(auto, unfolding(machine_spec::specs::Image::read_slot, machine_spec::specs::Image::read_fields))]
 pub fn read(image: &[u8], slot: usize) -> Result<Instruction, IsaFault>
     requires { slot < slot_count image.now }

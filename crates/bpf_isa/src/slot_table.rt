@@ -35,7 +35,7 @@ fn number_in(number: u16) -> Option<usize>
 }
 
 impl SlotTable {
-    /// A table of no slots, with room for a number of them.
+    /// A table of no slots, with room for a number of them. It fails only where memory runs out.
     pub fn with_capacity(alloc: Global, capacity: usize) -> Result<SlotTable, AllocError>
         ensures { IfOk result (λ t. t ≡ []) }
     {
@@ -51,7 +51,8 @@ impl SlotTable {
         self.numbers.len()
     }
 
-    /// The number of the instruction that begins at a slot, if one does.
+    /// The number of the instruction that begins at a slot; none where none does, or the table has
+    /// no such slot.
     pub fn get(&self, slot: usize) -> Option<usize>
         ensures { result ≡ option_and_then (λ number. number) (slice_get self.now slot) }
     {
@@ -61,7 +62,8 @@ impl SlotTable {
         }
     }
 
-    /// Appends the next slot.
+    /// Appends the next slot, with the number of the instruction that begins there, if one does. It
+    /// fails only where memory runs out.
     pub fn push(&mut self, number: Option<u16>) -> Result<(), AllocError>
         requires { IfSome number (λ n. n < MAX_SLOTS) }
         ensures { OnOk result (self.new ≡ self.old ++ number ∷ []) }

@@ -45,7 +45,7 @@ fn entry_registers(run: &Run) -> [Tagged; REGISTERS]
 }
 
 impl Machine {
-    /// The state at the entry of a run.
+    /// The state at the entry of a run. It fails only where memory runs out.
     pub fn new(run: &Run) -> Result<Machine, AllocError>
         ensures { IfOk result (λ m. state_of m ≡ entry (input_of run.now)) }
     {

@@ -34,6 +34,7 @@ pub struct Span {
     pub size: u64,
 }
 
+/// The offset of an address plus that of an instruction, in bytes.
 pub fn start_of(at: i128, offset: i16) -> i128
     requires { unsigned_abs at < 2 ^ 126 }
     ensures { result ≡ at +ℤ offset }
@@ -41,7 +42,7 @@ pub fn start_of(at: i128, offset: i16) -> i128
     at + offset as i128
 }
 
-/// The bytes at an offset from a base.
+/// The bytes of a load or a store at an offset from a base, none where the base is no address.
 pub fn span_at(direction: Direction, base: Tagged, offset: i16, size: Size) -> Option<Span>
     requires { IsNear (value_of base) }
     ensures { access_in result ≡ access_at direction (value_of base) offset size }
@@ -58,7 +59,8 @@ pub fn span_at(direction: Direction, base: Tagged, offset: i16, size: Size) -> O
     }
 }
 
-/// The bytes that an instruction reads or writes.
+/// The bytes that an instruction reads or writes, none where it has no memory operand or its base
+/// is no address.
 pub fn span_of(memory: Option<MemoryOperand>, registers: &[Tagged; REGISTERS]) -> Option<Span>
     requires { (r : ℕ) → IsNear (registers_of registers.now r) }
     ensures { access_in result ≡ access_of memory (registers_of registers.now) }
@@ -69,7 +71,7 @@ pub fn span_of(memory: Option<MemoryOperand>, registers: &[Tagged; REGISTERS]) -
     }
 }
 
-/// The bytes that an address and a length name, if they are one.
+/// The bytes that an address and a length name, none where they are no address and no number.
 pub fn named(direction: Direction, address: Tagged, count: Tagged) -> Option<Span>
     ensures { access_in result ≡ named direction (value_of address) (value_of count) }
 {
@@ -171,7 +173,8 @@ impl<'a> Run<'a> {
         Ok(bytes)
     }
 
-    /// The bytes that an address and a length name.
+    /// The bytes that an address and a length name; none where they are no address and no number.
+    /// It fails only where memory runs out.
     pub fn bytes_named(
         &self,
         stack: &Stack,
@@ -243,7 +246,9 @@ impl<'a> Run<'a> {
         }
     }
 
-    /// What a load from the bytes at an offset from a base gives.
+    /// The number that a load reads at an offset from a base, extended to 64 bits; `Nothing` where
+    /// the base is no address. A byte that isn't there counts as 0, which happens in a state with a
+    /// trap alone.
     pub fn loaded(
         &self,
         stack: &Stack,

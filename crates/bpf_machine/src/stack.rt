@@ -48,7 +48,7 @@ fn set(stack: &mut [Option<u8>], start: usize, bytes: &[u8])
 }
 
 impl Stack {
-    /// A stack of which no byte is set.
+    /// A stack of which no byte is set. It fails only where memory runs out.
     pub fn new(alloc: Global) -> Result<Stack, AllocError>
         ensures { IfOk result (λ stack. (place : ℕ) → stack_of stack place ≡ None) }
     {
@@ -56,7 +56,7 @@ impl Stack {
         Ok(Stack { bytes })
     }
 
-    /// The byte at a place, if it is set.
+    /// The byte at a place, from 0; none where it is not set or past the stack's end.
     pub fn get(&self, place: u128) -> Option<u8>
         ensures { result ≡ stack_of self.now place }
     {
@@ -67,7 +67,7 @@ impl Stack {
         }
     }
 
-    /// Sets bytes from a place on.
+    /// Sets bytes from a place on, which end within the stack.
     pub fn write(&mut self, start: usize, bytes: &[u8])
         requires { start + length bytes.now ≤ STACK_SIZE }
         ensures { (place : ℕ) → stack_of self.new place ≡ written (stack_of self.old) start bytes.now place }

@@ -15,6 +15,7 @@ pub enum Tagged {
     Address(Region, i128),
 }
 
+/// Whether it is nothing.
 pub fn is_nothing(value: Tagged) -> bool
     ensures { result ≡ values.is_nothing (value_of value) }
 {
@@ -25,6 +26,7 @@ pub fn is_nothing(value: Tagged) -> bool
     }
 }
 
+/// Whether it is a number.
 pub fn is_number(value: Tagged) -> bool
     ensures { result ≡ values.is_number (value_of value) }
 {
@@ -35,6 +37,7 @@ pub fn is_number(value: Tagged) -> bool
     }
 }
 
+/// Whether it is an address.
 pub fn is_address(value: Tagged) -> bool
     ensures { result ≡ values.is_address (value_of value) }
 {
@@ -45,7 +48,7 @@ pub fn is_address(value: Tagged) -> bool
     }
 }
 
-/// The number in a register that has one.
+/// The number; 0 of another value.
 pub fn number_held(value: Tagged) -> u64
     ensures { result ≡ number_held (value_of value) }
 {
@@ -56,7 +59,8 @@ pub fn number_held(value: Tagged) -> u64
     }
 }
 
-/// What a move of a width moves.
+/// What a move leaves in its destination: at 64 bits the value, at 32 the low half of a number and
+/// `Nothing` of another value.
 pub fn moved(width: Width, value: Tagged) -> Tagged
     ensures { value_of result ≡ values.moved width (value_of value) }
 {
@@ -122,7 +126,7 @@ fn computed_number(width: Width, operation: Operation, first: u64, second: Tagge
     }
 }
 
-/// The result of an operation on two values.
+/// The result of an operation on two values; `Nothing` where it does not take them.
 pub fn computed(width: Width, operation: Operation, first: Tagged, second: Tagged) -> Tagged
     requires { IsNear (value_of first) }
     ensures { value_of result ≡ values.result_of width operation (value_of first) (value_of second) }
@@ -134,7 +138,8 @@ pub fn computed(width: Width, operation: Operation, first: Tagged, second: Tagge
     }
 }
 
-/// Whether an operation takes two values.
+/// Whether an operation takes two values: numbers, or, of a 64-bit addition or subtraction, an
+/// address and a number.
 pub fn can_compute(width: Width, operation: Operation, first: Tagged, second: Tagged) -> bool
     ensures { result ≡ values.can_compute width operation (value_of first) (value_of second) }
 {
@@ -145,7 +150,7 @@ pub fn can_compute(width: Width, operation: Operation, first: Tagged, second: Ta
     }
 }
 
-/// The change of a number.
+/// The change of a number; `Nothing` of another value.
 pub fn changed(by: Change, value: Tagged) -> Tagged
     ensures { value_of result ≡ values.changed by (value_of value) }
 {
@@ -156,7 +161,7 @@ pub fn changed(by: Change, value: Tagged) -> Tagged
     }
 }
 
-/// Whether the test of a jump holds of two numbers.
+/// Whether the test of a jump holds of two numbers; it holds of no other values.
 pub fn is_taken(width: Width, by: Test, first: Tagged, second: Tagged) -> bool
     ensures { result ≡ values.is_taken width by (value_of first) (value_of second) }
 {

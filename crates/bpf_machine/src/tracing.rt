@@ -85,10 +85,9 @@ impl Machine {
     }
 }
 
-/// Runs a program on a record, whatever bytes its image has. Answers what the run ends with, and how
-/// many instructions were done, an exit among them. It fails only where memory runs out.
-///
-/// A run ends in one way, so that this is what it ends with.
+/// Runs a program on a record, whatever bytes its image has. Returns what the run ends with, an
+/// outcome or the trap of its last state, and how many instructions were done, an exit among them.
+/// It fails only where memory runs out.
 pub fn trace(
     alloc: Global,
     image: &[u8],

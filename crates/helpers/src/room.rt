@@ -9,8 +9,8 @@ fn has_part(bytes: &[u8], at: u64, count: usize) -> bool
     at as u128 + count as u128 <= bytes.len() as u128
 }
 
-/// Copies the part of a key or a value that begins at a place and is as long as the room, and answers
-/// 0. Where there is no such part it fills the room with zeros and answers 1.
+/// Copies the part of a key or a value that begins at a place and is as long as the room, and
+/// returns 0. Where there is no such part it fills the room with zeros and returns 1.
 pub fn load_part(bytes: &[u8], at: u64, room: &mut [u8]) -> u64
     ensures answer { result ≡ (if has_part bytes.now at (length room.old) then 0 else 1) }
     ensures room { room.new ≡ part_of bytes.now at (length room.old) }

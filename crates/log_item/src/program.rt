@@ -31,8 +31,8 @@ impl Model for Program {
 }
 
 impl Program {
-    /// The program of an image that decodes to code with an annotation. Another one is refused, and
-    /// so is any where memory runs out.
+    /// The program of an image that decodes to code with an annotation. It fails with the image's
+    /// first refusal, or with a memory fault where memory runs out.
     pub fn new(alloc: Global, image: &Bytes) -> Result<Program, LoadFault>
         ensures { ProgramIs image.now result }
     {
