@@ -36,7 +36,7 @@ impl Model for Feed {
 }
 
 impl Feed {
-    /// With no bytes of a stream.
+    /// The start of a stream, with no bytes.
     pub fn new(alloc: Global) -> Feed
         ensures { result ≡ Open [] }
     {
@@ -66,9 +66,9 @@ impl Feed {
         self.ready.len() + self.next.len()
     }
 
-    /// Takes a piece of the stream: the bytes after those that were fed before. Its bytes are copied
-    /// once, and those of a batch that goes on in a later piece once more. A stream that a fault
-    /// ended keeps none. An `Err` changes nothing.
+    /// Takes a piece of the stream: the bytes after those that were fed before. Its bytes are
+    /// copied once, and those of a batch that goes on in a later piece once more. A stream that a
+    /// fault ended keeps none. It fails only where memory runs out; an `Err` changes nothing.
     pub fn feed(&mut self, piece: &[u8]) -> Result<(), AllocError>
         ensures ok { OnOk result (self.new ≡ with_piece self.old piece.now) }
         ensures err { OnErr result (self.new ≡ self.old) }

@@ -53,7 +53,8 @@ pub fn i64_at(bytes: &[u8], at: usize) -> i64
     u64_at(bytes, at).cast_signed()
 }
 
-/// Writes a signed number of 16 bits at the end, its highest byte first.
+/// Writes a signed number of 16 bits at the end, its highest byte first. It fails only where memory
+/// runs out; no contract says what is written then.
 pub fn put_i16(out: &mut Vec<u8>, number: i16) -> Result<(), AllocError>
     ensures { OnOk result (out.new.items ≡ out.old.items ++ signed w16 number) }
 {
@@ -62,7 +63,8 @@ pub fn put_i16(out: &mut Vec<u8>, number: i16) -> Result<(), AllocError>
     out.extend_from_slice(&bytes)
 }
 
-/// Writes a number of 32 bits at the end, its highest byte first.
+/// Writes a number of 32 bits at the end, its highest byte first. It fails only where memory runs
+/// out; no contract says what is written then.
 pub fn put_u32(out: &mut Vec<u8>, number: u32) -> Result<(), AllocError>
     ensures { OnOk result (out.new.items ≡ out.old.items ++ to_be_bytes w32 number) }
 {
@@ -71,7 +73,8 @@ pub fn put_u32(out: &mut Vec<u8>, number: u32) -> Result<(), AllocError>
     out.extend_from_slice(&bytes)
 }
 
-/// Writes a signed number of 32 bits at the end, its highest byte first.
+/// Writes a signed number of 32 bits at the end, its highest byte first. It fails only where memory
+/// runs out; no contract says what is written then.
 pub fn put_i32(out: &mut Vec<u8>, number: i32) -> Result<(), AllocError>
     ensures { OnOk result (out.new.items ≡ out.old.items ++ signed w32 number) }
 {
@@ -80,7 +83,8 @@ pub fn put_i32(out: &mut Vec<u8>, number: i32) -> Result<(), AllocError>
     out.extend_from_slice(&bytes)
 }
 
-/// Writes a signed number of 64 bits at the end, its highest byte first.
+/// Writes a signed number of 64 bits at the end, its highest byte first. It fails only where memory
+/// runs out; no contract says what is written then.
 pub fn put_i64(out: &mut Vec<u8>, number: i64) -> Result<(), AllocError>
     ensures { OnOk result (out.new.items ≡ out.old.items ++ signed w64 number) }
 {

@@ -30,7 +30,8 @@ fn records_fit(records: &[Record]) -> bool
     true
 }
 
-/// How many bytes the record of this place takes in a batch.
+/// How many bytes the record with this place in its batch takes; the place, from 0, is its offset
+/// delta.
 pub fn record_len(record: &Record, place: usize) -> usize
     requires place { place < 10000 }
     requires fits { RecordFits «record».now }
@@ -40,7 +41,7 @@ pub fn record_len(record: &Record, place: usize) -> usize
     kafka_record::size(record, place as i32)
 }
 
-/// How many bytes the records take, one after the other.
+/// How many bytes the records of a batch take, one after the other.
 pub fn records_len(records: &[Record]) -> usize
     requires few { length records.now ≤ 10000 }
     requires fit { All RecordFits records.now }

@@ -185,9 +185,10 @@ fn batch_of(alloc: Global, mut bytes: Bytes) -> Result<(Batch, usize), BatchFaul
     Ok((batch, size))
 }
 
-/// The batch at the front of the bytes, and how many of them it takes, at least 61. Its keys,
-/// values and headers share the bytes. It fails with the first reason why no batch is there, in the
-/// order that `BatchFault` gives, or with `Memory` at the first request for memory that is refused.
+/// The batch at the front of the bytes (Kafka's message format, magic 2: "Record Batch"), and how
+/// many of them it takes, at least 61. Its keys, values and headers share the bytes. It fails with
+/// the first reason why no batch is there, in the order that `BatchFault` gives, or with `Memory`
+/// at the first request for memory that is refused.
 pub fn decode(alloc: Global, bytes: Bytes) -> Result<(Batch, usize), BatchFault>
     // What is read is spelled so.
     ensures found { IfOk result (λ x. BatchFits x.0 × (x.1 ≤ length bytes) × (take x.1 bytes ≡ batch_spelling x.0)) }

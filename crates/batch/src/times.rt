@@ -19,7 +19,7 @@ pub fn is_same(time: i64, other: i64) -> bool
     time == other
 }
 
-/// The base timestamp.
+/// The field baseTimestamp, in milliseconds.
 pub fn base_of(batch: &Batch) -> i64
     ensures { result ≡ «batch».now.base_timestamp }
 {
@@ -34,7 +34,8 @@ fn timestamp_of(base: i64, delta: i64) -> Option<i64>
     if is_timestamp(time) { Some(time) } else { None }
 }
 
-/// The greatest timestamp of the records, or `None` where one of them is out of range.
+/// The greatest timestamp of the records in milliseconds, 0 of none, or `None` where one of them is
+/// out of range. A record's is `base` plus its delta.
 pub fn latest(base: i64, records: &[Record]) -> Option<i64>
     ensures { result ≡ latest_of base records.now }
 {

@@ -101,7 +101,8 @@ fn seal(out: &mut [u8])
     BigEndian::write_u32(&mut out[CRC..], crc);
 }
 
-/// The one spelling of a batch that `fits`. It fails only where memory runs out.
+/// The one spelling of a batch that `fits` (Kafka's message format, magic 2: "Record Batch"). It
+/// fails only where memory runs out.
 pub fn encode(alloc: Global, batch: &Batch) -> Result<Vec<u8>, AllocError>
     requires { BatchFits «batch».now }
     ensures { IfOk result (λ v. v.items ≡ batch_spelling «batch».now) }

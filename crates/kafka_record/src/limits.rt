@@ -16,7 +16,7 @@ fn is_within(part: &Option<Bytes>, limit: usize) -> bool
     }
 }
 
-/// Whether the bytes are UTF-8.
+/// Whether the bytes are UTF-8, as the key of a header is.
 pub fn is_text(bytes: &[u8]) -> bool
     ensures text { IsTrue result ↔ IsUtf8 bytes.now }
     ensures test { result ≡ is_utf8 bytes.now }

@@ -48,7 +48,7 @@ fn headers_len(headers: &[Header]) -> usize
     len
 }
 
-/// How many bytes follow a record's length.
+/// How many bytes follow the length of the record with this offset delta: what the length says.
 pub fn body_len(record: &Record, delta: i32) -> usize
     requires { RecordFits «record».now }
     ensures size { result ≡ length (record_body delta «record».now) }
@@ -64,7 +64,7 @@ pub fn body_len(record: &Record, delta: i32) -> usize
     1 + timestamp + offset + (key + value) + count + headers
 }
 
-/// How many bytes the record with this offset delta takes.
+/// How many bytes the record with this offset delta takes, its length among them.
 pub fn size(record: &Record, delta: i32) -> usize
     requires { RecordFits «record».now }
     ensures size { result ≡ length (record_spelling delta «record».now) }

@@ -107,7 +107,8 @@ fn put_record(record: &Record, delta: i32, out: &mut Vec<u8>) -> Result<(), Allo
     put_body(record, delta, out)
 }
 
-/// Writes the record with this offset delta at the end. An `Err` leaves the bytes as they were.
+/// Writes the record with this offset delta at the end (Kafka's message format, magic 2: "Record").
+/// It fails only where memory runs out; an `Err` leaves the bytes as they were.
 pub fn write(record: &Record, delta: i32, out: &mut Vec<u8>) -> Result<(), AllocError>
     requires { RecordFits «record».now }
     ensures ok { OnOk result (out.new.items ≡ out.old.items ++ record_spelling delta «record».now) }

@@ -36,7 +36,9 @@ fn record_of(alloc: Global, base: u64, row: &Row) -> Result<Record, AllocError>
     })
 }
 
-/// The records of the first rows, as many as one batch has room for.
+/// The records of the first rows, as many as one batch has room for; a record's timestamp delta is
+/// the row's timestamp minus `base`. Their parts share their bytes with the rows. It fails only
+/// where memory runs out.
 pub fn first_records(alloc: Global, base: u64, rows: &[Row]) -> Result<Records, AllocError>
     requires base { base < TIMESTAMP_END }
     requires few { length rows.now ≤ 10000 }

@@ -11,9 +11,9 @@ use log_spec::Row;
 use std::alloc::{AllocError, Global};
 use wire_spec::Batch;
 
-/// The batch of the first rows, as many as it has room for. The first row has this place, which is
-/// the batch's base offset. The rows' parts share their bytes with the records. It fails only where
-/// memory runs out.
+/// The batch of the first rows, at least one and as many as it has room for. The first row has this
+/// place, which is the batch's base offset. The rows' parts share their bytes with the records. It
+/// fails only where memory runs out.
 pub fn first_batch(alloc: Global, place: usize, rows: &[Row]) -> Result<Batch, AllocError>
     requires place { place < 2 ^ 63 }
     requires some { 0 < length rows.now }

@@ -65,7 +65,8 @@ fn zigzag_of(value: i64) -> u64
     }
 }
 
-/// Writes the varint of a number at the end, in 1 to 5 bytes. An `Err` leaves the bytes as they were.
+/// Writes the varint of a number at the end, in 1 to 5 bytes. It fails only where memory runs out;
+/// an `Err` leaves the bytes as they were.
 #[tactic(auto, unfolding(wire_spec::specs::Varint::varint))]
 #[inline(always)]
 pub fn write32(value: i32, out: &mut Vec<u8>) -> Result<(), AllocError>
@@ -75,7 +76,8 @@ pub fn write32(value: i32, out: &mut Vec<u8>) -> Result<(), AllocError>
     write_groups(zigzag_of(value as i64), out)
 }
 
-/// Writes the varlong of a number at the end, in 1 to 10 bytes. An `Err` leaves the bytes as they were.
+/// Writes the varlong of a number at the end, in 1 to 10 bytes. It fails only where memory runs
+/// out; an `Err` leaves the bytes as they were.
 #[tactic(auto, unfolding(wire_spec::specs::Varint::varlong))]
 pub fn write64(value: i64, out: &mut Vec<u8>) -> Result<(), AllocError>
     ensures ok { OnOk result (out.new.items ≡ out.old.items ++ varlong value) }
