@@ -16,6 +16,9 @@ impl<Id: Names, C> Broker<Id, C> {
     /// Deploys a name's newest version to an input partition: its mark is appended to the log, and
     /// the records after it go through that program. Returns the mark's receipt and the version. It
     /// is the newest that the finder finds: under the name of `known` that version or a later one.
+    /// It fails with the first that holds: `Partition`, there is no such partition; `Catalogue`,
+    /// the finder gets no table or memory; `NoProgram`, it finds none; `Log`, the log refuses the
+    /// mark.
     pub fn deploy<R: Wait>(
         &self,
         rt: &R,

@@ -14,7 +14,8 @@ use std::sync::Wait;
 
 impl<Id: Names, W: Wait + Drop> Broker<Id, Catalogue<W>> {
     /// Loads an image under a name. Returns the name's version, from 1, and what is then known of
-    /// it. What a load does to the catalogue is said by `Catalogue::load`.
+    /// it. It fails as `Catalogue`, with the first refusal. What a load does to the catalogue,
+    /// which is locked meanwhile, is said by `Catalogue::load`.
     pub fn load<R: Wait>(
         &self,
         rt: &R,
@@ -31,7 +32,8 @@ impl<Id: Names, W: Wait + Drop> Broker<Id, Catalogue<W>> {
         }
     }
 
-    /// A finder, which has seen no version yet.
+    /// A finder, which has returned no version yet. It fails as `Catalogue` with `NoReader`, where
+    /// 64 readers are there or none can be made.
     pub fn finder<R: Wait>(&self, rt: &R, alloc: Global) -> Result<Finder, BrokerFault>
         ensures ok { IfOk result (λ finder. finder ≡ record { versions = []; readings = record { times = 0; loads = [] } }) }
         ensures err { IfErr result IsNoReader }

@@ -58,7 +58,7 @@ fn publish_pending<R: Wait>(writer: TableWriter, rt: &R) -> (TableWriter, Result
 }
 
 impl<R: Wait + Drop> Catalogue<R> {
-    /// With no name.
+    /// A catalogue of no names, with places for 64 readers. It fails only where memory runs out.
     pub fn new(rt: R, alloc: Global) -> Result<Catalogue<R>, AllocError>
         ensures { IfOk result (λ catalogue. catalogue ≡ []) }
     {
@@ -69,8 +69,9 @@ impl<R: Wait + Drop> Catalogue<R> {
     }
 
     /// Loads an image under a name and publishes the table with it. Returns the name's version,
-    /// from 1. It waits for readers that still read the table before the published one. An `Err`
-    /// changes nothing.
+    /// from 1, and what is then known of it. It waits for readers that still read the table before
+    /// the published one. It fails with the first refusal: of the name's form, of a full table (64
+    /// other names), of versions used up, of the image; or with `Memory`. An `Err` changes nothing.
     #[tactic(auto, using(log_spec::proofs::NameLaws::long_refused))]
     pub fn load(
         &mut self,
@@ -120,7 +121,8 @@ impl<R: Wait + Drop> Catalogue<R> {
         replace_with(&mut self.writer, &self.rt, publish_pending)
     }
 
-    /// A reader, which has seen no version yet. Fails where 64 readers are there or none can be made.
+    /// A reader, which has returned no version yet. It fails as `NoReader`, where 64 readers are
+    /// there or none can be made.
     pub fn reader(&self, alloc: Global) -> Result<Finder, CatFault>
         ensures ok { IfOk result (λ finder. finder ≡ record { versions = []; readings = record { times = 0; loads = [] } }) }
         ensures err { IfErr result (λ fault. fault ≡ NoReader) }

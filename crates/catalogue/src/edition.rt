@@ -23,6 +23,7 @@ impl Model for Edition {
 }
 
 impl Edition {
+    /// The first owner of a table. It fails only where memory runs out.
     pub fn new(alloc: Global, table: Versions) -> Result<Edition, AllocError>
         ensures { IfOk result (λ edition. edition ≡ table) }
     {
@@ -30,13 +31,14 @@ impl Edition {
         Ok(Edition { table })
     }
 
+    /// The table.
     pub fn table(&self) -> &Versions
         ensures { result.now ≡ self.now }
     {
         &self.table
     }
 
-    /// Another owner of the table.
+    /// Another owner of the table. It fails only where the table has no room for one more owner.
     pub fn again(&self) -> Result<Edition, AllocError>
         ensures { IfOk result (λ edition. edition ≡ self.now) }
     {

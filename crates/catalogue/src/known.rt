@@ -37,18 +37,21 @@ impl Known {
         }
     }
 
+    /// The name that it was loaded under.
     pub fn name(&self) -> &Name
         ensures { result.now ≡ self.now.name }
     {
         &self.name
     }
 
+    /// The number of the version, from 1.
     pub fn version(&self) -> u32
         ensures { result ≡ self.now.number }
     {
         self.version
     }
 
+    /// The program that was loaded.
     pub fn program(&self) -> &Arc<Program>
         ensures { arc_value result.now ≡ self.now.program }
     {

@@ -64,7 +64,7 @@ fn again(alloc: Global, list: &[Known]) -> Result<Vec<Known>, AllocError>
 }
 
 impl Versions {
-    /// Of no name.
+    /// The versions of no name.
     pub fn new(alloc: Global) -> Versions
         ensures { result ≡ [] }
     {
@@ -80,7 +80,7 @@ impl Versions {
         self.list.len()
     }
 
-    /// The version of a name with its program, if there is one.
+    /// The number of a name's version, from 1, with its program, if there is one.
     pub fn get(&self, name: &Name) -> Option<(u32, &Arc<Program>)>
         ensures { option_map (λ found. (found.0, arc_value found.1.now)) result ≡ among self.now name.now }
     {
@@ -94,7 +94,8 @@ impl Versions {
         }
     }
 
-    /// Puts a version in the place of the one of its name, or at the end. An `Err` changes nothing.
+    /// Puts a version in the place of the one of its name, or at the end. It fails only where
+    /// memory runs out; an `Err` changes nothing.
     pub fn put(&mut self, known: Known) -> Result<(), AllocError>
         ensures ok { OnOk result (self.new ≡ with_version self.old known) }
         ensures err { OnErr result (self.new ≡ self.old) }
@@ -102,7 +103,7 @@ impl Versions {
         put(&mut self.list, known)
     }
 
-    /// The same versions with this one put in.
+    /// The same versions with this one put in. It fails only where memory runs out.
     pub fn with(&self, alloc: Global, known: Known) -> Result<Versions, AllocError>
         ensures { IfOk result (λ next. next ≡ with_version self.now known) }
     {

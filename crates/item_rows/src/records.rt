@@ -91,7 +91,7 @@ fn push_record(
     }
 }
 
-/// A record's timestamp in milliseconds.
+/// A record's timestamp in milliseconds: its batch's base timestamp plus its delta.
 pub fn timestamp(batch: &Batch, given: &Record) -> u64
     requires from { pos 0 ≤ℤ timestamp_of batch.now given.now }
     requires to { timestamp_of batch.now given.now <ℤ pos TIMESTAMP_END }

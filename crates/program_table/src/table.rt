@@ -164,7 +164,7 @@ fn add_entry(
 }
 
 impl Table {
-    /// With no name.
+    /// The table of no names.
     pub fn new(alloc: Global) -> Table
         ensures { result ≡ [] }
     {
@@ -173,8 +173,9 @@ impl Table {
         }
     }
 
-    /// Loads an image under a name, and answers the name's version, from 1. An `Err` changes
-    /// nothing.
+    /// Loads an image under a name, and returns the name's version, from 1. It fails with the first
+    /// refusal: of the name's form, of a full table (64 other names), of versions used up, of the
+    /// image; or with `Memory`. An `Err` changes nothing.
     pub fn load(&mut self, alloc: Global, name: &Name, image: &Bytes) -> Result<u32, Refusal>
         ensures { LoadsInto self.old name.now (program_of image.now) result self.new }
     {
@@ -187,7 +188,7 @@ impl Table {
         }
     }
 
-    /// The program that was loaded as a version of a name, if one was.
+    /// The program that was loaded as a version of a name, from 1, if one was.
     pub fn version(&self, name: &Name, version: u32) -> Option<&Arc<Program>>
         ensures { option_map (λ program. arc_value program.now) result ≡ program_named self.now name.now version }
     {

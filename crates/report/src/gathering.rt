@@ -13,9 +13,9 @@ use part_log::{Names, Trail};
 use std::alloc::{AllocError, Global};
 use std::sync::Wait;
 
-/// What the books of a broker hold, and what became of the records of the items that are done in all
-/// of them. The books are locked one after the other. No book is changed. It fails where memory runs
-/// out, or a book that is found under a lock is of another output partition.
+/// What the books of a broker hold, and what became of the records of the items that are done in
+/// all of them. The books are locked one after the other, and none is changed. It fails as
+/// `Memory`, or as `Book` where a book that is found under a lock is of another output partition.
 pub fn gather<Id: Names, C, R: Wait>(
     rt: &R,
     alloc: Global,

@@ -25,6 +25,7 @@ fn pair(high: u8, low: u8) -> Option<u8>
 }
 
 /// The bytes that pairs of lower-case hex digits spell, or `None` where the text is anything else.
+/// It fails only where memory runs out.
 pub fn decoded(alloc: Global, text: &[u8]) -> Result<Option<Vec<u8>>, AllocError>
     ensures { IfOk result (λ bytes. option_map (λ v. v.items) bytes ≡ hex_bytes text.now) }
 {
@@ -47,7 +48,7 @@ fn shared(bytes: Vec<u8>) -> Result<Bytes, AllocError>
     Ok(Bytes::from_vec(bytes)?)
 }
 
-/// The bytes that pairs of lower-case hex digits spell, to be shared.
+/// The bytes that pairs of lower-case hex digits spell, to be shared; else as `decoded`.
 pub fn hex(alloc: Global, text: &[u8]) -> Result<Option<Bytes>, AllocError>
     ensures { IfOk result (λ bytes. bytes ≡ hex_bytes text.now) }
 {
@@ -57,7 +58,8 @@ pub fn hex(alloc: Global, text: &[u8]) -> Result<Option<Bytes>, AllocError>
     }
 }
 
-/// The bytes that a word spells: `-` is null, `.` is no bytes, and others are hex pairs.
+/// The bytes that a word spells: `-` is null, `.` is no bytes, and others are hex pairs; or `None`
+/// where it spells none. It fails only where memory runs out.
 pub fn bytes_word(alloc: Global, word: &str) -> Result<Option<Option<Bytes>>, AllocError>
     ensures { IfOk result (λ bytes. bytes ≡ spelled_bytes word.now) }
 {

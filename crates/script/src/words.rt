@@ -7,13 +7,15 @@ ghost use Rattle.script.specs.Words.{words_of, is_number, decimal_of, texts, wor
 
 use std::alloc::{AllocError, Global};
 
-/// The words of a line: its pieces between single spaces.
+/// The words of a line: its pieces between single spaces, of which some may be empty. It fails only
+/// where memory runs out.
 pub fn words(alloc: Global, line: &str) -> Result<Vec<&str>, AllocError>
     ensures { IfOk result (λ words. texts words.items ≡ words_of line.now) }
 {
     line.split(' ').collect(alloc)
 }
 
+/// The word with this number, from 0.
 pub fn word<'a>(words: &[&'a str], place: usize) -> &'a str
     requires { place < length words.now }
     ensures { result.now ≡ word_at (texts words.now) place }
@@ -42,7 +44,8 @@ fn is_number(word: &[u8]) -> bool
     word.len() == 1 || word[0] != b'0'
 }
 
-/// The whole number that a word spells; one past 2^64 - 1 counts as 2^64 - 1.
+/// The whole number that a word spells in decimal digits, if it spells one; one past 2^64 - 1
+/// counts as 2^64 - 1.
 pub fn number(word: &str) -> Option<u64>
     ensures { result ≡ decimal_of word.now }
 {
@@ -52,6 +55,7 @@ pub fn number(word: &str) -> Option<u64>
     Some(word.parse::<u64>().unwrap_or(u64::MAX))
 }
 
+/// The whole number that the word with this number, from 0, spells, if it spells one.
 pub fn number_at(words: &[&str], place: usize) -> Option<u64>
     requires { place < length words.now }
     ensures { result ≡ decimal_of (word_at (texts words.now) place) }

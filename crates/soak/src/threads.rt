@@ -17,16 +17,22 @@ use std::sync::atomic::{AtomicU64, Ordering};
 use std::thread;
 use std::thread::Threads;
 
+/// How many input partitions the broker has.
 pub const INPUTS: usize = 4;
 
+/// How many output partitions the broker has.
 pub const OUTPUTS: usize = 64;
 
+/// How many cells each log has.
 pub const CELLS: usize = 65_536;
 
+/// How many threads append records.
 pub const PRODUCERS: usize = 8;
 
+/// How many threads load and deploy programs.
 pub const DEPLOYERS: usize = 2;
 
+/// How many threads append records and wait for their rows.
 pub const AUDITORS: usize = 2;
 
 /// All threads but those of workers and the one that starts them.
