@@ -2,7 +2,8 @@
 //!
 //! A program is made of pieces that mostly load: arithmetic, loads behind a test of the length,
 //! stores with loads of what they wrote, jumps over a piece, bytes of the value with a jump on them,
-//! 64-bit immediates and calls, some of which emit bytes of the record or the stack by address, or copy a part of the record to the stack.
+//! 64-bit immediates and calls, some of which emit bytes of the record or the stack by address, or
+//! copy a part of the record to the stack.
 
 ghost use Rattle.std.specs.Prelude.{◌<◌};
 
