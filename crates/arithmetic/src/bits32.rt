@@ -85,7 +85,7 @@ pub fn right_shift(a: u64, b: u64) -> u64
     (low_32(a) >> (low_32(b) % 32)) as u64
 }
 
-/// The remainder, or the low 32 bits of `a` of a division by 0.
+/// The remainder. Of a division by 0 it is the low 32 bits of `a`.
 #[inline(always)]
 pub fn remainder(a: u64, b: u64) -> u64
     ensures { result ≡ number_of Width.Bits32 Operation.Mod a b }
@@ -98,8 +98,8 @@ pub fn remainder(a: u64, b: u64) -> u64
     }
 }
 
-/// The remainder with the sign of `a`, or the low 32 bits of `a` of a division by 0. That of the
-/// least number by -1 is 0.
+/// The remainder with the sign of `a`. Of a division by 0 it is the low 32 bits of `a`, and of one
+/// of the least number by -1 it is 0.
 #[inline(always)]
 pub fn signed_remainder(a: u64, b: u64) -> u64
     ensures { result ≡ number_of Width.Bits32 Operation.SignedMod a b }

@@ -83,7 +83,7 @@ pub fn right_shift(a: u64, b: u64) -> u64
     a >> (b % 64)
 }
 
-/// The remainder, or `a` of a division by 0.
+/// The remainder. Of a division by 0 it is `a`.
 #[inline(always)]
 pub fn remainder(a: u64, b: u64) -> u64
     ensures { result ≡ number_of Width.Bits64 Operation.Mod a b }
@@ -91,8 +91,8 @@ pub fn remainder(a: u64, b: u64) -> u64
     if b == 0 { a } else { a % b }
 }
 
-/// The remainder with the sign of `a`, or `a` of a division by 0. That of the least number by -1 is
-/// 0.
+/// The remainder with the sign of `a`. Of a division by 0 it is `a`, and of one of the least number
+/// by -1 it is 0.
 #[inline(always)]
 pub fn signed_remainder(a: u64, b: u64) -> u64
     ensures { result ≡ number_of Width.Bits64 Operation.SignedMod a b }

@@ -34,10 +34,10 @@ pub fn first_batch(alloc: Global, place: usize, rows: &[Row]) -> Result<Batch, A
 }
 
 /// The bytes of a record batch of the rows from a place on: as many as are there, at most `max` and
-/// 10,000, with which the batch has at most 1,048,576 bytes. None where no row has that place, or `max` is
-/// 0. The batch's base offset is the place, and its base timestamp the first row's. The rows' bytes are
-/// copied once, and the time does not depend on the rows before the place. It fails only where memory
-/// runs out.
+/// 10,000, with which the batch has at most 1,048,576 bytes. None where no row has that place, or
+/// where `max` is 0. The batch's base offset is the place, and its base timestamp the first row's.
+/// The rows' bytes are copied once, and the time does not depend on the rows before the place. It
+/// fails only where memory runs out.
 pub fn row_batch(
     alloc: Global,
     rows: &[Row],
