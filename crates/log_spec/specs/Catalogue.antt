@@ -52,7 +52,7 @@ abbrev pub among : LiveTable → List ℕ → Option (ℕ × Program)
 among [] name = None
 among (version ∷ table) name = if bytes_eq version.name name then Some (version.number, version.program) else among table name
 
--- how many versions a name has, by its version in a live table
+-- how many versions a name has, by its version in a live table; 0 where it has none
 abbrev pub count_of : Option (ℕ × Program) → ℕ
 count_of None = 0
 count_of (Some found) = found.0

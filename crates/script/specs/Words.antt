@@ -10,7 +10,7 @@ use denote.Ref.{Bor}
 abbrev pub words_of : List ℕ → List (List ℕ)
 words_of line = slice_split (λ b. b == 32) line
 
--- word k of a line, from 0
+-- word k of a line, from 0; empty where there is none
 abbrev pub word_at : List (List ℕ) → ℕ → List ℕ
 word_at words k = slice_index_or words k []
 
