@@ -3,7 +3,7 @@
 
     tools/graph_test.py [--klog KLOG]
 
-Without KLOG a stand-in prints what klog would, as docs/commands.md says, from the second implementation in tools/compare.py. Where
+Without KLOG a stand-in prints what klog would, as docs/commands.md says, from the second implementation in tools/second_machine.py. Where
 Graphviz is installed it reads each graph.
 """
 import argparse
@@ -15,7 +15,7 @@ import subprocess
 import sys
 import tempfile
 
-from compare import LIMIT, Refused, decode, edges, entry, joined, shape_fault, state_fault
+from second_machine import LIMIT, Refused, decode, edges, entry, joined, shape_fault, state_fault
 from compare_texts import assembled, disassembled
 from image_test import assembled as laid_out, some_program
 

@@ -7,7 +7,7 @@ Random programs whose jumps lead forward, of every form of instruction that klog
 put in and blocks that nothing reaches, and packed into objects; the images made of these run as the programs, on random records.
 Programs with a loop and objects that are damaged are refused. Then each example in C is compiled by each compiler that is here, at
 each level and for each version of the machine. What the verifier says of them is said by the second implementation in
-tools/compare.py, and by the program KLOG too if it is given.
+tools/second_machine.py, and by the program KLOG too if it is given.
 """
 import argparse
 import collections
@@ -22,7 +22,8 @@ import sys
 import tempfile
 
 from bpf_object import Damaged, Lines, Object
-from compare import KNOWN, TESTS, Record, Refused as Fault, decode, run, verify
+from second_broker import Record
+from second_machine import KNOWN, TESTS, Refused as Fault, decode, run, verify
 from image import Refused, image_of
 
 TOP = os.path.dirname(os.path.dirname(os.path.abspath(__file__)))

@@ -8,7 +8,7 @@ FOLDER is examples/c/transforms, if it is not given; docs/transforms.md has what
 NAME.c is a transform as anyone would write it who has read the head of klog.h. Where it is refused, NAME_klog.c is one that is
 accepted, and its comment says why and what is changed. The comment of NAME.c has examples: a record's key and value, and what is
 emitted of it. Both are run on them. KLOG is `klog` on the path or crates/klog/out/klog, if it is not given; without any, the second
-implementation in tools/compare.py says what klog would. The status is 1 where a transform has no accepted form, or an example gives
+implementation (tools/second_machine.py) says what klog would. The status is 1 where a transform has no accepted form, or an example gives
 something else.
 """
 import argparse
@@ -79,7 +79,7 @@ def examples(path):
 class Model:
     """The second implementation."""
 
-    name = "tools/compare.py"
+    name = "tools/second_machine.py"
 
     def check(self, image):
         try:
