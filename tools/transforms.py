@@ -21,7 +21,8 @@ import subprocess
 import sys
 import tempfile
 
-from compare import Record, Refused as Fault, decode, run, verify
+from second_broker import Record
+from second_machine import Refused as Fault, decode, run, verify
 from image import Refused, image_of
 
 TOP = os.path.dirname(os.path.dirname(os.path.abspath(__file__)))
