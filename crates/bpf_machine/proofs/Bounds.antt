@@ -25,7 +25,8 @@ use Rattle.machine_spec.specs.Traps.{is_target}
 use Rattle.machine_spec.specs.Meaning.{Step, Reaches}
 use Rattle.machine_spec.proofs.Helpers.{is_helper}
 use Rattle.bpf_machine.specs.Views.{IsNear}
-use Rattle.bpf_machine.proofs.Rows.{IsFree, is_free, slot_within}
+use Rattle.machine_spec.proofs.Free.{IsFree, is_free}
+use Rattle.bpf_machine.proofs.Rows.{slot_within}
 
 -- ---- the slot
 

@@ -13,13 +13,13 @@ use Rattle.bpf_machine.specs.declared.tracing.End.TheVariants as end
 use Rattle.bpf_machine.specs.Straight.{IsWritable}
 use Rattle.bpf_machine.specs.Advances.{IsNext, IsExit}
 use Rattle.bpf_machine.specs.Ends.{EndsOnlyIn}
-use Rattle.bpf_machine.proofs.Rows.{is_free}
+use Rattle.machine_spec.proofs.Free.{is_free}
 use Rattle.bpf_machine.proofs.Bounds.{bounded}
 use Rattle.bpf_machine.proofs.Only.{ends_only}
 
 module _ (program : Program) (input : Input) (s : State) where
   pub writable : (i : Instruction) → IsNext program input s i → IsWritable (access_of (summary_of i).memory s.registers)
-  writable i next = let free = is_free program input s i next.no_trap next.form in record { record_stays = free.record_stays; in_stack = free.in_stack }
+  writable i next = let free = is_free program input s i next.no_trap next.form in record { record_stays = free.record_write; in_stack = free.stack_bounds }
 
   pub rightly : (i : Instruction) → IsNext program input s i → calls_wrongly input (summary_of i).call s ≡ false
   rightly i next = (is_free program input s i next.no_trap next.form).argument

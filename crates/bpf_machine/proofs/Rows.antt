@@ -9,17 +9,7 @@ use Rattle.machine_spec.specs.Image.{Program, slot_count, form_at}
 use Rattle.machine_spec.specs.declared.summary.Summary.{Summary}
 use Rattle.machine_spec.specs.Summaries.{summary_of}
 use Rattle.machine_spec.specs.Machine.{Input, State, access_of}
-use Rattle.machine_spec.proofs.FirstOf.{none_hold}
 use Rattle.machine_spec.specs.Traps.{calls_no_helper, writes_record, leaves_stack, calls_wrongly, jumps_wrongly, first_of, traps, trap_of, trap_at}
-
-traps_none : (program : Program) (input : Input) (s : State) (i : Instruction) → trap_at program input s ≡ None → form_at program.image s.slot ≡ Some i → first_of (traps program input (summary_of i) s) ≡ None
-unfolding trap_at
-traps_none program input s i e form = from (nat_lt s.slot (slot_count program.image)) (form_at program.image s.slot) form e
-  where
-    from : (b : Bool) (o : Option Instruction) → o ≡ Some i → (if b then trap_of program input o s else Some trap.RanOff) ≡ None → first_of (traps program input (summary_of i) s) ≡ None
-    from true (Some j) f e = subst (λ x. first_of (traps program input (summary_of x) s) ≡ None) (same_Some j i f) e
-    from true None f e = absurd (none-some i f)
-    from false o f e = absurd (none-some trap.RanOff (sym e))
 
 -- its slot lies in the image
 pub slot_within : (program : Program) (input : Input) (s : State) → trap_at program input s ≡ None → s.slot < slot_count program.image
@@ -29,25 +19,6 @@ slot_within program input s e = from (nat_lt s.slot (slot_count program.image)) 
     from : (b : Bool) → nat_lt s.slot (slot_count program.image) ≡ b → (if b then trap_of program input (form_at program.image s.slot) s else Some trap.RanOff) ≡ None → s.slot < slot_count program.image
     from true is e = ltb-true s.slot (slot_count program.image) is
     from false is e = absurd (none-some trap.RanOff (sym e))
-
--- what its instruction does is allowed
-pub record IsFree (program : Program) (input : Input) (i : Instruction) (s : State) : Type 0 where
-  pub helper : calls_no_helper program.helpers (summary_of i).call ≡ false
-  pub record_stays : writes_record (access_of (summary_of i).memory s.registers) ≡ false
-  pub in_stack : leaves_stack (access_of (summary_of i).memory s.registers) ≡ false
-  pub argument : calls_wrongly input (summary_of i).call s ≡ false
-  pub jump : jumps_wrongly program (summary_of i).condition (summary_of i).jump s ≡ false
-
-pub is_free : (program : Program) (input : Input) (s : State) (i : Instruction) → trap_at program input s ≡ None → form_at program.image s.slot ≡ Some i → IsFree program input i s
-is_free program input s i e form =
-    let none = none_hold (traps program input (summary_of i) s) (traps_none program input s i e form) in
-    record {
-      helper = none.1.0;
-      record_stays = none.1.1.1.1.1.1.0;
-      in_stack = none.1.1.1.1.1.1.1.1.0;
-      argument = none.1.1.1.1.1.1.1.1.1.1.0;
-      jump = none.1.1.1.1.1.1.1.1.1.1.1.1.0;
-    }
 
 -- ---- the trap of a state, from its slot on
 

@@ -1,6 +1,7 @@
 pub mod Readings
 pub mod ReadParts
 pub mod FirstOf
+pub mod Free
 pub mod Emitted
 pub mod Helpers
 pub mod Meanings
