@@ -1,24 +1,26 @@
 -- The join of two states: both are within it, and it is within each state that both are within.
-use Rattle.std.proofs.Common.{◌≡◌, ℕ, zero, suc, ◌+◌, ◌/◌, ◌%◌, ◌^◌, ◌<◌, ℤ, pos, neg_ℤ, ◌≤ℤ◌, min, max, ◌==◌, ◌&&◌, true, false, cond, bit_and, slice_index, nat_le, int_lt, int_le, List, [], ◌∷◌, length, get_or, set, refl, sym, ◌∙◌, subst, inl, inr, arith}
-use Rattle.std.specs.Int.{bit_at, int_min, int_max}
-use Rattle.std.specs.Int.Bits.{and_zero_l, and_zero_r}
+use Rattle.std.proofs.Common.{◌≡◌, ℕ, zero, suc, ◌+◌, ◌^◌, ◌<◌, ℤ, pos, neg_ℤ, ◌≤ℤ◌, min, max, ◌&&◌, true, false, cond, int_lt, int_le, List, [], ◌∷◌, length, get_or, set, refl, sym, ◌∙◌, subst, inl, inr, arith}
+use Rattle.std.specs.Int.{int_min, int_max}
 use Rattle.std.specs.List.{list_all}
-use Rattle.std.proofs.lemmas.Bool.{and_parts, and_from, cond-true, cond-false, leb-true, le-leb, ltb-true, lt-ltb, eqb-true, eq-eqb, cases_Bool, cases_eq, false≢true}
+use Rattle.std.proofs.lemmas.Bool.{and_parts, and_from, cond-true, cond-false, leb-true, le-leb, ltb-true, lt-ltb, cases_Bool, cases_eq, false≢true}
 use Rattle.std.proofs.lemmas.Int.{ints}
 use Rattle.std.proofs.lemmas.List.{get_or-set_same, get_or-set_other}
-use Rattle.std.proofs.lemmas.Nat.Bits.{bit_at_and, bit_at-lt}
+use Rattle.wire_spec.specs.declared.limits.TheConstants.{MAX_KEY, MAX_VALUE}
 use Rattle.machine_spec.specs.declared.instruction.Region.{Region}
 use Rattle.machine_spec.specs.declared.instruction.Region.TheVariants as region
 use Rattle.verifier_spec.specs.declared.state.Abs.{Abs}
 use Rattle.verifier_spec.specs.declared.state.Abs.TheVariants as abs
 use Rattle.verifier_spec.specs.declared.state.Abstract.{Abstract}
-use Rattle.verifier_spec.specs.Kinds.{is_set, kind_at, least, greatest, range_of, same_region, is_proper_kind, is_kind_within, furthest}
+use Rattle.verifier_spec.specs.Ranges.{lengths_from_to, is_range_within, joined_range}
+use Rattle.verifier_spec.specs.Kinds.{kind_at, length_range, range_of, same_region, is_proper_kind, is_kind_within, furthest}
 use Rattle.verifier_spec.specs.States.{is_proper, is_within}
-use Rattle.verifier_spec.specs.Joins.{joined_ranges, joined_kind, pairwise, joined, IsLeastAbove}
-use Rattle.verifier_spec.proofs.Order.{within_parts, within_from, region_is}
-use Rattle.verifier_spec.proofs.Proper.{proper_parts, proper_from, lengths_order}
+use Rattle.verifier_spec.specs.Joins.{joined_numbers, joined_kind, pairwise, joined, IsLeastAbove}
+use Rattle.verifier_spec.proofs.Order.{narrower_from, within_parts, within_from, region_is}
+use Rattle.verifier_spec.proofs.Proper.{proper_parts, proper_from, length_range_order, length_range_limit}
+use Rattle.verifier_spec.proofs.Ranges.{range_refl, range_trans, range_left, range_right, range_least, joined_range_proper}
+use Rattle.verifier_spec.proofs.StackSets.{in_both, in_intersection}
 use Rattle.verifier_spec.proofs.Whole.{le_z-true, le-le_z, le_trans_z}
-use Rattle.verifier_spec.proofs.Wider.{narrower, kind_within_narrower}
+use Rattle.verifier_spec.proofs.Wider.{kind_within_narrower}
 
 -- ---- the lesser and the greater of two whole numbers
 
@@ -67,9 +69,9 @@ region_trans a b c h k = subst (λ x. same_region a x ≡ true) (region_is b c k
 
 -- ---- the order is reflexive and transitive
 
-kind_within_refl : (a : Abstract) (k : Abs) → is_kind_within a k k ≡ true
+pub kind_within_refl : (a : Abstract) (k : Abs) → is_kind_within a k k ≡ true
 kind_within_refl a abs.None = refl
-kind_within_refl a (abs.Num lo hi) = and_from _ _ (le-leb lo lo (omega arith)) (le-leb hi hi (omega arith))
+kind_within_refl a (abs.Num lo hi) = range_refl (lengths_from_to lo hi)
 kind_within_refl a (abs.Len at) = region_refl at
 kind_within_refl a (abs.Addr at lo hi) =
     and_from _ _ (region_refl at) (and_from _ _ (le-le_z lo lo (omega (arith, ints))) (le-le_z hi hi (omega (arith, ints))))
@@ -77,10 +79,7 @@ kind_within_refl a (abs.Addr at lo hi) =
 pub within_refl : (a : Abstract) → is_within a a ≡ true
 within_refl a = within_from a a (record {
   kinds = λ r low. kind_within_refl a (kind_at a r);
-  key_min = omega arith;
-  key_max = omega arith;
-  value_min = omega arith;
-  value_max = omega arith;
+  lengths = λ at. range_refl (length_range a at);
   set = λ place low e. e;
 })
 
@@ -97,21 +96,9 @@ kind_within_trans a j (abs.Addr q l m) (abs.Num lo hi) h g = absurd (false≢tru
 kind_within_trans a j (abs.Addr q l m) (abs.Len at) h g = absurd (false≢true g)
 kind_within_trans a abs.None (abs.Num l m) (abs.Num lo hi) h g = absurd (false≢true h)
 kind_within_trans a (abs.Num x y) (abs.Num l m) (abs.Num lo hi) h g =
-    let p = and_parts _ _ h in
-    let q = and_parts _ _ g in
-    let from = leb-true l x p.0 in
-    let to = leb-true y m p.1 in
-    let low = leb-true lo l q.0 in
-    let high = leb-true m hi q.1 in
-    and_from _ _ (le-leb lo x (omega arith)) (le-leb y hi (omega arith))
+    range_trans (lengths_from_to x y) (lengths_from_to l m) (lengths_from_to lo hi) h g
 kind_within_trans a (abs.Len x) (abs.Num l m) (abs.Num lo hi) h g =
-    let p = and_parts _ _ h in
-    let q = and_parts _ _ g in
-    let from = leb-true l (least a x) p.0 in
-    let to = leb-true (greatest a x) m p.1 in
-    let low = leb-true lo l q.0 in
-    let high = leb-true m hi q.1 in
-    and_from _ _ (le-leb lo (least a x) (omega arith)) (le-leb (greatest a x) hi (omega arith))
+    range_trans (length_range a x) (lengths_from_to l m) (lengths_from_to lo hi) h g
 kind_within_trans a (abs.Addr x y z) (abs.Num l m) (abs.Num lo hi) h g = absurd (false≢true h)
 kind_within_trans a abs.None (abs.Len q) (abs.Num lo hi) h g = absurd (false≢true h)
 kind_within_trans a (abs.Num x y) (abs.Len q) (abs.Num lo hi) h g = absurd (false≢true h)
@@ -139,11 +126,8 @@ within_trans a b c h g =
     let w = within_parts b c g in
     within_from a c (record {
       kinds = λ r low. kind_within_trans a (kind_at a r) (kind_at b r) (kind_at c r) (v.kinds r low)
-          (kind_within_narrower b a (kind_at b r) (kind_at c r) (narrower a b v) (w.kinds r low));
-      key_min = omega (arith, v.key_min, w.key_min);
-      key_max = omega (arith, v.key_max, w.key_max);
-      value_min = omega (arith, v.value_min, w.value_min);
-      value_max = omega (arith, v.value_max, w.value_max);
+          (kind_within_narrower b a (kind_at b r) (kind_at c r) v.lengths (w.kinds r low));
+      lengths = λ at. range_trans (length_range a at) (length_range b at) (length_range c at) (v.lengths at) (w.lengths at);
       set = λ place low e. v.set place low (w.set place low e);
     })
 
@@ -200,42 +184,19 @@ unknown_left a b k = refl
 pub kind_joined : (a b : Abstract) (r : ℕ) → kind_at (joined a b) r ≡ joined_kind a b (kind_at a r) (kind_at b r)
 kind_joined a b r = pairwise_at (joined_kind a b) abs.None (unknown_right a b) (unknown_left a b) a.registers b.registers r
 
--- an interval that contains another, and one within both parts of an interval
-hull_left : (x y low high : ℕ) → (nat_le (min x low) x && nat_le y (max y high)) ≡ true
-hull_left x y low high = and_from _ _ (le-leb (min x low) x (omega arith)) (le-leb y (max y high) (omega arith))
-
-hull_right : (x y low high : ℕ) → (nat_le (min x low) low && nat_le high (max y high)) ≡ true
-hull_right x y low high = and_from _ _ (le-leb (min x low) low (omega arith)) (le-leb high (max y high) (omega arith))
-
-hull_least : (lo hi x y low high : ℕ) → (nat_le lo x && nat_le y hi) ≡ true → (nat_le lo low && nat_le high hi) ≡ true
-    → (nat_le lo (min x low) && nat_le (max y high) hi) ≡ true
-hull_least lo hi x y low high h g =
-    let p = and_parts _ _ h in
-    let q = and_parts _ _ g in
-    let one = leb-true lo x p.0 in
-    let two = leb-true y hi p.1 in
-    let three = leb-true lo low q.0 in
-    let four = leb-true high hi q.1 in
-    and_from _ _ (le-leb lo (min x low) (omega arith)) (le-leb (max y high) hi (omega arith))
-
-least_joined : (a b : Abstract) (at : Region) → least (joined a b) at ≡ min (least a at) (least b at)
-least_joined a b region.Stack = refl
-least_joined a b region.Key = refl
-least_joined a b region.Value = refl
-
-greatest_joined : (a b : Abstract) (at : Region) → greatest (joined a b) at ≡ max (greatest a at) (greatest b at)
-greatest_joined a b region.Stack = refl
-greatest_joined a b region.Key = refl
-greatest_joined a b region.Value = refl
+length_range_joined : (a b : Abstract) (at : Region) → length_range (joined a b) at ≡ joined_range (length_range a at) (length_range b at)
+length_range_joined a b region.Stack = refl
+length_range_joined a b region.Key = refl
+length_range_joined a b region.Value = refl
 
 module _ (a b : Abstract) where
   lengths_left : (at other : Region) → is_kind_within a (abs.Len at) (joined_kind a b (abs.Len at) (abs.Len other)) ≡ true
   lengths_left at other =
-      let other_ranges = joined_ranges (range_of a (abs.Len at)) (range_of b (abs.Len other)) in
+      let other_ranges = joined_numbers (range_of a (abs.Len at)) (range_of b (abs.Len other)) in
       let P : Abs → Type 0 = λ k. is_kind_within a (abs.Len at) k ≡ true in
       elim (same_region at other) as (λ same. P (cond same (abs.Len at) other_ranges)) [
         | true ↦ region_refl at
-        | false ↦ hull_left (least a at) (greatest a at) (least b other) (greatest b other)
+        | false ↦ range_left (length_range a at) (length_range b other)
       ]
 
   addresses_left : (at other : Region) (lo hi low high : ℤ) → is_kind_within a (abs.Addr at lo hi) (joined_kind a b (abs.Addr at lo hi) (abs.Addr other low high)) ≡ true
@@ -249,11 +210,11 @@ module _ (a b : Abstract) where
   pub kind_left : (j k : Abs) → is_kind_within a j (joined_kind a b j k) ≡ true
   kind_left abs.None k = refl
   kind_left (abs.Num x y) abs.None = refl
-  kind_left (abs.Num x y) (abs.Num lo hi) = hull_left x y lo hi
-  kind_left (abs.Num x y) (abs.Len at) = hull_left x y (least b at) (greatest b at)
+  kind_left (abs.Num x y) (abs.Num lo hi) = range_left (lengths_from_to x y) (lengths_from_to lo hi)
+  kind_left (abs.Num x y) (abs.Len at) = range_left (lengths_from_to x y) (length_range b at)
   kind_left (abs.Num x y) (abs.Addr at lo hi) = refl
   kind_left (abs.Len at) abs.None = refl
-  kind_left (abs.Len at) (abs.Num lo hi) = hull_left (least a at) (greatest a at) lo hi
+  kind_left (abs.Len at) (abs.Num lo hi) = range_left (length_range a at) (lengths_from_to lo hi)
   kind_left (abs.Len at) (abs.Len other) = lengths_left at other
   kind_left (abs.Len at) (abs.Addr other lo hi) = refl
   kind_left (abs.Addr at lo hi) abs.None = refl
@@ -267,7 +228,7 @@ module _ (a b : Abstract) where
       elim (cases_Bool (same_region at other)) [
         | inl same ↦ subst P (sym (cond-true (same_region at other) _ _ same)) (region_sym at other same)
         | inr not_same ↦
-            subst P (sym (cond-false (same_region at other) _ _ not_same)) (hull_right (least a at) (greatest a at) (least b other) (greatest b other))
+            subst P (sym (cond-false (same_region at other) _ _ not_same)) (range_right (length_range a at) (length_range b other))
       ]
 
   addresses_right : (at other : Region) (lo hi low high : ℤ)
@@ -284,11 +245,11 @@ module _ (a b : Abstract) where
   pub kind_right : (j k : Abs) → is_kind_within b k (joined_kind a b j k) ≡ true
   kind_right abs.None k = refl
   kind_right (abs.Num x y) abs.None = refl
-  kind_right (abs.Num x y) (abs.Num lo hi) = hull_right x y lo hi
-  kind_right (abs.Num x y) (abs.Len at) = hull_right x y (least b at) (greatest b at)
+  kind_right (abs.Num x y) (abs.Num lo hi) = range_right (lengths_from_to x y) (lengths_from_to lo hi)
+  kind_right (abs.Num x y) (abs.Len at) = range_right (lengths_from_to x y) (length_range b at)
   kind_right (abs.Num x y) (abs.Addr at lo hi) = refl
   kind_right (abs.Len at) abs.None = refl
-  kind_right (abs.Len at) (abs.Num lo hi) = hull_right (least a at) (greatest a at) lo hi
+  kind_right (abs.Len at) (abs.Num lo hi) = range_right (length_range a at) (lengths_from_to lo hi)
   kind_right (abs.Len at) (abs.Len other) = lengths_right at other
   kind_right (abs.Len at) (abs.Addr other lo hi) = refl
   kind_right (abs.Addr at lo hi) abs.None = refl
@@ -300,7 +261,7 @@ module _ (a b : Abstract) where
   length_least : (at : Region) (lo hi : ℕ) → is_kind_within a (abs.Len at) (abs.Num lo hi) ≡ true → is_kind_within b (abs.Len at) (abs.Num lo hi) ≡ true
       → is_kind_within (joined a b) (abs.Len at) (abs.Num lo hi) ≡ true
   length_least at lo hi h g =
-      rw (least_joined a b at, greatest_joined a b at) (hull_least lo hi (least a at) (greatest a at) (least b at) (greatest b at) h g)
+      subst (λ r. is_range_within r (lengths_from_to lo hi) ≡ true) (sym (length_range_joined a b at)) (range_least (length_range a at) (length_range b at) (lengths_from_to lo hi) h g)
 
   lengths_least : (at other : Region) (lo hi : ℕ) → is_kind_within a (abs.Len at) (abs.Num lo hi) ≡ true → is_kind_within b (abs.Len other) (abs.Num lo hi) ≡ true
       → is_kind_within (joined a b) (joined_kind a b (abs.Len at) (abs.Len other)) (abs.Num lo hi) ≡ true
@@ -311,7 +272,7 @@ module _ (a b : Abstract) where
             let Q : Region → Type 0 = λ r. is_kind_within b (abs.Len r) (abs.Num lo hi) ≡ true in
             subst P (sym (cond-true (same_region at other) _ _ same)) (length_least at lo hi h (subst Q (sym (region_is at other same)) g))
         | inr not_same ↦
-            subst P (sym (cond-false (same_region at other) _ _ not_same)) (hull_least lo hi (least a at) (greatest a at) (least b other) (greatest b other) h g)
+            subst P (sym (cond-false (same_region at other) _ _ not_same)) (range_least (length_range a at) (length_range b other) (lengths_from_to lo hi) h g)
       ]
 
   -- two lengths of one region stay a length of it
@@ -341,11 +302,11 @@ module _ (a b : Abstract) where
   kind_least (abs.Addr at x y) k (abs.Num lo hi) h g = absurd (false≢true h)
   kind_least (abs.Num x y) abs.None (abs.Num lo hi) h g = absurd (false≢true g)
   kind_least (abs.Num x y) (abs.Addr at low high) (abs.Num lo hi) h g = absurd (false≢true g)
-  kind_least (abs.Num x y) (abs.Num low high) (abs.Num lo hi) h g = hull_least lo hi x y low high h g
-  kind_least (abs.Num x y) (abs.Len at) (abs.Num lo hi) h g = hull_least lo hi x y (least b at) (greatest b at) h g
+  kind_least (abs.Num x y) (abs.Num low high) (abs.Num lo hi) h g = range_least (lengths_from_to x y) (lengths_from_to low high) (lengths_from_to lo hi) h g
+  kind_least (abs.Num x y) (abs.Len at) (abs.Num lo hi) h g = range_least (lengths_from_to x y) (length_range b at) (lengths_from_to lo hi) h g
   kind_least (abs.Len at) abs.None (abs.Num lo hi) h g = absurd (false≢true g)
   kind_least (abs.Len at) (abs.Addr other low high) (abs.Num lo hi) h g = absurd (false≢true g)
-  kind_least (abs.Len at) (abs.Num low high) (abs.Num lo hi) h g = hull_least lo hi (least a at) (greatest a at) low high h g
+  kind_least (abs.Len at) (abs.Num low high) (abs.Num lo hi) h g = range_least (length_range a at) (lengths_from_to low high) (lengths_from_to lo hi) h g
   kind_least (abs.Len at) (abs.Len other) (abs.Num lo hi) h g = lengths_least at other lo hi h g
   kind_least abs.None k (abs.Len to) h g = absurd (false≢true h)
   kind_least (abs.Num x y) k (abs.Len to) h g = absurd (false≢true h)
@@ -362,56 +323,21 @@ module _ (a b : Abstract) where
   kind_least (abs.Addr at x y) (abs.Len other) (abs.Addr to lo hi) h g = absurd (false≢true g)
   kind_least (abs.Addr at x y) (abs.Addr other low high) (abs.Addr to lo hi) h g = addresses_least at other to x y low high lo hi h g
 
--- ---- the bytes that are set in both
-
-word_joined : (a b : Abstract) (w : ℕ) → slice_index (joined a b).set.words w ≡ bit_and (slice_index a.set.words w) (slice_index b.set.words w)
-word_joined a b w = pairwise_at bit_and 0 and_zero_r and_zero_l a.set.words b.set.words w
-
-both_bits : (i o k : ℕ) → (bit_at (bit_and i o) k == 1) ≡ true → ((bit_at i k == 1) ≡ true) × ((bit_at o k == 1) ≡ true)
-both_bits i o k h =
-    let both : min (bit_at i k) (bit_at o k) ≡ 1 = sym (bit_at_and i o k) ∙ eqb-true _ _ h in
-    let low = bit_at-lt i k in
-    let high = bit_at-lt o k in
-    (eq-eqb (bit_at i k) 1 (omega arith), eq-eqb (bit_at o k) 1 (omega arith))
-
-from_bits : (i o k : ℕ) → (bit_at i k == 1) ≡ true → (bit_at o k == 1) ≡ true → (bit_at (bit_and i o) k == 1) ≡ true
-from_bits i o k h g =
-    let one = eqb-true _ _ h in
-    let other = eqb-true _ _ g in
-    let both : min (bit_at i k) (bit_at o k) ≡ 1 = omega arith in
-    eq-eqb (bit_at (bit_and i o) k) 1 (bit_at_and i o k ∙ both)
-
-set_joined : (a b : Abstract) (place : ℕ) → is_set (joined a b).set place ≡ true → (is_set a.set place ≡ true) × (is_set b.set place ≡ true)
-set_joined a b place h =
-    both_bits (slice_index a.set.words (place / 64)) (slice_index b.set.words (place / 64)) (place % 64)
-    (subst (λ word. (bit_at word (place % 64) == 1) ≡ true) (word_joined a b (place / 64)) h)
-
-joined_set : (a b : Abstract) (place : ℕ) → is_set a.set place ≡ true → is_set b.set place ≡ true → is_set (joined a b).set place ≡ true
-joined_set a b place h g =
-    subst (λ word. (bit_at word (place % 64) == 1) ≡ true) (sym (word_joined a b (place / 64)))
-    (from_bits (slice_index a.set.words (place / 64)) (slice_index b.set.words (place / 64)) (place % 64) h g)
-
 -- ---- the join of two states
 
 -- both states are within their join
 pub within_joined_left : (a b : Abstract) → is_within a (joined a b) ≡ true
 within_joined_left a b = within_from a (joined a b) (record {
   kinds = λ r low. subst (λ k. is_kind_within a (kind_at a r) k ≡ true) (sym (kind_joined a b r)) (kind_left a b (kind_at a r) (kind_at b r));
-  key_min = omega arith;
-  key_max = omega arith;
-  value_min = omega arith;
-  value_max = omega arith;
-  set = λ place low e. (set_joined a b place e).0;
+  lengths = narrower_from a (joined a b) (range_left a.key b.key) (range_left a.value b.value);
+  set = λ place low e. (in_both a.set b.set place low e).0;
 })
 
 pub within_joined_right : (a b : Abstract) → is_within b (joined a b) ≡ true
 within_joined_right a b = within_from b (joined a b) (record {
   kinds = λ r low. subst (λ k. is_kind_within b (kind_at b r) k ≡ true) (sym (kind_joined a b r)) (kind_right a b (kind_at a r) (kind_at b r));
-  key_min = omega arith;
-  key_max = omega arith;
-  value_min = omega arith;
-  value_max = omega arith;
-  set = λ place low e. (set_joined a b place e).1;
+  lengths = narrower_from b (joined a b) (range_right a.key b.key) (range_right a.value b.value);
+  set = λ place low e. (in_both a.set b.set place low e).1;
 })
 
 -- the join is within each state that both are within
@@ -423,11 +349,9 @@ joined_least a b c h g =
       kinds = λ r low.
           subst (λ k. is_kind_within (joined a b) k (kind_at c r) ≡ true) (sym (kind_joined a b r))
           (kind_least a b (kind_at a r) (kind_at b r) (kind_at c r) (v.kinds r low) (w.kinds r low));
-      key_min = omega (arith, v.key_min, w.key_min);
-      key_max = omega (arith, v.key_max, w.key_max);
-      value_min = omega (arith, v.value_min, w.value_min);
-      value_max = omega (arith, v.value_max, w.value_max);
-      set = λ place low e. joined_set a b place (v.set place low e) (w.set place low e);
+      lengths = narrower_from (joined a b) c (range_least a.key b.key c.key (v.lengths region.Key) (w.lengths region.Key))
+          (range_least a.value b.value c.value (v.lengths region.Value) (w.lengths region.Value));
+      set = λ place low e. in_intersection a.set b.set place low (v.set place low e) (w.set place low e);
     })
 
 -- ---- the join of two states in their ranges is in its ranges
@@ -443,19 +367,11 @@ hull_proper x y low high h g =
     let four = ltb-true high (2 ^ 64) q.1 in
     and_from _ _ (le-leb (min x low) (max y high) (omega arith)) (lt-ltb (max y high) (2 ^ 64) (omega arith))
 
-greatest_limited : (a : Abstract) (at : Region) → is_proper a ≡ true → greatest a at < 2 ^ 64
-greatest_limited a region.Stack h = omega arith
-greatest_limited a region.Key h =
-    let limited = (proper_parts a h).key_limited in
-    omega arith
-greatest_limited a region.Value h =
-    let limited = (proper_parts a h).value_limited in
-    omega arith
-
 -- the view of a length is an interval in its range
-view_proper : (a : Abstract) (at : Region) → is_proper a ≡ true → is_proper_kind (abs.Num (least a at) (greatest a at)) ≡ true
+view_proper : (a : Abstract) (at : Region) → is_proper a ≡ true → is_proper_kind (abs.Num (length_range a at).min (length_range a at).max) ≡ true
 view_proper a at h =
-    and_from _ _ (le-leb (least a at) (greatest a at) (lengths_order a at h)) (lt-ltb (greatest a at) (2 ^ 64) (greatest_limited a at h))
+    let limit = length_range_limit a at h in
+    and_from _ _ (le-leb _ _ (length_range_order a at h)) (lt-ltb _ _ (omega arith))
 
 addresses_proper : (at other : Region) (lo hi low high : ℤ) → is_proper_kind (abs.Addr at lo hi) ≡ true → is_proper_kind (abs.Addr other low high) ≡ true
     → is_proper_kind (abs.Addr at (int_min lo low) (int_max hi high)) ≡ true
@@ -477,15 +393,15 @@ module _ (a b : Abstract) (p : is_proper a ≡ true) (q : is_proper b ≡ true) 
   kind_proper abs.None k h g = refl
   kind_proper (abs.Num x y) abs.None h g = refl
   kind_proper (abs.Num x y) (abs.Num lo hi) h g = hull_proper x y lo hi h g
-  kind_proper (abs.Num x y) (abs.Len at) h g = hull_proper x y (least b at) (greatest b at) h (view_proper b at q)
+  kind_proper (abs.Num x y) (abs.Len at) h g = hull_proper x y (length_range b at).min (length_range b at).max h (view_proper b at q)
   kind_proper (abs.Num x y) (abs.Addr at lo hi) h g = refl
   kind_proper (abs.Len at) abs.None h g = refl
-  kind_proper (abs.Len at) (abs.Num lo hi) h g = hull_proper (least a at) (greatest a at) lo hi (view_proper a at p) g
+  kind_proper (abs.Len at) (abs.Num lo hi) h g = hull_proper (length_range a at).min (length_range a at).max lo hi (view_proper a at p) g
   kind_proper (abs.Len at) (abs.Len other) h g =
       let P : Abs → Type 0 = λ k. is_proper_kind k ≡ true in
-      elim (same_region at other) as (λ same. P (cond same (abs.Len at) (joined_ranges (range_of a (abs.Len at)) (range_of b (abs.Len other))))) [
+      elim (same_region at other) as (λ same. P (cond same (abs.Len at) (joined_numbers (range_of a (abs.Len at)) (range_of b (abs.Len other))))) [
         | true ↦ h
-        | false ↦ hull_proper (least a at) (greatest a at) (least b other) (greatest b other) (view_proper a at p) (view_proper b other q)
+        | false ↦ hull_proper (length_range a at).min (length_range a at).max (length_range b other).min (length_range b other).max (view_proper a at p) (view_proper b other q)
       ]
   kind_proper (abs.Len at) (abs.Addr other lo hi) h g = refl
   kind_proper (abs.Addr at lo hi) abs.None h g = refl
@@ -515,10 +431,8 @@ module _ (a b : Abstract) (p : is_proper a ≡ true) (q : is_proper b ≡ true) 
       proper_from (joined a b) (record {
         eleven = length-pairwise (joined_kind a b) a.registers b.registers ∙ eleven;
         kinds = kinds_proper a.registers b.registers u.kinds v.kinds;
-        key_order = omega (arith, u.key_order, v.key_order);
-        key_limited = omega (arith, u.key_limited, v.key_limited);
-        value_order = omega (arith, u.value_order, v.value_order);
-        value_limited = omega (arith, u.value_limited, v.value_limited);
+        key = joined_range_proper MAX_KEY a.key b.key u.key v.key;
+        value = joined_range_proper MAX_VALUE a.value b.value u.value v.value;
       })
 
 -- ---- the law of the join

@@ -2,7 +2,6 @@ pub mod Annotations
 pub mod BestAnnotation
 pub mod Edges
 pub mod Faults
-pub mod InRange
 pub mod Intervals
 pub mod Joins
 pub mod JoinedStates
@@ -12,6 +11,7 @@ pub mod Narrowing
 pub mod NarrowedRanges
 pub mod Order
 pub mod Proper
+pub mod Ranges
 pub mod RangesMonotone
 pub mod RangesProper
 pub mod RangesSound

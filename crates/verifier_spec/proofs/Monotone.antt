@@ -3,12 +3,11 @@
 use Rattle.std.proofs.Common.{◌≡◌, ◌≢◌, ℕ, zero, suc, ◌+◌, ◌-◌, ◌<◌, ◌≤◌, ℤ, pos, negsuc, ◌+ℤ◌, neg_ℤ, ◌≤ℤ◌, Bool, true, false, not, ◌==◌, List, [], ◌∷◌, length, get_or, Option, Some, None, int_le, unsigned_abs, ◌&&◌, ◌||◌, refl, sym, ap, subst, inl, inr, ⊎_elim, arith}
 use Rattle.std.specs.{Ordering.int_eq, List.list_any, List.fold}
 use Rattle.std.proofs.lemmas.Bool.Decides.{Decides-int_eq}
-use Rattle.std.proofs.lemmas.Bool.{and_parts, and_from, or_parts, or_from, eqb-false, ne_eqb, not-false, not_from_true, cases_Bool, cond-true, cond-false, le-leb, false≢true}
+use Rattle.std.proofs.lemmas.Bool.{and_parts, and_from, and_right, or_parts, or_from, eqb-false, ne_eqb, not-false, not_from_true, cases_Bool, cond-true, cond-false, false≢true}
 use Rattle.std.proofs.lemmas.Int.{ints}
 use Rattle.machine_spec.specs.declared.limits.TheConstants.{STACK_SIZE}
 use Rattle.machine_spec.specs.declared.operation.Width.TheVariants.{Bits32, Bits64}
 use Rattle.machine_spec.specs.declared.instruction.Region.{Region}
-use Rattle.machine_spec.specs.declared.instruction.Region.TheVariants as region
 use Rattle.machine_spec.specs.declared.instruction.Size.{Size}
 use Rattle.machine_spec.specs.declared.instruction.Size.TheVariants as size
 use Rattle.machine_spec.specs.declared.instruction.Extension.{Extension}
@@ -28,25 +27,29 @@ use Rattle.machine_spec.specs.declared.summary.Summary.{Summary}
 use Rattle.machine_spec.specs.Summaries.{summary_of}
 use Rattle.machine_spec.specs.Values.{byte_count}
 use Rattle.machine_spec.specs.Machine.{signature_of, helper_of}
-use Rattle.machine_spec.specs.Traps.{helper_called, arguments_of, read_registers, is_stack}
+use Rattle.machine_spec.specs.Traps.{helper_called, arguments_of, read_registers, is_read, is_stack}
 use Rattle.verifier_spec.specs.declared.interval.Interval.{Interval}
 use Rattle.verifier_spec.specs.declared.state.Abs.{Abs}
 use Rattle.verifier_spec.specs.declared.state.Abs.TheVariants as abs
 use Rattle.verifier_spec.specs.declared.state.StackSet.{StackSet}
 use Rattle.verifier_spec.specs.declared.state.Abstract.{Abstract}
-use Rattle.verifier_spec.specs.Kinds.{is_set, kind_at, least, greatest, range_of, is_unknown, is_number_kind, is_address_kind, is_proper_kind, is_kind_within, same_region}
+use Rattle.verifier_spec.specs.Intervals.{from_to}
+use Rattle.verifier_spec.specs.StackSets.{is_set}
+use Rattle.verifier_spec.specs.Ranges.{lengths_from_to, is_range_within}
+use Rattle.verifier_spec.specs.Kinds.{kind_at, length_range, range_of, is_unknown, is_number_kind, is_address_kind, is_proper_kind, is_kind_within, same_region}
 use Rattle.verifier_spec.specs.States.{is_proper, is_within}
-use Rattle.verifier_spec.specs.Checks.{source_kind, reads_unknown, has_wrong_kinds, has_wrong_base_kind, has_wrong_condition_kind, reach_at, reach_of, is_reach_within, may_write_record, may_leave_record, may_leave_stack, are_set, may_read_unset, Reach, named_reach, may_name_wrongly, may_be_wrong_room, is_whole, is_wrong_argument_kind, may_call_wrongly, may_exit_wrongly, failed_check}
+use Rattle.verifier_spec.specs.Checks.{source_kind, reads_unknown, has_wrong_kinds, has_wrong_base_kind, has_wrong_condition_kind, reach_at, reach_of, is_reach_within, may_write_record, may_leave_record, may_leave_stack, are_set, reach_length, may_read_unset, Reach, named_reach, may_name_wrongly, may_be_wrong_room, is_whole, is_wrong_argument_kind, may_call_wrongly, may_exit_wrongly, failed_check}
 use Rattle.verifier_spec.specs.Transfer.{with_stored, with_room, with_argument, with_kind, moved_kind, changed_kind, loaded_kind, answer_kind, after_call_kinds, called_kinds, jump_edge, falls_to, jumps_to}
 use Rattle.verifier_spec.specs.Annotation.{is_edge_covered}
 use Rattle.verifier_spec.specs.Soundness.{KeepsOrder}
 use Rattle.verifier_spec.proofs.Order.{IsWithin, within_parts, within_from, region_is}
-use Rattle.verifier_spec.proofs.Proper.{proper_parts, proper_kind, addr_order, source_proper}
-use Rattle.verifier_spec.proofs.Safety.{Passes, passes, failed_from, set_at, none_kept, may_name_parts, named_kinds, room_kinds, whole_parts}
+use Rattle.verifier_spec.proofs.Proper.{proper_parts, kind_at_proper, addr_order, source_proper}
+use Rattle.verifier_spec.proofs.Ranges.{range_part, range_refl}
+use Rattle.verifier_spec.proofs.Safety.{if_not_kept, if_kept, if_chosen, reach_over, Passes, passes, failed_from, set_at, none_kept, may_name_parts, named_kinds, room_kinds, whole_parts}
 use Rattle.verifier_spec.proofs.StackSets.{places_kept, places_set, places_only}
 use Rattle.verifier_spec.proofs.Tighter.{tested_within}
-use Rattle.verifier_spec.proofs.Whole.{le_z-true, le-le_z, le_trans_z, negative, gap_is}
-use Rattle.verifier_spec.proofs.Wider.{IsNarrower, narrower, other_set, kind_within_narrower, kind_within, known_within, number_within, address_within, AreAddresses, addresses_within, AreRanges, ranges_within, can_within, computed_within, changed_within, low_half_within, source_within, within_set}
+use Rattle.verifier_spec.proofs.Whole.{le_z-true, le-le_z, shift_le, le_trans_z, negative, gap_is}
+use Rattle.verifier_spec.proofs.Wider.{kind_within, known_within, number_within, address_within, AreAddresses, addresses_within, AreRanges, ranges_within, can_within, computed_within, changed_within, low_half_within, source_within, within_set}
 
 -- ---- bytes of a region
 
@@ -97,32 +100,10 @@ called_pairs P (j0 ∷ j1 ∷ j2 ∷ j3 ∷ j4 ∷ j5 ∷ js) (k0 ∷ k1 ∷ k2 
 called_pairs P (j0 ∷ j1 ∷ j2 ∷ j3 ∷ j4 ∷ j5 ∷ js) ks answer q d e h p n = absurd (omega arith)
 called_pairs P js ks answer q d e h p n = absurd (omega arith)
 
--- and the lengths of regions stay
-called_narrower : (a : Abstract) (kinds : List Abs) (set : StackSet) → IsNarrower (record a { registers = kinds; set = set }) a
-called_narrower a kinds set = record { low = low; high = high }
-  where
-    low : (at : Region) → least a at ≤ least (record a { registers = kinds; set = set }) at
-    low region.Stack = omega arith
-    low region.Key = omega arith
-    low region.Value = omega arith
-
-    high : (at : Region) → greatest (record a { registers = kinds; set = set }) at ≤ greatest a at
-    high region.Stack = omega arith
-    high region.Key = omega arith
-    high region.Value = omega arith
-
 number_kept : (c : Abstract) (low high : ℕ) → is_kind_within c (abs.Num low high) (abs.Num low high) ≡ true
-number_kept c low high = and_from _ _ (le-leb low low (omega arith)) (le-leb high high (omega arith))
+number_kept c low high = range_refl (lengths_from_to low high)
 
--- bytes that are set stay so in a store
-stored_kept : (set : StackSet) (at : Region) (low high : ℤ) (size q : ℕ) → q < 512 → is_set set q ≡ true
-    → is_set (with_stored set (Some (record { direction = direction.Write; region = at; low = low; high = high; size = size }))) q ≡ true
-stored_kept set at low high size q inside h = elim (cases_Bool (is_stack at && int_eq low high)) [
-  | inl one ↦ subst (λ s. is_set s q ≡ true) (sym (cond-true _ _ _ one)) (places_kept set (unsigned_abs low) size q inside h)
-  | inr many ↦ subst (λ s. is_set s q ≡ true) (sym (cond-false _ _ _ many)) h
-]
-
--- and in a call
+-- bytes that are set stay so in a call
 room_keeps : (set : StackSet) (at : Region) (low high : ℤ) (range : Interval) (q : ℕ) → q < 512 → is_set set q ≡ true → is_set (with_room set (abs.Addr at low high) (Some range)) q ≡ true
 room_keeps set at low high range q inside h = elim (cases_Bool (is_stack at && int_eq low high)) [
   | inl one ↦ subst (λ s. is_set s q ≡ true) (sym (cond-true _ _ _ one)) (places_kept set (unsigned_abs low) range.low q inside h)
@@ -148,21 +129,39 @@ room_set inner outer at lo hi low high part whole kept p order r more q inside h
   | inr many ↦ room_keeps inner at lo hi part q inside (kept q inside (subst (λ s. is_set s q ≡ true) (cond-false _ _ _ many) h))
 ]
 
--- room within wider room is right where that is
-room_within : (at : Region) (lo hi low high : ℤ) (part whole : Interval) → low ≤ℤ lo → hi ≤ℤ high → whole.low ≤ part.low → part.high ≤ whole.high
-    → may_be_wrong_room (Some (record { direction = direction.Write; region = at; low = low; high = high; size = whole.high })) (Some whole) ≡ false
-    → may_be_wrong_room (Some (record { direction = direction.Write; region = at; low = lo; high = hi; size = part.high })) (Some part) ≡ false
-room_within region.Stack lo hi low high part whole p q more few c =
-    let t = or_parts (whole.low == 0) (may_leave_stack (Some (record { direction = direction.Write; region = region.Stack; low = low; high = high; size = whole.high }))) c in
-    let some : whole.low ≢ 0 = eqb-false whole.low 0 t.0 in
-    or_from _ _ (ne_eqb part.low 0 (λ none. some (omega (arith, none))))
-    (not_from_true _ (reach_within direction.Write region.Stack lo hi low high part.high whole.high STACK_SIZE STACK_SIZE p q few (omega arith) (not-false _ t.1)))
-room_within region.Key lo hi low high part whole p q more few c = absurd (false≢true (sym (or_parts (whole.low == 0) true c).1))
-room_within region.Value lo hi low high part whole p q more few c = absurd (false≢true (sym (or_parts (whole.low == 0) true c).1))
+-- a reach from between the places of a wider one, and of no more bytes
+module _ (d : Direction) (at : Region) (lo hi low high : ℤ) (size most : ℕ) (p : low ≤ℤ lo) (order : lo ≤ℤ hi) (q : hi ≤ℤ high) (few : size ≤ most) where
+  record_within : (a b : Abstract) → is_range_within (length_range a at) (length_range b at) ≡ true → may_leave_record b (Some (reach_over d at low high most)) ≡ false
+      → may_leave_record a (Some (reach_over d at lo hi size)) ≡ false
+  record_within a b longer c =
+      let len = (length_range b at).min in
+      let more = (length_range a at).min in
+      if_not_kept (is_stack at) (is_reach_within (reach_over d at low high most) len) (is_reach_within (reach_over d at lo hi size) more)
+      (reach_within d at lo hi low high size most len more p q few (range_part (length_range a at) (length_range b at) longer).low) c
 
-and_false : (x y : Bool) → y ≡ false → (x && y) ≡ false
-and_false true y h = h
-and_false false y h = refl
+  stack_within : may_leave_stack (Some (reach_over d at low high most)) ≡ false → may_leave_stack (Some (reach_over d at lo hi size)) ≡ false
+  stack_within c =
+      if_kept (is_stack at) (is_reach_within (reach_over d at low high most) STACK_SIZE) (is_reach_within (reach_over d at lo hi size) STACK_SIZE)
+      (λ e. reach_within d at lo hi low high size most STACK_SIZE STACK_SIZE p q few (omega arith)) c
+
+  unset_within : (a b : Abstract) → ((place : ℕ) → place < 512 → is_set b.set place ≡ true → is_set a.set place ≡ true) → may_leave_stack (Some (reach_over d at low high most)) ≡ false
+      → may_read_unset b (Some (reach_over d at low high most)) ≡ false → may_read_unset a (Some (reach_over d at lo hi size)) ≡ false
+  unset_within a b set c u =
+      if_kept (is_read d && is_stack at) (are_set b.set (unsigned_abs low) (reach_length (reach_over d at low high most))) (are_set a.set (unsigned_abs lo) (reach_length (reach_over d at lo hi size)))
+      (λ e. let t = and_parts _ _ (if_chosen (is_stack at) (is_reach_within (reach_over d at low high most) STACK_SIZE) (and_parts (is_read d) (is_stack at) e).1 c) in
+      set_within a.set b.set lo hi low high size most set p order q few (le_z-true (pos 0) low t.0) (le_z-true (high +ℤ pos most) (pos STACK_SIZE) t.1)) u
+
+-- room within wider room is right where that is
+room_within : (at : Region) (lo hi low high : ℤ) (part whole : Interval) → low ≤ℤ lo → lo ≤ℤ hi → hi ≤ℤ high → whole.low ≤ part.low → part.high ≤ whole.high
+    → may_be_wrong_room (Some (reach_over direction.Write at low high whole.high)) (Some whole) ≡ false → may_be_wrong_room (Some (reach_over direction.Write at lo hi part.high)) (Some part) ≡ false
+room_within at lo hi low high part whole p order q more few c =
+    let outer = reach_over direction.Write at low high whole.high in
+    let inner = reach_over direction.Write at lo hi part.high in
+    let t = or_parts (whole.low == 0) (may_write_record (Some outer) || may_leave_stack (Some outer)) c in
+    let u = or_parts (may_write_record (Some outer)) (may_leave_stack (Some outer)) t.1 in
+    let some : whole.low ≢ 0 = eqb-false whole.low 0 t.0 in
+    or_from (part.low == 0) (may_write_record (Some inner) || may_leave_stack (Some inner)) (ne_eqb part.low 0 (λ none. some (omega (arith, none))))
+    (or_from (may_write_record (Some inner)) (may_leave_stack (Some inner)) u.0 (stack_within direction.Write at lo hi low high part.high whole.high p order q few u.1))
 
 may_name_from : (a : Abstract) (reach : Reach) → may_leave_record a (Some reach) ≡ false → may_leave_stack (Some reach) ≡ false → may_read_unset a (Some reach) ≡ false
     → may_name_wrongly a (Some reach) ≡ false
@@ -188,31 +187,6 @@ whole_within a (abs.Addr r lo hi) (abs.Num m n) at p h l = absurd (false≢true 
 whole_within a (abs.Addr r lo hi) (abs.Addr q low high) at p h l = absurd (false≢true l)
 
 module _ (a b : Abstract) (w : IsWithin a b) (pa : is_proper a ≡ true) (pb : is_proper b ≡ true) where
-  record_within : (d : Direction) (at : Region) (lo hi low high offset : ℤ) (size : ℕ) → low ≤ℤ lo → hi ≤ℤ high
-      → may_leave_record b (Some (record { direction = d; region = at; low = low +ℤ offset; high = high +ℤ offset; size = size })) ≡ false → may_leave_record a (Some (record { direction = d; region = at; low = lo +ℤ offset; high = hi +ℤ offset; size = size })) ≡ false
-  record_within d region.Stack lo hi low high offset size p q c = refl
-  record_within d region.Key lo hi low high offset size p q c =
-      not_from_true _ (reach_within d region.Key (lo +ℤ offset) (hi +ℤ offset) (low +ℤ offset) (high +ℤ offset) size size b.key_min a.key_min (omega (arith, ints)) (omega (arith, ints)) (omega arith) w.key_min (not-false _ c))
-  record_within d region.Value lo hi low high offset size p q c =
-      not_from_true _ (reach_within d region.Value (lo +ℤ offset) (hi +ℤ offset) (low +ℤ offset) (high +ℤ offset) size size b.value_min a.value_min (omega (arith, ints)) (omega (arith, ints)) (omega arith) w.value_min (not-false _ c))
-
-  stack_within : (d : Direction) (at : Region) (lo hi low high offset : ℤ) (size : ℕ) → low ≤ℤ lo → hi ≤ℤ high
-      → may_leave_stack (Some (record { direction = d; region = at; low = low +ℤ offset; high = high +ℤ offset; size = size })) ≡ false → may_leave_stack (Some (record { direction = d; region = at; low = lo +ℤ offset; high = hi +ℤ offset; size = size })) ≡ false
-  stack_within d region.Stack lo hi low high offset size p q c =
-      not_from_true _ (reach_within d region.Stack (lo +ℤ offset) (hi +ℤ offset) (low +ℤ offset) (high +ℤ offset) size size STACK_SIZE STACK_SIZE (omega (arith, ints)) (omega (arith, ints)) (omega arith) (omega arith) (not-false _ c))
-  stack_within d region.Key lo hi low high offset size p q c = refl
-  stack_within d region.Value lo hi low high offset size p q c = refl
-
-  unset_within : (d : Direction) (at : Region) (lo hi low high offset : ℤ) (size : ℕ) → low ≤ℤ lo → lo ≤ℤ hi → hi ≤ℤ high
-      → may_leave_stack (Some (record { direction = d; region = at; low = low +ℤ offset; high = high +ℤ offset; size = size })) ≡ false
-      → may_read_unset b (Some (record { direction = d; region = at; low = low +ℤ offset; high = high +ℤ offset; size = size })) ≡ false → may_read_unset a (Some (record { direction = d; region = at; low = lo +ℤ offset; high = hi +ℤ offset; size = size })) ≡ false
-  unset_within direction.Write at lo hi low high offset size p order q c u = refl
-  unset_within direction.Read region.Stack lo hi low high offset size p order q c u =
-      let t = and_parts _ _ (not-false _ c) in
-      not_from_true _ (set_within a.set b.set (lo +ℤ offset) (hi +ℤ offset) (low +ℤ offset) (high +ℤ offset) size size w.set (omega (arith, ints)) (omega (arith, ints)) (omega (arith, ints)) (omega arith) (le_z-true (pos 0) (low +ℤ offset) t.0) (le_z-true ((high +ℤ offset) +ℤ pos size) (pos STACK_SIZE) t.1) (not-false _ u))
-  unset_within direction.Read region.Key lo hi low high offset size p order q c u = refl
-  unset_within direction.Read region.Value lo hi low high offset size p order q c u = refl
-
   -- ---- the rows of the checks
 
   unset_kept : (m : Summary) → reads_unknown m b ≡ false → reads_unknown m a ≡ false
@@ -225,8 +199,8 @@ module _ (a b : Abstract) (w : IsWithin a b) (pa : is_proper a ≡ true) (pb : i
       not_from_true _ (number_within a (source_kind a width source) (source_kind b width source) (source_within a b width source w pb) (not-false _ c))
   operands_kept (operands.Computed width operation dst source) c =
       not_from_true _
-      (can_within a b (narrower a b w) pa pb width operation (kind_at a dst) (source_kind a width source) (source_kind b width source) (proper_kind a dst pa) (source_proper a width source pa) (source_proper b width source pb) (source_within a b width source w pb)
-      (kind_at b dst) (proper_kind b dst pb) (kind_within a b w pb dst) (not-false _ c))
+      (can_within a b w.lengths pa pb width operation (kind_at a dst) (source_kind a width source) (source_kind b width source) (kind_at_proper a dst pa) (source_proper a width source pa) (source_proper b width source pb) (source_within a b width source w pb)
+      (kind_at b dst) (kind_at_proper b dst pb) (kind_within a b w pb dst) (not-false _ c))
 
   base_kept : (memory : Option MemoryOperand) → has_wrong_base_kind memory b ≡ false → has_wrong_base_kind memory a ≡ false
   base_kept None c = refl
@@ -239,7 +213,7 @@ module _ (a b : Abstract) (w : IsWithin a b) (pa : is_proper a ≡ true) (pb : i
       not_from_true _ (and_from _ _ (number_within a (kind_at a k.dst) (kind_at b k.dst) (kind_within a b w pb k.dst) p.0) (number_within a (source_kind a k.width k.source) (source_kind b k.width k.source) (source_within a b k.width k.source w pb) p.1))
 
   bases : (base : ℕ) → is_address_kind (kind_at b base) ≡ true → AreAddresses (kind_at a base) (kind_at b base)
-  bases base is = addresses_within a (kind_at a base) (kind_at b base) (proper_kind a base pa) (kind_within a b w pb base) is
+  bases base is = addresses_within a (kind_at a base) (kind_at b base) (kind_at_proper a base pa) (kind_within a b w pb base) is
 
   record_write_kept : (memory : Option MemoryOperand) → has_wrong_base_kind memory b ≡ false → may_write_record (reach_of memory b) ≡ false → may_write_record (reach_of memory a) ≡ false
   record_write_kept None k c = refl
@@ -253,14 +227,14 @@ module _ (a b : Abstract) (w : IsWithin a b) (pa : is_proper a ≡ true) (pb : i
   record_bounds_kept (Some m) k c =
       let x = bases m.base (not-false _ k) in
       let c' : may_leave_record b (reach_at m.direction (abs.Addr x.at x.low x.high) m.offset m.size) ≡ false = rw x.outer at c in
-      rw x.inner (record_within m.direction x.at x.lo x.hi x.low x.high m.offset (byte_count m.size) x.from x.to c')
+      rw x.inner (record_within m.direction x.at (x.lo +ℤ m.offset) (x.hi +ℤ m.offset) (x.low +ℤ m.offset) (x.high +ℤ m.offset) (byte_count m.size) (byte_count m.size) (shift_le x.low x.lo m.offset x.from) (shift_le x.lo x.hi m.offset x.order) (shift_le x.hi x.high m.offset x.to) (omega arith) a b (w.lengths x.at) c')
 
   stack_bounds_kept : (memory : Option MemoryOperand) → has_wrong_base_kind memory b ≡ false → may_leave_stack (reach_of memory b) ≡ false → may_leave_stack (reach_of memory a) ≡ false
   stack_bounds_kept None k c = refl
   stack_bounds_kept (Some m) k c =
       let x = bases m.base (not-false _ k) in
       let c' : may_leave_stack (reach_at m.direction (abs.Addr x.at x.low x.high) m.offset m.size) ≡ false = rw x.outer at c in
-      rw x.inner (stack_within m.direction x.at x.lo x.hi x.low x.high m.offset (byte_count m.size) x.from x.to c')
+      rw x.inner (stack_within m.direction x.at (x.lo +ℤ m.offset) (x.hi +ℤ m.offset) (x.low +ℤ m.offset) (x.high +ℤ m.offset) (byte_count m.size) (byte_count m.size) (shift_le x.low x.lo m.offset x.from) (shift_le x.lo x.hi m.offset x.order) (shift_le x.hi x.high m.offset x.to) (omega arith) c')
 
   stack_unset_kept : (memory : Option MemoryOperand) → has_wrong_base_kind memory b ≡ false → may_leave_stack (reach_of memory b) ≡ false → may_read_unset b (reach_of memory b) ≡ false → may_read_unset a (reach_of memory a) ≡ false
   stack_unset_kept None k c u = refl
@@ -268,29 +242,19 @@ module _ (a b : Abstract) (w : IsWithin a b) (pa : is_proper a ≡ true) (pb : i
       let x = bases m.base (not-false _ k) in
       let c' : may_leave_stack (reach_at m.direction (abs.Addr x.at x.low x.high) m.offset m.size) ≡ false = rw x.outer at c in
       let u' : may_read_unset b (reach_at m.direction (abs.Addr x.at x.low x.high) m.offset m.size) ≡ false = rw x.outer at u in
-      rw x.inner (unset_within m.direction x.at x.lo x.hi x.low x.high m.offset (byte_count m.size) x.from x.order x.to c' u')
+      rw x.inner (unset_within m.direction x.at (x.lo +ℤ m.offset) (x.hi +ℤ m.offset) (x.low +ℤ m.offset) (x.high +ℤ m.offset) (byte_count m.size) (byte_count m.size) (shift_le x.low x.lo m.offset x.from) (shift_le x.lo x.hi m.offset x.order) (shift_le x.hi x.high m.offset x.to) (omega arith) a b w.set c' u')
 
   -- fewer bytes from between the same places
   reach_kept : (at : Region) (lo hi low high : ℤ) (size most : ℕ) → low ≤ℤ lo → lo ≤ℤ hi → hi ≤ℤ high → size ≤ most
       → may_name_wrongly b (Some (record { direction = direction.Read; region = at; low = low; high = high; size = most })) ≡ false
       → may_name_wrongly a (Some (record { direction = direction.Read; region = at; low = lo; high = hi; size = size })) ≡ false
-  reach_kept region.Stack lo hi low high size most p order q few c =
-      let parts = may_name_parts b (record { direction = direction.Read; region = region.Stack; low = low; high = high; size = most }) c in
-      let t = and_parts _ _ (not-false _ parts.1) in
-      may_name_from a (record { direction = direction.Read; region = region.Stack; low = lo; high = hi; size = size }) refl
-      (not_from_true _ (reach_within direction.Read region.Stack lo hi low high size most STACK_SIZE STACK_SIZE p q few (omega arith) (not-false _ parts.1)))
-      (not_from_true _ (set_within a.set b.set lo hi low high size most w.set p order q few (le_z-true (pos 0) low t.0) (le_z-true (high +ℤ pos most) (pos STACK_SIZE) t.1) (not-false _ parts.2)))
-  reach_kept region.Key lo hi low high size most p order q few c =
-      let parts = may_name_parts b (record { direction = direction.Read; region = region.Key; low = low; high = high; size = most }) c in
-      may_name_from a (record { direction = direction.Read; region = region.Key; low = lo; high = hi; size = size })
-      (not_from_true _ (reach_within direction.Read region.Key lo hi low high size most b.key_min a.key_min p q few w.key_min (not-false _ parts.0))) refl refl
-  reach_kept region.Value lo hi low high size most p order q few c =
-      let parts = may_name_parts b (record { direction = direction.Read; region = region.Value; low = low; high = high; size = most }) c in
-      may_name_from a (record { direction = direction.Read; region = region.Value; low = lo; high = hi; size = size })
-      (not_from_true _ (reach_within direction.Read region.Value lo hi low high size most b.value_min a.value_min p q few w.value_min (not-false _ parts.0))) refl refl
+  reach_kept at lo hi low high size most p order q few c =
+      let parts = may_name_parts b (reach_over direction.Read at low high most) c in
+      may_name_from a (reach_over direction.Read at lo hi size) (record_within direction.Read at lo hi low high size most p order q few a b (w.lengths at) parts.0)
+      (stack_within direction.Read at lo hi low high size most p order q few parts.1) (unset_within direction.Read at lo hi low high size most p order q few a b w.set parts.1 parts.2)
 
   number_ranges : (count : ℕ) → is_number_kind (kind_at b count) ≡ true → AreRanges a b (kind_at a count) (kind_at b count)
-  number_ranges count is = ranges_within a b (narrower a b w) pa pb (kind_at a count) (kind_at b count) (proper_kind a count pa) (proper_kind b count pb) (kind_within a b w pb count) is
+  number_ranges count is = ranges_within a b w.lengths pa pb (kind_at a count) (kind_at b count) (kind_at_proper a count pa) (kind_at_proper b count pb) (kind_within a b w pb count) is
 
   named_kept : (address count : ℕ) → may_name_wrongly b (named_reach direction.Read (kind_at b address) (range_of b (kind_at b count))) ≡ false
       → may_name_wrongly a (named_reach direction.Read (kind_at a address) (range_of a (kind_at a count))) ≡ false
@@ -307,13 +271,13 @@ module _ (a b : Abstract) (w : IsWithin a b) (pa : is_proper a ≡ true) (pb : i
       let whole = whole_parts (kind_at b address) (kind_at b count) h in
       let first : is_kind_within a (kind_at a address) (abs.Addr whole.at (pos 0) (pos 0)) ≡ true = subst (λ k. is_kind_within a (kind_at a address) k ≡ true) whole.address (kind_within a b w pb address) in
       let long : is_kind_within a (kind_at a count) (abs.Len whole.at) ≡ true = subst (λ k. is_kind_within a (kind_at a count) k ≡ true) whole.count (kind_within a b w pb count) in
-      whole_within a (kind_at a address) (kind_at a count) whole.at (proper_kind a address pa) first long
+      whole_within a (kind_at a address) (kind_at a count) whole.at (kind_at_proper a address pa) first long
 
   bytes_kept : (address count : ℕ) (whole : Bool) → is_whole (kind_at b address) (kind_at b count) ≡ whole
       → (not whole && may_name_wrongly b (named_reach direction.Read (kind_at b address) (range_of b (kind_at b count)))) ≡ false
       → (not (is_whole (kind_at a address) (kind_at a count)) && may_name_wrongly a (named_reach direction.Read (kind_at a address) (range_of a (kind_at a count)))) ≡ false
   bytes_kept address count true is c = rw (whole_kept address count is) refl
-  bytes_kept address count false is c = and_false _ _ (named_kept address count c)
+  bytes_kept address count false is c = and_right _ _ (named_kept address count c)
 
   room_kept : (address count : ℕ) → may_be_wrong_room (named_reach direction.Write (kind_at b address) (range_of b (kind_at b count))) (range_of b (kind_at b count)) ≡ false
       → may_be_wrong_room (named_reach direction.Write (kind_at a address) (range_of a (kind_at a count))) (range_of a (kind_at a count)) ≡ false
@@ -322,7 +286,7 @@ module _ (a b : Abstract) (w : IsWithin a b) (pa : is_proper a ≡ true) (pb : i
       let x = bases address kinds.0 in
       let y = number_ranges count kinds.1 in
       let c' : may_be_wrong_room (named_reach direction.Write (abs.Addr x.at x.low x.high) (Some y.outer)) (Some y.outer) ≡ false = rw (x.outer, y.outer_is) at c in
-      rw (x.inner, y.inner_is) (room_within x.at x.lo x.hi x.low x.high y.inner y.outer x.from x.to y.part.low y.part.high c')
+      rw (x.inner, y.inner_is) (room_within x.at x.lo x.hi x.low x.high y.inner y.outer x.from x.order x.to y.part.low y.part.high c')
 
   argument_kept : (x : Argument) → is_wrong_argument_kind b x ≡ false → is_wrong_argument_kind a x ≡ false
   argument_kept argument.Nothing c = refl
@@ -365,34 +329,10 @@ module _ (a b : Abstract) (w : IsWithin a b) (pa : is_proper a ≡ true) (pb : i
   loaded_kept size.Double Zero = refl
   loaded_kept size Sign = refl
 
-  -- a store sets the bytes of a narrower address where it sets those of a wider one
-  stored_set : (at : Region) (lo hi low high offset : ℤ) (size q : ℕ) → low ≤ℤ lo → lo ≤ℤ hi → hi ≤ℤ high → q < 512
-      → is_set (with_stored b.set (Some (record { direction = direction.Write; region = at; low = low +ℤ offset; high = high +ℤ offset; size = size }))) q ≡ true
-      → is_set (with_stored a.set (Some (record { direction = direction.Write; region = at; low = lo +ℤ offset; high = hi +ℤ offset; size = size }))) q ≡ true
-  stored_set at lo hi low high offset size q p order r inside h = elim (cases_Bool (is_stack at && int_eq (low +ℤ offset) (high +ℤ offset))) [
-    | inl one ↦
-        let parts : (is_stack at ≡ true) × (int_eq (low +ℤ offset) (high +ℤ offset) ≡ true) = and_parts (is_stack at) (int_eq (low +ℤ offset) (high +ℤ offset)) one in
-        let same : (low +ℤ offset) ≡ (high +ℤ offset) = (Decides-int_eq (low +ℤ offset) (high +ℤ offset)).0 parts.1 in
-        let ends : (lo +ℤ offset) ≡ (hi +ℤ offset) = omega (arith, ints) in
-        let starts : unsigned_abs (low +ℤ offset) ≡ unsigned_abs (lo +ℤ offset) =
-        (let is : (low +ℤ offset) ≡ (lo +ℤ offset) = omega (arith, ints) in ap unsigned_abs is) in
-        let inner = and_from _ _ parts.0 ((Decides-int_eq (lo +ℤ offset) (hi +ℤ offset)).1 ends) in
-        subst (λ s. is_set s q ≡ true) (sym (cond-true _ _ _ inner))
-        (⊎_elim
-        (λ before. places_kept a.set (unsigned_abs (lo +ℤ offset)) size q inside (w.set q inside before))
-        (λ among. places_set a.set (unsigned_abs (lo +ℤ offset)) size q inside (omega (arith, among.0, starts)) (omega (arith, among.1, starts)))
-        (places_only b.set (unsigned_abs (low +ℤ offset)) size q inside (subst (λ s. is_set s q ≡ true) (cond-true _ _ _ one) h)))
-    | inr many ↦
-        stored_kept a.set at (lo +ℤ offset) (hi +ℤ offset) size q inside (w.set q inside (subst (λ s. is_set s q ≡ true) (cond-false _ _ _ many) h))
-  ]
-
   set_kept : (set outer : StackSet) → ((q : ℕ) → q < 512 → is_set outer q ≡ true → is_set set q ≡ true) → is_within (record a { set = set }) (record b { set = outer }) ≡ true
   set_kept set outer kept = within_from _ _ (record {
-    kinds = λ q low. kind_within_narrower a (record a { set = set }) (kind_at a q) (kind_at b q) (other_set a set) (w.kinds q low);
-    key_min = w.key_min;
-    key_max = w.key_max;
-    value_min = w.value_min;
-    value_max = w.value_max;
+    kinds = w.kinds;
+    lengths = w.lengths;
     set = kept;
   })
 
@@ -400,8 +340,10 @@ module _ (a b : Abstract) (w : IsWithin a b) (pa : is_proper a ≡ true) (pb : i
       → is_within (record a { set = with_stored a.set (reach_at direction.Write (kind_at a base) offset size) }) (record b { set = with_stored b.set (reach_at direction.Write (kind_at b base) offset size) }) ≡ true
   store_edge size base offset address =
       let x = bases base address in
+      let bytes = from_to (byte_count size) (byte_count size) in
       let kept : (q : ℕ) → q < 512 → is_set (with_stored b.set (reach_at direction.Write (kind_at b base) offset size)) q ≡ true → is_set (with_stored a.set (reach_at direction.Write (kind_at a base) offset size)) q ≡ true =
-      rw (x.inner, x.outer) (λ q. stored_set x.at x.lo x.hi x.low x.high offset (byte_count size) q x.from x.order x.to) in
+      rw (x.inner, x.outer) (room_set a.set b.set x.at (x.lo +ℤ offset) (x.hi +ℤ offset) (x.low +ℤ offset) (x.high +ℤ offset) bytes bytes w.set
+      (shift_le x.low x.lo offset x.from) (shift_le x.lo x.hi offset x.order) (shift_le x.hi x.high offset x.to) (omega arith)) in
       set_kept _ _ kept
 
   room_set_at : (address count : ℕ) → AreAddresses (kind_at a address) (kind_at b address) → AreRanges a b (kind_at a count) (kind_at b count) → (inner outer : StackSet)
@@ -432,14 +374,10 @@ module _ (a b : Abstract) (w : IsWithin a b) (pa : is_proper a ≡ true) (pb : i
   call_edge (Some helper) c =
       let set = fold (with_argument a) a.set (signature_of helper).arguments in
       let to : Abstract = record a { registers = after_call_kinds a.registers (answer_kind helper); set = set } in
-      let n = called_narrower a (after_call_kinds a.registers (answer_kind helper)) set in
       within_from _ _ (record {
         kinds = λ q low. called_pairs (λ j k. is_kind_within to j k ≡ true) a.registers b.registers (answer_kind helper) q (proper_parts a pa).eleven (proper_parts b pb).eleven
-            (kind_within_narrower a to (kind_at a q) (kind_at b q) n (w.kinds q low)) (number_kept to 0 (signature_of helper).greatest) refl;
-        key_min = w.key_min;
-        key_max = w.key_max;
-        value_min = w.value_min;
-        value_max = w.value_max;
+            (w.kinds q low) (number_kept to 0 (signature_of helper).greatest) refl;
+        lengths = w.lengths;
         set = arguments_set (signature_of helper).arguments c a.set b.set w.set;
       })
 
@@ -449,14 +387,14 @@ module _ (a b : Abstract) (w : IsWithin a b) (pa : is_proper a ≡ true) (pb : i
   falls_kept helpers (Move Bits32 dst source) h p =
       let j = source_kind a Bits32 source in
       let k = source_kind b Bits32 source in
-      let ranges = ranges_within a b (narrower a b w) pa pb j k (source_proper a Bits32 source pa) (source_proper b Bits32 source pb) (source_within a b Bits32 source w pb) (not-false _ p.operands) in
+      let ranges = ranges_within a b w.lengths pa pb j k (source_proper a Bits32 source pa) (source_proper b Bits32 source pb) (source_within a b Bits32 source w pb) (not-false _ p.operands) in
       set_edge dst (moved_kind a Bits32 j) (moved_kind b Bits32 k) (low_half_within a b j k ranges)
   falls_kept helpers (Compute width operation dst source) h p =
       set_edge dst _ _
-      (computed_within a b (narrower a b w) pa pb width operation (kind_at a dst) (source_kind a width source) (source_kind b width source) (proper_kind a dst pa) (source_proper a width source pa) (source_proper b width source pb) (source_within a b width source w pb)
-      (kind_at b dst) (proper_kind b dst pb) (kind_within a b w pb dst) (not-false _ p.operands))
+      (computed_within a b w.lengths pa pb width operation (kind_at a dst) (source_kind a width source) (source_kind b width source) (kind_at_proper a dst pa) (source_proper a width source pa) (source_proper b width source pb) (source_within a b width source w pb)
+      (kind_at b dst) (kind_at_proper b dst pb) (kind_within a b w pb dst) (not-false _ p.operands))
   falls_kept helpers (Unary change dst src) h p =
-      let ranges = ranges_within a b (narrower a b w) pa pb (kind_at a src) (kind_at b src) (proper_kind a src pa) (proper_kind b src pb) (kind_within a b w pb src) (not-false _ p.operands) in
+      let ranges = ranges_within a b w.lengths pa pb (kind_at a src) (kind_at b src) (kind_at_proper a src pa) (kind_at_proper b src pb) (kind_within a b w pb src) (not-false _ p.operands) in
       set_edge dst (changed_kind a change (kind_at a src)) (changed_kind b change (kind_at b src)) (changed_within a b change (kind_at a src) (kind_at b src) ranges)
   falls_kept helpers (Load size extension dst base offset) h p = set_edge dst (loaded_kind size extension) (loaded_kind size extension) (loaded_kept size extension)
   falls_kept helpers (Store size base offset source) h p = store_edge size base offset (not-false _ p.base)

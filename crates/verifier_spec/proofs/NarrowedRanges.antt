@@ -8,7 +8,7 @@ use Rattle.machine_spec.specs.declared.operation.Test.{Test}
 use Rattle.machine_spec.specs.declared.operation.Test.TheVariants.{Equal, NotEqual, Greater, GreaterOrEqual, Less, LessOrEqual, AnyBit, SignedGreater, SignedGreaterOrEqual, SignedLess, SignedLessOrEqual}
 use Rattle.machine_spec.specs.Arithmetic.{compares, holds}
 use Rattle.verifier_spec.specs.declared.interval.Interval.{Interval}
-use Rattle.verifier_spec.specs.Intervals.{from_to, IsIn, IsPartOf, if_any, equal_to, different_from, above, at_least, at_most, below, narrowed_64, narrowed}
+use Rattle.verifier_spec.specs.Intervals.{from_to, IsIn, IsPartOf, if_any, equal_to, different_from, above, at_least, at_most, below, passing_part, opposite, narrowed}
 
 -- ---- a part with a number in it
 
@@ -57,29 +57,37 @@ module _ (x : Interval) (n : ℕ) (has : IsIn n x) where
   below_part zero h = absurd (omega arith)
   below_part (suc c) h = at_most_part c (omega arith)
 
-  part_64 : (test : Test) (taken : Bool) (c : ℕ) → compares Bits64 test n c ≡ taken → IsPartWith n x (narrowed_64 test taken x c)
-  part_64 Equal true c h = equal_part c (eqb-true n c h)
-  part_64 Equal false c h = different_part c (eqb-false n c h)
-  part_64 NotEqual true c h = different_part c (eqb-false n c (not-true (n == c) h))
-  part_64 NotEqual false c h = equal_part c (eqb-true n c (not-false (n == c) h))
-  part_64 Greater true c h = above_part c (ltb-true c n h)
-  part_64 Greater false c h = at_most_part c (ltb-false c n h)
-  part_64 GreaterOrEqual true c h = at_least_part c (leb-true c n h)
-  part_64 GreaterOrEqual false c h = below_part c (leb-false c n h)
-  part_64 Less true c h = below_part c (ltb-true n c h)
-  part_64 Less false c h = at_least_part c (ltb-false n c h)
-  part_64 LessOrEqual true c h = at_most_part c (leb-true n c h)
-  part_64 LessOrEqual false c h = above_part c (leb-false n c h)
-  part_64 AnyBit _ c h = whole_part
-  part_64 SignedGreater _ c h = whole_part
-  part_64 SignedGreaterOrEqual _ c h = whole_part
-  part_64 SignedLess _ c h = whole_part
-  part_64 SignedLessOrEqual _ c h = whole_part
+  passing_has : (test : Test) (c : ℕ) → compares Bits64 test n c ≡ true → IsPartWith n x (passing_part test x c)
+  passing_has Equal c h = equal_part c (eqb-true n c h)
+  passing_has NotEqual c h = different_part c (eqb-false n c (not-true (n == c) h))
+  passing_has Greater c h = above_part c (ltb-true c n h)
+  passing_has GreaterOrEqual c h = at_least_part c (leb-true c n h)
+  passing_has Less c h = below_part c (ltb-true n c h)
+  passing_has LessOrEqual c h = at_most_part c (leb-true n c h)
+  passing_has AnyBit c h = whole_part
+  passing_has SignedGreater c h = whole_part
+  passing_has SignedGreaterOrEqual c h = whole_part
+  passing_has SignedLess c h = whole_part
+  passing_has SignedLessOrEqual c h = whole_part
+
+  failing_has : (test : Test) (c : ℕ) → compares Bits64 test n c ≡ false → IsPartWith n x (passing_part (opposite test) x c)
+  failing_has Equal c h = different_part c (eqb-false n c h)
+  failing_has NotEqual c h = equal_part c (eqb-true n c (not-false (n == c) h))
+  failing_has Greater c h = at_most_part c (ltb-false c n h)
+  failing_has GreaterOrEqual c h = below_part c (leb-false c n h)
+  failing_has Less c h = at_least_part c (ltb-false n c h)
+  failing_has LessOrEqual c h = above_part c (leb-false n c h)
+  failing_has AnyBit c h = whole_part
+  failing_has SignedGreater c h = whole_part
+  failing_has SignedGreaterOrEqual c h = whole_part
+  failing_has SignedLess c h = whole_part
+  failing_has SignedLessOrEqual c h = whole_part
 
   -- A number is in what its edge leaves: where the test holds, that of the jump, else that of the next instruction.
   pub narrowed_part : (width : Width) (test : Test) (taken : Bool) (c : ℕ) → holds width test n c ≡ taken → IsPartWith n x (narrowed width test taken x c)
   narrowed_part Bits32 test taken c h = whole_part
-  narrowed_part Bits64 test taken c h = part_64 test taken c h
+  narrowed_part Bits64 test true c h = passing_has test c h
+  narrowed_part Bits64 test false c h = failing_has test c h
 
 -- ---- order
 
@@ -146,29 +154,24 @@ module _ (x a : Interval) (inside : IsPartOf x a) (order : x.low ≤ x.high) whe
       part_within : (low high : ℕ) → a.low ≤ low → high ≤ a.high → IsEdgeWithin (if_any low high) (Some a)
       part_within low high p q = cond_both (nat_le low high) (Some (from_to low high)) None (λ edge. IsEdgeWithin edge (Some a)) (λ e. record { low = p; high = q }) (λ e. tt)
 
-  within_64 : (test : Test) (taken : Bool) (c : ℕ) → IsEdgeWithin (narrowed_64 test taken x c) (narrowed_64 test taken a c)
-  within_64 Equal true c = equal_within c
-  within_64 Equal false c = different_within c
-  within_64 NotEqual true c = different_within c
-  within_64 NotEqual false c = equal_within c
-  within_64 Greater true c = above_within c
-  within_64 Greater false c = at_most_within c
-  within_64 GreaterOrEqual true c = at_least_within c
-  within_64 GreaterOrEqual false c = below_within c
-  within_64 Less true c = below_within c
-  within_64 Less false c = at_least_within c
-  within_64 LessOrEqual true c = at_most_within c
-  within_64 LessOrEqual false c = above_within c
-  within_64 AnyBit _ c = inside
-  within_64 SignedGreater _ c = inside
-  within_64 SignedGreaterOrEqual _ c = inside
-  within_64 SignedLess _ c = inside
-  within_64 SignedLessOrEqual _ c = inside
+  passing_within : (test : Test) (c : ℕ) → IsEdgeWithin (passing_part test x c) (passing_part test a c)
+  passing_within Equal c = equal_within c
+  passing_within NotEqual c = different_within c
+  passing_within Greater c = above_within c
+  passing_within GreaterOrEqual c = at_least_within c
+  passing_within Less c = below_within c
+  passing_within LessOrEqual c = at_most_within c
+  passing_within AnyBit c = inside
+  passing_within SignedGreater c = inside
+  passing_within SignedGreaterOrEqual c = inside
+  passing_within SignedLess c = inside
+  passing_within SignedLessOrEqual c = inside
 
   -- An edge of an interval within another leaves what is within what that edge leaves of the other, or nothing.
   pub narrowed_within : (width : Width) (test : Test) (taken : Bool) (c : ℕ) → IsEdgeWithin (narrowed width test taken x c) (narrowed width test taken a c)
   narrowed_within Bits32 test taken c = inside
-  narrowed_within Bits64 test taken c = within_64 test taken c
+  narrowed_within Bits64 test true c = passing_within test c
+  narrowed_within Bits64 test false c = passing_within (opposite test) c
 
 -- ---- what an edge has is an interval with a number, and part of the one that it narrows
 
@@ -196,25 +199,20 @@ module _ (x : Interval) (order : x.low ≤ x.high) where
   below_edge zero = tt
   below_edge (suc c) = at_most_edge c
 
-  edge_64 : (test : Test) (taken : Bool) (c : ℕ) → IsEdgeOf x (narrowed_64 test taken x c)
-  edge_64 Equal true c = any_edge (max x.low c) (min x.high c) (omega arith) (omega arith)
-  edge_64 Equal false c = different_edge c
-  edge_64 NotEqual true c = different_edge c
-  edge_64 NotEqual false c = any_edge (max x.low c) (min x.high c) (omega arith) (omega arith)
-  edge_64 Greater true c = any_edge (max x.low (c + 1)) x.high (omega arith) (omega arith)
-  edge_64 Greater false c = at_most_edge c
-  edge_64 GreaterOrEqual true c = any_edge (max x.low c) x.high (omega arith) (omega arith)
-  edge_64 GreaterOrEqual false c = below_edge c
-  edge_64 Less true c = below_edge c
-  edge_64 Less false c = any_edge (max x.low c) x.high (omega arith) (omega arith)
-  edge_64 LessOrEqual true c = at_most_edge c
-  edge_64 LessOrEqual false c = any_edge (max x.low (c + 1)) x.high (omega arith) (omega arith)
-  edge_64 AnyBit _ c = whole_edge
-  edge_64 SignedGreater _ c = whole_edge
-  edge_64 SignedGreaterOrEqual _ c = whole_edge
-  edge_64 SignedLess _ c = whole_edge
-  edge_64 SignedLessOrEqual _ c = whole_edge
+  passing_edge : (test : Test) (c : ℕ) → IsEdgeOf x (passing_part test x c)
+  passing_edge Equal c = any_edge (max x.low c) (min x.high c) (omega arith) (omega arith)
+  passing_edge NotEqual c = different_edge c
+  passing_edge Greater c = any_edge (max x.low (c + 1)) x.high (omega arith) (omega arith)
+  passing_edge GreaterOrEqual c = any_edge (max x.low c) x.high (omega arith) (omega arith)
+  passing_edge Less c = below_edge c
+  passing_edge LessOrEqual c = at_most_edge c
+  passing_edge AnyBit c = whole_edge
+  passing_edge SignedGreater c = whole_edge
+  passing_edge SignedGreaterOrEqual c = whole_edge
+  passing_edge SignedLess c = whole_edge
+  passing_edge SignedLessOrEqual c = whole_edge
 
   pub narrowed_proper : (width : Width) (test : Test) (taken : Bool) (c : ℕ) → IsEdgeOf x (narrowed width test taken x c)
   narrowed_proper Bits32 test taken c = whole_edge
-  narrowed_proper Bits64 test taken c = edge_64 test taken c
+  narrowed_proper Bits64 test true c = passing_edge test c
+  narrowed_proper Bits64 test false c = passing_edge (opposite test) c

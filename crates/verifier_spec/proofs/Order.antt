@@ -1,19 +1,22 @@
 -- The order of abstract states, part by part: a wider state holds of whatever a narrower one does.
-use Rattle.std.proofs.Common.{◌≡◌, ℕ, zero, suc, ◌<◌, ◌≤◌, Bool, true, false, ◌||◌, not, refl, sym, ◌∙◌, subst, ⊎_elim, arith}
-use Rattle.std.proofs.lemmas.Bool.{and_parts, and_from, leb-true, le-leb, false≢true, cases_lt, cases_eq}
+use Rattle.std.proofs.Common.{◌≡◌, ℕ, zero, suc, ◌<◌, Bool, true, false, ◌||◌, not, refl, sym, ◌∙◌, subst, ⊎_elim, arith}
+use Rattle.std.proofs.lemmas.Bool.{and_parts, and_from, false≢true, cases_lt, cases_eq}
 use Rattle.machine_spec.specs.declared.instruction.Region.{Region}
 use Rattle.machine_spec.specs.declared.instruction.Region.TheVariants as region
 use Rattle.machine_spec.specs.Values.{Value, Nothing, Number, Address}
-use Rattle.machine_spec.specs.Machine.{Input, State}
+use Rattle.machine_spec.specs.Machine.{Input, State, length_of}
 use Rattle.verifier_spec.specs.declared.state.Abs.{Abs}
 use Rattle.verifier_spec.specs.declared.state.Abs.TheVariants as abs
 use Rattle.verifier_spec.specs.declared.state.Abstract.{Abstract}
-use Rattle.verifier_spec.specs.Kinds.{is_set, kind_at, least, greatest, same_region, is_kind_within}
+use Rattle.verifier_spec.specs.Intervals.{IsIn}
+use Rattle.verifier_spec.specs.StackSets.{is_set}
+use Rattle.verifier_spec.specs.Ranges.{lengths_from_to, interval_of, is_range_within}
+use Rattle.verifier_spec.specs.Kinds.{kind_at, length_range, same_region, is_kind_within}
 use Rattle.verifier_spec.specs.States.{each_below, is_proper, is_within}
-use Rattle.verifier_spec.specs.StandsFor.{HasKind, StandsFor}
+use Rattle.verifier_spec.specs.StandsFor.{HasKind, HasLengths, StandsFor}
 use Rattle.verifier_spec.proofs.Proper.{unknown_past}
+use Rattle.verifier_spec.proofs.Ranges.{in_wider}
 use Rattle.verifier_spec.proofs.Whole.{le_z-true, le_trans_z}
-use Rattle.verifier_spec.proofs.Values.{HasLengths, lengths}
 
 -- ---- tests of every number below one
 
@@ -31,12 +34,19 @@ each_below_from (suc n) test h = and_from _ _ (each_below_from n test (λ k low.
 
 -- ---- the parts of the order
 
+-- lengths are known no worse in the first: each region's range there is within the one in the second
+abbrev pub IsNarrower : Abstract → Abstract → Type 0
+IsNarrower a b = (at : Region) → is_range_within (length_range a at) (length_range b at) ≡ true
+
+pub narrower_from : (a b : Abstract) → is_range_within a.key b.key ≡ true → is_range_within a.value b.value ≡ true
+    → (at : Region) → is_range_within (length_range a at) (length_range b at) ≡ true
+narrower_from a b key value region.Stack = refl
+narrower_from a b key value region.Key = key
+narrower_from a b key value region.Value = value
+
 pub record IsWithin (a b : Abstract) : Type 0 where
   pub kinds : (r : ℕ) → r < 11 → is_kind_within a (kind_at a r) (kind_at b r) ≡ true
-  pub key_min : b.key_min ≤ a.key_min
-  pub key_max : a.key_max ≤ b.key_max
-  pub value_min : b.value_min ≤ a.value_min
-  pub value_max : a.value_max ≤ b.value_max
+  pub lengths : IsNarrower a b
   pub set : (place : ℕ) → place < 512 → is_set b.set place ≡ true → is_set a.set place ≡ true
 
 set_if : (outer inner : Bool) → (not outer || inner) ≡ true → outer ≡ true → inner ≡ true
@@ -53,23 +63,18 @@ within_parts a b h =
     let p = and_parts _ _ h in
     let q = and_parts _ _ p.1 in
     let r = and_parts _ _ q.1 in
-    let t = and_parts _ _ r.1 in
-    let u = and_parts _ _ t.1 in
     record {
       kinds = each_below_at 11 (λ k. is_kind_within a (kind_at a k) (kind_at b k)) p.0;
-      key_min = leb-true _ _ q.0;
-      key_max = leb-true _ _ r.0;
-      value_min = leb-true _ _ t.0;
-      value_max = leb-true _ _ u.0;
-      set = λ place low e. set_if (is_set b.set place) (is_set a.set place) (each_below_at 512 (λ place. not (is_set b.set place) || is_set a.set place) u.1 place low) e;
+      lengths = narrower_from a b q.0 r.0;
+      set = λ place low e. set_if (is_set b.set place) (is_set a.set place) (each_below_at 512 (λ place. not (is_set b.set place) || is_set a.set place) r.1 place low) e;
     }
 
 pub within_from : (a b : Abstract) → IsWithin a b → is_within a b ≡ true
 unfolding is_within
 within_from a b w =
     and_from _ _ (each_below_from 11 (λ k. is_kind_within a (kind_at a k) (kind_at b k)) w.kinds)
-    (and_from _ _ (le-leb _ _ w.key_min) (and_from _ _ (le-leb _ _ w.key_max) (and_from _ _ (le-leb _ _ w.value_min) (and_from _ _ (le-leb _ _ w.value_max)
-    (each_below_from 512 (λ place. not (is_set b.set place) || is_set a.set place) (λ place low. set_from (is_set b.set place) (is_set a.set place) (w.set place low)))))))
+    (and_from _ _ (w.lengths region.Key) (and_from _ _ (w.lengths region.Value)
+    (each_below_from 512 (λ place. not (is_set b.set place) || is_set a.set place) (λ place low. set_from (is_set b.set place) (is_set a.set place) (w.set place low)))))
 
 -- ---- one kind within another
 
@@ -90,19 +95,15 @@ kind_holds input a abs.None (abs.Num lo hi) word l w h = absurd (false≢true w)
 kind_holds input a abs.None (abs.Len r) word l w h = absurd (false≢true w)
 kind_holds input a abs.None (abs.Addr r lo hi) word l w h = absurd (false≢true w)
 kind_holds input a (abs.Num l m) (abs.Num lo hi) (Number n) ls w h =
-    let p = and_parts _ _ w in
-    let low = leb-true lo l p.0 in
-    let high = leb-true m hi p.1 in
-    (omega (arith, h.0), omega (arith, h.1))
+    let has = in_wider n (lengths_from_to l m) (lengths_from_to lo hi) w (record { low = h.0; high = h.1 }) in
+    (has.low, has.high)
 kind_holds input a (abs.Num l m) (abs.Num lo hi) Nothing ls w h = absurd h
 kind_holds input a (abs.Num l m) (abs.Num lo hi) (Address r x) ls w h = absurd h
 kind_holds input a (abs.Num l m) (abs.Len r) word ls w h = absurd (false≢true w)
 kind_holds input a (abs.Num l m) (abs.Addr r lo hi) word ls w h = absurd (false≢true w)
 kind_holds input a (abs.Len r) (abs.Num lo hi) (Number n) l w h =
-    let p = and_parts _ _ w in
-    let low = leb-true lo (least a r) p.0 in
-    let high = leb-true (greatest a r) hi p.1 in
-    (omega (arith, l.low r, h), omega (arith, l.high r, h))
+    let has = in_wider n (length_range a r) (lengths_from_to lo hi) w (subst (λ m. IsIn m (interval_of (length_range a r))) (sym h) (l r)) in
+    (has.low, has.high)
 kind_holds input a (abs.Len r) (abs.Num lo hi) Nothing l w h = absurd h
 kind_holds input a (abs.Len r) (abs.Num lo hi) (Address q x) l w h = absurd h
 kind_holds input a (abs.Len r) (abs.Len q) word l w h = subst (λ x. HasKind input (abs.Len x) word) (region_is r q w) h
@@ -122,7 +123,7 @@ module _ (input : Input) (a b : Abstract) (s : State) (w : IsWithin a b) (p : is
   register_stands : (r : ℕ) → HasKind input (kind_at b r) (s.registers r)
   register_stands r =
       ⊎_elim
-      (λ low. kind_holds input a (kind_at a r) (kind_at b r) (s.registers r) (lengths input a s h) (w.kinds r low) (h.registers r))
+      (λ low. kind_holds input a (kind_at a r) (kind_at b r) (s.registers r) h.lengths (w.kinds r low) (h.registers r))
       (λ past. subst (λ kind. HasKind input kind (s.registers r)) (sym (unknown_past b r p past)) tt)
       (cases_lt r 11)
 
@@ -131,9 +132,6 @@ module _ (input : Input) (a b : Abstract) (s : State) (w : IsWithin a b) (p : is
     given = h.given;
     bytes = h.bytes;
     registers = register_stands;
-    key_min = omega (arith, w.key_min, h.key_min);
-    key_max = omega (arith, w.key_max, h.key_max);
-    value_min = omega (arith, w.value_min, h.value_min);
-    value_max = omega (arith, w.value_max, h.value_max);
+    lengths = λ at. in_wider (length_of input at) (length_range a at) (length_range b at) (w.lengths at) (h.lengths at);
     set = λ place low e. h.set place low (w.set place low e);
   }

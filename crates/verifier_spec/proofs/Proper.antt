@@ -1,5 +1,5 @@
 -- The ranges of abstract states, part by part, and what keeps them.
-use Rattle.std.proofs.Common.{◌≡◌, ℕ, zero, suc, ◌^◌, ◌<◌, ◌≤◌, ℤ, ◌≤ℤ◌, true, List, [], ◌∷◌, length, get_or, set, Some, refl, sym, subst, ◌∙◌, arith, length-set}
+use Rattle.std.proofs.Common.{◌≡◌, ℕ, zero, suc, ◌^◌, ◌<◌, ◌≤◌, ℤ, ◌≤ℤ◌, true, List, [], ◌∷◌, length, get_or, set, Some, IfSome, refl, sym, subst, ◌∙◌, arith, length-set}
 use Rattle.std.specs.List.{list_all}
 use Rattle.std.proofs.lemmas.Bool.{and_parts, and_from, leb-true, le-leb, ltb-true, lt-ltb, eqb-true, eq-eqb, false≢true}
 use Rattle.std.proofs.lemmas.Option.{same_Some, none-some}
@@ -15,21 +15,21 @@ use Rattle.machine_spec.specs.Values.{immediate}
 use Rattle.verifier_spec.specs.declared.interval.Interval.{Interval}
 use Rattle.verifier_spec.specs.declared.state.Abs.{Abs}
 use Rattle.verifier_spec.specs.declared.state.Abs.TheVariants as abs
-use Rattle.verifier_spec.specs.declared.state.Abstract.{Abstract}
+use Rattle.verifier_spec.specs.declared.state.{Range.Range, StackSet.StackSet, Abstract.Abstract}
 use Rattle.verifier_spec.specs.Intervals.{from_to, IsRangeOf}
 use Rattle.verifier_spec.specs.Checks.{source_kind}
-use Rattle.verifier_spec.specs.Kinds.{kind_at, least, greatest, range_of, is_number_kind, is_proper_kind}
+use Rattle.verifier_spec.specs.Ranges.{interval_of, is_proper_range}
+use Rattle.verifier_spec.specs.Kinds.{kind_at, length_range, range_of, is_number_kind, is_proper_kind}
 use Rattle.verifier_spec.specs.States.{is_proper}
-use Rattle.verifier_spec.specs.Transfer.{with_kind}
+use Rattle.verifier_spec.specs.Transfer.{with_kind, with_lengths}
+use Rattle.verifier_spec.proofs.Ranges.{IsProperRange, proper_ends, proper_from_ends}
 use Rattle.verifier_spec.proofs.Whole.{le_z-true}
 
 pub record IsProper (a : Abstract) : Type 0 where
   pub eleven : length a.registers ≡ 11
   pub kinds : list_all is_proper_kind a.registers ≡ true
-  pub key_order : a.key_min ≤ a.key_max
-  pub key_limited : a.key_max ≤ MAX_KEY
-  pub value_order : a.value_min ≤ a.value_max
-  pub value_limited : a.value_max ≤ MAX_VALUE
+  pub key : is_proper_range MAX_KEY a.key ≡ true
+  pub value : is_proper_range MAX_VALUE a.value ≡ true
 
 pub proper_parts : (a : Abstract) → is_proper a ≡ true → IsProper a
 unfolding is_proper
@@ -37,48 +37,43 @@ proper_parts a h =
     let p = and_parts _ _ h in
     let q = and_parts _ _ p.1 in
     let r = and_parts _ _ q.1 in
-    let t = and_parts _ _ r.1 in
-    let u = and_parts _ _ t.1 in
-    record {
-      eleven = eqb-true _ _ p.0;
-      kinds = q.0;
-      key_order = leb-true _ _ r.0;
-      key_limited = leb-true _ _ t.0;
-      value_order = leb-true _ _ u.0;
-      value_limited = leb-true _ _ u.1;
-    }
+    record { eleven = eqb-true _ _ p.0; kinds = q.0; key = r.0; value = r.1 }
 
 pub proper_from : (a : Abstract) → IsProper a → is_proper a ≡ true
 unfolding is_proper
-proper_from a p =
-    and_from _ _ (eq-eqb _ _ p.eleven) (and_from _ _ p.kinds (and_from _ _ (le-leb _ _ p.key_order) (and_from _ _ (le-leb _ _ p.key_limited) (and_from _ _ (le-leb _ _ p.value_order) (le-leb _ _ p.value_limited)))))
+proper_from a p = and_from _ _ (eq-eqb _ _ p.eleven) (and_from _ _ p.kinds (and_from _ _ p.key p.value))
 
 -- ---- each kind
 
-kind_from_all : (kinds : List Abs) (r : ℕ) → list_all is_proper_kind kinds ≡ true → is_proper_kind (get_or kinds r abs.None) ≡ true
-kind_from_all [] r h = refl
-kind_from_all (kind ∷ kinds) zero h = (and_parts _ _ h).0
-kind_from_all (kind ∷ kinds) (suc r) h = kind_from_all kinds r (and_parts _ _ h).1
+pub kind_from : (kinds : List Abs) (r : ℕ) → list_all is_proper_kind kinds ≡ true → is_proper_kind (get_or kinds r abs.None) ≡ true
+kind_from [] r h = refl
+kind_from (kind ∷ kinds) zero h = (and_parts _ _ h).0
+kind_from (kind ∷ kinds) (suc r) h = kind_from kinds r (and_parts _ _ h).1
 
-pub proper_kind : (a : Abstract) (r : ℕ) → is_proper a ≡ true → is_proper_kind (kind_at a r) ≡ true
-proper_kind a r h = kind_from_all a.registers r (proper_parts a h).kinds
+pub kind_at_proper : (a : Abstract) (r : ℕ) → is_proper a ≡ true → is_proper_kind (kind_at a r) ≡ true
+kind_at_proper a r h = kind_from a.registers r (proper_parts a h).kinds
 
 all_set : (kinds : List Abs) (r : ℕ) (kind : Abs) → list_all is_proper_kind kinds ≡ true → is_proper_kind kind ≡ true → list_all is_proper_kind (set kinds r kind) ≡ true
 all_set [] r kind h k = refl
 all_set (first ∷ kinds) zero kind h k = and_from _ _ k (and_parts _ _ h).1
 all_set (first ∷ kinds) (suc r) kind h k = and_from _ _ (and_parts _ _ h).0 (all_set kinds r kind (and_parts _ _ h).1 k)
 
-pub proper_with_kind : (a : Abstract) (r : ℕ) (kind : Abs) → is_proper a ≡ true → is_proper_kind kind ≡ true → is_proper (with_kind a r kind) ≡ true
-proper_with_kind a r kind h k =
+pub with_kind_proper : (a : Abstract) (r : ℕ) (kind : Abs) → is_proper a ≡ true → is_proper_kind kind ≡ true → is_proper (with_kind a r kind) ≡ true
+with_kind_proper a r kind h k =
     let p = proper_parts a h in
     proper_from (with_kind a r kind) (record {
       eleven = length-set a.registers r kind ∙ p.eleven;
       kinds = all_set a.registers r kind p.kinds k;
-      key_order = p.key_order;
-      key_limited = p.key_limited;
-      value_order = p.value_order;
-      value_limited = p.value_limited;
+      key = p.key;
+      value = p.value;
     })
+
+-- ---- the set of stack bytes
+
+pub with_set_proper : (a : Abstract) (set : StackSet) → is_proper a ≡ true → is_proper (record a { set = set }) ≡ true
+with_set_proper a set h =
+    let p = proper_parts a h in
+    proper_from (record a { set = set }) (record { eleven = p.eleven; kinds = p.kinds; key = p.key; value = p.value })
 
 -- ---- registers past r10
 
@@ -98,17 +93,35 @@ num_limit lo hi h = ltb-true _ _ (and_parts _ _ h).1
 pub addr_order : (at : Region) (lo hi : ℤ) → is_proper_kind (abs.Addr at lo hi) ≡ true → lo ≤ℤ hi
 addr_order at lo hi h = le_z-true _ _ (and_parts _ _ (and_parts _ _ h).1).0
 
-pub lengths_order : (a : Abstract) (at : Region) → is_proper a ≡ true → least a at ≤ greatest a at
-lengths_order a region.Stack h = omega arith
-lengths_order a region.Key h = (proper_parts a h).key_order
-lengths_order a region.Value h = (proper_parts a h).value_order
+-- ---- lengths
+
+-- each region's range has a length, and none above the greatest of a value
+length_range_proper : (a : Abstract) (at : Region) → is_proper a ≡ true → IsProperRange MAX_VALUE (length_range a at)
+length_range_proper a region.Stack h = record { order = omega arith; limited = omega arith }
+length_range_proper a region.Key h =
+    let key = proper_ends MAX_KEY a.key (proper_parts a h).key in
+    record { order = key.order; limited = omega (arith, key.limited) }
+length_range_proper a region.Value h = proper_ends MAX_VALUE a.value (proper_parts a h).value
+
+pub length_range_order : (a : Abstract) (at : Region) → is_proper a ≡ true → (length_range a at).min ≤ (length_range a at).max
+length_range_order a at h = (length_range_proper a at h).order
+
+pub length_range_limit : (a : Abstract) (at : Region) → is_proper a ≡ true → (length_range a at).max ≤ 65536
+length_range_limit a at h = (length_range_proper a at h).limited
+
+-- a range in the limits that is no longer than the old one
+pub with_lengths_proper : (a : Abstract) (at : Region) (range : Range) → is_proper a ≡ true → range.min ≤ range.max → range.max ≤ (length_range a at).max → is_proper (with_lengths a at range) ≡ true
+with_lengths_proper a region.Stack range h order inside = h
+with_lengths_proper a region.Key range h order inside =
+    let p = proper_parts a h in
+    let key = proper_ends MAX_KEY a.key p.key in
+    proper_from _ (record { eleven = p.eleven; kinds = p.kinds; key = proper_from_ends MAX_KEY range order (omega (arith, key.limited)); value = p.value })
+with_lengths_proper a region.Value range h order inside =
+    let p = proper_parts a h in
+    let value = proper_ends MAX_VALUE a.value p.value in
+    proper_from _ (record { eleven = p.eleven; kinds = p.kinds; key = p.key; value = proper_from_ends MAX_VALUE range order (omega (arith, value.limited)) })
 
 -- ---- the numbers of a kind
-
-lengths_limited : (a : Abstract) (at : Region) → is_proper a ≡ true → greatest a at < 2 ^ 64
-lengths_limited a region.Stack h = omega arith
-lengths_limited a region.Key h = omega (arith, (proper_parts a h).key_limited)
-lengths_limited a region.Value h = omega (arith, (proper_parts a h).value_limited)
 
 -- the numbers that a kind represents, which are of 64 bits
 pub record HasRange (a : Abstract) (kind : Abs) : Type 0 where
@@ -119,7 +132,9 @@ pub record HasRange (a : Abstract) (kind : Abs) : Type 0 where
 pub range_at : (a : Abstract) (kind : Abs) → is_proper a ≡ true → is_proper_kind kind ≡ true → is_number_kind kind ≡ true → HasRange a kind
 range_at a abs.None p q k = absurd (false≢true k)
 range_at a (abs.Num lo hi) p q k = record { range = from_to lo hi; is = refl; proper = record { order = num_order lo hi q; limited = num_limit lo hi q } }
-range_at a (abs.Len r) p q k = record { range = from_to (least a r) (greatest a r); is = refl; proper = record { order = lengths_order a r p; limited = lengths_limited a r p } }
+range_at a (abs.Len r) p q k =
+    let limit = length_range_limit a r p in
+    record { range = interval_of (length_range a r); is = refl; proper = record { order = length_range_order a r p; limited = omega arith } }
 range_at a (abs.Addr r lo hi) p q k = absurd (false≢true k)
 
 number_if_ranged : (a : Abstract) (kind : Abs) (range : Interval) → range_of a kind ≡ Some range → is_number_kind kind ≡ true
@@ -133,13 +148,19 @@ proper_range a kind range p q e =
     let r = range_at a kind p q (number_if_ranged a kind range e) in
     subst (IsRangeOf Bits64) (same_Some r.range range (sym r.is ∙ e)) r.proper
 
+pub range_ordered : (a : Abstract) (kind : Abs) → is_proper a ≡ true → is_proper_kind kind ≡ true → IfSome (range_of a kind) (λ r. r.low ≤ r.high)
+range_ordered a abs.None p q = tt
+range_ordered a (abs.Num lo hi) p q = num_order lo hi q
+range_ordered a (abs.Len r) p q = length_range_order a r p
+range_ordered a (abs.Addr _ _ _) p q = tt
+
 -- an immediate is of 64 bits
 immediate_limited : (width : Width) (imm : ℤ) → immediate width imm < 2 ^ 64
 immediate_limited Bits32 imm = omega arith
 immediate_limited Bits64 imm = omega arith
 
 pub source_proper : (a : Abstract) (width : Width) (source : Source) → is_proper a ≡ true → is_proper_kind (source_kind a width source) ≡ true
-source_proper a width (Register r) p = proper_kind a r p
+source_proper a width (Register r) p = kind_at_proper a r p
 source_proper a width (Immediate imm) p =
     let c = immediate width imm in
     and_from _ _ (le-leb c c (omega arith)) (lt-ltb c (2 ^ 64) (immediate_limited width imm))

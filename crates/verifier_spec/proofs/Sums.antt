@@ -22,13 +22,13 @@ use Rattle.verifier_spec.specs.Kinds.{range_of, furthest, is_number_kind, is_pro
 use Rattle.verifier_spec.specs.States.{is_proper}
 use Rattle.verifier_spec.specs.Checks.{is_one_sign, least_displacement, greatest_displacement, can_move, can_compute_kinds}
 use Rattle.verifier_spec.specs.Transfer.{numbers, on_ranges, moved_address, moved_kind, computed_kind, changed_kind}
-use Rattle.verifier_spec.specs.StandsFor.{HasKind}
+use Rattle.verifier_spec.specs.StandsFor.{HasKind, HasLengths}
 use Rattle.verifier_spec.proofs.Intervals.{cut_has, cut_range}
 use Rattle.verifier_spec.proofs.Proper.{addr_order, proper_range, HasRange, range_at}
 use Rattle.verifier_spec.proofs.RangesProper.{result_proper, changed_proper}
 use Rattle.verifier_spec.proofs.RangesSound.{result_in, changed_in}
 use Rattle.verifier_spec.proofs.Whole.{le_z-true, le-le_z, le_trans_z, add_le}
-use Rattle.verifier_spec.proofs.Values.{HasLengths, IsNumber, at_number}
+use Rattle.verifier_spec.proofs.Values.{IsNumber, at_number}
 
 -- ---- displacements
 

@@ -1,7 +1,6 @@
 -- A conditional jump propagates from a state that is within another what is within what it propagates from the other.
-use Rattle.std.proofs.Common.{◌≡◌, ℕ, ◌<◌, ◌≤◌, Bool, true, get_or, Option, Some, None, refl, sym, subst, arith}
+use Rattle.std.proofs.Common.{◌≡◌, ℕ, zero, suc, Bool, true, List, [], ◌∷◌, get_or, set, Option, Some, None, refl, sym, subst}
 use Rattle.std.proofs.lemmas.Bool.{le-leb, and_from, false≢true}
-use Rattle.std.proofs.lemmas.List.{set-get_or}
 use Rattle.std.proofs.lemmas.Option.{same_Some}
 use Rattle.machine_spec.specs.declared.operation.Width.{Width}
 use Rattle.machine_spec.specs.declared.operation.Test.{Test}
@@ -13,56 +12,65 @@ use Rattle.machine_spec.specs.Values.{immediate}
 use Rattle.verifier_spec.specs.declared.interval.Interval.{Interval}
 use Rattle.verifier_spec.specs.declared.state.Abs.{Abs}
 use Rattle.verifier_spec.specs.declared.state.Abs.TheVariants as abs
-use Rattle.verifier_spec.specs.declared.state.Abstract.{Abstract}
-use Rattle.verifier_spec.specs.Intervals.{from_to, IsPartOf, narrowed}
-use Rattle.verifier_spec.specs.Kinds.{kind_at, least, greatest, range_of, is_number_kind, is_proper_kind, is_kind_within}
+use Rattle.verifier_spec.specs.declared.state.{Range.Range, Abstract.Abstract}
+use Rattle.verifier_spec.specs.Intervals.{IsPartOf, narrowed}
+use Rattle.verifier_spec.specs.Ranges.{lengths_from_to, interval_of, is_range_within}
+use Rattle.verifier_spec.specs.Kinds.{kind_at, length_range, range_of, is_number_kind, is_proper_kind, is_kind_within}
 use Rattle.verifier_spec.specs.States.{is_proper, is_within}
-use Rattle.verifier_spec.specs.Transfer.{numbers, with_length, with_kind, with_range, tested}
+use Rattle.verifier_spec.specs.Transfer.{numbers, with_lengths, with_kind, with_range, tested}
 use Rattle.verifier_spec.specs.Annotation.{is_edge_covered}
 use Rattle.verifier_spec.proofs.NarrowedRanges.{IsEdgeWithin, narrowed_within, IsEdgeOf, narrowed_proper}
-use Rattle.verifier_spec.proofs.Order.{IsWithin, within_from, region_is}
-use Rattle.verifier_spec.proofs.Proper.{proper_kind}
-use Rattle.verifier_spec.proofs.Wider.{IsNarrower, narrower, kind_within, kind_within_narrower, ranges_within, kinds_set, within_set}
+use Rattle.verifier_spec.proofs.Joins.{kind_within_refl, within_refl, within_trans}
+use Rattle.verifier_spec.proofs.Order.{narrower_from, IsWithin, within_parts, within_from, region_is}
+use Rattle.verifier_spec.proofs.Proper.{kind_at_proper}
+use Rattle.verifier_spec.proofs.Ranges.{range_refl, range_from_part}
+use Rattle.verifier_spec.proofs.Wider.{kind_within, ranges_within, within_set}
 
 -- ---- lengths that are known better
 
-module _ (a : Abstract) (part : Interval) where
-  length_low : (at : Region) → least a at ≤ part.low → (q : Region) → least a q ≤ least (with_length a at part) q
-  length_low region.Stack h q = omega arith
-  length_low region.Key h region.Stack = omega arith
-  length_low region.Key h region.Key = h
-  length_low region.Key h region.Value = omega arith
-  length_low region.Value h region.Stack = omega arith
-  length_low region.Value h region.Key = omega arith
-  length_low region.Value h region.Value = h
+-- a state is within the one in which a region's range was not yet narrowed
+lengths_narrowed : (a : Abstract) (at : Region) (x : Range) → is_range_within x (length_range a at) ≡ true → is_within (with_lengths a at x) a ≡ true
+lengths_narrowed a region.Stack x inner = within_refl a
+lengths_narrowed a region.Key x inner = within_from _ _ (record {
+  kinds = λ r low. kind_within_refl (with_lengths a region.Key x) (kind_at a r);
+  lengths = narrower_from (with_lengths a region.Key x) a inner (range_refl a.value);
+  set = λ place low e. e;
+})
+lengths_narrowed a region.Value x inner = within_from _ _ (record {
+  kinds = λ r low. kind_within_refl (with_lengths a region.Value x) (kind_at a r);
+  lengths = narrower_from (with_lengths a region.Value x) a (range_refl a.key) inner;
+  set = λ place low e. e;
+})
 
-  length_high : (at : Region) → part.high ≤ greatest a at → (q : Region) → greatest (with_length a at part) q ≤ greatest a q
-  length_high region.Stack h q = omega arith
-  length_high region.Key h region.Stack = omega arith
-  length_high region.Key h region.Key = h
-  length_high region.Key h region.Value = omega arith
-  length_high region.Value h region.Stack = omega arith
-  length_high region.Value h region.Key = omega arith
-  length_high region.Value h region.Value = h
+-- and within one whose range is narrowed no further
+lengths_within : (a b : Abstract) (at : Region) (x y : Range) → IsWithin (with_lengths a at x) b → is_range_within x y ≡ true → is_within (with_lengths a at x) (with_lengths b at y) ≡ true
+lengths_within a b region.Stack x y v part = within_from _ _ v
+lengths_within a b region.Key x y v part =
+    within_from _ _ (record { kinds = v.kinds; lengths = narrower_from (with_lengths a region.Key x) (with_lengths b region.Key y) part (v.lengths region.Value); set = v.set })
+lengths_within a b region.Value x y v part =
+    within_from _ _ (record { kinds = v.kinds; lengths = narrower_from (with_lengths a region.Value x) (with_lengths b region.Value y) (v.lengths region.Key) part; set = v.set })
 
-  length_narrower : (at : Region) → least a at ≤ part.low → part.high ≤ greatest a at → IsNarrower (with_length a at part) a
-  length_narrower at p q = record { low = length_low at p; high = length_high at q }
+-- a length whose region's lengths are in an interval is a number of it
+length_among : (a : Abstract) (at : Region) (x : Range) (y : Interval) (r : ℕ) → is_proper_kind (abs.Len at) ≡ true → kind_at a r ≡ abs.Len at → is_range_within x (lengths_from_to y.low y.high) ≡ true
+    → is_kind_within (with_lengths a at x) (kind_at (with_lengths a at x) r) (numbers y) ≡ true
+length_among a region.Stack x y r k is part = absurd (false≢true k)
+length_among a region.Key x y r k is part = rw is part
+length_among a region.Value x y r k is part = rw is part
 
-  -- a length whose region's length is in a part is among those numbers
-  length_among : (at : Region) (low high : ℕ) → is_proper_kind (abs.Len at) ≡ true → low ≤ part.low → part.high ≤ high → is_kind_within (with_length a at part) (abs.Len at) (abs.Num low high) ≡ true
-  length_among region.Stack low high k p q = absurd (false≢true k)
-  length_among region.Key low high k p q = and_from _ _ (le-leb low part.low p) (le-leb part.high high q)
-  length_among region.Value low high k p q = and_from _ _ (le-leb low part.low p) (le-leb part.high high q)
+other_set : (P : ℕ → Abs → Type 0) (kinds : List Abs) (r q : ℕ) (kind : Abs) → P q (get_or kinds q abs.None) → P r kind → P q (get_or (set kinds r kind) q abs.None)
+other_set P [] r q kind h p = h
+other_set P (first ∷ kinds) zero zero kind h p = p
+other_set P (first ∷ kinds) zero (suc q) kind h p = h
+other_set P (first ∷ kinds) (suc r) zero kind h p = h
+other_set P (first ∷ kinds) (suc r) (suc q) kind h p = other_set (λ i. P (suc i)) kinds r q kind h p
 
-length_registers : (a : Abstract) (at : Region) (range : Interval) → (with_length a at range).registers ≡ a.registers
-length_registers a region.Stack range = refl
-length_registers a region.Key range = refl
-length_registers a region.Value range = refl
-
-length_set : (a : Abstract) (at : Region) (range : Interval) → (with_length a at range).set ≡ a.set
-length_set a region.Stack range = refl
-length_set a region.Key range = refl
-length_set a region.Value range = refl
+-- a kind of the outer state changed to one that the inner state's is within
+within_other : (c b : Abstract) (r : ℕ) (k : Abs) → IsWithin c b → is_kind_within c (kind_at c r) k ≡ true → IsWithin c (with_kind b r k)
+within_other c b r k v h = record {
+  kinds = λ q low. other_set (λ i kind. is_kind_within c (kind_at c i) kind ≡ true) b.registers r q k (v.kinds q low) h;
+  lengths = v.lengths;
+  set = v.set;
+}
 
 -- ---- the states along an edge
 
@@ -71,56 +79,15 @@ module _ (a b : Abstract) (w : IsWithin a b) (pa : is_proper a ≡ true) (pb : i
   numbers_edge r x y h =
       within_from _ _ (within_set a b w pa pb r (numbers x) (numbers y) (and_from _ _ (le-leb y.low x.low h.low) (le-leb x.high y.high h.high)))
 
-  -- a state that is like the first but knows lengths better
-  module _ (c : Abstract) (registers : c.registers ≡ a.registers) (set : c.set ≡ a.set) (n : IsNarrower c a) where
-    set_on : (q r : ℕ) (k : Abs) → q < 11 → is_kind_within c (kind_at a r) k ≡ true → is_kind_within c (get_or a.registers q abs.None) (kind_at (with_kind b r k) q) ≡ true
-    set_on q r k low h =
-        subst (λ x. is_kind_within c (get_or x q abs.None) (kind_at (with_kind b r k) q) ≡ true) (set-get_or a.registers r abs.None) (kinds_set a b w pa pb c r q (kind_at a r) k low n h)
+  -- the first with a region's range narrowed
+  better : (at : Region) (x : Range) → is_within a b ≡ true → is_range_within x (length_range a at) ≡ true → IsWithin (with_lengths a at x) b
+  better at x h inner = within_parts _ _ (within_trans (with_lengths a at x) a b (lengths_narrowed a at x inner) h)
 
-    better_kinds : (r : ℕ) (k : Abs) → is_kind_within c (kind_at a r) k ≡ true → (q : ℕ) → q < 11 → is_kind_within c (kind_at c q) (kind_at (with_kind b r k) q) ≡ true
-    better_kinds r k h q low = rw registers (set_on q r k low h)
-
-    better_set : (r : ℕ) (k : Abs) → is_kind_within c (kind_at a r) k ≡ true → IsWithin c (with_kind b r k)
-    better_set r k h = record {
-      kinds = better_kinds r k h;
-      key_min = omega (arith, n.low region.Key, w.key_min);
-      key_max = omega (arith, n.high region.Key, w.key_max);
-      value_min = omega (arith, n.low region.Value, w.value_min);
-      value_max = omega (arith, n.high region.Value, w.value_max);
-      set = λ place low e. rw set (w.set place low e);
-    }
-
-  -- a length in the one is a number in the other
-  length_edge : (r : ℕ) (x y : Interval) (at : Region) → is_proper_kind (abs.Len at) ≡ true → kind_at a r ≡ abs.Len at → least a at ≤ x.low → x.high ≤ greatest a at → IsPartOf x y
-      → is_within (with_length a at x) (with_kind b r (numbers y)) ≡ true
-  length_edge r x y at k is inner_low inner_high h =
-      let c = with_length a at x in
-      let among : is_kind_within c (kind_at a r) (numbers y) ≡ true = rw is (length_among a x at y.low y.high k h.low h.high) in
-      within_from c (with_kind b r (numbers y)) (better_set c (length_registers a at x) (length_set a at x) (length_narrower a x at inner_low inner_high) r (numbers y) among)
-
-  -- a length in both
-  lengths_edge : (x y : Interval) (at : Region) → least a at ≤ x.low → x.high ≤ greatest a at → IsPartOf x y → is_within a b ≡ true → is_within (with_length a at x) (with_length b at y) ≡ true
-  lengths_edge x y region.Stack inner_low inner_high part h = h
-  lengths_edge x y region.Key inner_low inner_high part h =
-      let n = length_narrower a x region.Key inner_low inner_high in
-      within_from _ _ (record {
-        kinds = λ i below. kind_within_narrower a (with_length a region.Key x) (kind_at a i) (kind_at b i) n (w.kinds i below);
-        key_min = part.low;
-        key_max = part.high;
-        value_min = w.value_min;
-        value_max = w.value_max;
-        set = w.set;
-      })
-  lengths_edge x y region.Value inner_low inner_high part h =
-      let n = length_narrower a x region.Value inner_low inner_high in
-      within_from _ _ (record {
-        kinds = λ i below. kind_within_narrower a (with_length a region.Value x) (kind_at a i) (kind_at b i) n (w.kinds i below);
-        key_min = w.key_min;
-        key_max = w.key_max;
-        value_min = part.low;
-        value_max = part.high;
-        set = w.set;
-      })
+  -- what is left of a length's interval is in its region's range
+  length_part : (at : Region) (x range : Interval) → range_of a (abs.Len at) ≡ Some range → IsPartOf x range → is_range_within (lengths_from_to x.low x.high) (length_range a at) ≡ true
+  length_part at x range e part =
+      let of : IsPartOf x (interval_of (length_range a at)) = subst (IsPartOf x) (sym (same_Some (interval_of (length_range a at)) range e)) part in
+      range_from_part (lengths_from_to x.low x.high) (length_range a at) of.low of.high
 
   -- what a kind's new interval makes of the states
   range_edge : (r : ℕ) (x y : Option Interval) (j k : Abs) (range : Interval) → is_within a b ≡ true → kind_at a r ≡ j → is_proper_kind j ≡ true → is_kind_within a j k ≡ true
@@ -134,11 +101,14 @@ module _ (a b : Abstract) (w : IsWithin a b) (pa : is_proper a ≡ true) (pb : i
   range_edge r (Some x) (Some y) (abs.Num l' m') (abs.Num l m) range h is pj jk number at inside part = numbers_edge r x y part
   range_edge r (Some x) (Some y) (abs.Num l' m') (abs.Len q) range h is pj jk number at inside part = absurd (false≢true jk)
   range_edge r (Some x) (Some y) (abs.Len g) (abs.Num l m) range h is pj jk number at inside part =
-      let of : IsPartOf x (from_to (least a g) (greatest a g)) = subst (IsPartOf x) (sym (same_Some (from_to (least a g) (greatest a g)) range at)) inside.1 in
-      length_edge r x y g pj is of.low of.high part
+      let to = lengths_from_to x.low x.high in
+      let among = range_from_part to (lengths_from_to y.low y.high) part.low part.high in
+      within_from _ _ (within_other (with_lengths a g to) b r (numbers y) (better g to h (length_part g x range at inside.1)) (length_among a g to y r pj is among))
   range_edge r (Some x) (Some y) (abs.Len g) (abs.Len q) range h is pj jk number at inside part =
-      let of : IsPartOf x (from_to (least a g) (greatest a g)) = subst (IsPartOf x) (sym (same_Some (from_to (least a g) (greatest a g)) range at)) inside.1 in
-      subst (λ at. is_within (with_length a g x) (with_length b at y) ≡ true) (region_is g q jk) (lengths_edge x y g of.low of.high part h)
+      let to = lengths_from_to x.low x.high in
+      let from = lengths_from_to y.low y.high in
+      subst (λ at. is_within (with_lengths a g to) (with_lengths b at from) ≡ true) (region_is g q jk)
+      (lengths_within a b g to from (better g to h (length_part g x range at inside.1)) (range_from_part to from part.low part.high))
   range_edge r (Some x) (Some y) (abs.Addr q l' m') (abs.Num l m) range h is pj jk number at inside part = absurd (false≢true jk)
   range_edge r (Some x) (Some y) (abs.Addr q l' m') (abs.Len g) range h is pj jk number at inside part = absurd (false≢true jk)
 
@@ -151,7 +121,7 @@ module _ (a b : Abstract) (w : IsWithin a b) (pa : is_proper a ≡ true) (pb : i
       let j = kind_at a dst in
       let k = kind_at b dst in
       let jk = kind_within a b w pb dst in
-      let x = ranges_within a b (narrower a b w) pa pb j k (proper_kind a dst pa) (proper_kind b dst pb) jk number in
+      let x = ranges_within a b w.lengths pa pb j k (kind_at_proper a dst pa) (kind_at_proper b dst pb) jk number in
       rw (x.inner_is, x.outer_is)
-      (range_edge dst (narrowed width test taken x.inner c) (narrowed width test taken x.outer c) j k x.inner h refl (proper_kind a dst pa) jk number x.inner_is
+      (range_edge dst (narrowed width test taken x.inner c) (narrowed width test taken x.outer c) j k x.inner h refl (kind_at_proper a dst pa) jk number x.inner_is
       (narrowed_proper x.inner x.inner_range.order width test taken c) (narrowed_within x.inner x.outer x.part x.inner_range.order width test taken c))

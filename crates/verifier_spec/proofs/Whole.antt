@@ -11,6 +11,9 @@ le-le_z a b h = grind (arith, ints)
 pub add_le : (a b c d : ℤ) → a ≤ℤ b → c ≤ℤ d → (a +ℤ c) ≤ℤ (b +ℤ d)
 add_le a b c d h k = omega (arith, ints)
 
+pub shift_le : (a b by : ℤ) → a ≤ℤ b → (a +ℤ by) ≤ℤ (b +ℤ by)
+shift_le a b by h = omega (arith, ints)
+
 pub le_trans_z : (a b c : ℤ) → a ≤ℤ b → b ≤ℤ c → a ≤ℤ c
 le_trans_z a b c h k = omega (arith, ints)
 

@@ -1,5 +1,5 @@
 -- Kinds and ranges of a state that is within another.
-use Rattle.std.proofs.Common.{◌≡◌, ℕ, zero, suc, ◌^◌, ◌<◌, ◌≤◌, ℤ, ◌+ℤ◌, ◌≤ℤ◌, true, false, List, [], ◌∷◌, length, get_or, set, Some, refl, sym, ap, ◌∙◌, subst, ⊎_elim, arith}
+use Rattle.std.proofs.Common.{◌≡◌, ℕ, zero, suc, ◌^◌, ◌≤◌, ℤ, ◌+ℤ◌, ◌≤ℤ◌, true, false, List, [], ◌∷◌, length, get_or, set, Some, refl, sym, ap, ◌∙◌, subst, ⊎_elim, arith}
 use Rattle.std.proofs.lemmas.Bool.{and_parts, and_from, leb-true, le-leb, ltb-true, lt-ltb, or_cases, or_left, or_right, cases_lt, false≢true}
 use Rattle.machine_spec.specs.declared.operation.Width.{Width}
 use Rattle.machine_spec.specs.declared.operation.Width.TheVariants.{Bits32, Bits64}
@@ -13,38 +13,21 @@ use Rattle.machine_spec.specs.Values.{immediate, moves_address}
 use Rattle.verifier_spec.specs.declared.interval.Interval.{Interval}
 use Rattle.verifier_spec.specs.declared.state.Abs.{Abs}
 use Rattle.verifier_spec.specs.declared.state.Abs.TheVariants as abs
-use Rattle.verifier_spec.specs.declared.state.StackSet.{StackSet}
 use Rattle.verifier_spec.specs.declared.state.Abstract.{Abstract}
 use Rattle.verifier_spec.specs.Intervals.{from_to, IsPartOf, IsRangeOf}
-use Rattle.verifier_spec.specs.Kinds.{kind_at, least, greatest, range_of, is_unknown, is_number_kind, is_address_kind, is_proper_kind, is_kind_within, same_region}
+use Rattle.verifier_spec.specs.Ranges.{lengths_from_to, interval_of, is_range_within}
+use Rattle.verifier_spec.specs.Kinds.{kind_at, length_range, range_of, is_unknown, is_number_kind, is_address_kind, is_proper_kind, is_kind_within, same_region}
 use Rattle.verifier_spec.specs.States.{is_proper}
 use Rattle.verifier_spec.specs.Checks.{source_kind, is_one_sign, least_displacement, greatest_displacement, can_move, can_compute_kinds}
 use Rattle.verifier_spec.specs.Transfer.{with_kind, numbers, on_ranges, moved_address, moved_kind, computed_kind, changed_kind}
-use Rattle.verifier_spec.proofs.Order.{IsWithin, region_is}
+use Rattle.verifier_spec.proofs.Order.{IsNarrower, IsWithin, region_is}
 use Rattle.verifier_spec.proofs.Proper.{proper_parts, unknown_past, addr_order, proper_range}
+use Rattle.verifier_spec.proofs.Ranges.{range_part, range_refl, range_trans}
 use Rattle.verifier_spec.proofs.RangesMonotone.{cut_part, result_part, changed_part}
 use Rattle.verifier_spec.proofs.Sums.{least_part, greatest_part, moved_parts, number_if_moves}
 use Rattle.verifier_spec.proofs.Whole.{le_z-true, le-le_z, le_trans_z, add_le}
 
 -- ---- lengths
-
--- each region's least length is not smaller, and its greatest not greater
-pub record IsNarrower (a b : Abstract) : Type 0 where
-  pub low : (at : Region) → least b at ≤ least a at
-  pub high : (at : Region) → greatest a at ≤ greatest b at
-
-narrower_low : (a b : Abstract) → IsWithin a b → (at : Region) → least b at ≤ least a at
-narrower_low a b w region.Stack = omega arith
-narrower_low a b w region.Key = w.key_min
-narrower_low a b w region.Value = w.value_min
-
-narrower_high : (a b : Abstract) → IsWithin a b → (at : Region) → greatest a at ≤ greatest b at
-narrower_high a b w region.Stack = omega arith
-narrower_high a b w region.Key = w.key_max
-narrower_high a b w region.Value = w.value_max
-
-pub narrower : (a b : Abstract) → IsWithin a b → IsNarrower a b
-narrower a b w = record { low = narrower_low a b w; high = narrower_high a b w }
 
 -- a kind stays within another where lengths are known better
 pub kind_within_narrower : (a c : Abstract) (j k : Abs) → IsNarrower c a → is_kind_within a j k ≡ true → is_kind_within c j k ≡ true
@@ -55,11 +38,7 @@ kind_within_narrower a c abs.None (abs.Addr r lo hi) n h = h
 kind_within_narrower a c (abs.Num l m) (abs.Num lo hi) n h = h
 kind_within_narrower a c (abs.Num l m) (abs.Len r) n h = h
 kind_within_narrower a c (abs.Num l m) (abs.Addr r lo hi) n h = h
-kind_within_narrower a c (abs.Len r) (abs.Num lo hi) n h =
-    let p = and_parts _ _ h in
-    let low = leb-true lo (least a r) p.0 in
-    let high = leb-true (greatest a r) hi p.1 in
-    and_from _ _ (le-leb lo (least c r) (omega (arith, n.low r))) (le-leb (greatest c r) hi (omega (arith, n.high r)))
+kind_within_narrower a c (abs.Len r) (abs.Num lo hi) n h = range_trans (length_range c r) (length_range a r) (lengths_from_to lo hi) (n r) h
 kind_within_narrower a c (abs.Len r) (abs.Len q) n h = h
 kind_within_narrower a c (abs.Len r) (abs.Addr q lo hi) n h = h
 kind_within_narrower a c (abs.Addr r lo hi) (abs.Num l m) n h = h
@@ -143,16 +122,13 @@ module _ (a b : Abstract) (n : IsNarrower a b) (pa : is_proper a ≡ true) (pb :
   ranges_within abs.None (abs.Num lo hi) pj pk h u = absurd (false≢true h)
   ranges_within abs.None (abs.Len r) pj pk h u = absurd (false≢true h)
   ranges_within (abs.Num l m) (abs.Num lo hi) pj pk h u =
-      let t = and_parts _ _ h in
-      are_ranges (abs.Num l m) (abs.Num lo hi) (from_to l m) (from_to lo hi) pj pk refl refl (record { low = leb-true lo l t.0; high = leb-true m hi t.1 })
+      are_ranges (abs.Num l m) (abs.Num lo hi) (from_to l m) (from_to lo hi) pj pk refl refl (range_part (lengths_from_to l m) (lengths_from_to lo hi) h)
   ranges_within (abs.Num l m) (abs.Len r) pj pk h u = absurd (false≢true h)
   ranges_within (abs.Len r) (abs.Num lo hi) pj pk h u =
-      let t = and_parts _ _ h in
-      are_ranges (abs.Len r) (abs.Num lo hi) (from_to (least a r) (greatest a r)) (from_to lo hi) pj pk refl refl (record { low = leb-true lo (least a r) t.0; high = leb-true (greatest a r) hi t.1 })
+      are_ranges (abs.Len r) (abs.Num lo hi) (interval_of (length_range a r)) (from_to lo hi) pj pk refl refl (range_part (length_range a r) (lengths_from_to lo hi) h)
   ranges_within (abs.Len r) (abs.Len q) pj pk h u =
-      let same = region_is r q h in
-      are_ranges (abs.Len r) (abs.Len q) (from_to (least a r) (greatest a r)) (from_to (least b q) (greatest b q)) pj pk refl refl
-      (record { low = subst (λ x. least b x ≤ least a r) same (n.low r); high = subst (λ x. greatest a r ≤ greatest b x) same (n.high r) })
+      let inside = subst (λ x. is_range_within (length_range a r) (length_range b x) ≡ true) (region_is r q h) (n r) in
+      are_ranges (abs.Len r) (abs.Len q) (interval_of (length_range a r)) (interval_of (length_range b q)) pj pk refl refl (range_part (length_range a r) (length_range b q) inside)
   ranges_within (abs.Addr r l m) (abs.Num lo hi) pj pk h u = absurd (false≢true h)
   ranges_within (abs.Addr r l m) (abs.Len g) pj pk h u = absurd (false≢true h)
 
@@ -298,37 +274,9 @@ pub source_within : (a b : Abstract) (width : Width) (source : Source) → IsWit
 source_within a b width (Register r) w p = kind_within a b w p r
 source_within a b width (Immediate imm) w p =
     let c = immediate width imm in
-    and_from _ _ (le-leb c c (omega arith)) (le-leb c c (omega arith))
+    range_refl (lengths_from_to c c)
 
 -- ---- registers
-
-least_kept : (a : Abstract) (kinds : List Abs) (at : Region) → least a at ≤ least (record a { registers = kinds }) at
-least_kept a kinds region.Stack = omega arith
-least_kept a kinds region.Key = omega arith
-least_kept a kinds region.Value = omega arith
-
-greatest_kept : (a : Abstract) (kinds : List Abs) (at : Region) → greatest (record a { registers = kinds }) at ≤ greatest a at
-greatest_kept a kinds region.Stack = omega arith
-greatest_kept a kinds region.Key = omega arith
-greatest_kept a kinds region.Value = omega arith
-
--- a change of the registers' kinds keeps the lengths
-pub other_kinds : (a : Abstract) (kinds : List Abs) → IsNarrower (record a { registers = kinds }) a
-other_kinds a kinds = record { low = least_kept a kinds; high = greatest_kept a kinds }
-
--- and so does one of the set of stack bytes
-set_least : (a : Abstract) (set : StackSet) (at : Region) → least a at ≤ least (record a { set = set }) at
-set_least a set region.Stack = omega arith
-set_least a set region.Key = omega arith
-set_least a set region.Value = omega arith
-
-set_greatest : (a : Abstract) (set : StackSet) (at : Region) → greatest (record a { set = set }) at ≤ greatest a at
-set_greatest a set region.Stack = omega arith
-set_greatest a set region.Key = omega arith
-set_greatest a set region.Value = omega arith
-
-pub other_set : (a : Abstract) (set : StackSet) → IsNarrower (record a { set = set }) a
-other_set a set = record { low = set_least a set; high = set_greatest a set }
 
 pairs_set : (P : Abs → Abs → Type 0) (js ks : List Abs) (r q : ℕ) (j k : Abs) → length js ≡ length ks → P (get_or js q abs.None) (get_or ks q abs.None) → P j k
     → P (get_or (set js r j) q abs.None) (get_or (set ks r k) q abs.None)
@@ -345,18 +293,9 @@ module _ (a b : Abstract) (w : IsWithin a b) (pa : is_proper a ≡ true) (pb : i
   same_long : length a.registers ≡ length b.registers
   same_long = (proper_parts a pa).eleven ∙ sym (proper_parts b pb).eleven
 
-  -- in a state that knows lengths no worse than the first
-  pub kinds_set : (c : Abstract) (r q : ℕ) (j k : Abs) → q < 11 → IsNarrower c a → is_kind_within c j k ≡ true
-      → is_kind_within c (get_or (set a.registers r j) q abs.None) (get_or (set b.registers r k) q abs.None) ≡ true
-  kinds_set c r q j k low n h =
-      pairs_set (λ x y. is_kind_within c x y ≡ true) a.registers b.registers r q j k same_long (kind_within_narrower a c (kind_at a q) (kind_at b q) n (w.kinds q low)) h
-
   pub within_set : (r : ℕ) (j k : Abs) → is_kind_within a j k ≡ true → IsWithin (with_kind a r j) (with_kind b r k)
   within_set r j k h = record {
-    kinds = λ q low. kinds_set (with_kind a r j) r q j k low (other_kinds a (set a.registers r j)) (kind_within_narrower a (with_kind a r j) j k (other_kinds a (set a.registers r j)) h);
-    key_min = w.key_min;
-    key_max = w.key_max;
-    value_min = w.value_min;
-    value_max = w.value_max;
+    kinds = λ q low. pairs_set (λ x y. is_kind_within a x y ≡ true) a.registers b.registers r q j k same_long (w.kinds q low) h;
+    lengths = w.lengths;
     set = w.set;
   }

@@ -3,12 +3,13 @@ use Rattle.std.proofs.Common.{◌≡◌, pos, refl}
 use Rattle.machine_spec.specs.declared.instruction.Region.TheVariants as region
 use Rattle.verifier_spec.specs.declared.state.Abs.TheVariants as abs
 use Rattle.verifier_spec.specs.declared.state.Abstract.{Abstract}
+use Rattle.verifier_spec.specs.Ranges.{lengths_from_to}
 use Rattle.verifier_spec.specs.States.{entry_state}
 use Rattle.verifier_spec.specs.Joins.{joined_kind, joined}
 
 -- the value has five to nine bytes
 abbrev five_to_nine : Abstract
-five_to_nine = record entry_state { value_min = 5; value_max = 9 }
+five_to_nine = record entry_state { value = lengths_from_to 5 9 }
 
 two_intervals : joined_kind entry_state entry_state (abs.Num 1 2) (abs.Num 5 9) ≡ abs.Num 1 9
 two_intervals = refl

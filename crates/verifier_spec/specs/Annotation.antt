@@ -66,6 +66,7 @@ reached_checks helpers code claims k placed (Some s) = checks helpers (summary_o
 unfoldable pub failed_at : List Helper → List Placed → Claims → ℕ → Placed → Option Check
 failed_at helpers code claims k placed = first_of (shape_checks code k placed ++ reached_checks helpers code claims k placed (claim_at claims k))
 
+-- the refusal at instruction number k if it fails a check, else a later one
 abbrev pub fault_or : ℕ → Option Check → Option VerifyFault → Option VerifyFault
 fault_or k (Some kind) later = Some (record { pc = k; kind = kind })
 fault_or k None later = later
@@ -75,8 +76,8 @@ abbrev pub fault_from : List Helper → List Placed → Claims → ℕ → List 
 fault_from helpers code claims k [] = None
 fault_from helpers code claims k (placed ∷ rest) = fault_or k (failed_at helpers code claims k placed) (fault_from helpers code claims (k + 1) rest)
 
--- The refusal that is reported for a list: at 0, that it has another length than the code or that the entry is not within
--- its first state; else the first failed check of the lowest instruction that fails one.
+-- The refusal that is reported for a list: at 0, that it has another length than the code or that the entry is not
+-- within its first state; else the first failed check of the lowest instruction that fails one.
 unfoldable pub fault_of : List Helper → List Placed → Claims → Option VerifyFault
 fault_of helpers code claims =
     if (length claims == length code) && is_covered entry_state (claim_at claims 0)

@@ -1,5 +1,5 @@
--- Intervals of numbers: what an operation or a change makes of them, and what a conditional jump by a constant leaves of
--- them along its edges.
+-- Intervals of numbers: what an operation or a change makes of them, and what a conditional jump by a constant leaves
+-- of them along its edges.
 use Rattle.std.specs.Prelude.{ℕ, zero, suc, ◌+◌, ◌-◌, ◌*◌, ◌/◌, ◌%◌, ◌^◌, ◌<◌, ◌≤◌, Bool, true, false, ◌==◌, ◌&&◌, nat_lt, nat_le, min, max, if◌then◌else◌, Option, Some, None}
 use Rattle.std.specs.Int.{w64, leading_zeros}
 use Rattle.machine_spec.specs.declared.operation.{Width.Width, Width.TheVariants.Bits32, Width.TheVariants.Bits64, Operation.Operation, Change.Change, Test.Test}
@@ -9,6 +9,7 @@ use Rattle.machine_spec.specs.declared.operation.Test.TheVariants.{Equal, NotEqu
 use Rattle.machine_spec.specs.Arithmetic.{bit_count, limit, swapped_bits, extended_bits}
 use Rattle.verifier_spec.specs.declared.interval.Interval.{Interval}
 
+-- the numbers from one to another
 abbrev pub from_to : ℕ → ℕ → Interval
 from_to low high = record { low = low; high = high }
 
@@ -116,15 +117,16 @@ changed_range (SignExtend width part) x = if nat_lt x.high (2 ^ (extended_bits p
 abbrev pub if_any : ℕ → ℕ → Option Interval
 if_any low high = if nat_le low high then Some (from_to low high) else None
 
--- the numbers of an interval that are ..
+-- the numbers of an interval that are c
 abbrev pub equal_to : Interval → ℕ → Option Interval
 equal_to x c = if_any (max x.low c) (min x.high c)
 
--- without c, where it is at an end
+-- all but c, where it is at an end
 abbrev pub different_from : Interval → ℕ → Option Interval
 different_from x c =
     if x.low == c then if_any (x.low + 1) x.high else (if x.high == c then if_any x.low (x.high - 1) else Some x)
 
+-- those above c, at least c, at most c, and below c
 abbrev pub above : Interval → ℕ → Option Interval
 above x c = if_any (max x.low (c + 1)) x.high
 
@@ -138,24 +140,28 @@ abbrev pub below : Interval → ℕ → Option Interval
 below x zero = None
 below x (suc c) = at_most x c
 
--- What a test of 64 bits leaves of an interval where it holds, and where it does not. A test for a bit, or of signed
--- numbers, leaves all.
-abbrev pub narrowed_64 : Test → Bool → Interval → ℕ → Option Interval
-narrowed_64 Equal true x c = equal_to x c
-narrowed_64 Equal false x c = different_from x c
-narrowed_64 NotEqual true x c = different_from x c
-narrowed_64 NotEqual false x c = equal_to x c
-narrowed_64 Greater true x c = above x c
-narrowed_64 Greater false x c = at_most x c
-narrowed_64 GreaterOrEqual true x c = at_least x c
-narrowed_64 GreaterOrEqual false x c = below x c
-narrowed_64 Less true x c = below x c
-narrowed_64 Less false x c = at_least x c
-narrowed_64 LessOrEqual true x c = at_most x c
-narrowed_64 LessOrEqual false x c = above x c
-narrowed_64 _ _ x c = Some x
+-- what a test of 64 bits leaves of an interval where it holds; a test for a bit, or of signed numbers, leaves all
+abbrev pub passing_part : Test → Interval → ℕ → Option Interval
+passing_part Equal x c = equal_to x c
+passing_part NotEqual x c = different_from x c
+passing_part Greater x c = above x c
+passing_part GreaterOrEqual x c = at_least x c
+passing_part Less x c = below x c
+passing_part LessOrEqual x c = at_most x c
+passing_part _ x c = Some x
 
--- a test of 32 bits leaves all
+-- the test that holds where another does not; of those that leave all, the same
+abbrev pub opposite : Test → Test
+opposite Equal = NotEqual
+opposite NotEqual = Equal
+opposite Greater = LessOrEqual
+opposite GreaterOrEqual = Less
+opposite Less = GreaterOrEqual
+opposite LessOrEqual = Greater
+opposite test = test
+
+-- What a jump by a constant leaves of an interval where it is taken, and where it is not. One of 32 bits leaves all.
 abbrev pub narrowed : Width → Test → Bool → Interval → ℕ → Option Interval
 narrowed Bits32 test taken x c = Some x
-narrowed Bits64 test taken x c = narrowed_64 test taken x c
+narrowed Bits64 test true x c = passing_part test x c
+narrowed Bits64 test false x c = passing_part (opposite test) x c

@@ -27,6 +27,7 @@ with_edges code j k placed s claim =
     with_edge j (target_of code placed.slot (jump_of placed.instruction)) (jumps_to placed.instruction s)
     (with_edge j (Some (k + 1)) (falls_to placed.instruction s) claim)
 
+-- the second claim where no check fails, else the first
 abbrev pub if_passed : Option Check → Option Abstract → Option Abstract → Option Abstract
 if_passed (Some _) known more = known
 if_passed None known more = more
@@ -48,5 +49,6 @@ abbrev pub states_from : List Helper → List Placed → ℕ → List Placed →
 states_from helpers code k [] = []
 states_from helpers code k (placed ∷ rest) = known_after helpers code k k ∷ states_from helpers code (k + 1) rest
 
+-- the claims of a program: the joined state of each instruction that is reached
 unfoldable pub joined_states : List Helper → List Placed → Claims
 joined_states helpers code = states_from helpers code 0 code

@@ -1,4 +1,6 @@
 pub mod Intervals
+pub mod Ranges
+pub mod StackSets
 pub mod Kinds
 pub mod States
 pub mod Checks

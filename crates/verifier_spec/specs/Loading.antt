@@ -13,6 +13,7 @@ pub record IsAccepted (program : Program) : Type 0 where
   pub claims : Claims
   pub annotation : IsAnnotation program.helpers code claims
 
+-- the fault of an image: why it does not decode, or that of its code by its joined states
 abbrev pub code_fault : List Helper → Result (List Placed) IsaFault → Option LoadFault
 code_fault helpers (Ok code) = option_map Verify (fault_of helpers code (joined_states helpers code))
 code_fault helpers (Err fault) = Some (Isa fault)

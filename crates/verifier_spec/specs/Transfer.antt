@@ -1,5 +1,5 @@
 -- What an instruction makes of an abstract state, along each of its edges.
-use Rattle.std.specs.Prelude.{ℕ, zero, suc, ◌+◌, ◌-◌, ◌*◌, ◌/◌, ◌%◌, ◌^◌, ℤ, ◌+ℤ◌, Bool, true, false, ◌==◌, ◌&&◌, if◌then◌else◌, bit_or, List, [], ◌∷◌, map, slice_index, slice_set, Option, Some, None, unsigned_abs}
+use Rattle.std.specs.Prelude.{ℕ, ◌-◌, ◌*◌, ◌^◌, ℤ, ◌+ℤ◌, Bool, true, false, ◌&&◌, if◌then◌else◌, List, ◌∷◌, slice_set, Option, Some, None, unsigned_abs}
 use Rattle.std.specs.{Ordering.int_eq, List.fold}
 use Rattle.machine_spec.specs.declared.operation.{Width.Width, Width.TheVariants.Bits32, Width.TheVariants.Bits64, Operation.Operation, Change.Change, Test.Test}
 use Rattle.machine_spec.specs.declared.instruction.{Region.Region, Size.Size, Extension.Extension, Extension.TheVariants.Zero, Extension.TheVariants.Sign, Source.Source, Source.TheVariants.Register, Source.TheVariants.Immediate, Instruction.Instruction}
@@ -9,8 +9,10 @@ use Rattle.machine_spec.specs.Summaries.{summary_of}
 use Rattle.machine_spec.specs.Values.{immediate, byte_count}
 use Rattle.machine_spec.specs.Machine.{signature_of, helper_of}
 use Rattle.machine_spec.specs.Traps.{is_stack}
-use Rattle.verifier_spec.specs.declared.{interval.Interval.Interval, state.Abs.Abs, state.StackSet.StackSet, state.Abstract.Abstract}
+use Rattle.verifier_spec.specs.declared.{interval.Interval.Interval, state.Abs.Abs, state.Range.Range, state.StackSet.StackSet, state.Abstract.Abstract}
 use Rattle.verifier_spec.specs.Intervals.{from_to, cut, result_range, changed_range, narrowed}
+use Rattle.verifier_spec.specs.StackSets.{with_places}
+use Rattle.verifier_spec.specs.Ranges.{lengths_from_to}
 use Rattle.verifier_spec.specs.Kinds.{kind_at, range_of}
 use Rattle.verifier_spec.specs.Checks.{source_kind, least_displacement, greatest_displacement, Reach, reach_at}
 
@@ -29,6 +31,7 @@ abbrev pub on_range : (Interval → Interval) → Option Interval → Abs
 on_range f (Some range) = numbers (f range)
 on_range f None = Abs.None
 
+-- what an operation makes of the numbers of two kinds
 abbrev pub on_ranges : Width → Operation → Option Interval → Option Interval → Abs
 on_ranges width operation (Some a) (Some b) = numbers (result_range width operation a b)
 on_ranges width operation _ _ = Abs.None
@@ -56,20 +59,10 @@ changed_kind s change kind = on_range (changed_range change) (range_of s kind)
 
 -- ---- memory
 
--- a number of this size; one that is sign-extended may be any
+-- what a load gives: a number of its size; one that is sign-extended may be any
 abbrev pub loaded_kind : Size → Extension → Abs
 loaded_kind size Zero = Abs.Num 0 (2 ^ (8 * byte_count size) - 1)
 loaded_kind size Sign = Abs.Num 0 (2 ^ 64 - 1)
-
--- a place of the stack, or `count` from one on, added to a set of them, which has eight words
-abbrev pub with_place : StackSet → ℕ → StackSet
-with_place set place = record {
-  words = map (λ w. bit_or (slice_index set.words w) (if w == place / 64 then 2 ^ (place % 64) else 0)) (0 ∷ 1 ∷ 2 ∷ 3 ∷ 4 ∷ 5 ∷ 6 ∷ 7 ∷ []);
-}
-
-abbrev pub with_places : StackSet → ℕ → ℕ → StackSet
-with_places set place zero = set
-with_places set place (suc count) = with_places (with_place set place) (place + 1) count
 
 -- a store at one known place of the stack sets its bytes; any other changes nothing that is known
 abbrev pub with_stored : StackSet → Option Reach → StackSet
@@ -78,19 +71,21 @@ with_stored set None = set
 
 -- ---- conditional jumps by a constant
 
--- what is then known of the region's length
-abbrev pub with_length : Abstract → Region → Interval → Abstract
-with_length s Region.Stack range = s
-with_length s Region.Key range = record s { key_min = range.low; key_max = range.high }
-with_length s Region.Value range = record s { value_min = range.low; value_max = range.high }
+-- the range of a region's lengths changed; the stack's stays
+abbrev pub with_lengths : Abstract → Region → Range → Abstract
+with_lengths s Region.Stack range = s
+with_lengths s Region.Key range = record s { key = range }
+with_lengths s Region.Value range = record s { value = range }
 
--- a number takes the new interval; a length stays one, and its region's least and greatest lengths are the new ends
+-- The state along an edge, by what it leaves of a register's numbers, or none: a number takes the new interval; a length
+-- stays one, and its region's range has the new ends.
 abbrev pub with_range : Abstract → ℕ → Abs → Option Interval → Option Abstract
 with_range s r kind None = None
 with_range s r (Abs.Num _ _) (Some range) = Some (with_kind s r (numbers range))
-with_range s r (Abs.Len region) (Some range) = Some (with_length s region range)
+with_range s r (Abs.Len region) (Some range) = Some (with_lengths s region (lengths_from_to range.low range.high))
 with_range s r _ (Some range) = Some s
 
+-- what a jump by a constant leaves of a kind's numbers
 abbrev pub narrowed_range : Width → Test → Bool → Option Interval → ℕ → Option Interval
 narrowed_range width test taken (Some range) c = narrowed width test taken range c
 narrowed_range width test taken None c = Some (from_to 0 0)
@@ -101,21 +96,24 @@ tested s width test taken dst (Register _) = Some s
 tested s width test taken dst (Immediate imm) =
     with_range s dst (kind_at s dst) (narrowed_range width test taken (range_of s (kind_at s dst)) (immediate width imm))
 
--- where a jump's condition is met
+-- the state along the edge of a jump whose condition is met
 abbrev pub met_edge : Option Condition → Abstract → Option Abstract
 met_edge (Some c) s = tested s c.width c.test true c.dst c.source
 met_edge None s = Some s
 
 -- ---- calls
 
+-- what a helper returns: a number to its greatest
 abbrev pub answer_kind : Helper → Abs
 answer_kind helper = Abs.Num 0 (signature_of helper).greatest
 
+-- the registers after a call: r0 has the answer, and nothing is known of r1 to r5
 abbrev pub after_call_kinds : List Abs → Abs → List Abs
 after_call_kinds (_ ∷ _ ∷ _ ∷ _ ∷ _ ∷ _ ∷ kinds) answer = answer ∷ Abs.None ∷ Abs.None ∷ Abs.None ∷ Abs.None ∷ Abs.None ∷ kinds
 after_call_kinds kinds answer = kinds
 
--- room at one known place of the stack: as many bytes as it has at least become set
+-- The set of stack bytes after a helper wrote room, and after what it did to an argument: of room at one known place of
+-- the stack, as many bytes as it has at least become set.
 abbrev pub with_room : StackSet → Abs → Option Interval → StackSet
 with_room set (Abs.Addr region lo hi) (Some range) = if is_stack region && int_eq lo hi then with_places set (unsigned_abs lo) range.low else set
 with_room set _ _ = set
@@ -124,6 +122,7 @@ abbrev pub with_argument : Abstract → StackSet → Argument → StackSet
 with_argument s set (Argument.Room address count) = with_room set (kind_at s address) (range_of s (kind_at s count))
 with_argument s set _ = set
 
+-- the state after a call of a helper
 abbrev pub called_kinds : Option Helper → Abstract → Option Abstract
 called_kinds (Some helper) s = Some (record s { registers = after_call_kinds s.registers (answer_kind helper); set = fold (with_argument s) s.set (signature_of helper).arguments })
 called_kinds None s = None
@@ -143,11 +142,11 @@ falls_to (Wide dst number) s = Some (with_kind s dst (Abs.Num number number))
 falls_to (Call number) s = called_kinds (helper_of number) s
 falls_to Exit s = None
 
--- along the edge of a jump that is taken
+-- the state along the edge of an instruction's jump, or none if it is no jump
 abbrev pub jump_edge : Option Condition → Option ℤ → Abstract → Option Abstract
 jump_edge condition (Some _) s = met_edge condition s
 jump_edge condition None s = None
 
--- the state at the target of a jump that is taken, or none
+-- the state at the target of an instruction's jump, or none where it can't come there
 unfoldable pub jumps_to : Instruction → Abstract → Option Abstract
 jumps_to i s = jump_edge (summary_of i).condition (summary_of i).jump s

@@ -10,4 +10,4 @@ mod state;
 
 pub use fault::{Check, LoadFault, VerifyFault};
 pub use interval::Interval;
-pub use state::{Abs, Abstract, StackSet};
+pub use state::{Abs, Abstract, Range, StackSet};

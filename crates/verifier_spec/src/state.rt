@@ -19,14 +19,19 @@ pub struct StackSet {
     pub words: [u64; 8],
 }
 
-/// An abstract state: what is known of each register, how long at least and at most the key and
-/// the value are, and which stack bytes are certainly set.
+/// The least and the greatest length, in bytes, that a key or a value may have.
+#[derive(Clone, Copy, Debug, PartialEq, Eq)]
+pub struct Range {
+    pub min: u32,
+    pub max: u32,
+}
+
+/// An abstract state: what is known of each register, the ranges of the key's and the value's
+/// lengths, and which stack bytes are certainly set.
 #[derive(Clone, Copy, Debug, PartialEq, Eq)]
 pub struct Abstract {
     pub registers: [Abs; 11],
-    pub key_min: u32,
-    pub key_max: u32,
-    pub value_min: u32,
-    pub value_max: u32,
+    pub key: Range,
+    pub value: Range,
     pub set: StackSet,
 }
