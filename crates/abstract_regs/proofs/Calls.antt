@@ -1,6 +1,6 @@
 -- The kinds of registers after a call.
 use Rattle.std.proofs.Common.{◌≡◌, ℕ, ◌+◌, ◌<◌, Bool, true, false, List, [], ◌∷◌, length, get_or, drop, slice_index_or, refl, ap, subst, add-one, arith}
-use Rattle.std.proofs.lemmas.Bool.{and_from, or_parts, eqb-true}
+use Rattle.std.proofs.lemmas.Bool.{and_from, or_parts}
 use Rattle.std.specs.List.{list_all, list_any, fold}
 use Rattle.std.proofs.Math.Seq.{drop-cons}
 use Rattle.machine_spec.specs.declared.helper.Argument.{Argument}
@@ -10,7 +10,7 @@ use Rattle.verifier_spec.specs.declared.state.{Abstract.Abstract, StackSet.Stack
 use Rattle.verifier_spec.specs.Kinds.{is_proper_kind}
 use Rattle.verifier_spec.specs.States.{is_proper}
 use Rattle.verifier_spec.specs.Transfer.{after_call_kinds}
-use Rattle.verifier_spec.proofs.InRange.{proper_parts, proper_from, kind_from}
+use Rattle.verifier_spec.proofs.Proper.{proper_parts, proper_from, kind_from}
 
 -- of eleven registers the first six are set and the last five kept
 pub after_call_eleven : (kinds : List Abs) (answer : Abs) → length kinds ≡ 11 → after_call_kinds kinds answer ≡
@@ -40,14 +40,11 @@ after_call_length kinds answer count = rw (after_call_eleven kinds answer count)
 pub called_proper : (s : Abstract) (answer : Abs) (set : StackSet) → is_proper s ≡ true → is_proper_kind answer ≡ true → is_proper (record s { registers = after_call_kinds s.registers answer; set = set }) ≡ true
 called_proper s answer set proper one =
     let p = proper_parts s proper in
-    let count : length s.registers ≡ 11 = eqb-true _ _ p.count in
     proper_from _ (record {
-      count = rw (after_call_length s.registers answer count) refl;
-      kinds = after_call_all s.registers answer count p.kinds one;
+      eleven = after_call_length s.registers answer p.eleven;
+      kinds = after_call_all s.registers answer p.eleven p.kinds one;
       key = p.key;
-      key_most = p.key_most;
       value = p.value;
-      value_most = p.value_most;
     })
 
 -- ---- the arguments one after the other

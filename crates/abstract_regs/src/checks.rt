@@ -280,7 +280,7 @@ fn access_leaves_record(state: &Abstract, m: MemoryOperand, base: Abs) -> bool
 {
     match base {
         Abs::Addr(region, low, high) => {
-            let length = kinds::least(state, region);
+            let length = kinds::length_range(state, region).min;
             !region.is_stack() && !is_reach_within(low, high, m.offset, m.size.byte_count(), length)
         }
         Abs::None => false,
@@ -395,8 +395,9 @@ fn may_be_missing(state: &Abstract, region: Region, low: i64, high: i64, count: 
             !are_within(low, high, count, STACK_SIZE as u32)
                 || !contains_all(&state.set, low.unsigned_abs(), count_from(low, high, count))
         }
-        Region::Key => !are_within(low, high, count, state.key_min),
-        Region::Value => !are_within(low, high, count, state.value_min),
+        Region::Key | Region::Value => {
+            !are_within(low, high, count, kinds::length_range(state, region).min)
+        }
     }
 }
 

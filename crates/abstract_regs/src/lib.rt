@@ -11,4 +11,4 @@ pub use checks::{greatest_displacement, is_one_sign, is_wrong_argument, least_di
 pub use laws::{join_is_least, order_is_kept, transfer_is_sound};
 pub use machine_spec::{Instruction, Region};
 pub use state::{Edges, State};
-pub use verifier_spec::{Abs, Abstract, Check, StackSet};
+pub use verifier_spec::{Abs, Abstract, Check, Range, StackSet};

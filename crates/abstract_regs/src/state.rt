@@ -1,5 +1,6 @@
 ghost use Rattle.std.specs.Prelude.{◌≡◌, true, if◌then◌else◌, Some, None, IfSome};
 ghost use Rattle.verifier_spec.specs.declared.state.Abstract.{Abstract};
+ghost use Rattle.verifier_spec.specs.Ranges.{lengths_from_to};
 ghost use Rattle.verifier_spec.specs.Kinds.{kind_at};
 ghost use Rattle.verifier_spec.specs.States.{is_proper, is_within, entry_state};
 ghost use Rattle.verifier_spec.specs.Joins.{joined};
@@ -11,13 +12,13 @@ use crate::{checks, transfer};
 use machine_spec::{Instruction, Region, STACK_SIZE};
 use state_order::kinds;
 use std::marker::Model;
-use verifier_spec::{Abs, Abstract, Check, StackSet};
+use verifier_spec::{Abs, Abstract, Check, Range, StackSet};
 use wire_spec::{MAX_KEY, MAX_VALUE};
 
-/// What is known before an instruction: a kind for each register, how long at least and at most
-/// the key and the value are, and which stack bytes are certainly set. Its ranges hold: intervals
-/// are not empty, addresses lie within 2^32 bytes of their region's start, and lengths within the
-/// greatest key and value. A clause sees it as the `Abstract` inside.
+/// What is known before an instruction: a kind for each register, the ranges of the key's and the
+/// value's lengths, and which stack bytes are certainly set. Its ranges hold: intervals are not
+/// empty, addresses lie within 2^32 bytes of their region's start, and lengths within the greatest
+/// key and value. A clause sees it as the `Abstract` inside.
 #[derive(Clone, Copy, Debug, Drop)]
 pub struct State {
     inner: Abstract,
@@ -49,20 +50,22 @@ impl State {
     ) -> Option<State>
         ensures { let whole : Abstract = record {
           registers = registers;
-          key_min = key_min;
-          key_max = key_max;
-          value_min = value_min;
-          value_max = value_max;
+          key = lengths_from_to key_min key_max;
+          value = lengths_from_to value_min value_max;
           set = set;
         } in
             result ≡ (if is_proper whole then Some whole else None) }
     {
         let inner = Abstract {
             registers,
-            key_min,
-            key_max,
-            value_min,
-            value_max,
+            key: Range {
+                min: key_min,
+                max: key_max,
+            },
+            value: Range {
+                min: value_min,
+                max: value_max,
+            },
             set,
         };
         if state_order::is_proper(&inner) {
@@ -93,10 +96,14 @@ impl State {
                     Abs::None,
                     Abs::Addr(Region::Stack, STACK_SIZE as i64, STACK_SIZE as i64),
                 ],
-                key_min: 0,
-                key_max: MAX_KEY as u32,
-                value_min: 0,
-                value_max: MAX_VALUE as u32,
+                key: Range {
+                    min: 0,
+                    max: MAX_KEY as u32,
+                },
+                value: Range {
+                    min: 0,
+                    max: MAX_VALUE as u32,
+                },
                 set: StackSet { words: [0; 8] },
             },
         }
@@ -110,8 +117,7 @@ impl State {
         kinds::kind_of(&self.inner.registers, register)
     }
 
-    /// All that is known: each register's kind, the least and greatest lengths, and the set stack
-    /// bytes.
+    /// All that is known: each register's kind, the ranges of the lengths, and the set stack bytes.
     pub fn as_abstract(&self) -> &Abstract
         ensures { result.now ≡ self.now }
     {
@@ -119,8 +125,7 @@ impl State {
     }
 
     /// Whether all that another state knows is known here too: each register's kind is within the
-    /// other's, the least lengths are not smaller, the greatest not greater, and no fewer stack bytes
-    /// are set.
+    /// other's, the key's and the value's ranges are, and no fewer stack bytes are set.
     pub fn within(&self, outer: &State) -> bool
         ensures within { result ≡ is_within self.now outer.now }
         ensures proper { is_proper self.now ≡ true }
@@ -130,8 +135,7 @@ impl State {
     }
 
     /// The least state that this one and another are both within: of each register what both know,
-    /// the lesser of the least lengths, the greater of the greatest, and the stack bytes that are
-    /// set in both.
+    /// the least ranges that contain both's lengths, and the stack bytes that are set in both.
     pub fn join(&self, other: &State) -> State
         ensures joined { result ≡ joined self.now other.now }
         ensures proper { is_proper self.now ≡ true }

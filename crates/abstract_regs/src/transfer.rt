@@ -1,13 +1,12 @@
 ghost use Rattle.std.specs.Prelude.{◌≡◌, ◌≤◌, pos, neg_ℤ, ◌+ℤ◌, ◌≤ℤ◌, true, false, None, Some, IfSome, slice_set};
-ghost use Rattle.verifier_spec.specs.Intervals.{from_to};
-ghost use Rattle.verifier_spec.specs.Kinds.{kind_at, greatest, range_of, is_proper_kind, furthest};
+ghost use Rattle.verifier_spec.specs.Kinds.{kind_at, length_range, range_of, is_proper_kind, furthest};
 ghost use Rattle.verifier_spec.specs.States.{is_proper};
 ghost use Rattle.std.specs.Ordering.{int_eq};
 ghost use Rattle.std.specs.List.{list_any, fold};
 ghost use Rattle.machine_spec.specs.Machine.{signature_of, helper_of};
 ghost use Rattle.machine_spec.specs.declared.summary.Direction.TheVariants as direction;
 ghost use Rattle.verifier_spec.specs.Checks.{can_move, can_compute_kinds, source_kind, reach_at, may_leave_stack, named_reach, may_be_wrong_room, is_wrong_argument_kind, failed_check};
-ghost use Rattle.verifier_spec.specs.Transfer.{with_kind, numbers, on_ranges, moved_address, moved_kind, computed_kind, changed_kind, loaded_kind, with_stored, with_room, with_argument, with_length, with_range, narrowed_range, tested, answer_kind, after_call_kinds, called_kinds, met_edge, jump_edge, falls_to, jumps_to};
+ghost use Rattle.verifier_spec.specs.Transfer.{with_kind, numbers, on_ranges, moved_address, moved_kind, computed_kind, changed_kind, loaded_kind, with_stored, with_room, with_argument, with_lengths, with_range, narrowed_range, tested, answer_kind, after_call_kinds, called_kinds, met_edge, jump_edge, falls_to, jumps_to};
 ghost use Rattle.machine_spec.specs.declared.helper.TheConstants.{HELPERS};
 
 use crate::checks;
@@ -17,7 +16,7 @@ use machine_spec::{
 };
 use stack_bytes::{StackSet, with_places};
 use state_order::kinds;
-use verifier_spec::{Abs, Abstract, Interval};
+use verifier_spec::{Abs, Abstract, Interval, Range};
 
 // ---- a register's kind
 
@@ -31,7 +30,7 @@ fn set_kind(kinds: &[Abs; 11], register: usize, kind: Abs) -> [Abs; 11]
     changed
 }
 
-#[tactic(auto, using(verifier_spec::proofs::InRange::with_kind_proper))]
+#[tactic(auto, using(verifier_spec::proofs::Proper::with_kind_proper))]
 fn with_kind(state: &Abstract, register: u8, kind: Abs) -> Abstract
     requires state { is_proper state.now ≡ true }
     requires kind { is_proper_kind kind ≡ true }
@@ -40,10 +39,8 @@ fn with_kind(state: &Abstract, register: u8, kind: Abs) -> Abstract
 {
     Abstract {
         registers: set_kind(&state.registers, register as usize, kind),
-        key_min: state.key_min,
-        key_max: state.key_max,
-        value_min: state.value_min,
-        value_max: state.value_max,
+        key: state.key,
+        value: state.value,
         set: state.set,
     }
 }
@@ -92,19 +89,6 @@ fn moved(operation: Operation, region: Region, low: i64, high: i64, range: Inter
     Abs::Addr(region, moved_by(low, least), moved_by(high, greatest))
 }
 
-#[tactic(auto, using(verifier_spec::proofs::InRange::least_most))]
-fn length_range(state: &Abstract, region: Region) -> Interval
-    requires { is_proper state.now ≡ true }
-    ensures range { Some result ≡ range_of state.now (Abs.Len region) }
-    ensures most { result.high ≡ greatest state.now region }
-    ensures ordered { result.low ≤ result.high }
-{
-    Interval {
-        low: kinds::least(state, region) as u64,
-        high: kinds::greatest(state, region) as u64,
-    }
-}
-
 fn moved_address(
     state: &Abstract,
     operation: Operation,
@@ -145,7 +129,7 @@ fn computed_kind(state: &Abstract, width: Width, operation: Operation, to: Abs, 
         Abs::Len(region) => on_ranges(
             width,
             operation,
-            length_range(state, region),
+            kinds::length_interval(state, region),
             kinds::range_of(state, by),
         ),
         Abs::Addr(region, low, high) => moved_address(state, operation, region, (low, high), by),
@@ -228,7 +212,7 @@ fn with_stored(set: &StackSet, base: Abs, offset: i16, size: Size) -> StackSet
     }
 }
 
-#[tactic(auto, using(crate::proofs::Passes::store_inside, verifier_spec::proofs::InRange::with_set_proper), unfolding(verifier_spec::specs::Transfer::falls_to))]
+#[tactic(auto, using(crate::proofs::Passes::store_inside, verifier_spec::proofs::Proper::with_set_proper), unfolding(verifier_spec::specs::Transfer::falls_to))]
 fn stored(state: &Abstract, size: Size, base: u8, offset: i16, source: Source) -> Abstract
     requires state { is_proper state.now ≡ true }
     requires passes { failed_check HELPERS (Instruction.Store size base offset source) state.now ≡ None }
@@ -242,31 +226,25 @@ fn stored(state: &Abstract, size: Size, base: u8, offset: i16, source: Source) -
 
 // ---- conditional jumps by a constant
 
-/// A region's least and greatest length, in bytes.
-#[tactic(auto, using(verifier_spec::proofs::InRange::with_length_proper))]
-fn with_length(state: &Abstract, region: Region, least: u32, most: u32) -> Abstract
+/// The state with another range of a region's lengths.
+#[tactic(auto, using(verifier_spec::proofs::Proper::with_lengths_proper))]
+fn with_lengths(state: &Abstract, region: Region, range: Range) -> Abstract
     requires state { is_proper state.now ≡ true }
-    requires range { least ≤ most }
-    requires inside { most ≤ greatest state.now region }
-    ensures changed { result ≡ with_length state.now region (from_to least most) }
+    requires range { range.min ≤ range.max }
+    requires inside { range.max ≤ (length_range state.now region).max }
+    ensures changed { result ≡ with_lengths state.now region range }
     ensures proper { is_proper result ≡ true }
 {
     let mut changed = *state;
     match region {
         Region::Stack => {}
-        Region::Key => {
-            changed.key_min = least;
-            changed.key_max = most;
-        }
-        Region::Value => {
-            changed.value_min = least;
-            changed.value_max = most;
-        }
+        Region::Key => changed.key = range,
+        Region::Value => changed.value = range,
     }
     changed
 }
 
-#[tactic(auto, using(verifier_spec::proofs::InRange::greatest_limit))]
+#[tactic(auto, using(verifier_spec::proofs::Proper::length_range_limit))]
 fn length_edge(
     state: &Abstract,
     register: u8,
@@ -274,12 +252,18 @@ fn length_edge(
     narrow: Option<Interval>,
 ) -> Option<Abstract>
     requires state { is_proper state.now ≡ true }
-    requires range { IfSome narrow (λ r. (r.low ≤ r.high) × (r.high ≤ greatest state.now region)) }
+    requires range { IfSome narrow (λ r. (r.low ≤ r.high) × (r.high ≤ (length_range state.now region).max)) }
     ensures edge { result ≡ with_range state.now register (Abs.Len region) narrow }
     ensures proper { IfSome result (λ s. is_proper s ≡ true) }
 {
     match narrow {
-        Some(part) => Some(with_length(state, region, part.low as u32, part.high as u32)),
+        Some(part) => {
+            let range = Range {
+                min: part.low as u32,
+                max: part.high as u32,
+            };
+            Some(with_lengths(state, region, range))
+        }
         None => None,
     }
 }
@@ -308,7 +292,7 @@ fn edge_of(
             }
         }
         Abs::Len(region) => {
-            let range = length_range(state, region);
+            let range = kinds::length_interval(state, region);
             let narrow = intervals::narrowed(test.0, test.1, along, range, constant);
             length_edge(state, register, region, narrow)
         }
@@ -444,10 +428,8 @@ fn called(state: &Abstract, helper: Helper) -> Abstract
 {
     Abstract {
         registers: after_call_kinds(&state.registers, answer_kind(helper)),
-        key_min: state.key_min,
-        key_max: state.key_max,
-        value_min: state.value_min,
-        value_max: state.value_max,
+        key: state.key,
+        value: state.value,
         set: with_arguments(state, &helper.signature().arguments),
     }
 }

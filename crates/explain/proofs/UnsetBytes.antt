@@ -9,10 +9,11 @@ use Rattle.machine_spec.specs.declared.summary.{Direction.Direction, MemoryOpera
 use Rattle.machine_spec.specs.Values.{byte_count}
 use Rattle.machine_spec.specs.Traps.{is_read}
 use Rattle.verifier_spec.specs.declared.state.{Abs.Abs, StackSet.StackSet, Abstract.Abstract}
-use Rattle.verifier_spec.specs.Kinds.{is_set, kind_at, is_proper_kind}
+use Rattle.verifier_spec.specs.StackSets.{is_set}
+use Rattle.verifier_spec.specs.Kinds.{kind_at, is_proper_kind}
 use Rattle.verifier_spec.specs.States.{is_proper}
 use Rattle.verifier_spec.specs.Checks.{reach_at, reach_of, may_leave_stack, are_set, may_read_unset}
-use Rattle.verifier_spec.proofs.InRange.{kind_at_proper}
+use Rattle.verifier_spec.proofs.Proper.{kind_at_proper}
 use Rattle.verifier_spec.proofs.Whole.{le_z-true, le-le_z, le_trans_z, negative, gap_is}
 use Rattle.explain.specs.declared.reason.{Reached.Reached, Reason.Reason}
 use Rattle.explain.specs.Reasons.{reached_by, reached, first_below, is_unset_in, unset_byte}

@@ -10,7 +10,7 @@ use Rattle.machine_spec.specs.Traps.{is_stack}
 use Rattle.verifier_spec.specs.declared.interval.Interval.{Interval}
 use Rattle.verifier_spec.specs.declared.state.{Abs.Abs, StackSet.StackSet, Abstract.Abstract}
 use Rattle.verifier_spec.specs.declared.fault.VerifyFault.{VerifyFault}
-use Rattle.verifier_spec.specs.Kinds.{least, range_of}
+use Rattle.verifier_spec.specs.Kinds.{length_range, range_of}
 use Rattle.verifier_spec.specs.Annotation.{Claims, claim_at}
 use Rattle.explain.specs.declared.reason.{Reached.Reached, Reason.Reason}
 use Rattle.explain.specs.declared.hint.Hint.{Hint}
@@ -92,7 +92,7 @@ named address _ _ = None
 
 -- where a helper reads them
 abbrev pub bytes_hint : Abstract → Option Reached → Option Hint
-bytes_hint s (Some bytes) = if is_stack bytes.region then stack_hint s.set bytes else Some (record_hint bytes (least s bytes.region))
+bytes_hint s (Some bytes) = if is_stack bytes.region then stack_hint s.set bytes else Some (record_hint bytes (length_range s bytes.region).min)
 bytes_hint s None = None
 
 -- where a helper writes them, as many as a number of these

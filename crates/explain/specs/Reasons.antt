@@ -12,7 +12,7 @@ use Rattle.machine_spec.specs.Traps.{helper_called, arguments_of, read_registers
 use Rattle.verifier_spec.specs.declared.interval.Interval.{Interval}
 use Rattle.verifier_spec.specs.declared.state.{Abs.Abs, StackSet.StackSet, Abstract.Abstract}
 use Rattle.verifier_spec.specs.declared.fault.{Check.Check, VerifyFault.VerifyFault}
-use Rattle.verifier_spec.specs.Kinds.{kind_at, least, range_of, is_unknown, is_number_kind, is_address_kind}
+use Rattle.verifier_spec.specs.Kinds.{kind_at, length_range, range_of, is_unknown, is_number_kind, is_address_kind}
 use Rattle.verifier_spec.specs.Checks.{source_kind, is_one_sign, least_displacement, greatest_displacement, Reach, reach_of, are_set, is_wrong_argument_kind}
 use Rattle.verifier_spec.specs.Annotation.{Claims, claim_at}
 use Rattle.explain.specs.declared.reason.{Reached.Reached, Reason.Reason}
@@ -95,7 +95,7 @@ reached (Some m) s = reached_by m (kind_at s m.base) (reach_of (Some m) s)
 reached None s = None
 
 abbrev pub outside_record : Abstract → Reached → Reason
-outside_record s bytes = Reason.OutsideRecord bytes (least s bytes.region)
+outside_record s bytes = Reason.OutsideRecord bytes (length_range s bytes.region).min
 
 -- the least number below one that passes a test
 unfoldable pub first_below : ℕ → (ℕ → Bool) → Option ℕ

@@ -80,7 +80,7 @@ stack_text set = texts_below STACK_SIZE (place_text set)
 -- ---- instructions
 
 abbrev pub state_text : Abstract → List ℕ
-state_text s = registers_text s ++ (length_text Region.Key s.key_min s.key_max MAX_KEY ++ (length_text Region.Value s.value_min s.value_max MAX_VALUE ++ stack_text s.set))
+state_text s = registers_text s ++ (length_text Region.Key s.key.min s.key.max MAX_KEY ++ (length_text Region.Value s.value.min s.value.max MAX_VALUE ++ stack_text s.set))
 
 -- what is known before an instruction, which may be unreached
 abbrev pub claim_text : Option Abstract → List ℕ

@@ -64,7 +64,7 @@ pub fn outside_record(state: &Abstract, bytes: Option<Reached>) -> Option<Reason
 {
     match bytes {
         Some(bytes) => {
-            let least = kinds::least(state, bytes.region);
+            let least = kinds::length_range(state, bytes.region).min;
             Some(Reason::OutsideRecord(bytes, least))
         }
         None => None,

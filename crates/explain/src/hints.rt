@@ -200,7 +200,10 @@ fn bytes_hint(state: &Abstract, bytes: Option<Reached>) -> Option<Hint>
 {
     match bytes {
         Some(bytes) if bytes.region.is_stack() => stack_hint(&state.set, bytes),
-        Some(bytes) => Some(record_hint(bytes, kinds::least(state, bytes.region))),
+        Some(bytes) => {
+            let least = kinds::length_range(state, bytes.region).min;
+            Some(record_hint(bytes, least))
+        }
         None => None,
     }
 }

@@ -130,12 +130,12 @@ fn push_state(text: &mut String, state: &State) -> Result<(), AllocError>
     let known = state.as_abstract();
     push_registers(text, state)?;
     let (key, value) = (Region::Key, Region::Value);
-    push_length(text, key, known.key_min, known.key_max, MAX_KEY as u32)?;
+    push_length(text, key, known.key.min, known.key.max, MAX_KEY as u32)?;
     push_length(
         text,
         value,
-        known.value_min,
-        known.value_max,
+        known.value.min,
+        known.value.max,
         MAX_VALUE as u32,
     )?;
     push_stack(text, &known.set)

@@ -1,5 +1,5 @@
 ghost use Rattle.std.specs.Prelude.{◌≡◌, ◌≤◌, true, false, IfSome};
-ghost use Rattle.verifier_spec.specs.Intervals.{if_any, equal_to, different_from, above, at_least, at_most, below, narrowed_64, narrowed};
+ghost use Rattle.verifier_spec.specs.Intervals.{if_any, equal_to, different_from, above, at_least, at_most, below, passing_part, opposite, narrowed};
 
 use machine_spec::{Test, Width};
 use verifier_spec::Interval;
@@ -65,9 +65,10 @@ fn below(x: Interval, constant: u64) -> Option<Interval>
     }
 }
 
-fn taken(test: Test, x: Interval, constant: u64) -> Option<Interval>
+/// What a test leaves of an interval where it holds.
+fn passing_part(test: Test, x: Interval, constant: u64) -> Option<Interval>
     requires { x.low ≤ x.high }
-    ensures { result ≡ narrowed_64 test true x constant }
+    ensures { result ≡ passing_part test x constant }
 {
     match test {
         Test::Equal => equal_to(x, constant),
@@ -84,22 +85,22 @@ fn taken(test: Test, x: Interval, constant: u64) -> Option<Interval>
     }
 }
 
-fn not_taken(test: Test, x: Interval, constant: u64) -> Option<Interval>
-    requires { x.low ≤ x.high }
-    ensures { result ≡ narrowed_64 test false x constant }
+/// The test that holds where another does not; of those that leave all, the same.
+fn opposite(test: Test) -> Test
+    ensures { result ≡ opposite test }
 {
     match test {
-        Test::Equal => different_from(x, constant),
-        Test::NotEqual => equal_to(x, constant),
-        Test::Greater => at_most(x, constant),
-        Test::GreaterOrEqual => below(x, constant),
-        Test::Less => at_least(x, constant),
-        Test::LessOrEqual => above(x, constant),
+        Test::Equal => Test::NotEqual,
+        Test::NotEqual => Test::Equal,
+        Test::Greater => Test::LessOrEqual,
+        Test::GreaterOrEqual => Test::Less,
+        Test::Less => Test::GreaterOrEqual,
+        Test::LessOrEqual => Test::Greater,
         Test::AnyBit
         | Test::SignedGreater
         | Test::SignedGreaterOrEqual
         | Test::SignedLess
-        | Test::SignedLessOrEqual => Some(x),
+        | Test::SignedLessOrEqual => test,
     }
 }
 
@@ -111,9 +112,9 @@ fn edge(width: Width, test: Test, along: bool, x: Interval, constant: u64) -> Op
         Width::Bits32 => Some(x),
         Width::Bits64 => {
             if along {
-                taken(test, x, constant)
+                passing_part(test, x, constant)
             } else {
-                not_taken(test, x, constant)
+                passing_part(opposite(test), x, constant)
             }
         }
     }

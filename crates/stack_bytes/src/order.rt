@@ -1,8 +1,6 @@
-ghost use Rattle.std.specs.Prelude.{◌≡◌, ◌/◌, ◌%◌, ◌||◌, ◌==◌, not, bit_and, slice_index};
-ghost use Rattle.std.specs.Int.{bit_at};
-ghost use Rattle.verifier_spec.specs.Kinds.{is_set};
+ghost use Rattle.std.specs.Prelude.{◌≡◌, ◌||◌, not};
+ghost use Rattle.verifier_spec.specs.StackSets.{is_set, intersection};
 ghost use Rattle.verifier_spec.specs.States.{each_below};
-ghost use Rattle.verifier_spec.specs.Joins.{pairwise};
 
 use machine_spec::STACK_SIZE;
 use verifier_spec::StackSet;
@@ -10,8 +8,7 @@ use verifier_spec::StackSet;
 /// Whether each place of the second set is in the first: each word of eight has its bits.
 fn are_words_within(inner: &[u64; 8], outer: &[u64; 8]) -> bool
     ensures { result ≡ each_below STACK_SIZE (λ place.
-        not (bit_at (slice_index outer.now (place / 64)) (place % 64) == 1)
-        || (bit_at (slice_index inner.now (place / 64)) (place % 64) == 1)) }
+        not (is_set (record { words = outer.now }) place) || is_set (record { words = inner.now }) place) }
 {
     for word in 0..8 {
         if inner[word] & outer[word] != outer[word] {
@@ -28,21 +25,21 @@ pub fn is_within(inner: &StackSet, outer: &StackSet) -> bool
     are_words_within(&inner.words, &outer.words)
 }
 
-fn joined_words(words: &[u64; 8], others: &[u64; 8]) -> [u64; 8]
-    ensures { result ≡ pairwise bit_and words.now others.now }
+fn common_words(words: &[u64; 8], others: &[u64; 8]) -> [u64; 8]
+    ensures { result ≡ (intersection (record { words = words.now }) (record { words = others.now })).words }
 {
-    let mut joined = *words;
+    let mut common = *words;
     for word in 0..8 {
-        joined[word] = words[word] & others[word];
+        common[word] = words[word] & others[word];
     }
-    joined
+    common
 }
 
 /// The places that are in both sets.
 pub fn intersection(a: &StackSet, b: &StackSet) -> StackSet
-    ensures { result ≡ record { words = pairwise bit_and a.now.words b.now.words } }
+    ensures { result ≡ intersection a.now b.now }
 {
     StackSet {
-        words: joined_words(&a.words, &b.words),
+        words: common_words(&a.words, &b.words),
     }
 }

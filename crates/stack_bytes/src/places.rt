@@ -1,8 +1,7 @@
 ghost use Rattle.std.specs.Prelude.{◌≡◌, ◌+◌, ◌/◌, ◌%◌, ◌^◌, ◌==◌, ◌<◌, true, bit_or, if◌then◌else◌, slice_index};
 ghost use Rattle.std.specs.Int.{bit_at};
-ghost use Rattle.verifier_spec.specs.Kinds.{is_set};
+ghost use Rattle.verifier_spec.specs.StackSets.{is_set, with_place, with_places};
 ghost use Rattle.verifier_spec.specs.Checks.{are_set};
-ghost use Rattle.verifier_spec.specs.Transfer.{with_place, with_places};
 
 use machine_spec::STACK_SIZE;
 use verifier_spec::StackSet;

@@ -1,15 +1,16 @@
 ghost use Rattle.std.specs.Prelude.{◌≡◌, pos, true};
 ghost use Rattle.verifier_spec.specs.States.{is_proper};
-ghost use Rattle.verifier_spec.specs.Joins.{joined_ranges, joined_kind, pairwise, joined};
+ghost use Rattle.verifier_spec.specs.Joins.{joined_numbers, joined_kind, pairwise, joined};
+ghost use Rattle.verifier_spec.specs.Ranges.{joined_range};
 
 use crate::{kinds, order};
 use machine_spec::Region;
 use stack_bytes::intersection;
-use verifier_spec::{Abs, Abstract, Interval};
+use verifier_spec::{Abs, Abstract, Interval, Range};
 
 /// The least interval that contains two, if both are intervals of numbers.
-fn joined_ranges(a: Option<Interval>, b: Option<Interval>) -> Abs
-    ensures { result ≡ joined_ranges a b }
+fn joined_numbers(a: Option<Interval>, b: Option<Interval>) -> Abs
+    ensures { result ≡ joined_numbers a b }
 {
     match (a, b) {
         (Some(a), Some(b)) => Abs::Num(a.low.min(b.low), a.high.max(b.high)),
@@ -25,7 +26,7 @@ fn joined_lengths(a: &Abstract, b: &Abstract, region: Region, other: Region) -> 
     if order::same_region(region, other) {
         Abs::Len(region)
     } else {
-        joined_ranges(
+        joined_numbers(
             kinds::range_of(a, Abs::Len(region)),
             kinds::range_of(b, Abs::Len(other)),
         )
@@ -45,7 +46,7 @@ fn joined_kind(a: &Abstract, b: &Abstract, kind: Abs, other: Abs) -> Abs
                 Abs::None
             }
         }
-        (kind, other) => joined_ranges(kinds::range_of(a, kind), kinds::range_of(b, other)),
+        (kind, other) => joined_numbers(kinds::range_of(a, kind), kinds::range_of(b, other)),
     }
 }
 
@@ -59,6 +60,16 @@ fn joined_kinds(a: &Abstract, b: &Abstract, kinds: &[Abs; 11], others: &[Abs; 11
     joined
 }
 
+/// The least range that two are within.
+fn joined_range(a: Range, b: Range) -> Range
+    ensures { result ≡ joined_range a b }
+{
+    Range {
+        min: a.min.min(b.min),
+        max: a.max.max(b.max),
+    }
+}
+
 /// The join of two states.
 #[tactic(auto, using(verifier_spec::proofs::Joins::joined_proper))]
 pub fn joined(a: &Abstract, b: &Abstract) -> Abstract
@@ -67,10 +78,8 @@ pub fn joined(a: &Abstract, b: &Abstract) -> Abstract
 {
     Abstract {
         registers: joined_kinds(a, b, &a.registers, &b.registers),
-        key_min: a.key_min.min(b.key_min),
-        key_max: a.key_max.max(b.key_max),
-        value_min: a.value_min.min(b.value_min),
-        value_max: a.value_max.max(b.value_max),
+        key: joined_range(a.key, b.key),
+        value: joined_range(a.value, b.value),
         set: intersection(&a.set, &b.set),
     }
 }

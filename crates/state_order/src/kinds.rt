@@ -1,11 +1,12 @@
 ghost use Rattle.std.specs.Prelude.{◌≡◌, ◌≤◌, true, IfSome, slice_index_or};
 ghost use Rattle.machine_spec.specs.Values.{immediate};
-ghost use Rattle.verifier_spec.specs.Kinds.{kind_at, least, greatest, range_of, is_unknown, is_number_kind, is_address_kind, is_proper_kind};
+ghost use Rattle.verifier_spec.specs.Ranges.{interval_of};
+ghost use Rattle.verifier_spec.specs.Kinds.{kind_at, length_range, range_of, is_unknown, is_number_kind, is_address_kind, is_proper_kind};
 ghost use Rattle.verifier_spec.specs.States.{is_proper};
 ghost use Rattle.verifier_spec.specs.Checks.{source_kind};
 
 use machine_spec::{Region, STACK_SIZE, Source, Width};
-use verifier_spec::{Abs, Abstract, Interval};
+use verifier_spec::{Abs, Abstract, Interval, Range};
 
 /// The kind with a number; past r10, none.
 pub fn kind_of(kinds: &[Abs; 11], register: usize) -> Abs
@@ -19,7 +20,7 @@ pub fn kind_of(kinds: &[Abs; 11], register: usize) -> Abs
 }
 
 /// What a state knows of a register.
-#[tactic(auto, using(verifier_spec::proofs::InRange::kind_at_proper))]
+#[tactic(auto, using(verifier_spec::proofs::Proper::kind_at_proper))]
 pub fn kind_at(state: &Abstract, register: u8) -> Abs
     ensures kind { result ≡ kind_at state.now register }
     ensures proper { is_proper state.now ≡ true → is_proper_kind result ≡ true }
@@ -51,30 +52,35 @@ pub fn source_kind(state: &Abstract, width: Width, source: Source) -> Abs
     }
 }
 
-/// How many bytes a region has at least.
-pub fn least(state: &Abstract, region: Region) -> u32
-    ensures { result ≡ least state.now region }
+/// The lengths that a region may have.
+pub fn length_range(state: &Abstract, region: Region) -> Range
+    ensures range { result ≡ length_range state.now region }
+    ensures ordered { is_proper state.now ≡ true → result.min ≤ result.max }
 {
     match region {
-        Region::Stack => STACK_SIZE as u32,
-        Region::Key => state.key_min,
-        Region::Value => state.value_min,
+        Region::Stack => Range {
+            min: STACK_SIZE as u32,
+            max: STACK_SIZE as u32,
+        },
+        Region::Key => state.key,
+        Region::Value => state.value,
     }
 }
 
-/// How many bytes a region has at most.
-pub fn greatest(state: &Abstract, region: Region) -> u32
-    ensures { result ≡ greatest state.now region }
+/// The numbers that a region's length may be.
+pub fn length_interval(state: &Abstract, region: Region) -> Interval
+    ensures interval { result ≡ interval_of (length_range state.now region) }
+    ensures ordered { is_proper state.now ≡ true → result.low ≤ result.high }
 {
-    match region {
-        Region::Stack => STACK_SIZE as u32,
-        Region::Key => state.key_max,
-        Region::Value => state.value_max,
+    let range = length_range(state, region);
+    Interval {
+        low: range.min as u64,
+        high: range.max as u64,
     }
 }
 
 /// The numbers that a kind represents, if it represents numbers.
-#[tactic(auto, using(verifier_spec::proofs::InRange::range_ordered))]
+#[tactic(auto, using(verifier_spec::proofs::Proper::range_ordered))]
 pub fn range_of(state: &Abstract, kind: Abs) -> Option<Interval>
     ensures range { result ≡ range_of state.now kind }
     ensures ordered { is_proper state.now ≡ true → is_proper_kind kind ≡ true → IfSome result (λ r. r.low ≤ r.high) }
@@ -82,10 +88,7 @@ pub fn range_of(state: &Abstract, kind: Abs) -> Option<Interval>
     match kind {
         Abs::None => None,
         Abs::Num(low, high) => Some(Interval { low, high }),
-        Abs::Len(region) => Some(Interval {
-            low: least(state, region) as u64,
-            high: greatest(state, region) as u64,
-        }),
+        Abs::Len(region) => Some(length_interval(state, region)),
         Abs::Addr(_, _, _) => None,
     }
 }

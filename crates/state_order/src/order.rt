@@ -1,10 +1,11 @@
-ghost use Rattle.std.specs.Prelude.{◌≡◌, ◌&&◌, nat_le};
+ghost use Rattle.std.specs.Prelude.{◌≡◌};
+ghost use Rattle.verifier_spec.specs.Ranges.{is_range_within};
 ghost use Rattle.verifier_spec.specs.Kinds.{kind_at, same_region, is_kind_within};
 ghost use Rattle.verifier_spec.specs.States.{each_below, is_within};
 
 use crate::kinds;
 use machine_spec::Region;
-use verifier_spec::{Abs, Abstract};
+use verifier_spec::{Abs, Abstract, Range};
 
 pub fn same_region(a: Region, b: Region) -> bool
     ensures { result ≡ same_region a b }
@@ -29,8 +30,8 @@ fn is_within_numbers(inner: &Abstract, kind: Abs, low: u64, high: u64) -> bool
         Abs::None => false,
         Abs::Num(lo, hi) => low <= lo && hi <= high,
         Abs::Len(region) => {
-            low <= kinds::least(inner, region) as u64
-                && kinds::greatest(inner, region) as u64 <= high
+            let numbers = kinds::length_interval(inner, region);
+            low <= numbers.low && numbers.high <= high
         }
         Abs::Addr(_, _, _) => false,
     }
@@ -91,21 +92,21 @@ fn are_registers_within(inner: &Abstract, outer: &Abstract) -> bool
     true
 }
 
-fn are_bounds_within(inner: &Abstract, outer: &Abstract) -> bool
-    ensures { result ≡ (nat_le outer.now.key_min inner.now.key_min && (nat_le inner.now.key_max outer.now.key_max
-        && (nat_le outer.now.value_min inner.now.value_min && nat_le inner.now.value_max outer.now.value_max))) }
+/// Whether the lengths of a range are in another.
+fn is_range_within(inner: Range, outer: Range) -> bool
+    ensures { result ≡ is_range_within inner outer }
 {
-    outer.key_min <= inner.key_min
-        && (inner.key_max <= outer.key_max
-            && (outer.value_min <= inner.value_min && inner.value_max <= outer.value_max))
+    outer.min <= inner.min && inner.max <= outer.max
 }
 
-/// Whether a state is within another: each register is, its least lengths are not smaller and its
-/// greatest not greater, and no fewer bytes are set.
+/// Whether a state is within another: each register is, the key's and the value's ranges are, and no
+/// fewer bytes are set.
 #[tactic(auto, unfolding(verifier_spec::specs::States::is_within))]
 pub fn is_within(inner: &Abstract, outer: &Abstract) -> bool
     ensures { result ≡ is_within inner.now outer.now }
 {
     are_registers_within(inner, outer)
-        && (are_bounds_within(inner, outer) && stack_bytes::is_within(&inner.set, &outer.set))
+        && (is_range_within(inner.key, outer.key)
+            && (is_range_within(inner.value, outer.value)
+                && stack_bytes::is_within(&inner.set, &outer.set)))
 }

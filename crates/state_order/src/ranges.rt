@@ -1,24 +1,14 @@
-ghost use Rattle.std.specs.Prelude.{◌≡◌, ◌&&◌, nat_le, length};
+ghost use Rattle.std.specs.Prelude.{◌≡◌, length};
 ghost use Rattle.std.specs.List.{list_all};
-ghost use Rattle.verifier_spec.specs.Kinds.{is_record_region, is_proper_kind};
+ghost use Rattle.verifier_spec.specs.Ranges.{is_proper_range};
+ghost use Rattle.verifier_spec.specs.Kinds.{is_proper_kind};
 ghost use Rattle.verifier_spec.specs.States.{is_proper};
 
-use machine_spec::Region;
-use verifier_spec::{Abs, Abstract};
+use verifier_spec::{Abs, Abstract, Range};
 use wire_spec::{MAX_KEY, MAX_VALUE};
 
 /// The furthest that an address's offset may be from 0, either way: 2^32 bytes.
 const FURTHEST: i64 = 4_294_967_296;
-
-fn is_record_region(region: Region) -> bool
-    ensures { result ≡ is_record_region region }
-{
-    match region {
-        Region::Stack => false,
-        Region::Key => true,
-        Region::Value => true,
-    }
-}
 
 fn is_proper_kind(kind: Abs) -> bool
     ensures { result ≡ is_proper_kind kind }
@@ -26,7 +16,7 @@ fn is_proper_kind(kind: Abs) -> bool
     match kind {
         Abs::None => true,
         Abs::Num(lo, hi) => lo <= hi,
-        Abs::Len(region) => is_record_region(region),
+        Abs::Len(region) => !region.is_stack(),
         Abs::Addr(_, lo, hi) => -FURTHEST <= lo && (lo <= hi && hi <= FURTHEST),
     }
 }
@@ -38,24 +28,19 @@ fn are_proper_kinds(kinds: &[Abs; 11]) -> bool
     kinds.iter().all(|kind| is_proper_kind(*kind))
 }
 
-fn are_proper_lengths(key_min: u32, key_max: u32, value_min: u32, value_max: u32) -> bool
-    ensures { result ≡ (nat_le key_min key_max && (nat_le key_max MAX_KEY
-        && (nat_le value_min value_max && nat_le value_max MAX_VALUE))) }
+/// Whether a range has a length, and none above a limit.
+fn is_proper_range(limit: u32, range: Range) -> bool
+    ensures { result ≡ is_proper_range limit range }
 {
-    key_min <= key_max
-        && (key_max <= MAX_KEY as u32 && (value_min <= value_max && value_max <= MAX_VALUE as u32))
+    range.min <= range.max && range.max <= limit
 }
 
-/// Whether each kind and the least and greatest lengths are in their ranges.
+/// Whether each kind and the ranges of lengths are in their ranges.
 #[tactic(auto, unfolding(verifier_spec::specs::States::is_proper))]
 pub fn is_proper(state: &Abstract) -> bool
     ensures { result ≡ is_proper state.now }
 {
     are_proper_kinds(&state.registers)
-        && are_proper_lengths(
-            state.key_min,
-            state.key_max,
-            state.value_min,
-            state.value_max,
-        )
+        && (is_proper_range(MAX_KEY as u32, state.key)
+            && is_proper_range(MAX_VALUE as u32, state.value))
 }

@@ -1,5 +1,5 @@
 use Rattle.std.proofs.Common.{◌≡◌}
-use Rattle.verifier_spec.specs.Transfer.{with_places}
+use Rattle.verifier_spec.specs.StackSets.{with_places}
 use Rattle.stack_bytes.proofs.places.with_places.Given as goal
 
 abbrev pub invariant-loop-k : goal.invariant-loop-k
