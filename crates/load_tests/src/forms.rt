@@ -20,11 +20,23 @@ fn a_program_is_predecoded(rt: HostRuntime) -> Result<(), Fail> {
     let verified = load(alloc, &image_of(alloc, &slots)?)?;
     assert!(rt;
         matches!(
-            verified.forms(),
+            verified.decoded(),
             [
-                Decoded::Set(0, 0),
-                Decoded::IfLessNumber(2, 1, 1, 3),
-                Decoded::LoadValueByte(0, 1, 0),
+                Decoded::Set {
+                    dst: 0,
+                    constant: 0
+                },
+                Decoded::IfLessNumber {
+                    dst: 2,
+                    constant: 1,
+                    slots: 1,
+                    target: 3
+                },
+                Decoded::LoadValueByte {
+                    dst: 0,
+                    base: 1,
+                    offset: 0
+                },
                 Decoded::Exit,
             ]
         )
@@ -114,25 +126,56 @@ fn programs_that_need_a_stack(rt: HostRuntime) {
 fn single_instructions(rt: HostRuntime) -> Result<(), Fail> {
     let regions = (None, None);
     let wide = predecode(Instruction::Wide(1, 0x1122_3344_5566_7788), regions, 0);
-    assert!(rt; matches!(wide, Decoded::Rare(Rare::Wide(1, 0x5566_7788, 0x1122_3344))));
+    assert!(rt;
+        matches!(
+            wide,
+            Decoded::Rare(Rare::Wide {
+                dst: 1,
+                low: 0x5566_7788,
+                high: 0x1122_3344
+            })
+        )
+    );
     let jump = predecode(Instruction::Jump(Distance::Short(2)), regions, 9);
-    assert!(rt; matches!(jump, Decoded::Rare(Rare::Jump(9, Distance::Short(2)))));
+    assert!(rt;
+        matches!(
+            jump,
+            Decoded::Rare(Rare::Jump {
+                target: 9,
+                distance: Distance::Short(2)
+            })
+        )
+    );
     let test = Instruction::JumpIf(Width::Bits32, Test::Less, 3, Source::Register(4), 5);
     let test = predecode(test, regions, 7);
     assert!(rt;
         matches!(
             test,
-            Decoded::Rare(Rare::JumpIf(Width::Bits32, Test::Less, 3, 4, 5, 7))
+            Decoded::Rare(Rare::JumpIf {
+                width: Width::Bits32,
+                test: Test::Less,
+                dst: 3,
+                src: 4,
+                slots: 5,
+                target: 7
+            })
         )
     );
     Ok(())
 }
 
-/// The range of bytes of which a test against a number holds, as one form of a load and a jump has it.
+/// A load of a byte of the value.
+const LOAD: Decoded = Decoded::LoadValueByte {
+    dst: 3,
+    base: 1,
+    offset: 7,
+};
+
+/// The range of bytes of which a test against a number holds, as a load and a jump in one have it.
 fn range_of(test: Test, constant: i32) -> Option<(u8, u8)> {
     let jump = Instruction::JumpIf(Width::Bits64, test, 3, Source::Immediate(constant), 4);
-    match paired(Decoded::LoadValueByte(3, 1, 7), jump, 9) {
-        Decoded::ByteIn(_, _, low, span, _, _, _, _, _) => Some((low, span)),
+    match paired(LOAD, jump, 9) {
+        Decoded::ByteIn { low, span, .. } => Some((low, span)),
         _ => None,
     }
 }
@@ -171,9 +214,33 @@ fn first_other_range(rows: &[(Test, i32, Option<(u8, u8)>)]) -> Option<usize> {
 fn a_load_and_its_jump_are_one(rt: HostRuntime) {
     assert!(rt; first_other_range(&RANGES).is_none());
     let jump = Instruction::JumpIf(Width::Bits64, Test::Equal, 4, Source::Immediate(65), 4);
-    let first = paired(Decoded::LoadValueByte(3, 1, 7), jump, 9);
-    assert!(rt; matches!(first, Decoded::LoadValueByte(3, 1, 7)));
+    let first = paired(LOAD, jump, 9);
+    assert!(rt;
+        matches!(
+            first,
+            Decoded::LoadValueByte {
+                dst: 3,
+                base: 1,
+                offset: 7
+            }
+        )
+    );
     let jump = Instruction::JumpIf(Width::Bits64, Test::Equal, 3, Source::Immediate(65), 4);
-    let both = paired(Decoded::LoadValueByte(3, 1, 7), jump, 9);
-    assert!(rt; matches!(both, Decoded::ByteIn(3, 1, 65, 0, Test::Equal, 65, 7, 4, 9)));
+    let both = paired(LOAD, jump, 9);
+    assert!(rt;
+        matches!(
+            both,
+            Decoded::ByteIn {
+                dst: 3,
+                base: 1,
+                low: 65,
+                span: 0,
+                test: Test::Equal,
+                number: 65,
+                offset: 7,
+                slots: 4,
+                target: 9,
+            }
+        )
+    );
 }

@@ -23,7 +23,7 @@ use Rattle.notes.specs.Derived.{fallen, given_or, derived_at, derived_from, deri
 use Rattle.machine_spec.specs.declared.instruction.Region.{Region}
 use Rattle.predecode.specs.declared.decoded.Decoded.{Decoded}
 use Rattle.notes.specs.Regions.{AreRegions, NeedsStack}
-use Rattle.notes.specs.Forms.{AreForms, IsVerified}
+use Rattle.notes.specs.Decoded.{AreDecoded, IsVerified}
 use Rattle.notes.proofs.Lookups.{claim_at_past}
 
 -- ---- the list
@@ -405,21 +405,21 @@ settled_again code claims =
 
 -- ---- what a verified program keeps
 
-module _ (code : List Placed) (claims states : Claims) (kept : List (ℕ × Abstract)) (regions : List (Option Region × Option Region)) (forms : List Decoded) (is : states ≡ settled code claims) (kept_is : kept ≡ kept_states code states) where
+module _ (code : List Placed) (claims states : Claims) (kept : List (ℕ × Abstract)) (regions : List (Option Region × Option Region)) (all : List Decoded) (is : states ≡ settled code claims) (kept_is : kept ≡ kept_states code states) where
   pub kept_view : derived code (pair_at kept) ≡ settled code claims
   kept_view = ap (λ (pairs : List (ℕ × Abstract)). derived code (pair_at pairs)) (kept_is ∙ ap (λ (ns : Claims). kept_states code ns) is) ∙ settled_again code claims
 
-  pub verified_from : AreRegions code states regions → AreForms code states forms → (needs : Bool) → (IsTrue needs ↔ NeedsStack code states) → IsAnnotation HELPERS code claims → AreDerivedProper code (at_targets code claims) (length code) → IsVerified code kept regions forms needs
-  verified_from regions_are forms_are needs needs_are annotation proper =
+  pub verified_from : AreRegions code states regions → AreDecoded code states all → (needs : Bool) → (IsTrue needs ↔ NeedsStack code states) → IsAnnotation HELPERS code claims → AreDerivedProper code (at_targets code claims) (length code) → IsVerified code kept regions all needs
+  verified_from regions_are decoded_are needs needs_are annotation proper =
       let same : derived code (pair_at kept) ≡ states = kept_view ∙ sym is in
       let P : Claims → Type 0 = λ ns. IsAnnotation HELPERS code ns in
       let Q : Claims → Type 0 = λ ns. AreRegions code ns regions in
-      let F : Claims → Type 0 = λ ns. AreForms code ns forms in
+      let F : Claims → Type 0 = λ ns. AreDecoded code ns all in
       let R : Claims → Type 0 = λ ns. kept ≡ kept_states code ns in
       record {
         annotation = subst P (sym kept_view) (settled_annotation code claims annotation proper);
         regions_are = subst Q (sym same) regions_are;
-        forms_are = subst F (sym same) forms_are;
+        decoded_are = subst F (sym same) decoded_are;
         kept_are = subst R (sym same) kept_is;
         needs_are = subst (λ (ns : Claims). IsTrue needs ↔ NeedsStack code ns) (sym same) needs_are;
       }

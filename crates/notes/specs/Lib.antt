@@ -1,4 +1,4 @@
 pub mod Derived
 pub mod Regions
-pub mod Forms
+pub mod Decoded
 pub mod Proper

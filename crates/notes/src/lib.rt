@@ -4,9 +4,9 @@
 //! A verified program keeps the states at the targets of jumps; the others follow from them.
 #![tactic(auto)]
 
+mod decoded;
 mod edges;
 mod faults;
-mod forms;
 mod lookup;
 mod region_list;
 mod regions;
