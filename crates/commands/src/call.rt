@@ -22,7 +22,7 @@ use crate::run::{Ended, run_script};
 use crate::stop::{Stop, status_of, unwritten};
 use crate::words::{Call, Misuse, call_of};
 use bpf_asm::{AsmFault, assemble};
-use explain::{Explanation, explain_image};
+use explain::{Explanation, Extent, explain_image};
 use machine_spec::IsaFault;
 use std::alloc::{AllocError, Global};
 use std::io;
@@ -302,10 +302,11 @@ fn explain_bytes<O: Write, E: Write>(
     stdout: &mut O,
     stderr: &mut E,
     image: &[u8],
+    extent: Extent,
 ) -> u8
-    ensures { PrintsExplanation image.now result (O.contents stdout.old) (O.contents stdout.new) }
+    ensures { PrintsExplanation extent image.now result (O.contents stdout.old) (O.contents stdout.new) }
 {
-    match explain_image(alloc, image) {
+    match explain_image(alloc, image, extent) {
         Ok(explanation) => print_explanation(alloc, stdout, stderr, &explanation),
         Err(fault) => tell_no_code(alloc, stderr, image, fault),
     }
@@ -318,12 +319,14 @@ fn explain_file<F: Files, O: Write, E: Write>(
     stdout: &mut O,
     stderr: &mut E,
     name: &str,
+    extent: Extent,
 ) -> u8
     ensures small { result ≤ 3 }
-    ensures printed { (bytes : List ℕ) → F.bytes files.old name.now ≡ Some bytes → PrintsExplanation (first_bytes bytes) result (O.contents stdout.old) (O.contents stdout.new) }
+    ensures printed { (bytes : List ℕ) → F.bytes files.old name.now ≡ Some bytes
+        → PrintsExplanation extent (first_bytes bytes) result (O.contents stdout.old) (O.contents stdout.new) }
 {
     match read_image(alloc, files, name) {
-        Ok(image) => explain_bytes(alloc, stdout, stderr, image.as_slice()),
+        Ok(image) => explain_bytes(alloc, stdout, stderr, image.as_slice(), extent),
         Err(unread) => tell_unread(alloc, stderr, name, unread),
     }
 }
@@ -395,7 +398,9 @@ pub fn command<R: Threads + Wait + Sync, F: Files, I: Read, O: Write, E: Write>(
         Ok(Call::Assemble(text, image)) => assemble_file(alloc, files, stderr, text, image),
         Ok(Call::Check(image)) => check_file(alloc, files, stdout, stderr, image),
         Ok(Call::Disassemble(image)) => disassemble_file(alloc, files, stdout, stderr, image),
-        Ok(Call::Explain(image)) => explain_file(alloc, files, stdout, stderr, image),
+        Ok(Call::Explain(image, extent)) => {
+            explain_file(alloc, files, stdout, stderr, image, extent)
+        }
         Ok(Call::Run(script)) => run(rt, alloc, files, stdin, stdout, stderr, script),
         Err(Misuse::Usage) => tell_usage(stderr),
         Err(Misuse::Memory) => tell_memory(stderr),

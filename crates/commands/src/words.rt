@@ -1,10 +1,13 @@
 //! What the words after the program's name ask for.
 
 ghost use Rattle.std.specs.Prelude.{◌≡◌, ◌==◌, ◌&&◌, nat_lt, length, slice_index};
+ghost use Rattle.std.specs.Option.{option_copied};
+ghost use Rattle.commands.specs.Explanations as definitions;
 ghost use Rattle.commands.specs.declared.words.Misuse.TheVariants.{Memory};
 
 use clap::error::ErrorKind;
 use clap::{Arg, ArgAction, ArgMatches};
+use explain::Extent;
 use std::alloc::{AllocError, Global};
 
 /// A call of the program, with the names of its files.
@@ -16,8 +19,8 @@ pub enum Call<'a> {
     Check(&'a str),
     /// Prints the text of an image.
     Disassemble(&'a str),
-    /// Prints what the verifier knows of an image's program.
-    Explain(&'a str),
+    /// Prints what the verifier knows of an image's program. Fields: the image, how much is listed.
+    Explain(&'a str, Extent),
     /// Does the commands of a script.
     Run(&'a str),
 }
@@ -70,6 +73,12 @@ fn of_files<'a>(
     of_file(alloc, name, first)?.arg(file(alloc, second))
 }
 
+/// The command that explains a file, with a word that may follow and says how much is listed.
+fn explain_command<'a>(alloc: Global) -> Result<clap::Command<'a>, AllocError> {
+    let extent = Arg::new(alloc, "EXTENT").action(ArgAction::Set);
+    of_file(alloc, "explain", "IMAGE")?.arg(extent)
+}
+
 /// All commands of the program.
 fn commands<'a>(alloc: Global) -> Result<clap::Command<'a>, AllocError> {
     clap::Command::new(alloc, "klog")
@@ -77,7 +86,7 @@ fn commands<'a>(alloc: Global) -> Result<clap::Command<'a>, AllocError> {
         .subcommand(of_files(alloc, "asm", "TEXT", "IMAGE")?)?
         .subcommand(of_file(alloc, "check", "IMAGE")?)?
         .subcommand(of_file(alloc, "dis", "IMAGE")?)?
-        .subcommand(of_file(alloc, "explain", "IMAGE")?)?
+        .subcommand(explain_command(alloc)?)?
         .subcommand(of_file(alloc, "run", "SCRIPT")?)
 }
 
@@ -93,6 +102,17 @@ pub fn call_of(alloc: Global, words: &[String]) -> Result<Call<'_>, Misuse> {
     }
 }
 
+/// How much is explained, by the word after the image, if there is one.
+fn extent_of(word: Option<&str>) -> Option<Extent>
+    ensures { result ≡ definitions.extent_of (option_copied word.entry) }
+{
+    match word {
+        None => Some(Extent::All),
+        Some(word) if word == "refused" => Some(Extent::Refused),
+        Some(_) => None,
+    }
+}
+
 fn asked<'a>(matches: &ArgMatches<'a>) -> Option<Call<'a>> {
     if let Some(asm) = matches.subcommand_matches("asm") {
         return Some(Call::Assemble(asm.get_str("TEXT")?, asm.get_str("IMAGE")?));
@@ -104,7 +124,8 @@ fn asked<'a>(matches: &ArgMatches<'a>) -> Option<Call<'a>> {
         return Some(Call::Disassemble(dis.get_str("IMAGE")?));
     }
     if let Some(explain) = matches.subcommand_matches("explain") {
-        return Some(Call::Explain(explain.get_str("IMAGE")?));
+        let extent = extent_of(explain.get_str("EXTENT"))?;
+        return Some(Call::Explain(explain.get_str("IMAGE")?, extent));
     }
     let run = matches.subcommand_matches("run")?;
     Some(Call::Run(run.get_str("SCRIPT")?))

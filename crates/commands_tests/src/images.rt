@@ -38,9 +38,10 @@ fn checks_images(rt: HostRuntime) -> Result<(), Fail> {
     Ok(())
 }
 
-/// Images, with what `explain` prints of them, what it says on standard error and its status.
-const EXPLAINED: [(&[u8], &str, &str, u8); 3] = [
+/// Calls with the bytes of the image, what they print, what they say on standard error and their status.
+const EXPLAINED: [(&[&str], &[u8], &str, &str, u8); 6] = [
     (
+        &["explain", "image"],
         b"\xb7\0\0\0\0\0\0\0\x95\0\0\0\0\0\0\0",
         "0 slot 0: mov64 r0, 0
   r1: value+0  r2: length of value  r3: key+0  r4: length of key  r5: 0 to 3  r10: stack+512
@@ -52,6 +53,7 @@ ok
         0,
     ),
     (
+        &["explain", "image"],
         b"\x71\x10\0\0\0\0\0\0\x95\0\0\0\0\0\0\0",
         "0 slot 0: ld8 r0, [r1+0]
   r1: value+0  r2: length of value  r3: key+0  r4: length of key  r5: 0 to 3  r10: stack+512
@@ -64,6 +66,42 @@ byte 0 of the value may be missing: test first that its length is at least 1 (at
         1,
     ),
     (
+        &["explain", "image"],
+        b"\xb7\x0b\0\0\x05\0\0\0",
+        "",
+        "I3 Register slot 0
+slot 0: b7 0b 00 00 05 00 00 00
+with dst=0 this is: mov64 r0, 5
+registers are r0 to r10
+",
+        1,
+    ),
+    (
+        &["explain", "image", "refused"],
+        b"\xb7\0\0\0\0\0\0\0\x95\0\0\0\0\0\0\0",
+        "ok\n",
+        "",
+        0,
+    ),
+    // The second instruction jumps past the third, which is refused.
+    (
+        &["explain", "image", "refused"],
+        b"\x15\x02\x01\0\0\0\0\0\x05\0\x01\0\0\0\0\0\x71\x10\0\0\0\0\0\0\x95\0\0\0\0\0\0\0",
+        "0 slot 0: jeq64 r2, 0, +1
+  r1: value+0  r2: length of value  r3: key+0  r4: length of key  r5: 0 to 3  r10: stack+512
+2 slot 2: ld8 r0, [r1+0]
+  r1: value+0  r2: length of value  r3: key+0  r4: length of key  r5: 0 to 3  r10: stack+512
+  value: 0 bytes
+refused: V7 RecordBounds at 2
+",
+        "V7 RecordBounds at 2
+r1 (value+0) reaches byte 0 of the value, whose length may be as low as 0
+byte 0 of the value may be missing: test first that its length is at least 1 (at_least of klog.h); a test of 32 bits, of two registers or of signed numbers says nothing of it
+",
+        1,
+    ),
+    (
+        &["explain", "image", "refused"],
         b"\xb7\x0b\0\0\x05\0\0\0",
         "",
         "I3 Register slot 0
@@ -78,10 +116,10 @@ registers are r0 to r10
 #[test]
 fn explains_images(rt: HostRuntime) -> Result<(), Fail> {
     let alloc = rt.alloc();
-    for (image, want_out, want_err, want) in EXPLAINED {
+    for (words, image, want_out, want_err, want) in EXPLAINED {
         let mut files = empty_shelf(alloc);
         files.write("image", image)?;
-        let (status, out, err) = called_with(&rt, alloc, &mut files, &["explain", "image"], b"")?;
+        let (status, out, err) = called_with(&rt, alloc, &mut files, words, b"")?;
         assert!(rt; out.as_str() == want_out, "{out}{err}");
         assert!(rt; err.as_str() == want_err, "{err}");
         assert!(rt; status == want, "{status}");

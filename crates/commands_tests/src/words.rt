@@ -41,13 +41,16 @@ fn words_that_can_not_be_had(rt: HostRuntime) -> Result<(), Fail> {
 fn refuses_words(rt: HostRuntime) -> Result<(), Fail> {
     let alloc = rt.alloc();
     let usage = "usage: klog COMMAND FILE ...\n";
-    let calls: [&[&str]; 11] = [
+    let calls: [&[&str]; 14] = [
         &[],
         &["run"],
         &["run", "a", "b"],
         &["frob", "script"],
         &["explain"],
         &["explain", "a", "b"],
+        &["explain", "a", "Refused"],
+        &["explain", "a", ""],
+        &["explain", "a", "refused", "refused"],
         &["help"],
         &["help", "run"],
         &["run", "--help"],

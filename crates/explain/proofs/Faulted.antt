@@ -1,8 +1,8 @@
 -- The fault that a load refuses an image with is about something.
-use Rattle.std.proofs.Common.{◌≡◌, ◌≢◌, ℕ, suc, ◌+◌, ◌<◌, ℤ, Bool, not, true, false, ◌==◌, ◌&&◌, List, [], ◌∷◌, ◌++◌, length, Option, Some, None, Ok, ◌⊎◌, refl, sym, ap, ◌∙◌, subst, arith, inl, inr}
+use Rattle.std.proofs.Common.{◌≡◌, ◌≢◌, ℕ, suc, ◌+◌, ◌<◌, ◌≤◌, ℤ, Bool, not, true, false, ◌==◌, ◌&&◌, List, [], ◌∷◌, ◌++◌, length, Option, Some, None, Ok, ◌⊎◌, refl, sym, ap, ◌∙◌, subst, arith, inl, inr}
 use Rattle.std.specs.Prelude.{is_some, option_map, slice_get}
-use Rattle.std.proofs.lemmas.Bool.{cases_Bool, cond-true, cond-false}
-use Rattle.std.proofs.lemmas.Option.{none-some, same_Some, slice_get_within}
+use Rattle.std.proofs.lemmas.Bool.{cases_Bool, cases_lt, cond-true, cond-false}
+use Rattle.std.proofs.lemmas.Option.{none-some, same_Some, slice_get_past, slice_get_within}
 use Rattle.machine_spec.specs.declared.helper.TheConstants.{HELPERS}
 use Rattle.machine_spec.specs.Image.{program_of, read_image, IsCodeOf}
 use Rattle.machine_spec.specs.declared.instruction.Placed.{Placed}
@@ -193,3 +193,15 @@ refusal_reasoned image code f of read proper refused =
     let fault = code_fault_is image code f read refused.fault_is in
     let some : 0 < length code = number_below code 0 0 (number_of_zero image code of) in
     code_reasoned code (joined_states HELPERS code) (λ k s below is. proper k s below (sym (claim_joined HELPERS code k below) ∙ is)) f fault (fault_is_other HELPERS image code of f some fault)
+
+-- ---- where it is
+
+no_reason_past : (code : List Placed) (claims : Claims) (f : VerifyFault) → length code ≤ f.pc → is_some (reason_at code claims f) ≡ false
+no_reason_past code claims f past = ap (λ (p : Option Placed). is_some (placed_reason p (claim_at claims f.pc) f.kind)) (slice_get_past code f.pc past)
+
+-- a fault that is about something is at an instruction of the code
+pub reasoned_within : (code : List Placed) (claims : Claims) (f : VerifyFault) → is_some (reason_at code claims f) ≡ true → f.pc < length code
+reasoned_within code claims f reasoned = elim (cases_lt f.pc (length code)) [
+  | inl below ↦ below
+  | inr past ↦ let none : is_some (reason_at code claims f) ≡ false = no_reason_past code claims f past in cc
+]

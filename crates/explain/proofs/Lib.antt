@@ -1,4 +1,5 @@
 pub mod Growing
+pub mod Selected
 pub mod Unknown
 pub mod Places
 pub mod Counted

@@ -1,6 +1,7 @@
 pub mod Texts
 pub mod Reasons
 pub mod Loops
+pub mod Ways
 pub mod Meetings
 pub mod Hints
 pub mod Endings

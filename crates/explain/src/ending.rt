@@ -1,6 +1,6 @@
 //! The end of a listing: how many of its instructions are never reached, and the verdict.
 
-ghost use Rattle.std.specs.Prelude.{◌≡◌, ◌++◌, OnOk, is_none, string_bytes};
+ghost use Rattle.std.specs.Prelude.{◌≡◌, ◌++◌, OnOk, is_some, string_bytes};
 ghost use Rattle.verifier_spec.specs.Annotation as claims;
 ghost use Rattle.explain.specs.Endings as definitions;
 
@@ -9,13 +9,13 @@ use notes::claim_at;
 use std::alloc::AllocError;
 use verifier_spec::{Check, VerifyFault};
 
-/// Whether an instruction is never reached.
-fn is_unreached(states: &[Option<State>], k: usize) -> bool
-    ensures { result ≡ is_none (claims.claim_at states.now k) }
+/// Whether an instruction is reached.
+pub fn is_reached(states: &[Option<State>], k: usize) -> bool
+    ensures { result ≡ is_some (claims.claim_at states.now k) }
 {
     match claim_at(states, k) {
-        Some(_) => false,
-        None => true,
+        Some(_) => true,
+        None => false,
     }
 }
 
@@ -26,7 +26,7 @@ fn unreached_count(states: &[Option<State>], count: usize) -> usize
 {
     let mut found = 0;
     for k in 0..count {
-        if is_unreached(states, k) {
+        if !is_reached(states, k) {
             found += 1;
         }
     }

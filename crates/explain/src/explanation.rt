@@ -1,6 +1,6 @@
 //! What is explained of an image.
 
-ghost use Rattle.std.specs.Prelude.{◌≡◌, ℕ, List, ◌≤◌, length, option_map, IfOk, string_bytes};
+ghost use Rattle.std.specs.Prelude.{◌≡◌, ℕ, List, ◌<◌, ◌≤◌, length, option_map, IfOk, IfSome, string_bytes};
 ghost use Rattle.annotate.specs.Loads.{FaultIs};
 ghost use Rattle.explain.specs.Explanations as definitions;
 ghost use Rattle.explain.specs.Explanations.{ExplainsAs, HasVerdict};
@@ -11,6 +11,7 @@ use crate::hint::Hint;
 use crate::hints::hint_at;
 use crate::listing::push_first;
 use crate::reason::Reason;
+use crate::way::{Extent, selection_of};
 use abstract_regs::State;
 use annotate::{LoadFault, joined_states, load};
 use bpf_isa::{Code, decode};
@@ -47,8 +48,8 @@ impl fmt::Display for Refusal {
 /// What the verifier knows of a program.
 #[derive(Debug, Drop)]
 pub struct Explanation {
-    /// The instructions, each with what is known before it, all or up to the one that is refused; then
-    /// how many of them are never reached, if any, and the verdict.
+    /// The instructions that were asked for, each with what is known before it; then how many up to
+    /// the refused one are never reached, if any, and the verdict.
     pub lines: String,
     /// Why the program is refused, if it is.
     pub refusal: Option<Refusal>,
@@ -78,7 +79,7 @@ fn verdict(alloc: Global, image: &[u8]) -> Result<Option<VerifyFault>, IsaFault>
     Ok(None)
 }
 
-/// How many instructions are printed.
+/// How many instructions may be listed.
 fn printed_count(code: &Code, fault: Option<VerifyFault>) -> usize
     ensures count { result ≡ definitions.printed_count code.now fault }
     ensures within { result ≤ length code.now }
@@ -90,18 +91,22 @@ fn printed_count(code: &Code, fault: Option<VerifyFault>) -> usize
     }
 }
 
-/// The instructions, each with what is known before it, up to the one that is refused.
+/// The instructions that are listed, each with what is known before it, and the ending.
+#[tactic(auto, using(crate::proofs::Selected::same_listed))]
 fn listing(
     alloc: Global,
     code: &Code,
     states: &[Option<State>],
     fault: Option<VerifyFault>,
+    extent: Extent,
 ) -> Result<String, AllocError>
-    ensures { IfOk result (λ text. string_bytes text ≡ definitions.listing code.now states.now fault) }
+    requires { IfSome fault (λ f. f.pc < length code.now) }
+    ensures { IfOk result (λ text. string_bytes text ≡ definitions.listing extent code.now states.now fault) }
 {
     let mut text = String::new(alloc);
     let count = printed_count(code, fault);
-    push_first(&mut text, code, states, count)?;
+    let selection = selection_of(alloc, code, extent, fault)?;
+    push_first(&mut text, code, states, &selection, count)?;
     push_end(&mut text, states, count, fault)?;
     Ok(text)
 }
@@ -147,26 +152,28 @@ fn explained(
     code: &Code,
     states: &[Option<State>],
     fault: Option<VerifyFault>,
+    extent: Extent,
 ) -> Result<Explanation, AllocError>
-    ensures lines { IfOk result (λ e. string_bytes e.lines ≡ definitions.listing code.now states.now fault) }
+    requires { IfSome fault (λ f. f.pc < length code.now) }
+    ensures lines { IfOk result (λ e. string_bytes e.lines ≡ definitions.listing extent code.now states.now fault) }
     ensures refusal { IfOk result (λ e. e.refusal ≡ option_map (definitions.refusal_at code.now states.now) fault) }
 {
     let refusal = refusal_with(alloc, code, states, fault)?;
-    let lines = listing(alloc, code, states, fault)?;
+    let lines = listing(alloc, code, states, fault, extent)?;
     Ok(Explanation { lines, refusal })
 }
 
 /// What the verifier knows of an image's program, or why the image has no code. The states are those
 /// that a load finds, and so is the fault.
-pub fn explain_image(alloc: Global, image: &[u8]) -> Result<Explanation, IsaFault>
-    ensures { ExplainsAs image.now result }
+pub fn explain_image(alloc: Global, image: &[u8], extent: Extent) -> Result<Explanation, IsaFault>
+    ensures { ExplainsAs extent image.now result }
 {
     let fault = verdict(alloc, image)?;
     let code = decode(alloc, image)?;
     let Ok(states) = joined_states(alloc, &code) else {
         return Err(IsaFault::Memory);
     };
-    match explained(alloc, &code, &states, fault) {
+    match explained(alloc, &code, &states, fault, extent) {
         Ok(explanation) => Ok(explanation),
         Err(_) => Err(IsaFault::Memory),
     }

@@ -1,6 +1,7 @@
 //! Why the verifier accepts or refuses a program: its instructions, each with what is known before
-//! it, up to the first that is refused, and then which register or which bytes the refusal is about,
-//! and what usually leads to it. Of an image without code: what its bytes are.
+//! it, up to the first that is refused, or those alone that lead to it, and then which register or
+//! which bytes the refusal is about, and what usually leads to it. Of an image without code: what its
+//! bytes are.
 #![tactic(auto)]
 
 mod accesses;
@@ -18,8 +19,10 @@ mod reason;
 mod registers;
 mod shown;
 mod slot_bytes;
+mod way;
 
 pub use explanation::{Explanation, Refusal, explain_image};
 pub use hint::{Edge, Hint};
 pub use image_fault::image_fault_text;
 pub use reason::{Reached, Reason};
+pub use way::Extent;

@@ -1,11 +1,14 @@
 //! The instructions of a program, each with what is known before it.
 
-ghost use Rattle.std.specs.Prelude.{◌≡◌, ◌≤◌, ◌++◌, length, OnOk, string_bytes};
+ghost use Rattle.std.specs.Prelude.{◌≡◌, ◌<◌, ◌≤◌, ◌++◌, length, OnOk, string_bytes};
 ghost use Rattle.std.specs.Option.{option_copied};
 ghost use Rattle.explain.specs.Texts as definitions;
 ghost use Rattle.explain.specs.Texts.{texts_below};
+ghost use Rattle.explain.specs.Ways as ways;
+ghost use Rattle.explain.specs.Ways.{lines_where};
 
 use crate::shown::{Range, Shown, region_word};
+use crate::way::{Selection, is_selected};
 use abstract_regs::State;
 use bpf_asm::push_line;
 use bpf_isa::Code;
@@ -171,18 +174,40 @@ fn push_lines(
     push_claim(text, claim)
 }
 
-/// Appends the lines of a program's first instructions.
+/// Appends the lines of an instruction, if it is listed.
+#[tactic(auto, using(crate::proofs::Growing::same_lines))]
+fn push_selected(
+    text: &mut String,
+    code: &Code,
+    states: &[Option<State>],
+    selection: &Selection,
+    k: usize,
+) -> Result<(), AllocError>
+    requires { k < length code.now }
+    ensures { OnOk result (string_bytes text.new ≡ string_bytes text.old
+        ++ lines_where (ways.is_selected states.now selection.now) code.now states.now k) }
+{
+    if is_selected(selection, states, k) {
+        push_lines(text, k, code.get(k), claim_at(states, k))
+    } else {
+        Ok(())
+    }
+}
+
+/// Appends the lines of those of a program's first instructions that are listed.
 pub fn push_first(
     text: &mut String,
     code: &Code,
     states: &[Option<State>],
+    selection: &Selection,
     count: usize,
 ) -> Result<(), AllocError>
     requires { count ≤ length code.now }
-    ensures { OnOk result (string_bytes text.new ≡ string_bytes text.old ++ texts_below count (definitions.lines_at code.now states.now)) }
+    ensures { OnOk result (string_bytes text.new ≡ string_bytes text.old
+        ++ texts_below count (lines_where (ways.is_selected states.now selection.now) code.now states.now)) }
 {
     for k in 0..count {
-        push_lines(text, k, code.get(k), claim_at(states, k))?;
+        push_selected(text, code, states, selection, k)?;
     }
     Ok(())
 }

@@ -15,7 +15,7 @@ use std::alloc::{AllocError, Global};
 
 /// Whether an instruction is marked.
 #[tactic(auto, using(std::proofs::lemmas::List::get_or_past))]
-fn is_marked(marks: &[bool], k: usize) -> bool
+pub fn is_marked(marks: &[bool], k: usize) -> bool
     ensures { result ≡ is_marked marks.now k }
 {
     if k < marks.len() { marks[k] } else { false }
@@ -108,16 +108,27 @@ fn more_marks(alloc: Global, code: &Code, marks: &[bool]) -> Result<Vec<bool>, A
     Ok(more)
 }
 
-/// Whether the code from one instruction on comes to another.
-#[tactic(auto, using(crate::proofs::Rounds::round, crate::proofs::Rounds::found))]
-fn comes_to(alloc: Global, code: &Code, from: usize, to: usize) -> Result<bool, AllocError>
+/// Marks the instructions from which the code comes to one.
+#[tactic(auto, using(crate::proofs::Rounds::round))]
+pub fn marks_to(alloc: Global, code: &Code, to: usize) -> Result<Vec<bool>, AllocError>
     requires { to < length code.now }
-    ensures { IfOk result (λ comes. comes ≡ definitions.comes_to code.now to (length code.now) from) }
+    ensures { IfOk result (λ marks. marks.items
+        ≡ list_below (length code.now) (definitions.comes_to code.now to (length code.now))) }
 {
     let mut marks = first_marks(alloc, code, to)?;
     for _round in 0..code.len() {
         marks = more_marks(alloc, code, &marks)?;
     }
+    Ok(marks)
+}
+
+/// Whether the code from one instruction on comes to another.
+#[tactic(auto, using(crate::proofs::Rounds::found))]
+fn comes_to(alloc: Global, code: &Code, from: usize, to: usize) -> Result<bool, AllocError>
+    requires { to < length code.now }
+    ensures { IfOk result (λ comes. comes ≡ definitions.comes_to code.now to (length code.now) from) }
+{
+    let marks = marks_to(alloc, code, to)?;
     Ok(is_marked(&marks, from))
 }
 

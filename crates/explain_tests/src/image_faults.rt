@@ -1,4 +1,4 @@
-use explain::{explain_image, image_fault_text};
+use explain::{Extent, explain_image, image_fault_text};
 use std::alloc::Global;
 use std::test::Fail;
 
@@ -142,7 +142,7 @@ a 64-bit immediate has a second slot that begins with 00 00 00 00
 
 /// The fault of an image without code, and what it is about.
 fn fault_lines(alloc: Global, image: &[u8]) -> Result<String, Fail> {
-    let fault = explain_image(alloc, image).err().ok_or("code")?;
+    let fault = explain_image(alloc, image, Extent::All).err().ok_or("code")?;
     let why = image_fault_text(alloc, image, fault)?;
     let lines = format!(in alloc; "{fault}\n{why}")?;
     Ok(lines)

@@ -1,15 +1,26 @@
 //! Programs by their text, and what is printed of them.
 
 use bpf_asm::assemble;
-use explain::{Explanation, explain_image};
+use explain::{Explanation, Extent, explain_image};
 use std::alloc::{AllocError, Global};
 use std::test::Fail;
 
-/// What is explained of the program of a text.
-pub(crate) fn explained(alloc: Global, program: &str) -> Result<Explanation, Fail> {
+/// What is explained of the program of a text, with as many instructions as asked.
+pub(crate) fn explained_to(
+    alloc: Global,
+    program: &str,
+    extent: Extent,
+) -> Result<Explanation, Fail> {
     let image = assemble(alloc, program).ok().ok_or("no image")?;
-    let explanation = explain_image(alloc, &image).ok().ok_or("no code")?;
+    let explanation = explain_image(alloc, &image, extent)
+        .ok()
+        .ok_or("no code")?;
     Ok(explanation)
+}
+
+/// The same with all instructions.
+pub(crate) fn explained(alloc: Global, program: &str) -> Result<Explanation, Fail> {
+    explained_to(alloc, program, Extent::All)
 }
 
 /// The fault of a program and what it is about, each in a line.

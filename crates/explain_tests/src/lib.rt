@@ -11,3 +11,5 @@ mod images;
 mod listings;
 #[cfg(test)]
 mod reasons;
+#[cfg(test)]
+mod ways;

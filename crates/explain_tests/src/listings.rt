@@ -1,5 +1,5 @@
 use crate::images::{explained, refusal_text};
-use explain::explain_image;
+use explain::{Extent, explain_image};
 use machine_spec::IsaFault;
 use std::test::Fail;
 
@@ -123,9 +123,9 @@ fn lists_instructions(rt: HostRuntime) -> Result<(), Fail> {
 #[test]
 fn refuses_images(rt: HostRuntime) -> Result<(), Fail> {
     let alloc = rt.alloc();
-    let cut = explain_image(alloc, &[0x95, 0, 0, 0]).err();
+    let cut = explain_image(alloc, &[0x95, 0, 0, 0], Extent::All).err();
     assert!(rt; cut == Some(IsaFault::Size));
-    let left_out = explain_image(alloc, &[0xdb, 0, 0, 0, 0, 0, 0, 0]).err();
+    let left_out = explain_image(alloc, &[0xdb, 0, 0, 0, 0, 0, 0, 0], Extent::Refused).err();
     assert!(rt; left_out == Some(IsaFault::NotInProfile(0)));
     Ok(())
 }

@@ -9,6 +9,7 @@ returns-in-Ok-explained c =
     let claims = c.in-Ok.states.items in
     let fault = c.in_ok-fault.fault in
     let explanation = c.in-Ok-explained.explanation in
-    let lines : string_bytes explanation.lines ≡ listing code claims fault = search rules in
+    let lines : string_bytes explanation.lines ≡ listing c.args.extent code claims fault = search rules in
     let refusal : explanation.refusal ≡ option_map (refusal_at code claims) fault = search rules in
-    explained c.args.image.now code c.in_ok-code.ensures.is_code c.in_ok-code.ensures.exact c.in-Ok.ensures.proper claims fault explanation c.in-Ok.ensures.states c.in_ok-fault.ensures lines refusal
+    explained c.args.image.now code c.in_ok-code.ensures.is_code c.in_ok-code.ensures.exact c.in-Ok.ensures.proper
+    c.args.extent claims fault explanation c.in-Ok.ensures.states c.in_ok-fault.ensures lines refusal
