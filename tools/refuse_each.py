@@ -5,7 +5,7 @@ Not part of the build. From the top of the repository:
 
     tools/refuse_each.py [CRATE [WORD]]
 
-The crate is refusal_tests if none is named. `rt test` proves it and builds its tests. Then each test runs once with no request
+The crate is memory_tests if none is named. `rt test` proves it and builds its tests. Then each test runs once with no request
 refused, and once for each request that it made in that run, with that one refused. With a word only the tests run whose names have
 it, as `tools/refuse_each.py report_tests refused`. A run passes where the test ends with status 0.
 For each test it prints how many requests and runs there were and how many runs passed, how often each call was refused and with
@@ -64,7 +64,7 @@ def series(program, test, folder):
 def main(words):
     if len(words) > 2 or words and words[0].startswith("-"):
         sys.exit(__doc__)
-    crate = words[0] if words else "refusal_tests"
+    crate = words[0] if words else "memory_tests"
     word = words[1] if len(words) > 1 else ""
     crate_folder = f"{TOP}/crates/{crate}"
     if subprocess.run(["rt", "test"], cwd=crate_folder, stdout=subprocess.DEVNULL, check=False).returncode:

@@ -1,21 +1,22 @@
 -- The kinds of registers after a call.
-use Rattle.std.proofs.Common.{◌≡◌, ℕ, ◌+◌, ◌<◌, Bool, true, false, List, [], ◌∷◌, length, get_or, drop, slice_index_or, refl, ap, subst, add-one, arith}
+use Rattle.std.proofs.Common.{◌≡◌, ℕ, ◌+◌, ◌<◌, Bool, true, false, List, [], ◌∷◌, length, get_or, drop, slice_index_or}
+use Rattle.std.proofs.Common.{refl, ap, subst, add-one, arith}
 use Rattle.std.proofs.lemmas.Bool.{and_from, or_parts}
 use Rattle.std.specs.List.{list_all, list_any, fold}
 use Rattle.std.proofs.Math.Seq.{drop-cons}
 use Rattle.machine_spec.specs.declared.helper.Argument.{Argument}
-use Rattle.verifier_spec.specs.declared.state.Abs.{Abs}
+use Rattle.verifier_spec.specs.declared.{state.Abs.Abs, state.Abstract.Abstract, state.StackSet.StackSet}
 use Rattle.verifier_spec.specs.declared.state.Abs.TheVariants as abs
-use Rattle.verifier_spec.specs.declared.state.{Abstract.Abstract, StackSet.StackSet}
 use Rattle.verifier_spec.specs.Kinds.{is_proper_kind}
 use Rattle.verifier_spec.specs.States.{is_proper}
 use Rattle.verifier_spec.specs.Transfer.{after_call_kinds}
 use Rattle.verifier_spec.proofs.Proper.{proper_parts, proper_from, kind_from}
 
 -- of eleven registers the first six are set and the last five kept
-pub after_call_eleven : (kinds : List Abs) (answer : Abs) → length kinds ≡ 11 → after_call_kinds kinds answer ≡
-    answer ∷ abs.None ∷ abs.None ∷ abs.None ∷ abs.None ∷ abs.None
-    ∷ slice_index_or kinds 6 abs.None ∷ slice_index_or kinds 7 abs.None ∷ slice_index_or kinds 8 abs.None ∷ slice_index_or kinds 9 abs.None ∷ slice_index_or kinds 10 abs.None ∷ []
+pub after_call_eleven : (kinds : List Abs) (answer : Abs) → length kinds ≡ 11 →
+    after_call_kinds kinds answer ≡ answer ∷ abs.None ∷ abs.None ∷ abs.None ∷ abs.None ∷ abs.None
+    ∷ slice_index_or kinds 6 abs.None ∷ slice_index_or kinds 7 abs.None ∷ slice_index_or kinds 8 abs.None
+    ∷ slice_index_or kinds 9 abs.None ∷ slice_index_or kinds 10 abs.None ∷ []
 after_call_eleven [] answer count = absurd (omega arith)
 after_call_eleven (k0 ∷ []) answer count = absurd (omega arith)
 after_call_eleven (k0 ∷ k1 ∷ []) answer count = absurd (omega arith)
@@ -28,16 +29,22 @@ after_call_eleven (k0 ∷ k1 ∷ k2 ∷ k3 ∷ k4 ∷ k5 ∷ k6 ∷ k7 ∷ []) a
 after_call_eleven (k0 ∷ k1 ∷ k2 ∷ k3 ∷ k4 ∷ k5 ∷ k6 ∷ k7 ∷ k8 ∷ []) answer count = absurd (omega arith)
 after_call_eleven (k0 ∷ k1 ∷ k2 ∷ k3 ∷ k4 ∷ k5 ∷ k6 ∷ k7 ∷ k8 ∷ k9 ∷ []) answer count = absurd (omega arith)
 after_call_eleven (k0 ∷ k1 ∷ k2 ∷ k3 ∷ k4 ∷ k5 ∷ k6 ∷ k7 ∷ k8 ∷ k9 ∷ k10 ∷ []) answer count = refl
-after_call_eleven (k0 ∷ k1 ∷ k2 ∷ k3 ∷ k4 ∷ k5 ∷ k6 ∷ k7 ∷ k8 ∷ k9 ∷ k10 ∷ k11 ∷ rest) answer count = absurd (omega arith)
+after_call_eleven (k0 ∷ k1 ∷ k2 ∷ k3 ∷ k4 ∷ k5 ∷ k6 ∷ k7 ∷ k8 ∷ k9 ∷ k10 ∷ k11 ∷ rest) answer count =
+    absurd (omega arith)
 
-pub after_call_all : (kinds : List Abs) (answer : Abs) → length kinds ≡ 11 → list_all is_proper_kind kinds ≡ true → is_proper_kind answer ≡ true → list_all is_proper_kind (after_call_kinds kinds answer) ≡ true
+pub after_call_all : (kinds : List Abs) (answer : Abs) → length kinds ≡ 11 → list_all is_proper_kind kinds ≡ true →
+    is_proper_kind answer ≡ true → list_all is_proper_kind (after_call_kinds kinds answer) ≡ true
 after_call_all kinds answer count all one = rw (after_call_eleven kinds answer count)
-    (and_from _ _ one (and_from _ _ (kind_from kinds 6 all) (and_from _ _ (kind_from kinds 7 all) (and_from _ _ (kind_from kinds 8 all) (and_from _ _ (kind_from kinds 9 all) (and_from _ _ (kind_from kinds 10 all) refl))))))
+    (and_from _ _ one (and_from _ _ (kind_from kinds 6 all)
+    (and_from _ _ (kind_from kinds 7 all) (and_from _ _ (kind_from kinds 8 all)
+    (and_from _ _ (kind_from kinds 9 all) (and_from _ _ (kind_from kinds 10 all) refl))))))
 
-pub after_call_length : (kinds : List Abs) (answer : Abs) → length kinds ≡ 11 → length (after_call_kinds kinds answer) ≡ 11
+pub after_call_length : (kinds : List Abs) (answer : Abs) → length kinds ≡ 11 →
+    length (after_call_kinds kinds answer) ≡ 11
 after_call_length kinds answer count = rw (after_call_eleven kinds answer count) refl
 
-pub called_proper : (s : Abstract) (answer : Abs) (set : StackSet) → is_proper s ≡ true → is_proper_kind answer ≡ true → is_proper (record s { registers = after_call_kinds s.registers answer; set = set }) ≡ true
+pub called_proper : (s : Abstract) (answer : Abs) (set : StackSet) → is_proper s ≡ true → is_proper_kind answer ≡ true →
+    is_proper (record s { registers = after_call_kinds s.registers answer; set = set }) ≡ true
 called_proper s answer set proper one =
     let p = proper_parts s proper in
     proper_from _ (record {
@@ -50,14 +57,18 @@ called_proper s answer set proper one =
 -- ---- the arguments one after the other
 
 -- where no argument from one on is wrong, that one is not, nor is any behind it
-pub next_right : (p : Argument → Bool) (arguments : List Argument) (i : ℕ) (d : Argument) → i < length arguments → list_any p (drop i arguments) ≡ false
-    → (p (get_or arguments i d) ≡ false) × (list_any p (drop (i + 1) arguments) ≡ false)
+pub next_right : (p : Argument → Bool) (arguments : List Argument) (i : ℕ) (d : Argument) → i < length arguments →
+    list_any p (drop i arguments) ≡ false → (p (get_or arguments i d) ≡ false)
+    × (list_any p (drop (i + 1) arguments) ≡ false)
 next_right p arguments i d inside h =
-    let e : drop i arguments ≡ get_or arguments i d ∷ drop (i + 1) arguments = rw (add-one, drop-cons arguments i d inside) refl in
+    let e : drop i arguments ≡ get_or arguments i d ∷ drop (i + 1) arguments =
+    rw (add-one, drop-cons arguments i d inside) refl in
     or_parts (p (get_or arguments i d)) (list_any p (drop (i + 1) arguments)) (subst (λ xs. list_any p xs ≡ false) e h)
 
-pub next_fold : (f : StackSet → Argument → StackSet) (arguments : List Argument) (i : ℕ) (d : Argument) (set : StackSet) → i < length arguments
-    → fold f set (drop i arguments) ≡ fold f (f set (get_or arguments i d)) (drop (i + 1) arguments)
+pub next_fold : (f : StackSet → Argument → StackSet) (arguments : List Argument) (i : ℕ) (d : Argument) (set : StackSet)
+    → i < length arguments → fold f set (drop i arguments)
+    ≡ fold f (f set (get_or arguments i d)) (drop (i + 1) arguments)
 next_fold f arguments i d set inside =
-    let e : drop i arguments ≡ get_or arguments i d ∷ drop (i + 1) arguments = rw (add-one, drop-cons arguments i d inside) refl in
+    let e : drop i arguments ≡ get_or arguments i d ∷ drop (i + 1) arguments =
+    rw (add-one, drop-cons arguments i d inside) refl in
     ap (fold f set) e

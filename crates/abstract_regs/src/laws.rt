@@ -2,7 +2,7 @@
 
 ghost use Rattle.std.specs.Prelude.{◌≡◌, true, None};
 ghost use Rattle.verifier_spec.specs.States.{is_within};
-ghost use Rattle.verifier_spec.specs.Joins.{joined, IsLeastAbove};
+ghost use Rattle.verifier_spec.specs.Joins.{joined_state, IsLeastAbove};
 ghost use Rattle.verifier_spec.specs.Checks.{failed_check};
 ghost use Rattle.verifier_spec.specs.Soundness.{IsSoundAt, KeepsOrder};
 ghost use Rattle.machine_spec.specs.declared.helper.TheConstants.{HELPERS};
@@ -34,7 +34,7 @@ pub fn order_is_kept(inner: &State, outer: &State, instruction: Instruction)
 /// that both are within. `State::join` returns it, and `State::within` is the order.
 #[tactic(auto, using(verifier_spec::proofs::Joins::least_above))]
 pub fn join_is_least(a: &State, b: &State)
-    ensures { IsLeastAbove a.now b.now (joined a.now b.now) }
+    ensures { IsLeastAbove a.now b.now (joined_state a.now b.now) }
 {
     let _join = a.join(b);
 }

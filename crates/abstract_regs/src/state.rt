@@ -3,7 +3,7 @@ ghost use Rattle.verifier_spec.specs.declared.state.Abstract.{Abstract};
 ghost use Rattle.verifier_spec.specs.Ranges.{lengths_from_to};
 ghost use Rattle.verifier_spec.specs.Kinds.{kind_at};
 ghost use Rattle.verifier_spec.specs.States.{is_proper, is_within, entry_state};
-ghost use Rattle.verifier_spec.specs.Joins.{joined};
+ghost use Rattle.verifier_spec.specs.Joins.{joined_state};
 ghost use Rattle.verifier_spec.specs.Checks.{failed_check};
 ghost use Rattle.verifier_spec.specs.Transfer.{falls_to, jumps_to};
 ghost use Rattle.machine_spec.specs.declared.helper.TheConstants.{HELPERS};
@@ -137,7 +137,7 @@ impl State {
     /// The least state that this one and another are both within: of each register what both know,
     /// the least ranges that contain both's lengths, and the stack bytes that are set in both.
     pub fn join(&self, other: &State) -> State
-        ensures joined { result ≡ joined self.now other.now }
+        ensures joined { result ≡ joined_state self.now other.now }
         ensures proper { is_proper self.now ≡ true }
         ensures other_proper { is_proper other.now ≡ true }
         ensures joined_proper { is_proper result ≡ true }

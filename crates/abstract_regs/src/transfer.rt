@@ -6,7 +6,7 @@ ghost use Rattle.std.specs.List.{list_any, fold};
 ghost use Rattle.machine_spec.specs.Machine.{signature_of, helper_of};
 ghost use Rattle.machine_spec.specs.declared.summary.Direction.TheVariants as direction;
 ghost use Rattle.verifier_spec.specs.Checks.{can_move, can_compute_kinds, source_kind, reach_at, may_leave_stack, named_reach, may_be_wrong_room, is_wrong_argument_kind, failed_check};
-ghost use Rattle.verifier_spec.specs.Transfer.{with_kind, numbers, on_ranges, moved_address, moved_kind, computed_kind, changed_kind, loaded_kind, with_stored, with_room, with_argument, with_lengths, with_range, narrowed_range, tested, answer_kind, after_call_kinds, called_kinds, met_edge, jump_edge, falls_to, jumps_to};
+ghost use Rattle.verifier_spec.specs.Transfer.{with_kind, numbers, on_ranges, moved_address, moved_kind, computed_kind, changed_kind, loaded_kind, with_stored, with_room, with_argument, with_lengths, with_range, narrowed_range, state_after_test, answer_kind, after_call_kinds, called_kinds, met_edge, jump_edge, falls_to, jumps_to};
 ghost use Rattle.machine_spec.specs.declared.helper.TheConstants.{HELPERS};
 
 use crate::checks;
@@ -77,7 +77,7 @@ fn moved_by(at: i64, by: i128) -> i64
     (at as i128 + by) as i64
 }
 
-fn moved(operation: Operation, region: Region, low: i64, high: i64, range: Interval) -> Abs
+fn address_moved(operation: Operation, region: Region, low: i64, high: i64, range: Interval) -> Abs
     requires address { is_proper_kind (Abs.Addr region low high) ≡ true }
     requires range { range.low ≤ range.high }
     requires can { can_move operation low high (Some range) ≡ true }
@@ -104,7 +104,7 @@ fn moved_address(
     ensures proper { is_proper_kind result ≡ true }
 {
     match kinds::range_of(state, by) {
-        Some(range) => moved(operation, region, ends.0, ends.1, range),
+        Some(range) => address_moved(operation, region, ends.0, ends.1, range),
         None => Abs::None,
     }
 }
@@ -213,7 +213,13 @@ fn with_stored(set: &StackSet, base: Abs, offset: i16, size: Size) -> StackSet
 }
 
 #[tactic(auto, using(crate::proofs::Passes::store_inside, verifier_spec::proofs::Proper::with_set_proper), unfolding(verifier_spec::specs::Transfer::falls_to))]
-fn stored(state: &Abstract, size: Size, base: u8, offset: i16, source: Source) -> Abstract
+fn state_after_store(
+    state: &Abstract,
+    size: Size,
+    base: u8,
+    offset: i16,
+    source: Source,
+) -> Abstract
     requires state { is_proper state.now ≡ true }
     requires passes { failed_check HELPERS (Instruction.Store size base offset source) state.now ≡ None }
     ensures stored { Some result ≡ falls_to (Instruction.Store size base offset source) state.now }
@@ -300,7 +306,7 @@ fn edge_of(
     }
 }
 
-fn tested(
+fn state_after_test(
     state: &Abstract,
     test: (Width, Test),
     along: bool,
@@ -308,7 +314,7 @@ fn tested(
     source: Source,
 ) -> Option<Abstract>
     requires { is_proper state.now ≡ true }
-    ensures edge { result ≡ tested state.now test.0 test.1 along register source }
+    ensures edge { result ≡ state_after_test state.now test.0 test.1 along register source }
     ensures proper { IfSome result (λ s. is_proper s ≡ true) }
 {
     match source {
@@ -420,7 +426,7 @@ fn with_arguments(state: &Abstract, arguments: &[Argument]) -> StackSet
 }
 
 #[tactic(auto, using(crate::proofs::Calls::called_proper))]
-fn called(state: &Abstract, helper: Helper) -> Abstract
+fn state_after_call(state: &Abstract, helper: Helper) -> Abstract
     requires state { is_proper state.now ≡ true }
     requires right { list_any (is_wrong_argument_kind state.now) (signature_of helper).arguments ≡ false }
     ensures called { Some result ≡ called_kinds (Some helper) state.now }
@@ -442,7 +448,7 @@ fn called_by(state: &Abstract, number: i32) -> Option<Abstract>
     ensures proper { IfSome result (λ s. is_proper s ≡ true) }
 {
     match Helper::with_number(number) {
-        Some(helper) => Some(called(state, helper)),
+        Some(helper) => Some(state_after_call(state, helper)),
         None => None,
     }
 }
@@ -450,7 +456,7 @@ fn called_by(state: &Abstract, number: i32) -> Option<Abstract>
 // ---- the two edges
 
 #[tactic(auto, using(crate::proofs::Passes::can_compute_passes))]
-fn computed(
+fn state_after_operation(
     state: &Abstract,
     width: Width,
     operation: Operation,
@@ -487,7 +493,7 @@ pub fn falls_to(instruction: Instruction, state: &Abstract) -> Option<Abstract>
             Some(with_kind(state, dst, moved_kind(state, width, kind)))
         }
         Instruction::Compute(width, operation, dst, source) => {
-            Some(computed(state, width, operation, dst, source))
+            Some(state_after_operation(state, width, operation, dst, source))
         }
         Instruction::Unary(change, dst, src) => {
             let kind = kinds::kind_at(state, src);
@@ -497,10 +503,10 @@ pub fn falls_to(instruction: Instruction, state: &Abstract) -> Option<Abstract>
             Some(with_kind(state, dst, loaded_kind(size, extension)))
         }
         Instruction::Store(size, base, offset, source) => {
-            Some(stored(state, size, base, offset, source))
+            Some(state_after_store(state, size, base, offset, source))
         }
         Instruction::JumpIf(width, test, dst, source, _) => {
-            tested(state, (width, test), false, dst, source)
+            state_after_test(state, (width, test), false, dst, source)
         }
         Instruction::Jump(_) => None,
         Instruction::Wide(dst, number) => Some(with_kind(state, dst, Abs::Num(number, number))),
@@ -515,7 +521,7 @@ fn met_edge(condition: Option<Condition>, state: &Abstract) -> Option<Abstract>
     ensures proper { IfSome result (λ s. is_proper s ≡ true) }
 {
     match condition {
-        Some(c) => tested(state, (c.width, c.test), true, c.dst, c.source),
+        Some(c) => state_after_test(state, (c.width, c.test), true, c.dst, c.source),
         None => Some(*state),
     }
 }

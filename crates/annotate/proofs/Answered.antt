@@ -1,11 +1,10 @@
 -- What the loader's parts answer, as the load's answer.
 use Rattle.std.proofs.Common.{◌≡◌, ◌≢◌, ℕ, List, Option, Some, Ok, Err, sym, ap, ◌∙◌}
 use Rattle.std.specs.Prelude.{option_map}
-use Rattle.machine_spec.specs.declared.helper.TheConstants.{HELPERS}
+use Rattle.machine_spec.specs.declared.{helper.TheConstants.HELPERS, instruction.IsaFault.IsaFault}
+use Rattle.machine_spec.specs.declared.{instruction.Placed.Placed}
 use Rattle.machine_spec.specs.Image.{program_of, read_image}
-use Rattle.machine_spec.specs.declared.instruction.IsaFault.{IsaFault}
 use Rattle.machine_spec.specs.declared.instruction.IsaFault.TheVariants as isa
-use Rattle.machine_spec.specs.declared.instruction.Placed.{Placed}
 use Rattle.verifier_spec.specs.declared.fault.VerifyFault.{VerifyFault}
 use Rattle.verifier_spec.specs.Annotation.{Claims, fault_of}
 use Rattle.verifier_spec.specs.JoinedStates.{joined_states}
@@ -16,7 +15,8 @@ not_ok : (code : List Placed) (f : IsaFault) → Ok code ≡ Err f → ⊥
 not_ok code f e = cc
 
 -- an image that does not decode is not accepted
-pub isa_refused : (image : List ℕ) (f : IsaFault) → (f ≢ isa.Memory → read_image image ≡ Err f) → f ≢ isa.Memory → IsRefusedWith (program_of image) (Isa f)
+pub isa_refused : (image : List ℕ) (f : IsaFault) → (f ≢ isa.Memory → read_image image ≡ Err f) → f ≢ isa.Memory →
+    IsRefusedWith (program_of image) (Isa f)
 unfolding load_fault
 isa_refused image f h ne =
     let read : read_image image ≡ Err f = h ne in
@@ -25,8 +25,9 @@ isa_refused image f h ne =
       fault_is = ap (code_fault HELPERS) read;
     }
 
-pub claimed_fault : (image : List ℕ) (code : List Placed) (claims : Claims) (fault : Option VerifyFault) → read_image image ≡ Ok code → claims ≡ joined_states HELPERS code → fault_of HELPERS code claims ≡ fault
-    → load_fault (program_of image) ≡ option_map Verify fault
+pub claimed_fault : (image : List ℕ) (code : List Placed) (claims : Claims) (fault : Option VerifyFault) →
+    read_image image ≡ Ok code → claims ≡ joined_states HELPERS code → fault_of HELPERS code claims ≡ fault →
+    load_fault (program_of image) ≡ option_map Verify fault
 unfolding load_fault
 claimed_fault image code claims fault read e h =
     ap (code_fault HELPERS) read ∙ ap (option_map Verify) (ap (λ (ns : Claims). fault_of HELPERS code ns) (sym e) ∙ h)

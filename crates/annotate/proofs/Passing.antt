@@ -1,39 +1,46 @@
 -- Lists of claims, and what one instruction of a pass changes.
-use Rattle.std.proofs.Common.{◌≡◌, ◌≢◌, ℕ, zero, suc, ◌+◌, ◌<◌, ◌≤◌, min, true, false, ◌==◌, List, [], ◌∷◌, length, get_or, set, slice_get, replicate, Option, Some, None, refl, sym, ap, ◌∙◌, subst, inl, inr, arith, length-set}
+use Rattle.std.proofs.Common.{◌≡◌, ◌≢◌, ℕ, zero, suc, ◌+◌, ◌<◌, ◌≤◌, min, true, false, ◌==◌, List, [], ◌∷◌, length}
+use Rattle.std.proofs.Common.{get_or, set, slice_get, replicate, Option, Some, None, refl, sym, ap, ◌∙◌, subst, inl}
+use Rattle.std.proofs.Common.{inr, arith, length-set}
 use Rattle.std.proofs.lemmas.Bool.{cond-true, cond-false, cases_eq, eq-eqb, eqb-true, cases_Bool, cases_lt}
 use Rattle.std.proofs.lemmas.Option.{slice_get_within}
 use Rattle.std.specs.Prelude.{IfSome}
 use Rattle.std.proofs.lemmas.List.{length-replicate}
-use Rattle.machine_spec.specs.declared.helper.TheConstants.{HELPERS}
-use Rattle.machine_spec.specs.declared.instruction.Placed.{Placed}
+use Rattle.machine_spec.specs.declared.{helper.TheConstants.HELPERS, instruction.Placed.Placed}
 use Rattle.verifier_spec.specs.declared.state.Abstract.{Abstract}
 use Rattle.verifier_spec.specs.Annotation.{Claims, claim_at}
-use Rattle.verifier_spec.specs.JoinedStates.{joined_claims, with_edge, with_edges, if_passed, with_instruction, known_after, joined_states}
+use Rattle.verifier_spec.specs.JoinedStates.{joined_claims, with_edge, with_edges, if_passed, with_instruction}
+use Rattle.verifier_spec.specs.JoinedStates.{known_after, joined_states}
 use Rattle.verifier_spec.specs.States.{is_proper, entry_state}
 use Rattle.verifier_spec.specs.Checks.{failed_check, jump_of}
 use Rattle.verifier_spec.specs.Transfer.{falls_to, jumps_to}
 use Rattle.machine_spec.specs.Image.{target_of}
 use Rattle.verifier_spec.proofs.JoinedStates.{length-joined_states, claim_joined}
-use Rattle.annotate.specs.Passing.{EachIs, IsPassed}
+use Rattle.notes.specs.Derived.{HasEachClaim}
+use Rattle.annotate.specs.Passing.{IsPassed}
 
-pub claim_at-get_or : (claims : Claims) (k : ℕ) (d : Option Abstract) → k < length claims → claim_at claims k ≡ get_or claims k d
+pub claim_at-get_or : (claims : Claims) (k : ℕ) (d : Option Abstract) → k < length claims →
+    claim_at claims k ≡ get_or claims k d
 claim_at-get_or [] k d lt = absurd (omega arith)
 claim_at-get_or (first ∷ claims) zero d lt = refl
 claim_at-get_or (first ∷ claims) (suc k) d lt =
     let below : k < length claims = omega arith in
     claim_at-get_or claims k d below
 
-pub claim_at-set : (claims : Claims) (k : ℕ) (new : Option Abstract) → k < length claims → claim_at (set claims k new) k ≡ new
+pub claim_at-set : (claims : Claims) (k : ℕ) (new : Option Abstract) → k < length claims →
+    claim_at (set claims k new) k ≡ new
 claim_at-set [] k new lt = absurd (omega arith)
 claim_at-set (first ∷ claims) zero new lt = refl
 claim_at-set (first ∷ claims) (suc k) new lt = claim_at-set claims k new (omega arith)
 
-pub claim_at-set_other : (claims : Claims) (k j : ℕ) (new : Option Abstract) → j ≢ k → claim_at (set claims k new) j ≡ claim_at claims j
+pub claim_at-set_other : (claims : Claims) (k j : ℕ) (new : Option Abstract) → j ≢ k →
+    claim_at (set claims k new) j ≡ claim_at claims j
 claim_at-set_other [] k j new other = refl
 claim_at-set_other (first ∷ claims) zero zero new other = absurd (other refl)
 claim_at-set_other (first ∷ claims) zero (suc j) new other = refl
 claim_at-set_other (first ∷ claims) (suc k) zero new other = refl
-claim_at-set_other (first ∷ claims) (suc k) (suc j) new other = claim_at-set_other claims k j new (λ same. other (ap (λ (n : ℕ). suc n) same))
+claim_at-set_other (first ∷ claims) (suc k) (suc j) new other =
+    claim_at-set_other claims k j new (λ same. other (ap (λ (n : ℕ). suc n) same))
 
 pub same_claims : (a b : Claims) → length a ≡ length b → ((j : ℕ) → j < length a → claim_at a j ≡ claim_at b j) → a ≡ b
 same_claims [] [] long each = refl
@@ -50,7 +57,8 @@ not_eq x y other = elim (cases_Bool (x == y)) [
   | inr apart ↦ apart
 ]
 
-other_claim : (claims : Claims) (k : ℕ) (s : Abstract) (j : ℕ) → j ≢ k → with_edge j (Some k) (Some s) (claim_at claims j) ≡ claim_at claims j
+other_claim : (claims : Claims) (k : ℕ) (s : Abstract) (j : ℕ) → j ≢ k →
+    with_edge j (Some k) (Some s) (claim_at claims j) ≡ claim_at claims j
 other_claim claims k s j other =
     elim (cases_Bool (k == j)) [
       | inl same ↦ absurd (other (sym (eqb-true k j same)))
@@ -58,12 +66,16 @@ other_claim claims k s j other =
     ]
 
 -- one claim joined
-pub brought : (claims : Claims) (k : ℕ) (s new : Abstract) → k < length claims → Some new ≡ joined_claims (claim_at claims k) (Some s)
-    → (j : ℕ) → claim_at (set claims k (Some new)) j ≡ with_edge j (Some k) (Some s) (claim_at claims j)
+pub brought : (claims : Claims) (k : ℕ) (s new : Abstract) → k < length claims →
+    Some new ≡ joined_claims (claim_at claims k) (Some s) → (j : ℕ) →
+    claim_at (set claims k (Some new)) j ≡ with_edge j (Some k) (Some s) (claim_at claims j)
 brought claims k s new inside is j = elim (cases_eq j k) [
   | inl same ↦
-      let P : ℕ → Type 0 = λ n. claim_at (set claims k (Some new)) n ≡ with_edge n (Some k) (Some s) (claim_at claims n) in
-      subst P (sym same) (claim_at-set claims k (Some new) inside ∙ is ∙ sym (cond-true (k == k) (joined_claims (claim_at claims k) (Some s)) (claim_at claims k) (eq-eqb k k refl)))
+      let P : ℕ → Type 0 = λ n. claim_at (set claims k (Some new)) n
+      ≡ with_edge n (Some k) (Some s) (claim_at claims n) in
+      subst P (sym same) (claim_at-set claims k (Some new) inside ∙ is
+      ∙ sym (cond-true (k == k) (joined_claims (claim_at claims k) (Some s)) (claim_at claims k)
+      (eq-eqb k k refl)))
   | inr other ↦ claim_at-set_other claims k j (Some new) other ∙ sym (other_claim claims k s j other)
 ]
 
@@ -74,21 +86,26 @@ claim_at-replicate zero j = refl
 claim_at-replicate (suc n) zero = refl
 claim_at-replicate (suc n) (suc j) = claim_at-replicate n j
 
-first_claim : (code : List Placed) (n j : ℕ) → 0 < n → claim_at (set (replicate n None) 0 (Some entry_state)) j ≡ known_after HELPERS code 0 j
+first_claim : (code : List Placed) (n j : ℕ) → 0 < n →
+    claim_at (set (replicate n None) 0 (Some entry_state)) j ≡ known_after HELPERS code 0 j
 unfolding known_after
 first_claim code n j some = elim (cases_eq j 0) [
   | inl first ↦
-      let P : ℕ → Type 0 = λ i. claim_at (set (replicate n None) 0 (Some entry_state)) i ≡ known_after HELPERS code 0 i in
-      let long : 0 < length (replicate {A = Option Abstract} n None) = omega (arith, length-replicate {A = Option Abstract} n None) in
+      let P : ℕ → Type 0 = λ i. claim_at (set (replicate n None) 0 (Some entry_state)) i
+      ≡ known_after HELPERS code 0 i in
+      let long : 0 < length (replicate {A = Option Abstract} n None) =
+      omega (arith, length-replicate {A = Option Abstract} n None) in
       subst P (sym first) (claim_at-set (replicate n None) 0 (Some entry_state) long)
   | inr later ↦
       claim_at-set_other (replicate n None) 0 j (Some entry_state) later ∙ claim_at-replicate n j
       ∙ sym (cond-false (j == 0) (Some entry_state) None (not_eq j 0 later))
 ]
 
-pub first_passed : (code : List Placed) → 0 < length code → IsPassed code (set (replicate (length code) None) 0 (Some entry_state)) 0
+pub first_passed : (code : List Placed) → 0 < length code →
+    IsPassed code (set (replicate (length code) None) 0 (Some entry_state)) 0
 first_passed code some = record {
-  long = length-set (replicate (length code) None) 0 (Some entry_state) ∙ length-replicate {A = Option Abstract} (length code) None;
+  long = length-set (replicate (length code) None) 0 (Some entry_state)
+      ∙ length-replicate {A = Option Abstract} (length code) None;
   each = λ j under.
       let none : 0 ≡ min 0 j = omega arith in
       first_claim code (length code) j some ∙ ap (λ (k : ℕ). known_after HELPERS code k j) none;
@@ -96,14 +113,17 @@ first_passed code some = record {
 }
 
 -- an edge that leads elsewhere changes nothing
-edge_elsewhere : (j : ℕ) (target : Option ℕ) (state claim : Option Abstract) → ((t : ℕ) → target ≡ Some t → t ≢ j) → with_edge j target state claim ≡ claim
+edge_elsewhere : (j : ℕ) (target : Option ℕ) (state claim : Option Abstract) → ((t : ℕ) → target ≡ Some t → t ≢ j) →
+    with_edge j target state claim ≡ claim
 edge_elsewhere j None state known elsewhere = refl
-edge_elsewhere j (Some t) state known elsewhere = cond-false (t == j) (joined_claims known state) known (not_eq t j (elsewhere t refl))
+edge_elsewhere j (Some t) state known elsewhere =
+    cond-false (t == j) (joined_claims known state) known (not_eq t j (elsewhere t refl))
 
 module _ (code : List Placed) (k : ℕ) (placed : Placed) (at : slice_get code k ≡ Some placed)
     (later : (t : ℕ) → target_of code placed.slot (jump_of placed.instruction) ≡ Some t → k < t) where
   -- what is known up to an instruction stays
-  earlier_stays : (j : ℕ) (own known : Option Abstract) → j ≤ k → with_instruction HELPERS code j k (Some placed) own known ≡ known
+  earlier_stays : (j : ℕ) (own known : Option Abstract) → j ≤ k →
+      with_instruction HELPERS code j k (Some placed) own known ≡ known
   earlier_stays j None known le = refl
   earlier_stays j (Some s) known le =
       let target = target_of code placed.slot (jump_of placed.instruction) in
@@ -116,17 +136,23 @@ module _ (code : List Placed) (k : ℕ) (placed : Placed) (at : slice_get code k
       λ t e same.
       let is : k < t = later t e in
       omega (arith, is, same, le) in
-      elim (failed_check HELPERS placed.instruction s) as (λ failed. if_passed failed known (with_edges code j k placed s known) ≡ known) [
+      elim (failed_check HELPERS placed.instruction s) as (λ failed. if_passed failed known
+      (with_edges code j k placed s known) ≡ known) [
         | Some _ ↦ refl
-        | None ↦ edge_elsewhere j target (jumps_to placed.instruction s) fallen further ∙ edge_elsewhere j (Some (k + 1)) (falls_to placed.instruction s) known next
+        | None ↦ edge_elsewhere j target (jumps_to placed.instruction s) fallen further
+            ∙ edge_elsewhere j (Some (k + 1)) (falls_to placed.instruction s) known next
       ]
 
-  later_known : (j : ℕ) → with_instruction HELPERS code j k (Some placed) (known_after HELPERS code k k) (known_after HELPERS code k j) ≡ known_after HELPERS code (suc k) j
+  later_known : (j : ℕ) → with_instruction HELPERS code j k (Some placed) (known_after HELPERS code k k)
+      (known_after HELPERS code k j) ≡ known_after HELPERS code (suc k) j
   unfolding known_after
-  later_known j = ap (λ (o : Option Placed). with_instruction HELPERS code j k o (known_after HELPERS code k k) (known_after HELPERS code k j)) (sym at)
+  later_known j = ap (λ (o : Option Placed). with_instruction HELPERS code j k o (known_after HELPERS code k k)
+      (known_after HELPERS code k j)) (sym at)
 
-  module _ (states next : Claims) (own : Option Abstract) (is_own : own ≡ claim_at states k) (passed : IsPassed code states k) (long : length next ≡ length states)
-      (each : EachIs next (λ j. with_instruction HELPERS code j k (Some placed) own (claim_at states j))) (proper : IfSome own (λ s. is_proper s ≡ true)) where
+  module _ (states next : Claims) (own : Option Abstract) (is_own : own ≡ claim_at states k)
+      (passed : IsPassed code states k) (long : length next ≡ length states)
+      (each : HasEachClaim next (λ j. with_instruction HELPERS code j k (Some placed) own (claim_at states j)))
+      (proper : IfSome own (λ s. is_proper s ≡ true)) where
     own_known : own ≡ known_after HELPERS code k k
     own_known =
         let both : min k k ≡ k = omega arith in
@@ -137,18 +163,22 @@ module _ (code : List Placed) (k : ℕ) (placed : Placed) (at : slice_get code k
     each_known j under =
         let below : j < length states = omega (arith, under, long) in
         let one = each j under in
-        let two = ap (λ (claim : Option Abstract). with_instruction HELPERS code j k (Some placed) own claim) (passed.each j below) in
+        let two = ap (λ (claim : Option Abstract). with_instruction HELPERS code j k (Some placed) own claim)
+        (passed.each j below) in
         elim (cases_lt k j) [
           | inl after ↦
               let old : min k j ≡ k = omega (arith, after) in
               let new : suc k ≡ min (k + 1) j = omega (arith, after) in
-              one ∙ two ∙ ap (λ (n : ℕ). with_instruction HELPERS code j k (Some placed) own (known_after HELPERS code n j)) old
-              ∙ ap (λ (o : Option Abstract). with_instruction HELPERS code j k (Some placed) o (known_after HELPERS code k j)) own_known
+              one ∙ two ∙ ap (λ (n : ℕ). with_instruction HELPERS code j k (Some placed) own
+              (known_after HELPERS code n j)) old
+              ∙ ap (λ (o : Option Abstract). with_instruction HELPERS code j k (Some placed) o
+              (known_after HELPERS code k j)) own_known
               ∙ later_known j
               ∙ ap (λ (n : ℕ). known_after HELPERS code n j) new
           | inr before ↦
               let same : min k j ≡ min (k + 1) j = omega (arith, before) in
-              one ∙ two ∙ earlier_stays j own (known_after HELPERS code (min k j) j) before ∙ ap (λ (n : ℕ). known_after HELPERS code n j) same
+              one ∙ two ∙ earlier_stays j own (known_after HELPERS code (min k j) j) before
+              ∙ ap (λ (n : ℕ). known_after HELPERS code n j) same
         ]
 
     own_proper : (s : Abstract) → own ≡ Some s → is_proper s ≡ true
@@ -165,12 +195,14 @@ module _ (code : List Placed) (k : ℕ) (placed : Placed) (at : slice_get code k
     }
 
 -- after the whole pass
-pub all_passed : (code : List Placed) (states : Claims) → IsPassed code states (length code) → states ≡ joined_states HELPERS code
+pub all_passed : (code : List Placed) (states : Claims) → IsPassed code states (length code) →
+    states ≡ joined_states HELPERS code
 all_passed code states passed =
     same_claims states (joined_states HELPERS code) (passed.long ∙ sym (length-joined_states HELPERS code)) (λ j under.
     let below : j < length code = omega (arith, under, passed.long) in
     let is : min (length code) j ≡ j = omega (arith, below) in
     passed.each j under ∙ ap (λ (n : ℕ). known_after HELPERS code n j) is ∙ sym (claim_joined HELPERS code j below))
 
-pub passed_all : (code : List Placed) (states : Claims) (k : ℕ) → k ≡ length code → IsPassed code states k → states ≡ joined_states HELPERS code
+pub passed_all : (code : List Placed) (states : Claims) (k : ℕ) → k ≡ length code → IsPassed code states k →
+    states ≡ joined_states HELPERS code
 passed_all code states k all passed = all_passed code states (subst (λ n. IsPassed code states n) all passed)

@@ -18,7 +18,8 @@ pub record Accepts (image : List ℕ) (verified : Annotated) : Type 0 where
   pub code : IsCodeOf image verified.code
   pub claims : verified.claims ≡ joined_states HELPERS verified.code
   pub annotation : IsAnnotation HELPERS verified.code verified.claims
-  pub best : (other : Claims) → IsAnnotation HELPERS verified.code other → (k : ℕ) → is_edge_covered (claim_at verified.claims k) (claim_at other k) ≡ true
+  pub best : (other : Claims) → IsAnnotation HELPERS verified.code other → (k : ℕ) →
+      is_edge_covered (claim_at verified.claims k) (claim_at other k) ≡ true
 
 -- An image with a refusal does not decode to code that has an annotation; nothing is said where memory ran out.
 abbrev pub FaultIs : List ℕ → LoadFault → Type 0

@@ -4,7 +4,8 @@ ghost use Rattle.verifier_spec.specs.Annotation.{claim_at};
 ghost use Rattle.verifier_spec.specs.JoinedStates.{joined_claims, with_edge, with_edges, with_instruction, known_after, joined_states};
 ghost use Rattle.verifier_spec.specs.Checks.{failed_check};
 ghost use Rattle.verifier_spec.proofs.BestAnnotation.{AreJoinedProper};
-ghost use Rattle.annotate.specs.Passing.{EachIs, IsPassed};
+ghost use Rattle.notes.specs.Derived.{HasEachClaim};
+ghost use Rattle.annotate.specs.Passing.{IsPassed};
 ghost use Rattle.machine_spec.specs.declared.helper.TheConstants.{HELPERS};
 
 use abstract_regs::State;
@@ -33,7 +34,7 @@ fn joined_claim(known: Option<State>, state: State) -> State
 /// Joins a state to what is known of an instruction, if there is an instruction with this number.
 fn propagate(states: &mut [Option<State>], target: usize, state: State)
     ensures length { length states.new ≡ length states.old }
-    ensures each { EachIs states.new (λ j. with_edge j (Some target) (Some state) (claim_at states.old j)) }
+    ensures each { HasEachClaim states.new (λ j. with_edge j (Some target) (Some state) (claim_at states.old j)) }
 {
     if target < states.len() {
         states[target] = Some(joined_claim(claim_of(states, target), state));
@@ -43,7 +44,7 @@ fn propagate(states: &mut [Option<State>], target: usize, state: State)
 /// Joins what an edge propagates, if it propagates a state and leads to an instruction.
 fn propagate_along(states: &mut [Option<State>], target: Option<usize>, state: Option<State>)
     ensures length { length states.new ≡ length states.old }
-    ensures each { EachIs states.new (λ j. with_edge j target state (claim_at states.old j)) }
+    ensures each { HasEachClaim states.new (λ j. with_edge j target state (claim_at states.old j)) }
 {
     if let Some(target) = target
         && let Some(state) = state
@@ -58,7 +59,7 @@ fn propagate_both(code: &Code, states: &mut [Option<State>], k: usize, placed: P
     requires number { k < MAX_SLOTS }
     requires passes { failed_check HELPERS placed.instruction state ≡ None }
     ensures length { length states.new ≡ length states.old }
-    ensures each { EachIs states.new (λ j. with_edges code.now j k placed state (claim_at states.old j)) }
+    ensures each { HasEachClaim states.new (λ j. with_edges code.now j k placed state (claim_at states.old j)) }
 {
     let edges = state.transfer(placed.instruction);
     propagate_along(states, Some(k + 1), edges.next);
@@ -78,7 +79,7 @@ fn pass_one(
     requires slot { placed.slot < MAX_SLOTS }
     requires number { k < MAX_SLOTS }
     ensures length { length states.new ≡ length states.old }
-    ensures each { EachIs states.new (λ j. with_instruction HELPERS code.now j k (Some placed) claim (claim_at states.old j)) }
+    ensures each { HasEachClaim states.new (λ j. with_instruction HELPERS code.now j k (Some placed) claim (claim_at states.old j)) }
     ensures proper { IfSome claim (λ s. is_proper s ≡ true) }
 {
     if let Some(state) = claim {

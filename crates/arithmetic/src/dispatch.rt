@@ -1,5 +1,5 @@
 ghost use Rattle.std.specs.Prelude.{◌≡◌};
-ghost use Rattle.machine_spec.specs.Arithmetic.{number_of, ordered, changed_number, holds};
+ghost use Rattle.machine_spec.specs.Arithmetic.{number_of, number_in_order, changed_number, holds};
 
 use crate::{bits32, bits64, order};
 use machine_spec::{ByteOrder, Change, ExtendedWidth, Operation, SwappedWidth, Test, Width};
@@ -25,7 +25,7 @@ fn negate(width: Width, a: u64) -> u64
 }
 
 fn put_in_order(byte_order: ByteOrder, width: SwappedWidth, a: u64) -> u64
-    ensures { result ≡ ordered byte_order width a }
+    ensures { result ≡ number_in_order byte_order width a }
 {
     match byte_order {
         ByteOrder::LittleEndian => order::keep(width, a),

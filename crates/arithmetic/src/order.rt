@@ -1,6 +1,6 @@
 //! Changes of byte order. Numbers are little-endian, so big-endian is the swapped order.
 ghost use Rattle.std.specs.Prelude.{◌≡◌};
-ghost use Rattle.machine_spec.specs.Arithmetic.{ordered};
+ghost use Rattle.machine_spec.specs.Arithmetic.{number_in_order};
 
 use crate::low::{low_16, low_32};
 use machine_spec::{ByteOrder, SwappedWidth};
@@ -8,7 +8,7 @@ use machine_spec::{ByteOrder, SwappedWidth};
 /// The low 16, 32 or 64 bits, and 0 above them: a little-endian order (RFC 9669, section 4.2).
 #[inline(always)]
 pub fn keep(width: SwappedWidth, a: u64) -> u64
-    ensures { result ≡ ordered ByteOrder.LittleEndian width a }
+    ensures { result ≡ number_in_order ByteOrder.LittleEndian width a }
 {
     match width {
         SwappedWidth::Bits16 => low_16(a) as u64,
@@ -21,7 +21,7 @@ pub fn keep(width: SwappedWidth, a: u64) -> u64
 /// 9669, section 4.2).
 #[inline(always)]
 pub fn swap(width: SwappedWidth, a: u64) -> u64
-    ensures { result ≡ ordered ByteOrder.Swapped width a }
+    ensures { result ≡ number_in_order ByteOrder.Swapped width a }
 {
     match width {
         SwappedWidth::Bits16 => low_16(a).swap_bytes() as u64,

@@ -1,5 +1,6 @@
 -- What a feed gives of its bytes, which are in two parts, by what is cut off the first.
-use Rattle.std.proofs.Common.{◌≡◌, ◌≢◌, ℕ, ◌≤◌, List, [], ◌∷◌, ◌++◌, length, take, drop, Ok, Err, true, false, refl, sym, ap, subst, ◌∙◌}
+use Rattle.std.proofs.Common.{◌≡◌, ◌≢◌, ℕ, ◌≤◌, List, [], ◌∷◌, ◌++◌, length, take, drop, Ok, Err, true, false, refl}
+use Rattle.std.proofs.Common.{sym, ap, subst, ◌∙◌}
 use Rattle.std.specs.Prelude.{◌↔◌, Some, None}
 use Rattle.std.proofs.lemmas.List.{drop-append-le}
 use Rattle.wire_spec.specs.declared.{fault.BatchFault.BatchFault, record.Batch.Batch}
@@ -17,26 +18,33 @@ batch_at-taken bytes batch used e =
     let w = bind_ok (whole_at (take a.0 bytes)) (λ b. Ok (b, a.0)) (batch, used) a.2 in
     subst (Sized bytes) (ap (λ (x : Batch × ℕ). x.1) (ok_is (w.0, a.0) (batch, used) w.2)) (size_taken bytes a.0 a.1)
 
-pub is_refusal : (bytes : List ℕ) (fault : BatchFault) → (IsPart bytes → ⊥) → (fault ≢ Memory → batch_at bytes ≡ Err fault) → IsRefusal bytes fault
-is_refusal bytes fault whole exact = λ other. (λ short. batch_at-not_short bytes whole (exact other ∙ ap (λ (f : BatchFault). Err f) short), exact other)
+pub is_refusal : (bytes : List ℕ) (fault : BatchFault) → (IsPart bytes → ⊥) →
+    (fault ≢ Memory → batch_at bytes ≡ Err fault) → IsRefusal bytes fault
+is_refusal bytes fault whole exact =
+    λ other. (λ short. batch_at-not_short bytes whole (exact other ∙ ap (λ (f : BatchFault). Err f) short), exact other)
 
-pub gives_none : (old new : Stream) (ready next : List ℕ) → old ≡ Open (ready ++ next) → new ≡ Open (ready ++ next) → IsReady false ready next
-    → Gives old (Ok None) new
+pub gives_none : (old new : Stream) (ready next : List ℕ) → old ≡ Open (ready ++ next) → new ≡ Open (ready ++ next) →
+    IsReady false ready next → Gives old (Ok None) new
 gives_none old new ready next old_is new_is part =
     subst (λ (s : Stream). Gives s (Ok None) new) (sym old_is) (batch_at-part (ready ++ next) part, new_is)
 
-pub gives_batch : (old after : Stream) (ready next new : List ℕ) (batch : Batch) → old ≡ Open (ready ++ next) → after ≡ Open (new ++ next) → IsReady true ready next
-    → Cuts ready (Ok batch) new → Gives old (Ok (Some batch)) after
+pub gives_batch : (old after : Stream) (ready next new : List ℕ) (batch : Batch) → old ≡ Open (ready ++ next) →
+    after ≡ Open (new ++ next) → IsReady true ready next → Cuts ready (Ok batch) new → Gives old (Ok (Some batch)) after
 gives_batch old after ready next new batch old_is after_is whole (used, within, found, new_is) =
-    let rest : new ++ next ≡ drop used (ready ++ next) = ap (λ (front : List ℕ). front ++ next) new_is ∙ sym (drop-append-le used ready next within) in
+    let rest : new ++ next ≡ drop used (ready ++ next) = ap (λ (front : List ℕ). front ++ next) new_is
+    ∙ sym (drop-append-le used ready next within) in
     subst (λ (s : Stream). Gives s (Ok (Some batch)) after) (sym old_is)
     (used, batch_at-append ready next whole ∙ found, after_is ∙ ap (λ (bytes : List ℕ). Open bytes) rest)
 
-pub gives_refusal : (old after : Stream) (ready next new : List ℕ) (fault : BatchFault) → old ≡ Open (ready ++ next) → after ≡ after_fault (Open (new ++ next)) fault
-    → IsReady true ready next → Cuts ready (Err fault) new → Gives old (Err fault) after
+pub gives_refusal : (old after : Stream) (ready next new : List ℕ) (fault : BatchFault) → old ≡ Open (ready ++ next) →
+    after ≡ after_fault (Open (new ++ next)) fault → IsReady true ready next → Cuts ready (Err fault) new →
+    Gives old (Err fault) after
 gives_refusal old after ready next new fault old_is after_is whole (refusal, new_is) =
-    subst (λ (s : Stream). Gives s (Err fault) after) (sym old_is)
-    (λ other. ((refusal other).0, batch_at-append ready next whole ∙ (refusal other).1), after_is ∙ ap (λ (front : List ℕ). after_fault (Open (front ++ next)) fault) new_is)
+    subst (λ (s : Stream). Gives s (Err fault) after) (sym old_is) (
+      λ other. ((refusal other).0, batch_at-append ready next whole ∙ (refusal other).1),
+      after_is
+          ∙ ap (λ (front : List ℕ). after_fault (Open (front ++ next)) fault) new_is,
+    )
 
 pub none_of : (ready next : List ℕ) → (ready ++ next ≡ []) ↔ ((length ready ≡ 0) × (length next ≡ 0))
 none_of [] [] = (λ e. (refl, refl), λ e. refl)

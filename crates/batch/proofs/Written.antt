@@ -1,15 +1,16 @@
 -- Writing one part after the other.
-use Rattle.std.proofs.Common.{◌≡◌, ℕ, suc, ◌+◌, ◌-◌, ◌≤◌, ◌<◌, List, [], ◌∷◌, ◌++◌, length, get_or, take, drop, Option, Some, refl, sym, ap, ◌∙◌, append_assoc, arith}
+use Rattle.std.proofs.Common.{◌≡◌, ℕ, suc, ◌+◌, ◌-◌, ◌≤◌, ◌<◌, List, [], ◌∷◌, ◌++◌, length, get_or, take, drop, Option}
+use Rattle.std.proofs.Common.{Some, refl, sym, ap, ◌∙◌, append_assoc, arith}
 use Rattle.std.specs.Prelude.{ℤ, pos, FitsSigned}
 use Rattle.std.specs.Int.{Width, w16, w32, w64, to_be_bytes, cast_signed, cast_unsigned}
 use Rattle.std.specs.List.{AllByRecursion}
 use Rattle.std.proofs.lemmas.Int.{to_z-of_z}
 use Rattle.std.proofs.lemmas.List.{take_more, take_all, append-nil, length-append, length-take, length-drop}
-use Rattle.wire_spec.specs.declared.record.Record.{Record}
-use Rattle.wire_spec.specs.declared.record.Batch.{Batch}
+use Rattle.wire_spec.specs.declared.{record.Record.Record, record.Batch.Batch}
 use Rattle.wire_spec.specs.Checksum.{checksum}
 use Rattle.wire_spec.specs.RecordSpelling.{record_spelling}
-use Rattle.wire_spec.specs.BatchSpelling.{IsTimestamp, timestamps, greatest, signed, records_spelling, covered, batch_spelling}
+use Rattle.wire_spec.specs.BatchSpelling.{IsTimestamp, timestamps, greatest, signed, records_spelling}
+use Rattle.wire_spec.specs.BatchSpelling.{checksummed_bytes, batch_spelling}
 use Rattle.wire_spec.proofs.BatchLaws.{list_all-from, records_length}
 use Rattle.batch.specs.Latest.{latest_of}
 
@@ -18,20 +19,26 @@ pub row : (old mid new a b : List ℕ) → mid ≡ old ++ a → new ≡ mid ++ b
 row old mid new a b p q = q ∙ ap (λ (m : List ℕ). m ++ b) p ∙ append_assoc old a b
 
 -- a signed number as the code passes it
-pub kept : (w : Width) (z : ℤ) (old new : List ℕ) → FitsSigned w z → new ≡ old ++ signed w (cast_signed w (cast_unsigned w z)) → new ≡ old ++ signed w z
+pub kept : (w : Width) (z : ℤ) (old new : List ℕ) → FitsSigned w z →
+    new ≡ old ++ signed w (cast_signed w (cast_unsigned w z)) → new ≡ old ++ signed w z
 kept w z old new fits e = e ∙ ap (λ (x : ℤ). old ++ signed w x) (to_z-of_z w z fits)
 
-records_spelling-append : (d : ℕ) (xs ys : List Record) → records_spelling d (xs ++ ys) ≡ records_spelling d xs ++ records_spelling (d + length xs) ys
+records_spelling-append : (d : ℕ) (xs ys : List Record) →
+    records_spelling d (xs ++ ys) ≡ records_spelling d xs ++ records_spelling (d + length xs) ys
 records_spelling-append d [] ys =
     let e : d + 0 ≡ d = omega arith in
     ap (λ (k : ℕ). records_spelling k ys) (sym e)
 records_spelling-append d (x ∷ xs) ys =
     let e : suc d + length xs ≡ d + suc (length xs) = omega arith in
-    ap (λ (r : List ℕ). record_spelling (pos d) x ++ r) (records_spelling-append (suc d) xs ys ∙ ap (λ (k : ℕ). records_spelling (suc d) xs ++ records_spelling k ys) e)
-    ∙ sym (append_assoc (record_spelling (pos d) x) (records_spelling (suc d) xs) (records_spelling (d + suc (length xs)) ys))
+    ap (λ (r : List ℕ). record_spelling (pos d) x ++ r)
+    (records_spelling-append (suc d) xs ys
+    ∙ ap (λ (k : ℕ). records_spelling (suc d) xs ++ records_spelling k ys) e)
+    ∙ sym (append_assoc (record_spelling (pos d) x) (records_spelling (suc d) xs)
+    (records_spelling (d + suc (length xs)) ys))
 
 -- one more record
-pub spelling_more : (rs : List Record) (i : ℕ) (r : Record) → i < length rs → r ≡ get_or rs i r → records_spelling 0 (take (i + 1) rs) ≡ records_spelling 0 (take i rs) ++ record_spelling (pos i) r
+pub spelling_more : (rs : List Record) (i : ℕ) (r : Record) → i < length rs → r ≡ get_or rs i r →
+    records_spelling 0 (take (i + 1) rs) ≡ records_spelling 0 (take i rs) ++ record_spelling (pos i) r
 spelling_more rs i r lt e =
     let front = take i rs in
     let size : 0 + length front ≡ i = omega (arith, length-take i rs) in
@@ -40,63 +47,91 @@ spelling_more rs i r lt e =
     ∙ ap (λ (k : ℕ). records_spelling 0 front ++ (record_spelling (pos k) r ++ [])) size
     ∙ ap (λ (s : List ℕ). records_spelling 0 front ++ s) (append-nil (record_spelling (pos i) r))
 
-pub length_more : (rs : List Record) (i n len : ℕ) (r : Record) → i < length rs → r ≡ get_or rs i r → n ≡ length (records_spelling 0 (take i rs)) → len ≡ length (record_spelling (pos i) r)
-    → n + len ≡ length (records_spelling 0 (take (i + 1) rs))
+pub length_more : (rs : List Record) (i n len : ℕ) (r : Record) → i < length rs → r ≡ get_or rs i r →
+    n ≡ length (records_spelling 0 (take i rs)) → len ≡ length (record_spelling (pos i) r) →
+    n + len ≡ length (records_spelling 0 (take (i + 1) rs))
 length_more rs i n len r lt e so_far here =
     let front = records_spelling 0 (take i rs) in
     let last = record_spelling (pos i) r in
     omega (arith, so_far, here, length-append front last, ap length (spelling_more rs i r lt e))
 
-pub items_more : (rs : List Record) (i : ℕ) (r : Record) (old out new : List ℕ) → i < length rs → r ≡ get_or rs i r → out ≡ old ++ records_spelling 0 (take i rs) → new ≡ out ++ record_spelling (pos i) r
-    → new ≡ old ++ records_spelling 0 (take (i + 1) rs)
+pub items_more : (rs : List Record) (i : ℕ) (r : Record) (old out new : List ℕ) → i < length rs → r ≡ get_or rs i r →
+    out ≡ old ++ records_spelling 0 (take i rs) → new ≡ out ++ record_spelling (pos i) r →
+    new ≡ old ++ records_spelling 0 (take (i + 1) rs)
 items_more rs i r old out new lt e so_far here =
-    row old out new (records_spelling 0 (take i rs)) (record_spelling (pos i) r) so_far here ∙ ap (λ (s : List ℕ). old ++ s) (sym (spelling_more rs i r lt e))
+    row old out new (records_spelling 0 (take i rs)) (record_spelling (pos i) r) so_far here
+    ∙ ap (λ (s : List ℕ). old ++ s) (sym (spelling_more rs i r lt e))
 
 pub all_of : (rs : List Record) (i : ℕ) → length rs ≤ i → records_spelling 0 (take i rs) ≡ records_spelling 0 rs
 all_of rs i le = ap (records_spelling 0) (take_all i rs le)
 
-pub latest_some : (base : ℤ) (rs : List Record) → AllByRecursion IsTimestamp (timestamps base rs) → latest_of base rs ≡ Some (greatest (timestamps base rs))
+pub latest_some : (base : ℤ) (rs : List Record) → AllByRecursion IsTimestamp (timestamps base rs) →
+    latest_of base rs ≡ Some (greatest (timestamps base rs))
 unfolding latest_of
 latest_some base rs h = rw (list_all-from (timestamps base rs) h) refl
 
 -- the header from attributes on, with these numbers
 abbrev pub header_of : Batch → ℤ → ℕ → List ℕ
 header_of b g n =
-    to_be_bytes w16 0 ++ (to_be_bytes w32 (n - 1) ++ (signed w64 b.base_timestamp ++ (signed w64 g ++ (signed w64 b.producer_id ++ (signed w16 b.producer_epoch ++ (signed w32 b.base_sequence ++ to_be_bytes w32 n))))))
+    to_be_bytes w16 0 ++ (to_be_bytes w32 (n - 1)
+    ++ (signed w64 b.base_timestamp
+    ++ (signed w64 g ++ (signed w64 b.producer_id
+    ++ (signed w16 b.producer_epoch ++ (signed w32 b.base_sequence ++ to_be_bytes w32 n))))))
 
-header_then : (b : Batch) → header_of b (greatest (timestamps b.base_timestamp b.records)) (length b.records) ++ records_spelling 0 b.records ≡ covered b
+header_then : (b : Batch) → header_of b (greatest (timestamps b.base_timestamp b.records)) (length b.records)
+    ++ records_spelling 0 b.records ≡ checksummed_bytes b
 header_then b = refl
 
-pub covered_is : (b : Batch) (rs : List Record) (g : ℤ) (n : ℕ) (old mid new : List ℕ) → rs ≡ b.records → g ≡ greatest (timestamps b.base_timestamp rs) → n ≡ length rs
-    → mid ≡ old ++ header_of b g n → new ≡ mid ++ records_spelling 0 rs → new ≡ old ++ covered b
+pub covered_is : (b : Batch) (rs : List Record) (g : ℤ) (n : ℕ) (old mid new : List ℕ) → rs ≡ b.records →
+    g ≡ greatest (timestamps b.base_timestamp rs) → n ≡ length rs → mid ≡ old ++ header_of b g n →
+    new ≡ mid ++ records_spelling 0 rs → new ≡ old ++ checksummed_bytes b
 covered_is b rs g n old mid new same top count first second =
-    let top' : g ≡ greatest (timestamps b.base_timestamp b.records) = top ∙ ap (λ (x : List Record). greatest (timestamps b.base_timestamp x)) same in
+    let top' : g ≡ greatest (timestamps b.base_timestamp b.records) = top
+    ∙ ap (λ (x : List Record). greatest (timestamps b.base_timestamp x)) same in
     let count' : n ≡ length b.records = count ∙ ap length same in
-    let first' : mid ≡ old ++ header_of b (greatest (timestamps b.base_timestamp b.records)) (length b.records) = first ∙ ap (λ (x : ℤ). old ++ header_of b x n) top' ∙ ap (λ (m : ℕ). old ++ header_of b (greatest (timestamps b.base_timestamp b.records)) m) count' in
-    let second' : new ≡ mid ++ records_spelling 0 b.records = second ∙ ap (λ (x : List Record). mid ++ records_spelling 0 x) same in
-    row old mid new (header_of b (greatest (timestamps b.base_timestamp b.records)) (length b.records)) (records_spelling 0 b.records) first' second' ∙ ap (λ (s : List ℕ). old ++ s) (header_then b)
+    let first' : mid ≡ old ++ header_of b (greatest (timestamps b.base_timestamp b.records)) (length b.records) = first
+    ∙ ap (λ (x : ℤ). old ++ header_of b x n) top'
+    ∙ ap (λ (m : ℕ). old ++ header_of b (greatest (timestamps b.base_timestamp b.records)) m) count' in
+    let second' : new ≡ mid ++ records_spelling 0 b.records = second
+    ∙ ap (λ (x : List Record). mid ++ records_spelling 0 x) same in
+    row old mid new (header_of b (greatest (timestamps b.base_timestamp b.records)) (length b.records))
+    (records_spelling 0 b.records) first' second' ∙ ap (λ (s : List ℕ). old ++ s) (header_then b)
 
 -- what is before it, with 0 in the place of the checksum
 abbrev pub front_of : Batch → ℕ → List ℕ
-front_of b size = signed w64 b.base_offset ++ (to_be_bytes w32 (size - 12) ++ (signed w32 b.leader_epoch ++ (2 ∷ to_be_bytes w32 0)))
+front_of b size = signed w64 b.base_offset
+    ++ (to_be_bytes w32 (size - 12) ++ (signed w32 b.leader_epoch ++ (2 ∷ to_be_bytes w32 0)))
 
-sealed : (b : Batch) (size : ℕ) (rest : List ℕ) → take 17 (front_of b size ++ rest) ++ (to_be_bytes w32 (checksum (drop 21 (front_of b size ++ rest))) ++ drop 21 (front_of b size ++ rest))
-    ≡ signed w64 b.base_offset ++ (to_be_bytes w32 (size - 12) ++ (signed w32 b.leader_epoch ++ (2 ∷ (to_be_bytes w32 (checksum rest) ++ rest))))
+sealed : (b : Batch) (size : ℕ) (rest : List ℕ) →
+    take 17 (front_of b size ++ rest)
+    ++ (to_be_bytes w32 (checksum (drop 21 (front_of b size ++ rest))) ++ drop 21 (front_of b size ++ rest))
+    ≡ signed w64 b.base_offset ++ (to_be_bytes w32 (size - 12)
+    ++ (signed w32 b.leader_epoch ++ (2 ∷ (to_be_bytes w32 (checksum rest) ++ rest))))
 sealed b size rest = refl
 
-pub spelled_is : (b : Batch) (size : ℕ) (first second third : List ℕ) → size ≡ 61 + length (records_spelling 0 b.records) → first ≡ [] ++ front_of b size → second ≡ first ++ covered b
-    → third ≡ take 17 second ++ (to_be_bytes w32 (checksum (drop 21 second)) ++ drop 21 second) → third ≡ batch_spelling b
+pub spelled_is : (b : Batch) (size : ℕ) (first second third : List ℕ) →
+    size ≡ 61 + length (records_spelling 0 b.records) → first ≡ [] ++ front_of b size →
+    second ≡ first ++ checksummed_bytes b → third ≡ take 17 second
+    ++ (to_be_bytes w32 (checksum (drop 21 second)) ++ drop 21 second) → third ≡ batch_spelling b
 unfolding batch_spelling
 spelled_is b size first second third e p q r =
-    let whole : second ≡ front_of b size ++ covered b = q ∙ ap (λ (s : List ℕ). s ++ covered b) p in
-    let len : size - 12 ≡ 9 + length (covered b) = omega (arith, e, records_length b) in
-    r ∙ ap (λ (s : List ℕ). take 17 s ++ (to_be_bytes w32 (checksum (drop 21 s)) ++ drop 21 s)) whole ∙ sealed b size (covered b)
-    ∙ ap (λ (n : ℕ). signed w64 b.base_offset ++ (to_be_bytes w32 n ++ (signed w32 b.leader_epoch ++ (2 ∷ (to_be_bytes w32 (checksum (covered b)) ++ covered b))))) len
+    let whole : second ≡ front_of b size ++ checksummed_bytes b = q ∙ ap (λ (s : List ℕ). s ++ checksummed_bytes b) p in
+    let len : size - 12 ≡ 9 + length (checksummed_bytes b) = omega (arith, e, records_length b) in
+    r ∙ ap (λ (s : List ℕ). take 17 s ++ (to_be_bytes w32 (checksum (drop 21 s)) ++ drop 21 s)) whole
+    ∙ sealed b size (checksummed_bytes b)
+    ∙ ap (λ (n : ℕ). signed w64 b.base_offset
+    ++ (to_be_bytes w32 n ++ (signed w32 b.leader_epoch
+    ++ (2 ∷ (to_be_bytes w32 (checksum (checksummed_bytes b)) ++ checksummed_bytes b))))) len
 
-pub header_is : (b : Batch) (g : ℤ) (n : ℕ) (o0 o1 o2 o3 o4 o5 o6 o7 o8 : List ℕ) → FitsSigned w64 b.base_timestamp → FitsSigned w64 g → FitsSigned w64 b.producer_id → FitsSigned w16 b.producer_epoch → FitsSigned w32 b.base_sequence
-    → o1 ≡ o0 ++ to_be_bytes w16 0 → o2 ≡ o1 ++ to_be_bytes w32 (n - 1) → o3 ≡ o2 ++ signed w64 (cast_signed w64 (cast_unsigned w64 b.base_timestamp)) → o4 ≡ o3 ++ signed w64 (cast_signed w64 (cast_unsigned w64 g))
-    → o5 ≡ o4 ++ signed w64 (cast_signed w64 (cast_unsigned w64 b.producer_id)) → o6 ≡ o5 ++ signed w16 (cast_signed w16 (cast_unsigned w16 b.producer_epoch)) → o7 ≡ o6 ++ signed w32 (cast_signed w32 (cast_unsigned w32 b.base_sequence))
-    → o8 ≡ o7 ++ to_be_bytes w32 n → o8 ≡ o0 ++ header_of b g n
+pub header_is : (b : Batch) (g : ℤ) (n : ℕ) (o0 o1 o2 o3 o4 o5 o6 o7 o8 : List ℕ) → FitsSigned w64 b.base_timestamp →
+    FitsSigned w64 g → FitsSigned w64 b.producer_id → FitsSigned w16 b.producer_epoch → FitsSigned w32 b.base_sequence →
+    o1 ≡ o0 ++ to_be_bytes w16 0 → o2 ≡ o1 ++ to_be_bytes w32 (n - 1) →
+    o3 ≡ o2 ++ signed w64 (cast_signed w64 (cast_unsigned w64 b.base_timestamp)) →
+    o4 ≡ o3 ++ signed w64 (cast_signed w64 (cast_unsigned w64 g)) →
+    o5 ≡ o4 ++ signed w64 (cast_signed w64 (cast_unsigned w64 b.producer_id)) →
+    o6 ≡ o5 ++ signed w16 (cast_signed w16 (cast_unsigned w16 b.producer_epoch)) →
+    o7 ≡ o6 ++ signed w32 (cast_signed w32 (cast_unsigned w32 b.base_sequence)) → o8 ≡ o7 ++ to_be_bytes w32 n →
+    o8 ≡ o0 ++ header_of b g n
 header_is b g n o0 o1 o2 o3 o4 o5 o6 o7 o8 f3 f4 f5 f6 f7 e1 e2 e3 e4 e5 e6 e7 e8 =
     let last = to_be_bytes w32 n in
     let r7 = signed w32 b.base_sequence ++ last in
@@ -113,9 +148,11 @@ header_is b g n o0 o1 o2 o3 o4 o5 o6 o7 o8 f3 f4 f5 f6 f7 e1 e2 e3 e4 e5 e6 e7 e
     let q2 = row o1 o2 o8 (to_be_bytes w32 (n - 1)) r3 e2 q3 in
     row o0 o1 o8 (to_be_bytes w16 0) r2 e1 q2
 
-pub front_is : (b : Batch) (size : ℕ) (o0 o1 o2 o3 o4 o5 : List ℕ) → FitsSigned w64 b.base_offset → FitsSigned w32 b.leader_epoch
-    → o1 ≡ o0 ++ signed w64 (cast_signed w64 (cast_unsigned w64 b.base_offset)) → o2 ≡ o1 ++ to_be_bytes w32 (size - 12) → o3 ≡ o2 ++ signed w32 (cast_signed w32 (cast_unsigned w32 b.leader_epoch))
-    → o4 ≡ o3 ++ 2 ∷ [] → o5 ≡ o4 ++ to_be_bytes w32 0 → o5 ≡ o0 ++ front_of b size
+pub front_is : (b : Batch) (size : ℕ) (o0 o1 o2 o3 o4 o5 : List ℕ) → FitsSigned w64 b.base_offset →
+    FitsSigned w32 b.leader_epoch → o1 ≡ o0 ++ signed w64 (cast_signed w64 (cast_unsigned w64 b.base_offset)) →
+    o2 ≡ o1 ++ to_be_bytes w32 (size - 12) →
+    o3 ≡ o2 ++ signed w32 (cast_signed w32 (cast_unsigned w32 b.leader_epoch)) → o4 ≡ o3 ++ 2 ∷ [] →
+    o5 ≡ o4 ++ to_be_bytes w32 0 → o5 ≡ o0 ++ front_of b size
 front_is b size o0 o1 o2 o3 o4 o5 f1 f3 e1 e2 e3 e4 e5 =
     let last = to_be_bytes w32 0 in
     let r4 = (2 ∷ []) ++ last in
@@ -129,9 +166,20 @@ front_is b size o0 o1 o2 o3 o4 o5 f1 f3 e1 e2 e3 e4 e5 =
 pub some_same : (o : Option ℤ) (x y : ℤ) → o ≡ Some x → o ≡ Some y → x ≡ y
 some_same o x y p q = cc
 
-pub sealed_length : (old new : List ℕ) (c : ℕ) → 21 ≤ length old → new ≡ take 17 old ++ (to_be_bytes w32 c ++ drop 21 old) → length new ≡ length old
+pub sealed_length : (old new : List ℕ) (c : ℕ) → 21 ≤ length old →
+    new ≡ take 17 old ++ (to_be_bytes w32 c ++ drop 21 old) → length new ≡ length old
 sealed_length old new c long e =
-    omega (arith, long, ap length e, length-append (take 17 old) (to_be_bytes w32 c ++ drop 21 old), length-append (to_be_bytes w32 c) (drop 21 old), length-take 17 old, length-drop 21 old)
+    omega (
+      arith,
+      long,
+      ap length e,
+      length-append (take 17 old) (to_be_bytes w32 c ++ drop 21 old),
+      length-append
+          (to_be_bytes w32 c) (drop 21 old),
+      length-take 17 old,
+      length-drop 21 old,
+    )
 
-pub front_long : (b : Batch) (size : ℕ) (first second : List ℕ) → first ≡ [] ++ front_of b size → second ≡ first ++ covered b → 21 ≤ length second
-front_long b size first second p q = omega (arith, ap length q, length-append first (covered b), ap length p)
+pub front_long : (b : Batch) (size : ℕ) (first second : List ℕ) → first ≡ [] ++ front_of b size →
+    second ≡ first ++ checksummed_bytes b → 21 ≤ length second
+front_long b size first second p q = omega (arith, ap length q, length-append first (checksummed_bytes b), ap length p)

@@ -1,8 +1,8 @@
 -- A stream of record batches that arrives in pieces of any size.
-use Rattle.std.specs.Prelude.{◌≡◌, ◌≢◌, ℕ, ◌≤◌, Bool, true, false, List, [], ◌++◌, length, drop, Option, Some, None, Result, Ok, Err}
-use Rattle.wire_spec.specs.declared.fault.BatchFault.{BatchFault}
+use Rattle.std.specs.Prelude.{◌≡◌, ◌≢◌, ℕ, ◌≤◌, Bool, true, false, List, [], ◌++◌, length, drop, Option, Some, None}
+use Rattle.std.specs.Prelude.{Result, Ok, Err}
+use Rattle.wire_spec.specs.declared.{fault.BatchFault.BatchFault, record.Batch.Batch}
 use Rattle.wire_spec.specs.declared.fault.BatchFault.TheVariants.{Short, Memory}
-use Rattle.wire_spec.specs.declared.record.Batch.{Batch}
 use Rattle.wire_spec.specs.BatchReading.{IsPart, batch_at}
 
 -- A stream goes on after the bytes that were fed and not given yet, or a fault ended it.
@@ -11,9 +11,9 @@ pub data Stream : Type 0 where
   Ended : BatchFault → Stream
 
 -- the bytes that were fed and not given yet
-abbrev pub fed : Stream → List ℕ
-fed (Open bytes) = bytes
-fed (Ended fault) = []
+abbrev pub pending_bytes : Stream → List ℕ
+pending_bytes (Open bytes) = bytes
+pending_bytes (Ended fault) = []
 
 -- the stream with a piece more; one that a fault ended keeps no bytes
 abbrev pub with_piece : Stream → List ℕ → Stream
@@ -32,7 +32,8 @@ IsRefusal bytes fault = fault ≢ Memory → (fault ≢ Short) × (batch_at byte
 -- What is given of a stream, and what is left of it: the batch that its bytes begin with; none, where they hold no
 -- whole batch; the refusal of bytes that begin with no batch, which ends the stream.
 abbrev pub Gives : Stream → Result (Option Batch) BatchFault → Stream → Type 0
-Gives (Open bytes) (Ok (Some batch)) new = (used : ℕ) × (batch_at bytes ≡ Ok (batch, used)) × (new ≡ Open (drop used bytes))
+Gives (Open bytes) (Ok (Some batch)) new = (used : ℕ) × (batch_at bytes ≡ Ok (batch, used))
+    × (new ≡ Open (drop used bytes))
 Gives (Open bytes) (Ok None) new = (batch_at bytes ≡ Err Short) × (new ≡ Open bytes)
 Gives (Open bytes) (Err fault) new = IsRefusal bytes fault × (new ≡ after_fault (Open bytes) fault)
 Gives (Ended fault) (Ok given) new = ⊥
@@ -47,7 +48,8 @@ stream ready next (Some fault) = Ended fault
 
 -- The batch that the bytes begin with is cut off them; or they stay, and begin with none.
 abbrev pub Cuts : List ℕ → Result Batch BatchFault → List ℕ → Type 0
-Cuts bytes (Ok batch) new = (used : ℕ) × (used ≤ length bytes) × (batch_at bytes ≡ Ok (batch, used)) × (new ≡ drop used bytes)
+Cuts bytes (Ok batch) new = (used : ℕ) × (used ≤ length bytes) × (batch_at bytes ≡ Ok (batch, used))
+    × (new ≡ drop used bytes)
 Cuts bytes (Err fault) new = IsRefusal bytes fault × (new ≡ bytes)
 
 -- Whether a batch or a refusal of one may be cut off the first part of the bytes; else all of them are a part of a

@@ -4,7 +4,7 @@ ghost use Rattle.std.specs.Prelude.{◌≡◌, ◌≢◌, ◌↔◌, [], ◌++�
 ghost use Rattle.wire_spec.specs.declared.fault.BatchFault.TheVariants.{Short};
 ghost use Rattle.wire_spec.specs.BatchReading.{IsPart};
 ghost use Rattle.wire_spec.specs.BatchSpelling.{BatchFits};
-ghost use Rattle.batch.specs.Streams.{Open, fed, with_piece, after_fault, Gives, Cuts, IsReady};
+ghost use Rattle.batch.specs.Streams.{Open, pending_bytes, with_piece, after_fault, Gives, Cuts, IsReady};
 
 use crate::fields::i32_at;
 use crate::limits::{FRONT, MAX_BATCH};
@@ -51,14 +51,14 @@ impl Feed {
     /// Whether no byte is kept: every one that was fed was given, or a fault ended the stream.
     #[tactic(auto, using(crate::proofs::FeedLaws::none_of))]
     pub fn is_empty(&self) -> bool
-        ensures { IsTrue result ↔ (fed self.now ≡ []) }
+        ensures { IsTrue result ↔ (pending_bytes self.now ≡ []) }
     {
         self.fault.is_some() || (self.ready.is_empty() && self.next.is_empty())
     }
 
     /// How many bytes are kept: none, where a fault ended the stream.
     pub fn len(&self) -> usize
-        ensures { result ≡ length (fed self.now) }
+        ensures { result ≡ length (pending_bytes self.now) }
     {
         if self.fault.is_some() {
             return 0;

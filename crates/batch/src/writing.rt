@@ -3,7 +3,7 @@ ghost use Rattle.std.specs.Int.{w16, w32, w64, to_be_bytes};
 ghost use Rattle.std.specs.List.{AllByRecursion};
 ghost use Rattle.wire_spec.specs.Checksum.{checksum};
 ghost use Rattle.wire_spec.specs.RecordSpelling.{RecordFits, record_spelling};
-ghost use Rattle.wire_spec.specs.BatchSpelling.{IsTimestamp, BatchFits, timestamps, greatest, signed, records_spelling, covered, batch_spelling};
+ghost use Rattle.wire_spec.specs.BatchSpelling.{IsTimestamp, BatchFits, timestamps, greatest, signed, records_spelling, checksummed_bytes, batch_spelling};
 
 use crate::fields::{put_i16, put_i32, put_i64, put_u32};
 use crate::limits::{FRONT, HEADER, records_len};
@@ -82,7 +82,7 @@ fn put_header(out: &mut Vec<u8>, batch: &Batch, count: u32, greatest: i64) -> Re
 /// Writes all that the checksum covers.
 fn put_covered(out: &mut Vec<u8>, batch: &Batch) -> Result<(), AllocError>
     requires { BatchFits «batch».now }
-    ensures { OnOk result (out.new.items ≡ out.old.items ++ covered «batch».now) }
+    ensures { OnOk result (out.new.items ≡ out.old.items ++ checksummed_bytes «batch».now) }
 {
     let records = batch.records.list.as_slice();
     let base = base_of(batch);

@@ -5,7 +5,7 @@ use std::alloc::Global;
 /// What is kept of loaded programs: how many there are, and of how many instructions and states
 /// each is.
 #[derive(Drop)]
-pub(crate) struct Kept {
+pub(crate) struct KeptState {
     pub(crate) programs: usize,
     pub(crate) instructions: usize,
     pub(crate) states: usize,
@@ -22,7 +22,7 @@ fn image_of(alloc: Global, branches: u32) -> Option<Vec<u8>> {
 }
 
 /// Loads a program `count` times and keeps all that is loaded until the last.
-pub(crate) fn keep_all(alloc: Global, branches: u32, count: u32) -> Option<Kept> {
+pub(crate) fn keep_all(alloc: Global, branches: u32, count: u32) -> Option<KeptState> {
     let image = image_of(alloc, branches)?;
     let mut programs = Vec::new(alloc);
     for _ in 0..count {
@@ -30,7 +30,7 @@ pub(crate) fn keep_all(alloc: Global, branches: u32, count: u32) -> Option<Kept>
         programs.push(program).ok()?;
     }
     let first = programs.first()?;
-    Some(Kept {
+    Some(KeptState {
         programs: programs.len(),
         instructions: first.code().len(),
         states: first.kept(),

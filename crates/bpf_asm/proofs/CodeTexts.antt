@@ -1,16 +1,18 @@
 -- The text of an image's code says that image.
-use Rattle.std.proofs.Common.{◌≡◌, ℕ, suc, ◌+◌, ◌<◌, ◌≤◌, List, [], ◌∷◌, length, Option, Some, Result, Ok, refl, true, sym, ap, ◌∙◌, arith, leb, append_assoc}
+use Rattle.std.proofs.Common.{◌≡◌, ℕ, suc, ◌+◌, ◌<◌, ◌≤◌, List, [], ◌∷◌, length, Option, Some, Result, Ok, refl, true}
+use Rattle.std.proofs.Common.{sym, ap, ◌∙◌, arith, leb, append_assoc}
 use Rattle.std.specs.Prelude.{slice_get}
 use Rattle.std.specs.List.{slice_split}
 use Rattle.std.proofs.lemmas.{Bool.le-leb, List.length-append}
-use Rattle.machine_spec.specs.declared.instruction.{Instruction.Instruction, Placed.Placed}
+use Rattle.machine_spec.specs.declared.{instruction.Instruction.Instruction, instruction.Placed.Placed}
 use Rattle.machine_spec.specs.Image.{IsCodeOf}
-use Rattle.bpf_isa.specs.{Code.AreBytes, Spelling.spelling, Spelling.spelled}
+use Rattle.bpf_isa.specs.{Code.AreBytes, Spelling.spelling, Spelling.image_bytes}
 use Rattle.bpf_isa.proofs.{Bytes.form_read, Slots.sized, Walk.code_spelled, Walk.placed_registers}
 use Rattle.bpf_asm.specs.declared.fault.LineFault.{LineFault}
 use Rattle.bpf_asm.specs.{Reading.is_line_feed, Reading.read_line, Writing.line_of, Writing.line_text, Writing.text_of}
 use Rattle.bpf_asm.specs.Images.{before_bytes, with_line, lines_image, some_image, image_of}
-use Rattle.bpf_asm.proofs.{Lines.if_fits, Ranges.IsSaid, Ranges.slot_held, LineTexts.split_at, LineTexts.line_again, LineTexts.line_feeds}
+use Rattle.bpf_asm.proofs.{Lines.if_fits, Ranges.IsSaid, Ranges.slot_held, LineTexts.split_at, LineTexts.line_again}
+use Rattle.bpf_asm.proofs.{LineTexts.line_feeds}
 
 abbrev AreSaid : List Placed → Type 0
 AreSaid code = (k : ℕ) (p : Placed) → slice_get code k ≡ Some p → IsSaid p.instruction
@@ -22,24 +24,29 @@ said image code fits is k p at = record {
 }
 
 -- the lines of code, and the empty one after the last line feed
-lines_of : (p : Placed) (code : List Placed) → IsSaid p.instruction → slice_split is_line_feed (text_of (p ∷ code)) ≡ line_of p.instruction ∷ slice_split is_line_feed (text_of code)
+lines_of : (p : Placed) (code : List Placed) → IsSaid p.instruction →
+    slice_split is_line_feed (text_of (p ∷ code)) ≡ line_of p.instruction ∷ slice_split is_line_feed (text_of code)
 unfolding line_text
 lines_of p code is =
     let line = line_of p.instruction in
     ap (slice_split is_line_feed) (append_assoc line (10 ∷ []) (text_of code))
     ∙ split_at is_line_feed line 10 (text_of code) (line_feeds p.instruction is.registers is.held) refl
 
-lines_again : (code : List Placed) (number size : ℕ) → AreSaid code → size + length (spelled code) ≤ 32768 → lines_image number size (slice_split is_line_feed (text_of code)) ≡ Ok (spelled code)
+lines_again : (code : List Placed) (number size : ℕ) → AreSaid code → size + length (image_bytes code) ≤ 32768 →
+    lines_image number size (slice_split is_line_feed (text_of code)) ≡ Ok (image_bytes code)
 unfolding read_line
 lines_again [] number size are fits = refl
 lines_again (p ∷ code) number size are fits =
     let i = p.instruction in
     let is = are 0 p refl in
-    let all : length (spelled (p ∷ code)) ≡ length (spelling i) + length (spelled code) = length-append (spelling i) (spelled code) in
+    let all : length (image_bytes (p ∷ code)) ≡ length (spelling i) + length (image_bytes code) =
+    length-append (spelling i) (image_bytes code) in
     let here : leb (size + length (spelling i)) 32768 ≡ true = le-leb _ _ (omega (arith, all)) in
     let later = lines_again code (number + 1) (size + length (spelling i)) (λ k. are (suc k)) (omega (arith, all)) in
     ap (lines_image number size) (lines_of p code is)
-    ∙ ap (λ (r : Result (Option Instruction) LineFault). with_line number size r (λ size. lines_image (number + 1) size (slice_split is_line_feed (text_of code)))) (line_again i is.registers is.held)
+    ∙ ap (λ (r : Result (Option Instruction) LineFault). with_line number size r
+    (λ size. lines_image (number + 1) size (slice_split is_line_feed (text_of code))))
+    (line_again i is.registers is.held)
     ∙ ap (if_fits number size i (λ size. lines_image (number + 1) size (slice_split is_line_feed (text_of code)))) here
     ∙ ap (before_bytes (spelling i)) later
 
@@ -47,11 +54,12 @@ some_bytes : (image : List ℕ) → 0 < length image → some_image (Ok image) �
 some_bytes [] some = absurd (omega arith)
 some_bytes (byte ∷ image) some = refl
 
-pub text_again : (image : List ℕ) (code : List Placed) → AreBytes image → IsCodeOf image code → image_of (text_of code) ≡ Ok image
+pub text_again : (image : List ℕ) (code : List Placed) → AreBytes image → IsCodeOf image code →
+    image_of (text_of code) ≡ Ok image
 unfolding image_of
 text_again image code fits is =
     let size = sized image is.size in
     let same = code_spelled image code fits is in
-    let whole : length (spelled code) ≡ length image = ap length (sym same) in
+    let whole : length (image_bytes code) ≡ length image = ap length (sym same) in
     let lines = lines_again code 1 0 (said image code fits is) (omega (arith, whole, size.whole, size.few)) in
     ap some_image (lines ∙ ap Ok (sym same)) ∙ some_bytes image (omega (arith, size.whole, size.some))

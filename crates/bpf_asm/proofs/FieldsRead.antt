@@ -1,23 +1,31 @@
 -- The fields that an instruction is spelled with encode that instruction.
-use Rattle.std.proofs.Common.{◌≡◌, ℕ, ◌+◌, ◌*◌, ◌/◌, ◌%◌, ◌^◌, ◌<◌, ◌≤◌, ℤ, pos, Bool, true, false, cond, Option, Result, Ok, Err, refl, sym, ap, subst, ◌∙◌}
-use Rattle.std.proofs.Common.{arith}
+use Rattle.std.proofs.Common.{◌≡◌, ℕ, ◌+◌, ◌*◌, ◌/◌, ◌%◌, ◌^◌, ◌<◌, ◌≤◌, ℤ, pos, Bool, true, false, cond, Option}
+use Rattle.std.proofs.Common.{Result, Ok, Err, refl, sym, ap, subst, ◌∙◌, arith}
 use Rattle.std.specs.{Int.w32, Int.cast_unsigned, Int.cast_signed}
 use Rattle.std.proofs.lemmas.{Bool.and_from, Bool.le-leb, Int.of_z-to_z}
-use Rattle.machine_spec.specs.declared.operation.{Width.Width, Width.TheVariants.Bits32, Width.TheVariants.Bits64, Operation.Operation}
-use Rattle.machine_spec.specs.declared.operation.{SwappedWidth.SwappedWidth, ByteOrder.ByteOrder, Change.Change, Test.Test}
+use Rattle.machine_spec.specs.declared.{operation.Width.Width, operation.Operation.Operation}
+use Rattle.machine_spec.specs.declared.{operation.SwappedWidth.SwappedWidth, operation.ByteOrder.ByteOrder}
+use Rattle.machine_spec.specs.declared.{operation.Change.Change, operation.Test.Test, instruction.Extension.Extension}
+use Rattle.machine_spec.specs.declared.{instruction.Source.Source, instruction.Instruction.Instruction}
+use Rattle.machine_spec.specs.declared.{instruction.IsaFault.IsaFault}
+use Rattle.machine_spec.specs.declared.operation.Width.TheVariants.{Bits32, Bits64}
 use Rattle.machine_spec.specs.declared.operation.SwappedWidth.TheVariants as swapped
 use Rattle.machine_spec.specs.declared.operation.ExtendedWidth.TheVariants as extended
-use Rattle.machine_spec.specs.declared.operation.Operation.TheVariants.{Add, Sub, Mul, Div, SignedDiv, Or, And, LeftShift, RightShift, Mod, SignedMod, Xor}
+use Rattle.machine_spec.specs.declared.operation.Operation.TheVariants.{Add, Sub, Mul, Div, SignedDiv, Or, And}
+use Rattle.machine_spec.specs.declared.operation.Operation.TheVariants.{LeftShift, RightShift, Mod, SignedMod, Xor}
 use Rattle.machine_spec.specs.declared.operation.Operation.TheVariants.{ArithmeticRightShift}
-use Rattle.machine_spec.specs.declared.operation.{ByteOrder.TheVariants.LittleEndian, ByteOrder.TheVariants.BigEndian, ByteOrder.TheVariants.Swapped}
-use Rattle.machine_spec.specs.declared.operation.{Change.TheVariants.Negate, Change.TheVariants.Order, Change.TheVariants.SignExtend}
-use Rattle.machine_spec.specs.declared.operation.Test.TheVariants.{Equal, NotEqual, Greater, GreaterOrEqual, Less, LessOrEqual, AnyBit, SignedGreater}
+use Rattle.machine_spec.specs.declared.operation.ByteOrder.TheVariants.{LittleEndian, BigEndian, Swapped}
+use Rattle.machine_spec.specs.declared.operation.Change.TheVariants.{Negate, Order, SignExtend}
+use Rattle.machine_spec.specs.declared.operation.Test.TheVariants.{Equal, NotEqual, Greater, GreaterOrEqual, Less}
+use Rattle.machine_spec.specs.declared.operation.Test.TheVariants.{LessOrEqual, AnyBit, SignedGreater}
 use Rattle.machine_spec.specs.declared.operation.Test.TheVariants.{SignedGreaterOrEqual, SignedLess, SignedLessOrEqual}
-use Rattle.machine_spec.specs.declared.instruction.Size.{Size, TheVariants.Byte, TheVariants.Half, TheVariants.Word, TheVariants.Double}
-use Rattle.machine_spec.specs.declared.instruction.{Extension.Extension, Extension.TheVariants.Zero, Extension.TheVariants.Sign, Distance.TheVariants.Short}
-use Rattle.machine_spec.specs.declared.instruction.{Distance.TheVariants.Long, Source.Source, Source.TheVariants.Register, Source.TheVariants.Immediate}
-use Rattle.machine_spec.specs.declared.instruction.{Instruction.Instruction, IsaFault.IsaFault}
-use Rattle.machine_spec.specs.declared.instruction.Instruction.TheVariants.{Move, Compute, Load, Unary, Store, JumpIf, Jump, Wide, Call, Exit}
+use Rattle.machine_spec.specs.declared.instruction.Size.{Size}
+use Rattle.machine_spec.specs.declared.instruction.Size.TheVariants.{Byte, Half, Word, Double}
+use Rattle.machine_spec.specs.declared.instruction.Extension.TheVariants.{Zero, Sign}
+use Rattle.machine_spec.specs.declared.instruction.Distance.TheVariants.{Short, Long}
+use Rattle.machine_spec.specs.declared.instruction.Source.TheVariants.{Register, Immediate}
+use Rattle.machine_spec.specs.declared.instruction.Instruction.TheVariants.{Move, Compute, Load, Unary, Store, JumpIf}
+use Rattle.machine_spec.specs.declared.instruction.Instruction.TheVariants.{Jump, Wide, Call, Exit}
 use Rattle.machine_spec.specs.declared.instruction.IsaFault.TheVariants as fault
 use Rattle.machine_spec.specs.Opcodes.{Fields, Uses, template_of, uses_of, has_register, has_registers}
 use Rattle.machine_spec.specs.{Image.read_fields, Image.slots_of}
@@ -26,29 +34,40 @@ use Rattle.bpf_asm.proofs.Ranges.{is_load, is_change, is_form, RangedChange, Ran
 
 -- fields with another upper half
 abbrev pub with_upper : Fields → Option ℕ → Fields
-with_upper f upper = record { opcode = f.opcode; dst = f.dst; src = f.src; offset = f.offset; imm = f.imm; upper = upper }
+with_upper f upper = record {
+  opcode = f.opcode;
+  dst = f.dst;
+  src = f.src;
+  offset = f.offset;
+  imm = f.imm;
+  upper = upper;
+}
 
 abbrev pub if_registers : ℕ → Instruction → Bool → Result Instruction IsaFault
 if_registers slot i are = cond are (Ok i) (Err (fault.Register slot))
 
 -- An instruction's fields read as it, if they name registers, whatever the second slot is.
 abbrev Again : ℕ → Option ℕ → Instruction → Type 0
-Again slot upper i = read_fields slot (with_upper (spelled_fields i) upper) ≡ if_registers slot i (has_registers (uses_of i) (spelled_fields i))
+Again slot upper i = read_fields slot (with_upper (spelled_fields i) upper)
+    ≡ if_registers slot i (has_registers (uses_of i) (spelled_fields i))
 
 -- the same of an instruction of both widths with a register and with a number
 abbrev AllAgain : ℕ → Option ℕ → (Width → Source → Instruction) → ℕ → ℤ → Type 0
 AllAgain slot upper of r imm =
-    Again slot upper (of Bits32 (Register r)) × Again slot upper (of Bits32 (Immediate imm)) × Again slot upper (of Bits64 (Register r)) × Again slot upper
+    Again slot upper (of Bits32 (Register r)) × Again slot upper (of Bits32 (Immediate imm))
+    × Again slot upper (of Bits64 (Register r)) × Again slot upper
     (of Bits64 (Immediate imm))
 
-all_again : (slot : ℕ) (upper : Option ℕ) (of : Width → Source → Instruction) → ((r : ℕ) (imm : ℤ) → AllAgain slot upper of r imm)
-    → (width : Width) (source : Source) → Again slot upper (of width source)
+all_again : (slot : ℕ) (upper : Option ℕ) (of : Width → Source → Instruction) →
+    ((r : ℕ) (imm : ℤ) → AllAgain slot upper of r imm) → (width : Width) (source : Source) →
+    Again slot upper (of width source)
 all_again slot upper of all Bits32 (Register r) = (all r (pos 0)).0
 all_again slot upper of all Bits32 (Immediate imm) = (all 0 imm).1
 all_again slot upper of all Bits64 (Register r) = (all r (pos 0)).2
 all_again slot upper of all Bits64 (Immediate imm) = (all 0 imm).3
 
-moves_again : (slot : ℕ) (upper : Option ℕ) (dst r : ℕ) (imm : ℤ) → AllAgain slot upper (λ width source. Move width dst source) r imm
+moves_again : (slot : ℕ) (upper : Option ℕ) (dst r : ℕ) (imm : ℤ) →
+    AllAgain slot upper (λ width source. Move width dst source) r imm
 unfolding read_fields template_of
 moves_again slot upper dst r imm = (refl, refl, refl, refl)
 
@@ -84,8 +103,8 @@ jumps_again SignedGreaterOrEqual slot upper dst offset r imm = (refl, refl, refl
 jumps_again SignedLess slot upper dst offset r imm = (refl, refl, refl, refl)
 jumps_again SignedLessOrEqual slot upper dst offset r imm = (refl, refl, refl, refl)
 
-load_again : (size : Size) (extension : Extension) (slot : ℕ) (upper : Option ℕ) (dst base : ℕ) (offset : ℤ) → is_load size extension ≡ true
-    → Again slot upper (Load size extension dst base offset)
+load_again : (size : Size) (extension : Extension) (slot : ℕ) (upper : Option ℕ) (dst base : ℕ) (offset : ℤ) →
+    is_load size extension ≡ true → Again slot upper (Load size extension dst base offset)
 unfolding read_fields template_of
 load_again Byte Zero slot upper dst base offset form = refl
 load_again Half Zero slot upper dst base offset form = refl
@@ -96,7 +115,8 @@ load_again Half Sign slot upper dst base offset form = refl
 load_again Word Sign slot upper dst base offset form = refl
 load_again Double Sign slot upper dst base offset form = absurd cc
 
-store_again : (size : Size) (source : Source) (slot : ℕ) (upper : Option ℕ) (base : ℕ) (offset : ℤ) → Again slot upper (Store size base offset source)
+store_again : (size : Size) (source : Source) (slot : ℕ) (upper : Option ℕ) (base : ℕ) (offset : ℤ) →
+    Again slot upper (Store size base offset source)
 unfolding read_fields template_of
 store_again Byte (Register r) slot upper base offset = refl
 store_again Byte (Immediate imm) slot upper base offset = refl
@@ -107,7 +127,8 @@ store_again Word (Immediate imm) slot upper base offset = refl
 store_again Double (Register r) slot upper base offset = refl
 store_again Double (Immediate imm) slot upper base offset = refl
 
-order_again : (order : ByteOrder) (width : SwappedWidth) (slot : ℕ) (upper : Option ℕ) (dst : ℕ) → Again slot upper (Unary (Order order width) dst dst)
+order_again : (order : ByteOrder) (width : SwappedWidth) (slot : ℕ) (upper : Option ℕ) (dst : ℕ) →
+    Again slot upper (Unary (Order order width) dst dst)
 unfolding read_fields template_of
 order_again LittleEndian swapped.Bits16 slot upper dst = refl
 order_again LittleEndian swapped.Bits32 slot upper dst = refl
@@ -124,8 +145,8 @@ unfolding read_fields template_of
 negate_again Bits32 slot upper dst = refl
 negate_again Bits64 slot upper dst = refl
 
-change_again : (change : Change) (slot : ℕ) (upper : Option ℕ) (dst src : ℕ) → is_change change ≡ true → RangedChange change dst src
-    → Again slot upper (Unary change dst src)
+change_again : (change : Change) (slot : ℕ) (upper : Option ℕ) (dst src : ℕ) → is_change change ≡ true →
+    RangedChange change dst src → Again slot upper (Unary change dst src)
 unfolding read_fields template_of
 change_again (Negate width) slot upper dst src form same =
     subst (λ s. Again slot upper (Unary (Negate width) dst s)) (sym same) (negate_again width slot upper dst)
@@ -138,17 +159,21 @@ change_again (SignExtend Bits64 extended.Bits8) slot upper dst src form ranged =
 change_again (SignExtend Bits64 extended.Bits16) slot upper dst src form ranged = refl
 change_again (SignExtend Bits64 extended.Bits32) slot upper dst src form ranged = refl
 
-again : (slot : ℕ) (upper : Option ℕ) (i : Instruction) → is_form i ≡ true → Ranged i → slots_of i ≡ 1 → Again slot upper i
+again : (slot : ℕ) (upper : Option ℕ) (i : Instruction) → is_form i ≡ true → Ranged i → slots_of i ≡ 1 →
+    Again slot upper i
 unfolding read_fields template_of
 again slot upper (Move width dst source) form ranged one =
     all_again slot upper (λ width source. Move width dst source) (moves_again slot upper dst) width source
 again slot upper (Compute width operation dst source) form ranged one =
-    all_again slot upper (λ width source. Compute width operation dst source) (computes_again operation slot upper dst) width source
-again slot upper (Load size extension dst base offset) form ranged one = load_again size extension slot upper dst base offset form
+    all_again slot upper (λ width source. Compute width operation dst source) (computes_again operation slot upper dst)
+    width source
+again slot upper (Load size extension dst base offset) form ranged one =
+    load_again size extension slot upper dst base offset form
 again slot upper (Unary change dst src) form ranged one = change_again change slot upper dst src form ranged
 again slot upper (Store size base offset source) form ranged one = store_again size source slot upper base offset
 again slot upper (JumpIf width test dst source offset) form ranged one =
-    all_again slot upper (λ width source. JumpIf width test dst source offset) (jumps_again test slot upper dst offset) width source
+    all_again slot upper (λ width source. JumpIf width test dst source offset) (jumps_again test slot upper dst offset)
+    width source
 again slot upper (Jump (Short slots)) form ranged one = refl
 again slot upper (Jump (Long slots)) form ranged one = refl
 again slot upper (Wide dst n) form ranged one = absurd cc
@@ -165,19 +190,24 @@ registers_hold uses f dst src = and_from _ _ (holds uses.dst f.dst dst) (holds u
     holds false n small = refl
 
 -- an instruction of one slot
-pub narrow_read : (slot : ℕ) (upper : Option ℕ) (i : Instruction) → is_form i ≡ true → Ranged i → HasRegisters i → slots_of i ≡ 1
-    → read_fields slot (with_upper (spelled_fields i) upper) ≡ Ok i
+pub narrow_read : (slot : ℕ) (upper : Option ℕ) (i : Instruction) → is_form i ≡ true → Ranged i → HasRegisters i →
+    slots_of i ≡ 1 → read_fields slot (with_upper (spelled_fields i) upper) ≡ Ok i
 narrow_read slot upper i form ranged registers one =
-    again slot upper i form ranged one ∙ ap (if_registers slot i) (registers_hold (uses_of i) (spelled_fields i) registers.dst registers.src)
+    again slot upper i form ranged one
+    ∙ ap (if_registers slot i) (registers_hold (uses_of i) (spelled_fields i) registers.dst registers.src)
 
 -- the number of a 64-bit immediate is that of its halves
 halves : (n : ℕ) → n < 2 ^ 64 → n / 2 ^ 32 * 2 ^ 32 + cast_unsigned w32 (cast_signed w32 (n % 2 ^ 32)) ≡ n
 halves n small =
-    let lower : cast_unsigned w32 (cast_signed w32 (n % 2 ^ 32)) ≡ n % 2 ^ 32 = of_z-to_z w32 (n % 2 ^ 32) (omega arith) in
+    let lower : cast_unsigned w32 (cast_signed w32 (n % 2 ^ 32)) ≡ n % 2 ^ 32 =
+    of_z-to_z w32 (n % 2 ^ 32) (omega arith) in
     omega (arith, lower)
 
-pub wide_read : (slot dst n : ℕ) → n < 2 ^ 64 → dst ≤ 10 → read_fields slot (spelled_fields (Wide dst n)) ≡ Ok (Wide dst n)
+pub wide_read : (slot dst n : ℕ) → n < 2 ^ 64 → dst ≤ 10 →
+    read_fields slot (spelled_fields (Wide dst n)) ≡ Ok (Wide dst n)
 unfolding read_fields template_of
 wide_read slot dst n small register =
-    ap (λ (m : ℕ). if_registers slot (Wide dst m) (has_registers (uses_of (Wide dst n)) (spelled_fields (Wide dst n)))) (halves n small)
-    ∙ ap (if_registers slot (Wide dst n)) (registers_hold (uses_of (Wide dst n)) (spelled_fields (Wide dst n)) register (omega arith))
+    ap (λ (m : ℕ). if_registers slot (Wide dst m) (has_registers (uses_of (Wide dst n)) (spelled_fields (Wide dst n))))
+    (halves n small)
+    ∙ ap (if_registers slot (Wide dst n)) (registers_hold (uses_of (Wide dst n)) (spelled_fields (Wide dst n)) register
+    (omega arith))

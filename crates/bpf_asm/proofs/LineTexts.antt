@@ -1,21 +1,33 @@
 -- The line of an instruction reads as that instruction.
-use Rattle.std.proofs.Common.{◌≡◌, ℕ, zero, suc, ◌+◌, ◌-◌, ◌^◌, ◌<◌, ◌≤◌, Bool, true, false, ◌&&◌, ◌==◌, not, cond, List, [], ◌∷◌, ◌++◌, length, map, take, drop, get_or, Option, Some, None, Result, Ok, Err, refl, sym, ap, subst, ◌∙◌, arith, ltb}
+use Rattle.std.proofs.Common.{◌≡◌, ℕ, zero, suc, ◌+◌, ◌-◌, ◌^◌, ◌<◌, ◌≤◌, Bool, true, false, ◌&&◌, ◌==◌, not, cond}
+use Rattle.std.proofs.Common.{List, [], ◌∷◌, ◌++◌, length, map, take, drop, get_or, Option, Some, None, Result, Ok, Err}
+use Rattle.std.proofs.Common.{refl, sym, ap, subst, ◌∙◌, arith, ltb}
 use Rattle.std.specs.List.{position_or_len, slice_split, onto_first, before_first, after_first}
 use Rattle.std.proofs.Math.{Seq.take-append_seam, Seq.drop-append-add, Seq.get_or-append_right}
 use Rattle.std.proofs.lemmas.{Bool.and_from, Bool.and_parts, Bool.lt-ltb, Bool.le-ltb, List.Folds.list_all-append}
 use Rattle.std.proofs.lemmas.List.{append_assoc, length-append, append-nil, take_all, take_more}
-use Rattle.machine_spec.specs.declared.operation.{Change.Change, Change.TheVariants.Negate, Change.TheVariants.Order, Change.TheVariants.SignExtend}
-use Rattle.machine_spec.specs.declared.instruction.{Distance.Distance, Distance.TheVariants.Short, Distance.TheVariants.Long, Source.Source}
-use Rattle.machine_spec.specs.declared.instruction.{Source.TheVariants.Register, Source.TheVariants.Immediate, Instruction.Instruction}
-use Rattle.machine_spec.specs.declared.instruction.Instruction.TheVariants.{Move, Compute, Load, Unary, Store, JumpIf, Jump, Wide, Call, Exit}
+use Rattle.machine_spec.specs.declared.{operation.Change.Change, instruction.Distance.Distance}
+use Rattle.machine_spec.specs.declared.{instruction.Source.Source, instruction.Instruction.Instruction}
+use Rattle.machine_spec.specs.declared.operation.Change.TheVariants.{Negate, Order, SignExtend}
+use Rattle.machine_spec.specs.declared.instruction.Distance.TheVariants.{Short, Long}
+use Rattle.machine_spec.specs.declared.instruction.Source.TheVariants.{Register, Immediate}
+use Rattle.machine_spec.specs.declared.instruction.Instruction.TheVariants.{Move, Compute, Load, Unary, Store, JumpIf}
+use Rattle.machine_spec.specs.declared.instruction.Instruction.TheVariants.{Jump, Wide, Call, Exit}
 use Rattle.bpf_isa.specs.{Spelling.HasRegisters, Spelling.source_register}
 use Rattle.bpf_asm.specs.declared.fault.LineFault.{LineFault}
-use Rattle.bpf_asm.specs.{Faults.both, Faults.read_as, Operands.read_source, Operands.source_text, Words.word_of, Words.form_named}
-use Rattle.bpf_asm.specs.Reading.{is_space, is_comma, is_line_feed, after_spaces, before_spaces, rest_of, read_change, read_stored, read_distance, read_operands, read_form, some_read, read_trimmed, read_line}
-use Rattle.bpf_asm.specs.Writing.{change_operands, jump_text, operands_of, joined, operands_text, line_of}
-use Rattle.bpf_asm.proofs.{Scanning.before_other, Ranges.RangedSource, Ranges.RangedChange, Ranges.RangedDistance, Ranges.IsHeld}
-use Rattle.bpf_asm.proofs.PlainTexts.{fails, first_at, first_none, implied, is_plain, are_plain, IsOperand, natural_operand, register_operand, number_operand, distance_operand, place_operand}
-use Rattle.bpf_asm.proofs.OperandTexts.{register_again, immediate_again, short_again, long_again, wide_again, register_source, immediate_source, place_again}
+use Rattle.bpf_asm.specs.{Faults.both, Faults.read_as, Operands.read_source, Operands.source_text, Words.word_of}
+use Rattle.bpf_asm.specs.{Words.form_named}
+use Rattle.bpf_asm.specs.Reading.{is_space, is_comma, is_line_feed, after_spaces, before_spaces, rest_of, read_change}
+use Rattle.bpf_asm.specs.Reading.{read_stored, read_distance, read_operands, read_form, some_read, read_trimmed}
+use Rattle.bpf_asm.specs.Reading.{read_line}
+use Rattle.bpf_asm.specs.Writing.{change_operands, jump_text, operands_of, joined_by_commas, operands_text, line_of}
+use Rattle.bpf_asm.proofs.{Scanning.before_other, Ranges.RangedSource, Ranges.RangedChange, Ranges.RangedDistance}
+use Rattle.bpf_asm.proofs.{Ranges.IsHeld}
+use Rattle.bpf_asm.proofs.PlainTexts.{fails, first_at, first_none, implied, is_plain, are_plain, IsOperand}
+use Rattle.bpf_asm.proofs.PlainTexts.{natural_operand, register_operand, number_operand, distance_operand}
+use Rattle.bpf_asm.proofs.PlainTexts.{place_operand}
+use Rattle.bpf_asm.proofs.OperandTexts.{register_again, immediate_again, short_again, long_again, wide_again}
+use Rattle.bpf_asm.proofs.OperandTexts.{register_source, immediate_source, place_again}
 use Rattle.bpf_asm.proofs.NamedForms.{is_word, Named, form_of, distance_form, stored_form, word_named}
 
 -- ---- what a plain byte is not
@@ -41,18 +53,21 @@ not_true false e = refl
 
 -- ---- pieces
 
-pub split_at : (p : ℕ → Bool) (xs : List ℕ) (y : ℕ) (ys : List ℕ) → fails p xs ≡ true → p y ≡ true → slice_split p (xs ++ y ∷ ys) ≡ xs ∷ slice_split p ys
+pub split_at : (p : ℕ → Bool) (xs : List ℕ) (y : ℕ) (ys : List ℕ) → fails p xs ≡ true → p y ≡ true →
+    slice_split p (xs ++ y ∷ ys) ≡ xs ∷ slice_split p ys
 split_at p [] y ys e is = ap (λ (b : Bool). cond b ([] ∷ slice_split p ys) (onto_first y (slice_split p ys))) is
 split_at p (x ∷ xs) y ys e is =
     let parts = and_parts (not (p x)) (fails p xs) e in
-    ap (λ (b : Bool). cond b ([] ∷ slice_split p (xs ++ y ∷ ys)) (onto_first x (slice_split p (xs ++ y ∷ ys)))) (not_true (p x) parts.0)
+    ap (λ (b : Bool). cond b ([] ∷ slice_split p (xs ++ y ∷ ys)) (onto_first x (slice_split p (xs ++ y ∷ ys))))
+    (not_true (p x) parts.0)
     ∙ ap (onto_first x) (split_at p xs y ys parts.1 is)
 
 split_none : (p : ℕ → Bool) (xs : List ℕ) → fails p xs ≡ true → slice_split p xs ≡ xs ∷ []
 split_none p [] e = refl
 split_none p (x ∷ xs) e =
     let parts = and_parts (not (p x)) (fails p xs) e in
-    ap (λ (b : Bool). cond b ([] ∷ slice_split p xs) (onto_first x (slice_split p xs))) (not_true (p x) parts.0) ∙ ap (onto_first x) (split_none p xs parts.1)
+    ap (λ (b : Bool). cond b ([] ∷ slice_split p xs) (onto_first x (slice_split p xs))) (not_true (p x) parts.0)
+    ∙ ap (onto_first x) (split_none p xs parts.1)
 
 -- ---- spaces
 
@@ -65,7 +80,9 @@ no_spaces (b ∷ text) e =
 last_of : (text : List ℕ) → 0 < length text → text ≡ take (length text - 1) text ++ get_or text (length text - 1) 0 ∷ []
 last_of text some =
     let back : length text - 1 + 1 ≡ length text = omega arith in
-    sym (take_all (length text) text (omega arith)) ∙ subst (λ (k : ℕ). take k text ≡ take (length text - 1) text ++ get_or text (length text - 1) 0 ∷ []) back (take_more text (length text - 1) 0 (omega arith))
+    sym (take_all (length text) text (omega arith))
+    ∙ subst (λ (k : ℕ). take k text ≡ take (length text - 1) text ++ get_or text (length text - 1) 0 ∷ []) back
+    (take_more text (length text - 1) 0 (omega arith))
 
 plain_at : (text : List ℕ) (k : ℕ) → are_plain text ≡ true → k < length text → is_plain (get_or text k 0) ≡ true
 plain_at [] k e l = absurd (omega arith)
@@ -78,11 +95,15 @@ ends front text is =
     let whole = front ++ text in
     let some = is.some in
     let size : length whole ≡ length front + length text = length-append front text in
-    let place : get_or whole (length whole - 1) 0 ≡ get_or text (length whole - 1 - length front) 0 = get_or-append_right front text (length whole - 1) 0 (omega (arith, size, some)) in
+    let place : get_or whole (length whole - 1) 0 ≡ get_or text (length whole - 1 - length front) 0 =
+    get_or-append_right front text (length whole - 1) 0 (omega (arith, size, some)) in
     let last = plain_at text (length whole - 1 - length front) is.plain (omega (arith, size, some)) in
-    let other = not_true (is_space (get_or whole (length whole - 1) 0)) (ap (λ (b : ℕ). not (is_space b)) place ∙ (plain_parts (get_or text (length whole - 1 - length front) 0) last).0) in
+    let other = not_true (is_space (get_or whole (length whole - 1) 0))
+    (ap (λ (b : ℕ). not (is_space b)) place
+    ∙ (plain_parts (get_or text (length whole - 1 - length front) 0) last).0) in
     let split = last_of whole (omega (arith, size, some)) in
-    ap before_spaces split ∙ before_other (take (length whole - 1) whole) (get_or whole (length whole - 1) 0) other ∙ sym split
+    ap before_spaces split ∙ before_other (take (length whole - 1) whole) (get_or whole (length whole - 1) 0) other
+    ∙ sym split
 
 -- ---- operands
 
@@ -90,31 +111,36 @@ abbrev pub AreOperands : List (List ℕ) → Type 0
 AreOperands [] = Unit {0}
 AreOperands (text ∷ texts) = IsOperand text × AreOperands texts
 
-onto_space : (parts : List (List ℕ)) (text : List ℕ) (texts : List (List ℕ)) → map after_spaces parts ≡ text ∷ texts → map after_spaces (onto_first 32 parts) ≡ text ∷ texts
+onto_space : (parts : List (List ℕ)) (text : List ℕ) (texts : List (List ℕ)) → map after_spaces parts ≡ text ∷ texts →
+    map after_spaces (onto_first 32 parts) ≡ text ∷ texts
 onto_space [] text texts e = absurd cc
 onto_space (part ∷ parts) text texts e = e
 
-pub joined_again : (text : List ℕ) (texts : List (List ℕ)) → AreOperands (text ∷ texts) → map after_spaces (slice_split is_comma (joined (text ∷ texts))) ≡ text ∷ texts
-joined_again text [] are = ap (map after_spaces) (split_none is_comma text (not_comma text are.0.plain)) ∙ ap (λ (t : List ℕ). t ∷ []) (no_spaces text are.0.plain)
+pub joined_again : (text : List ℕ) (texts : List (List ℕ)) → AreOperands (text ∷ texts) →
+    map after_spaces (slice_split is_comma (joined_by_commas (text ∷ texts))) ≡ text ∷ texts
+joined_again text [] are = ap (map after_spaces) (split_none is_comma text (not_comma text are.0.plain))
+    ∙ ap (λ (t : List ℕ). t ∷ []) (no_spaces text are.0.plain)
 joined_again text (next ∷ texts) are =
-    let rest = joined (next ∷ texts) in
+    let rest = joined_by_commas (next ∷ texts) in
     let later = onto_space (slice_split is_comma rest) next texts (joined_again next texts are.1) in
     ap (map after_spaces) (split_at is_comma text 44 (32 ∷ rest) (not_comma text are.0.plain) refl)
     ∙ ap (λ (t : List ℕ). t ∷ map after_spaces (onto_first 32 (slice_split is_comma rest))) (no_spaces text are.0.plain)
     ∙ ap (λ (ts : List (List ℕ)). text ∷ ts) later
 
 -- the last operand of some, and what is before it
-joined_ends : (front text : List ℕ) (texts : List (List ℕ)) → AreOperands (text ∷ texts) → before_spaces (front ++ joined (text ∷ texts)) ≡ front ++ joined (text ∷ texts)
+joined_ends : (front text : List ℕ) (texts : List (List ℕ)) → AreOperands (text ∷ texts) →
+    before_spaces (front ++ joined_by_commas (text ∷ texts)) ≡ front ++ joined_by_commas (text ∷ texts)
 joined_ends front text [] are = ends front text are.0
 joined_ends front text (next ∷ texts) are =
-    let rest = joined (next ∷ texts) in
+    let rest = joined_by_commas (next ∷ texts) in
     let same : front ++ (text ++ (44 ∷ 32 ∷ rest)) ≡ (front ++ (text ++ (44 ∷ 32 ∷ []))) ++ rest = simp append_assoc in
     ap before_spaces same ∙ joined_ends (front ++ (text ++ (44 ∷ 32 ∷ []))) next texts are.1 ∙ sym same
 
-feeds_joined : (text : List ℕ) (texts : List (List ℕ)) → AreOperands (text ∷ texts) → fails is_line_feed (joined (text ∷ texts)) ≡ true
+feeds_joined : (text : List ℕ) (texts : List (List ℕ)) → AreOperands (text ∷ texts) →
+    fails is_line_feed (joined_by_commas (text ∷ texts)) ≡ true
 feeds_joined text [] are = not_feed text are.0.plain
 feeds_joined text (next ∷ texts) are =
-    list_all-append (λ b. not (is_line_feed b)) text (44 ∷ 32 ∷ joined (next ∷ texts))
+    list_all-append (λ b. not (is_line_feed b)) text (44 ∷ 32 ∷ joined_by_commas (next ∷ texts))
     ∙ and_from (fails is_line_feed text) _ (not_feed text are.0.plain) (feeds_joined next texts are.1)
 
 -- ---- lines
@@ -133,14 +159,19 @@ word_some : (word : List ℕ) → is_word word ≡ true → 0 < length word
 word_some [] e = absurd cc
 word_some (b ∷ word) e = omega arith
 
-pub no_feeds : (word : List ℕ) (texts : List (List ℕ)) → is_word word ≡ true → AreOperands texts → fails is_line_feed (word ++ operands_text texts) ≡ true
-no_feeds word [] is are = list_all-append (λ b. not (is_line_feed b)) word [] ∙ and_from (fails is_line_feed word) true (not_feed word (word_plain word is)) refl
+pub no_feeds : (word : List ℕ) (texts : List (List ℕ)) → is_word word ≡ true → AreOperands texts →
+    fails is_line_feed (word ++ operands_text texts) ≡ true
+no_feeds word [] is are = list_all-append (λ b. not (is_line_feed b)) word []
+    ∙ and_from (fails is_line_feed word) true (not_feed word (word_plain word is)) refl
 no_feeds word (text ∷ texts) is are =
-    list_all-append (λ b. not (is_line_feed b)) word (32 ∷ joined (text ∷ texts)) ∙ and_from (fails is_line_feed word) _ (not_feed word (word_plain word is)) (feeds_joined text texts are)
+    list_all-append (λ b. not (is_line_feed b)) word (32 ∷ joined_by_commas (text ∷ texts))
+    ∙ and_from (fails is_line_feed word) _ (not_feed word (word_plain word is)) (feeds_joined text texts are)
 
 -- a line that begins with a word has no space before it and is no comment
-begins : (word rest : List ℕ) (form : Option Instruction) (named : form_named (before_first is_space (word ++ rest)) ≡ form) → is_word word ≡ true → before_spaces (word ++ rest) ≡ word ++ rest
-    → read_line (word ++ rest) ≡ some_read (read_form form (rest_of (word ++ rest)))
+begins : (word rest : List ℕ) (form : Option Instruction)
+    (named : form_named (before_first is_space (word ++ rest)) ≡ form) → is_word word ≡ true →
+    before_spaces (word ++ rest) ≡ word ++ rest →
+    read_line (word ++ rest) ≡ some_read (read_form form (rest_of (word ++ rest)))
 unfolding read_line
 begins [] rest form named is trimmed = absurd cc
 begins (b ∷ word) rest form named is trimmed =
@@ -148,7 +179,8 @@ begins (b ∷ word) rest form named is trimmed =
     let first = not_true (is_space b) (plain_parts b (and_parts (is_plain b) (are_plain word) parts.0).0).0 in
     ap (λ (s : Bool). read_trimmed (before_spaces (cond s (after_spaces (word ++ rest)) (b ∷ (word ++ rest))))) first
     ∙ ap read_trimmed trimmed
-    ∙ ap (λ (s : Bool). cond s (Ok None) (some_read (read_form (form_named (before_first is_space (b ∷ (word ++ rest)))) (rest_of (b ∷ (word ++ rest)))))) (not_true (b == 35) parts.1)
+    ∙ ap (λ (s : Bool). cond s (Ok None) (some_read (read_form (form_named (before_first is_space (b ∷ (word ++ rest))))
+    (rest_of (b ∷ (word ++ rest)))))) (not_true (b == 35) parts.1)
     ∙ ap (λ (f : Option Instruction). some_read (read_form f (rest_of (b ∷ (word ++ rest))))) named
 
 abbrev rest_at : List ℕ → Bool → Option (List ℕ)
@@ -160,38 +192,49 @@ line_alone word form i line =
     let plain = word_plain word is in
     let whole : word ++ [] ≡ word = append-nil word in
     let all : position_or_len is_space word ≡ length word = first_none is_space word (not_space word plain) in
-    let first : before_first is_space (word ++ []) ≡ word = ap (before_first is_space) whole ∙ take_all (position_or_len is_space word) word (omega (arith, all)) in
-    let none : ltb (position_or_len is_space word) (length word) ≡ false = le-ltb (position_or_len is_space word) (length word) (omega (arith, all)) in
+    let first : before_first is_space (word ++ []) ≡ word = ap (before_first is_space) whole
+    ∙ take_all (position_or_len is_space word) word (omega (arith, all)) in
+    let none : ltb (position_or_len is_space word) (length word) ≡ false =
+    le-ltb (position_or_len is_space word) (length word) (omega (arith, all)) in
     let rest : rest_of (word ++ []) ≡ None = ap rest_of whole ∙ ap (rest_at word) none in
-    let trimmed : before_spaces (word ++ []) ≡ word ++ [] = ap before_spaces whole ∙ ends [] word (record { plain = plain; some = word_some word is }) ∙ sym whole in
+    let trimmed : before_spaces (word ++ []) ≡ word ++ [] = ap before_spaces whole
+    ∙ ends [] word (record { plain = plain; some = word_some word is }) ∙ sym whole in
     begins word [] (Some form) (ap form_named first ∙ line.named.0) is trimmed
     ∙ ap (λ (r : Option (List ℕ)). some_read (read_form (Some form) r)) rest ∙ ap some_read line.reads
 
-line_with : (word text : List ℕ) (texts : List (List ℕ)) (form i : Instruction) → IsLine word (text ∷ texts) form i → read_line (word ++ operands_text (text ∷ texts)) ≡ Ok (Some i)
+line_with : (word text : List ℕ) (texts : List (List ℕ)) (form i : Instruction) → IsLine word (text ∷ texts) form i →
+    read_line (word ++ operands_text (text ∷ texts)) ≡ Ok (Some i)
 line_with word text texts form i line =
     let is = line.named.1 in
-    let operands = joined (text ∷ texts) in
+    let operands = joined_by_commas (text ∷ texts) in
     let whole = word ++ 32 ∷ operands in
-    let place : position_or_len is_space whole ≡ length word = first_at is_space word 32 operands (not_space word (word_plain word is)) refl in
-    let first : before_first is_space whole ≡ word = ap (λ (k : ℕ). take k whole) place ∙ take-append_seam word (32 ∷ operands) in
+    let place : position_or_len is_space whole ≡ length word =
+    first_at is_space word 32 operands (not_space word (word_plain word is)) refl in
+    let first : before_first is_space whole ≡ word = ap (λ (k : ℕ). take k whole) place
+    ∙ take-append_seam word (32 ∷ operands) in
     let size : length whole ≡ length word + suc (length operands) = length-append word (32 ∷ operands) in
-    let there : ltb (position_or_len is_space whole) (length whole) ≡ true = lt-ltb (position_or_len is_space whole) (length whole) (omega (arith, place, size)) in
-    let after : after_first is_space whole ≡ operands = ap (λ (k : ℕ). drop (k + 1) whole) place ∙ drop-append-add word (32 ∷ operands) 1 in
+    let there : ltb (position_or_len is_space whole) (length whole) ≡ true =
+    lt-ltb (position_or_len is_space whole) (length whole) (omega (arith, place, size)) in
+    let after : after_first is_space whole ≡ operands = ap (λ (k : ℕ). drop (k + 1) whole) place
+    ∙ drop-append-add word (32 ∷ operands) 1 in
     let rest : rest_of whole ≡ Some operands = ap (rest_at whole) there ∙ ap Some after in
     let front : word ++ 32 ∷ operands ≡ (word ++ 32 ∷ []) ++ operands = simp append_assoc in
-    let trimmed : before_spaces whole ≡ whole = ap before_spaces front ∙ joined_ends (word ++ 32 ∷ []) text texts line.are ∙ sym front in
+    let trimmed : before_spaces whole ≡ whole = ap before_spaces front
+    ∙ joined_ends (word ++ 32 ∷ []) text texts line.are ∙ sym front in
     begins word (32 ∷ operands) (Some form) (ap form_named first ∙ line.named.0) is trimmed
     ∙ ap (λ (r : Option (List ℕ)). some_read (read_form (Some form) r)) rest
     ∙ ap (λ (ts : List (List ℕ)). some_read (read_operands form ts)) (joined_again text texts line.are)
     ∙ ap some_read line.reads
 
-line_read : (word : List ℕ) (texts : List (List ℕ)) (form i : Instruction) → IsLine word texts form i → read_line (word ++ operands_text texts) ≡ Ok (Some i)
+line_read : (word : List ℕ) (texts : List (List ℕ)) (form i : Instruction) → IsLine word texts form i →
+    read_line (word ++ operands_text texts) ≡ Ok (Some i)
 line_read word [] form i line = line_alone word form i line
 line_read word (text ∷ texts) form i line = line_with word text texts form i line
 
 -- ---- the operands of an instruction
 
-source_again : (source : Source) → source_register source ≤ 10 → RangedSource source → read_source (source_text source) ≡ Ok source
+source_again : (source : Source) → source_register source ≤ 10 → RangedSource source →
+    read_source (source_text source) ≡ Ok source
 source_again (Register r) small ranged = register_source r small
 source_again (Immediate imm) small ranged = immediate_source imm ranged
 
@@ -199,11 +242,13 @@ source_operand : (source : Source) → source_register source ≤ 10 → RangedS
 source_operand (Register r) small ranged = register_operand r small
 source_operand (Immediate imm) small ranged = number_operand imm ranged
 
-stored_again : (source : Source) → source_register source ≤ 10 → RangedSource source → read_stored (stored_form source) (source_text source) ≡ Ok source
+stored_again : (source : Source) → source_register source ≤ 10 → RangedSource source →
+    read_stored (stored_form source) (source_text source) ≡ Ok source
 stored_again (Register r) small ranged = ap (read_as Register) (register_again r small)
 stored_again (Immediate imm) small ranged = ap (read_as Immediate) (immediate_again imm ranged)
 
-distance_again : (distance : Distance) → RangedDistance distance → read_distance (distance_form distance) (jump_text distance) ≡ Ok distance
+distance_again : (distance : Distance) → RangedDistance distance →
+    read_distance (distance_form distance) (jump_text distance) ≡ Ok distance
 distance_again (Short slots) ranged = ap (read_as Short) (short_again slots ranged)
 distance_again (Long slots) ranged = ap (read_as Long) (long_again slots ranged)
 
@@ -211,51 +256,83 @@ jump_operand : (distance : Distance) → RangedDistance distance → IsOperand (
 jump_operand (Short slots) ranged = distance_operand (2 ^ 15) slots (omega arith) ranged
 jump_operand (Long slots) ranged = distance_operand (2 ^ 31) slots (omega arith) ranged
 
-both_ok : {A B C : Type 0} (make : A × B → C) (x : Result A LineFault) (y : Result B LineFault) (a : A) (b : B) → x ≡ Ok a → y ≡ Ok b → read_as make (both x y) ≡ Ok (make (a, b))
+both_ok : {A B C : Type 0} (make : A × B → C) (x : Result A LineFault) (y : Result B LineFault) (a : A) (b : B) →
+    x ≡ Ok a → y ≡ Ok b → read_as make (both x y) ≡ Ok (make (a, b))
 both_ok make x y a b p q = ap (λ r. read_as make (both r y)) p ∙ ap (λ r. read_as make (both (Ok a) r)) q
 
 same_reading : {A : Type 0} (r : Result A LineFault) → r ≡ read_as (λ a. a) r
 same_reading (Ok a) = refl
 same_reading (Err f) = refl
 
-change_again : (change : Change) (dst src : ℕ) → dst ≤ 10 → src ≤ 10 → RangedChange change dst src → read_change change (change_operands change dst src) ≡ Ok (Unary change dst src)
-change_again (Negate width) dst src small source ranged = ap (read_as (λ r. Unary (Negate width) r r)) (register_again dst small) ∙ ap (λ (r : ℕ). Ok (Unary (Negate width) dst r)) (sym ranged)
-change_again (Order order width) dst src small source ranged = ap (read_as (λ r. Unary (Order order width) r r)) (register_again dst small) ∙ ap (λ (r : ℕ). Ok (Unary (Order order width) dst r)) (sym ranged)
-change_again (SignExtend width part) dst src small source ranged = both_ok (λ p. Unary (SignExtend width part) p.0 p.1) _ _ dst src (register_again dst small) (register_again src source)
+change_again : (change : Change) (dst src : ℕ) → dst ≤ 10 → src ≤ 10 → RangedChange change dst src →
+    read_change change (change_operands change dst src) ≡ Ok (Unary change dst src)
+change_again (Negate width) dst src small source ranged =
+    ap (read_as (λ r. Unary (Negate width) r r)) (register_again dst small)
+    ∙ ap (λ (r : ℕ). Ok (Unary (Negate width) dst r)) (sym ranged)
+change_again (Order order width) dst src small source ranged =
+    ap (read_as (λ r. Unary (Order order width) r r)) (register_again dst small)
+    ∙ ap (λ (r : ℕ). Ok (Unary (Order order width) dst r)) (sym ranged)
+change_again (SignExtend width part) dst src small source ranged =
+    both_ok (λ p. Unary (SignExtend width part) p.0 p.1) _ _ dst src (register_again dst small)
+    (register_again src source)
 
 change_are : (change : Change) (dst src : ℕ) → dst ≤ 10 → src ≤ 10 → AreOperands (change_operands change dst src)
 change_are (Negate width) dst src small source = (register_operand dst small, tt)
 change_are (Order order width) dst src small source = (register_operand dst small, tt)
-change_are (SignExtend width part) dst src small source = (register_operand dst small, (register_operand src source, tt))
+change_are (SignExtend width part) dst src small source =
+    (register_operand dst small, (register_operand src source, tt))
 
 pub operands_are : (i : Instruction) → HasRegisters i → IsHeld i → AreOperands (operands_of i)
 operands_are (Move width dst source) r h = (register_operand dst r.dst, (source_operand source r.src h.ranged, tt))
-operands_are (Compute width operation dst source) r h = (register_operand dst r.dst, (source_operand source r.src h.ranged, tt))
-operands_are (Load size extension dst base offset) r h = (register_operand dst r.dst, (place_operand base offset r.src h.ranged, tt))
+operands_are (Compute width operation dst source) r h =
+    (register_operand dst r.dst, (source_operand source r.src h.ranged, tt))
+operands_are (Load size extension dst base offset) r h =
+    (register_operand dst r.dst, (place_operand base offset r.src h.ranged, tt))
 operands_are (Unary change dst src) r h = change_are change dst src r.dst r.changed
-operands_are (Store size base offset source) r h = (place_operand base offset r.dst h.ranged.0, (source_operand source r.src h.ranged.1, tt))
-operands_are (JumpIf width test dst source offset) r h = (register_operand dst r.dst, (source_operand source r.src h.ranged.0, (distance_operand (2 ^ 15) offset (omega arith) h.ranged.1, tt)))
+operands_are (Store size base offset source) r h =
+    (place_operand base offset r.dst h.ranged.0, (source_operand source r.src h.ranged.1, tt))
+operands_are (JumpIf width test dst source offset) r h = (
+  register_operand dst r.dst,
+  (
+    source_operand source r.src h.ranged.0,
+    (distance_operand (2 ^ 15) offset (omega arith) h.ranged.1, tt),
+  ),
+)
 operands_are (Jump distance) r h = (jump_operand distance h.ranged, tt)
 operands_are (Wide dst n) r h = (register_operand dst r.dst, (natural_operand n h.ranged, tt))
 operands_are (Call n) r h = (number_operand n h.ranged, tt)
 operands_are Exit r h = tt
 
 operands_again : (i : Instruction) → HasRegisters i → IsHeld i → read_operands (form_of i) (operands_of i) ≡ Ok i
-operands_again (Move width dst source) r h = both_ok (λ p. Move width p.0 p.1) _ _ dst source (register_again dst r.dst) (source_again source r.src h.ranged)
-operands_again (Compute width operation dst source) r h = both_ok (λ p. Compute width operation p.0 p.1) _ _ dst source (register_again dst r.dst) (source_again source r.src h.ranged)
-operands_again (Load size extension dst base offset) r h = both_ok (λ p. Load size extension p.0 p.1.0 p.1.1) _ _ dst (base, offset) (register_again dst r.dst) (place_again base offset r.src h.ranged)
+operands_again (Move width dst source) r h =
+    both_ok (λ p. Move width p.0 p.1) _ _ dst source (register_again dst r.dst) (source_again source r.src h.ranged)
+operands_again (Compute width operation dst source) r h =
+    both_ok (λ p. Compute width operation p.0 p.1) _ _ dst source (register_again dst r.dst)
+    (source_again source r.src h.ranged)
+operands_again (Load size extension dst base offset) r h =
+    both_ok (λ p. Load size extension p.0 p.1.0 p.1.1) _ _ dst (base, offset) (register_again dst r.dst)
+    (place_again base offset r.src h.ranged)
 operands_again (Unary change dst src) r h = change_again change dst src r.dst r.changed h.ranged
-operands_again (Store size base offset source) r h = both_ok (λ p. Store size p.0.0 p.0.1 p.1) _ _ (base, offset) source (place_again base offset r.dst h.ranged.0) (stored_again source r.src h.ranged.1)
+operands_again (Store size base offset source) r h =
+    both_ok (λ p. Store size p.0.0 p.0.1 p.1) _ _ (base, offset) source (place_again base offset r.dst h.ranged.0)
+    (stored_again source r.src h.ranged.1)
 operands_again (JumpIf width test dst source offset) r h =
     let two = both_ok (λ p. p) _ _ dst source (register_again dst r.dst) (source_again source r.src h.ranged.0) in
-    both_ok (λ p. JumpIf width test p.0.0 p.0.1 p.1) _ _ (dst, source) offset (same_reading _ ∙ two) (short_again offset h.ranged.1)
+    both_ok (λ p. JumpIf width test p.0.0 p.0.1 p.1) _ _ (dst, source) offset (same_reading _ ∙ two)
+    (short_again offset h.ranged.1)
 operands_again (Jump distance) r h = ap (read_as Jump) (distance_again distance h.ranged)
-operands_again (Wide dst n) r h = both_ok (λ p. Wide p.0 p.1) _ _ dst n (register_again dst r.dst) (wide_again n h.ranged)
+operands_again (Wide dst n) r h =
+    both_ok (λ p. Wide p.0 p.1) _ _ dst n (register_again dst r.dst) (wide_again n h.ranged)
 operands_again (Call n) r h = ap (read_as Call) (immediate_again n h.ranged)
 operands_again Exit r h = refl
 
 pub line_again : (i : Instruction) → HasRegisters i → IsHeld i → read_line (line_of i) ≡ Ok (Some i)
-line_again i registers is = line_read (word_of i) (operands_of i) (form_of i) i (record { named = word_named i is.form; are = operands_are i registers is; reads = operands_again i registers is })
+line_again i registers is = line_read (word_of i) (operands_of i) (form_of i) i
+    (record {
+      named = word_named i is.form;
+      are = operands_are i registers is;
+      reads = operands_again i registers is;
+    })
 
 -- a line has no line feed
 pub line_feeds : (i : Instruction) → HasRegisters i → IsHeld i → fails is_line_feed (line_of i) ≡ true

@@ -1,20 +1,27 @@
 -- The word of each instruction names its form.
 use Rattle.std.proofs.Common.{◌≡◌, ℕ, pos, Bool, true, false, ◌&&◌, ◌==◌, not, List, [], ◌∷◌, ◌++◌, Some, refl}
 use Rattle.std.specs.Prelude.{codes}
-use Rattle.machine_spec.specs.declared.operation.{Width.Width, Width.TheVariants.Bits32, Width.TheVariants.Bits64, Operation.Operation}
-use Rattle.machine_spec.specs.declared.operation.{ByteOrder.TheVariants.LittleEndian, ByteOrder.TheVariants.BigEndian, ByteOrder.TheVariants.Swapped}
-use Rattle.machine_spec.specs.declared.operation.{Change.Change, Change.TheVariants.Negate, Change.TheVariants.Order, Change.TheVariants.SignExtend, Test.Test}
-use Rattle.machine_spec.specs.declared.operation.Operation.TheVariants.{Add, Sub, Mul, Div, SignedDiv, Or, And, LeftShift, RightShift, Mod, SignedMod, Xor}
+use Rattle.machine_spec.specs.declared.{operation.Width.Width, operation.Operation.Operation, operation.Change.Change}
+use Rattle.machine_spec.specs.declared.{operation.Test.Test, instruction.Size.Size, instruction.Extension.Extension}
+use Rattle.machine_spec.specs.declared.{instruction.Distance.Distance, instruction.Source.Source}
+use Rattle.machine_spec.specs.declared.{instruction.Instruction.Instruction}
+use Rattle.machine_spec.specs.declared.operation.Width.TheVariants.{Bits32, Bits64}
+use Rattle.machine_spec.specs.declared.operation.ByteOrder.TheVariants.{LittleEndian, BigEndian, Swapped}
+use Rattle.machine_spec.specs.declared.operation.Change.TheVariants.{Negate, Order, SignExtend}
+use Rattle.machine_spec.specs.declared.operation.Operation.TheVariants.{Add, Sub, Mul, Div, SignedDiv, Or, And}
+use Rattle.machine_spec.specs.declared.operation.Operation.TheVariants.{LeftShift, RightShift, Mod, SignedMod, Xor}
 use Rattle.machine_spec.specs.declared.operation.Operation.TheVariants.{ArithmeticRightShift}
 use Rattle.machine_spec.specs.declared.operation.SwappedWidth.TheVariants as swapped
 use Rattle.machine_spec.specs.declared.operation.ExtendedWidth.TheVariants as extended
-use Rattle.machine_spec.specs.declared.operation.Test.TheVariants.{Equal, NotEqual, Greater, GreaterOrEqual, Less, LessOrEqual, AnyBit, SignedGreater}
+use Rattle.machine_spec.specs.declared.operation.Test.TheVariants.{Equal, NotEqual, Greater, GreaterOrEqual, Less}
+use Rattle.machine_spec.specs.declared.operation.Test.TheVariants.{LessOrEqual, AnyBit, SignedGreater}
 use Rattle.machine_spec.specs.declared.operation.Test.TheVariants.{SignedGreaterOrEqual, SignedLess, SignedLessOrEqual}
-use Rattle.machine_spec.specs.declared.instruction.{Size.Size, Size.TheVariants.Byte, Size.TheVariants.Half, Size.TheVariants.Word, Size.TheVariants.Double}
-use Rattle.machine_spec.specs.declared.instruction.{Extension.Extension, Extension.TheVariants.Zero, Extension.TheVariants.Sign, Distance.Distance}
-use Rattle.machine_spec.specs.declared.instruction.{Distance.TheVariants.Short, Distance.TheVariants.Long, Source.Source, Source.TheVariants.Register}
-use Rattle.machine_spec.specs.declared.instruction.{Source.TheVariants.Immediate, Instruction.Instruction}
-use Rattle.machine_spec.specs.declared.instruction.Instruction.TheVariants.{Move, Compute, Load, Unary, Store, JumpIf, Jump, Wide, Call, Exit}
+use Rattle.machine_spec.specs.declared.instruction.Size.TheVariants.{Byte, Half, Word, Double}
+use Rattle.machine_spec.specs.declared.instruction.Extension.TheVariants.{Zero, Sign}
+use Rattle.machine_spec.specs.declared.instruction.Distance.TheVariants.{Short, Long}
+use Rattle.machine_spec.specs.declared.instruction.Source.TheVariants.{Register, Immediate}
+use Rattle.machine_spec.specs.declared.instruction.Instruction.TheVariants.{Move, Compute, Load, Unary, Store, JumpIf}
+use Rattle.machine_spec.specs.declared.instruction.Instruction.TheVariants.{Jump, Wide, Call, Exit}
 use Rattle.bpf_asm.specs.Words.{word_of, operation_text, width_text, test_text, change_word, form_named}
 use Rattle.bpf_asm.proofs.{PlainTexts.are_plain, Ranges.is_load, Ranges.is_change, Ranges.is_form}
 
@@ -34,7 +41,8 @@ number = Immediate (pos 0)
 abbrev BothNamed : (Width → List ℕ) → (Width → Instruction) → Type 0
 BothNamed word form = Named (word Bits32) (form Bits32) × Named (word Bits64) (form Bits64)
 
-of_width : (word : Width → List ℕ) (form : Width → Instruction) → BothNamed word form → (width : Width) → Named (word width) (form width)
+of_width : (word : Width → List ℕ) (form : Width → Instruction) → BothNamed word form → (width : Width) →
+    Named (word width) (form width)
 of_width word form both Bits32 = both.0
 of_width word form both Bits64 = both.1
 
@@ -42,7 +50,8 @@ moves_named : BothNamed (λ width. codes "mov" ++ width_text width) (λ width. M
 unfolding form_named
 moves_named = ((refl, refl), (refl, refl))
 
-computes_named : (operation : Operation) → BothNamed (λ width. operation_text operation ++ width_text width) (λ width. Compute width operation 0 number)
+computes_named : (operation : Operation) →
+    BothNamed (λ width. operation_text operation ++ width_text width) (λ width. Compute width operation 0 number)
 unfolding form_named
 computes_named Add = ((refl, refl), (refl, refl))
 computes_named Sub = ((refl, refl), (refl, refl))
@@ -58,7 +67,8 @@ computes_named SignedMod = ((refl, refl), (refl, refl))
 computes_named Xor = ((refl, refl), (refl, refl))
 computes_named ArithmeticRightShift = ((refl, refl), (refl, refl))
 
-jumps_named : (test : Test) → BothNamed (λ width. test_text test ++ width_text width) (λ width. JumpIf width test 0 number (pos 0))
+jumps_named : (test : Test) → BothNamed (λ width. test_text test ++ width_text width)
+    (λ width. JumpIf width test 0 number (pos 0))
 unfolding form_named
 jumps_named Equal = ((refl, refl), (refl, refl))
 jumps_named NotEqual = ((refl, refl), (refl, refl))
@@ -109,7 +119,8 @@ abbrev pub stored_form : Source → Source
 stored_form (Register _) = Register 0
 stored_form (Immediate _) = number
 
-store_named : (size : Size) (source : Source) → Named (word_of (Store size 0 (pos 0) source)) (Store size 0 (pos 0) (stored_form source))
+store_named : (size : Size) (source : Source) →
+    Named (word_of (Store size 0 (pos 0) source)) (Store size 0 (pos 0) (stored_form source))
 unfolding form_named
 store_named Byte (Register r) = (refl, refl)
 store_named Byte (Immediate imm) = (refl, refl)
@@ -145,14 +156,17 @@ form_of Exit = Exit
 
 pub word_named : (i : Instruction) → is_form i ≡ true → Named (word_of i) (form_of i)
 unfolding form_named
-word_named (Move width dst source) there = of_width (λ width. codes "mov" ++ width_text width) (λ width. Move width 0 number) moves_named width
+word_named (Move width dst source) there =
+    of_width (λ width. codes "mov" ++ width_text width) (λ width. Move width 0 number) moves_named width
 word_named (Compute width operation dst source) there =
-    of_width (λ width. operation_text operation ++ width_text width) (λ width. Compute width operation 0 number) (computes_named operation) width
+    of_width (λ width. operation_text operation ++ width_text width) (λ width. Compute width operation 0 number)
+    (computes_named operation) width
 word_named (Load size extension dst base offset) there = load_named size extension there
 word_named (Unary change dst src) there = change_named change there
 word_named (Store size base offset source) there = store_named size source
 word_named (JumpIf width test dst source offset) there =
-    of_width (λ width. test_text test ++ width_text width) (λ width. JumpIf width test 0 number (pos 0)) (jumps_named test) width
+    of_width (λ width. test_text test ++ width_text width) (λ width. JumpIf width test 0 number (pos 0))
+    (jumps_named test) width
 word_named (Jump distance) there = leap_named distance
 word_named (Wide dst n) there = (refl, refl)
 word_named (Call n) there = (refl, refl)

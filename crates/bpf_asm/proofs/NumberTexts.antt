@@ -1,10 +1,13 @@
 -- Numbers and distances read back as they were written.
-use Rattle.std.proofs.Common.{◌≡◌, ℕ, zero, suc, ◌^◌, ◌<◌, ℤ, pos, negsuc, Bool, true, false, ◌||◌, ◌==◌, not, min, cond, List, [], ◌∷◌, length, drop, get_or, Option, Some, None, refl, ap, ◌∙◌, arith, leb}
+use Rattle.std.proofs.Common.{◌≡◌, ℕ, zero, suc, ◌^◌, ◌<◌, ℤ, pos, negsuc, Bool, true, false, ◌||◌, ◌==◌, not, min}
+use Rattle.std.proofs.Common.{cond, List, [], ◌∷◌, length, drop, get_or, Option, Some, None, refl, ap, ◌∙◌, arith, leb}
 use Rattle.std.specs.Prelude.{slice_index, decimal}
-use Rattle.std.specs.{Int.IsInRange, List.list_all, Char.is_ascii_digit, Fmt.signed_decimal, Str.Parse.AllDigits, Str.Parse.digits_value}
-use Rattle.std.proofs.lemmas.{Bool.and_from, Bool.le-leb, Bool.lt-ltb, Bool.ne_eqb, Fmt.decimal_is_IsNumeral, Fmt.decimal_digit, Fmt.first_decimal}
-use Rattle.std.proofs.lemmas.{Str.Parse.digit_from_value, Str.Parse.digit_at}
-use Rattle.bpf_asm.specs.Numbers.{is_digits, is_natural, natural, positive, negative, written_number, distance_of, distance_text}
+use Rattle.std.specs.{Int.IsInRange, List.list_all, Char.is_ascii_digit, Fmt.signed_decimal, Str.Parse.AllDigits}
+use Rattle.std.specs.{Str.Parse.digits_value}
+use Rattle.std.proofs.lemmas.{Bool.and_from, Bool.le-leb, Bool.lt-ltb, Bool.ne_eqb, Fmt.decimal_is_IsNumeral}
+use Rattle.std.proofs.lemmas.{Fmt.decimal_digit, Fmt.first_decimal, Str.Parse.digit_from_value, Str.Parse.digit_at}
+use Rattle.bpf_asm.specs.Numbers.{is_digits, is_natural, natural, positive, negative, written_number, distance_of}
+use Rattle.bpf_asm.specs.Numbers.{distance_text}
 
 -- ---- digits
 
@@ -13,7 +16,8 @@ digit_is c range = and_from (leb 48 c) (leb c 57) (le-leb 48 c range.0) (le-leb 
 
 all_digits : (ds : List ℕ) → AllDigits 10 ds → list_all is_ascii_digit ds ≡ true
 all_digits [] all = refl
-all_digits (c ∷ ds) all = and_from (is_ascii_digit c) (list_all is_ascii_digit ds) (digit_is c (digit_from_value c all.0)) (all_digits ds all.1)
+all_digits (c ∷ ds) all = and_from (is_ascii_digit c) (list_all is_ascii_digit ds)
+    (digit_is c (digit_from_value c all.0)) (all_digits ds all.1)
 
 pub decimal_digits : (n : ℕ) → n < 2 ^ 64 → is_digits (decimal n) ≡ true
 decimal_digits n small =
@@ -29,14 +33,17 @@ or_other false b h = h
 
 -- the first digit is 0 only where it is alone
 decimal_natural : (n : ℕ) → n < 2 ^ 64 → ((length (decimal n) == 1) || not (slice_index (decimal n) 0 == 48)) ≡ true
-decimal_natural zero small = ap (λ (ds : List ℕ). (length ds == 1) || not (slice_index ds 0 == 48)) (decimal_digit 0 (omega arith))
+decimal_natural zero small = ap (λ (ds : List ℕ). (length ds == 1) || not (slice_index ds 0 == 48))
+    (decimal_digit 0 (omega arith))
 decimal_natural (suc n) small =
     let first = first_decimal (suc n) (omega arith) small in
-    or_other (length (decimal (suc n)) == 1) _ (ap not (ne_eqb (get_or (decimal (suc n)) 0 0) 48 (λ e. omega (arith, e, first))))
+    or_other (length (decimal (suc n)) == 1) _ (ap not
+    (ne_eqb (get_or (decimal (suc n)) 0 0) 48 (λ e. omega (arith, e, first))))
 
 pub natural_decimal : (n : ℕ) → n < 2 ^ 64 → natural (decimal n) ≡ Some n
 natural_decimal n small =
-    let is : is_natural (decimal n) ≡ true = and_from (is_digits (decimal n)) _ (decimal_digits n small) (decimal_natural n small) in
+    let is : is_natural (decimal n) ≡ true =
+    and_from (is_digits (decimal n)) _ (decimal_digits n small) (decimal_natural n small) in
     let value : digits_value 10 (decimal n) ≡ n = (decimal_is_IsNumeral n small).1 in
     let capped : min (digits_value 10 (decimal n)) (2 ^ 64) ≡ n = omega (arith, value, small) in
     ap (λ (b : Bool). cond b (Some (min (digits_value 10 (decimal n)) (2 ^ 64))) None) is ∙ ap Some capped
@@ -53,7 +60,8 @@ signed_by text minus = cond minus (negative (natural (drop 1 text))) (positive (
 
 pub natural_again : (n : ℕ) → n < 2 ^ 64 → written_number (decimal n) ≡ Some (pos n)
 natural_again n small =
-    let none : (slice_index (decimal n) 0 == 45) ≡ false = ne_eqb (get_or (decimal n) 0 0) 45 (λ e. omega (arith, e, (decimal_first n small).0)) in
+    let none : (slice_index (decimal n) 0 == 45) ≡ false =
+    ne_eqb (get_or (decimal n) 0 0) 45 (λ e. omega (arith, e, (decimal_first n small).0)) in
     ap (signed_by (decimal n)) none ∙ ap positive (natural_decimal n small)
 
 negative_some : (n : ℕ) → negative (Some (suc n)) ≡ Some (negsuc n)

@@ -1,8 +1,10 @@
 -- Texts in which no byte parts a line: no space, no comma and no line feed.
-use Rattle.std.proofs.Common.{◌≡◌, ℕ, suc, ◌+◌, ◌^◌, ◌<◌, ◌≤◌, ℤ, pos, negsuc, Bool, true, false, ◌&&◌, ◌==◌, not, cond, List, [], ◌∷◌, ◌++◌, length, refl, ap, ◌∙◌, arith, leb}
+use Rattle.std.proofs.Common.{◌≡◌, ℕ, suc, ◌+◌, ◌^◌, ◌<◌, ◌≤◌, ℤ, pos, negsuc, Bool, true, false, ◌&&◌, ◌==◌, not, cond}
+use Rattle.std.proofs.Common.{List, [], ◌∷◌, ◌++◌, length, refl, ap, ◌∙◌, arith, leb}
 use Rattle.std.specs.Prelude.{decimal}
 use Rattle.std.specs.{Char.is_ascii_digit, Fmt.signed_decimal, List.list_all, List.position_or_len}
-use Rattle.std.proofs.lemmas.{Bool.and_from, Bool.and_parts, Bool.ne_eqb, Bool.leb-true, List.Folds.list_all-append, Fmt.decimal_nonempty}
+use Rattle.std.proofs.lemmas.{Bool.and_from, Bool.and_parts, Bool.ne_eqb, Bool.leb-true, List.Folds.list_all-append}
+use Rattle.std.proofs.lemmas.{Fmt.decimal_nonempty}
 use Rattle.bpf_asm.specs.{Numbers.distance_text, Operands.register_text, Operands.place_text, Operands.is_sign}
 use Rattle.bpf_asm.proofs.{NumberTexts.Fits, NumberTexts.decimal_digits}
 
@@ -11,7 +13,8 @@ use Rattle.bpf_asm.proofs.{NumberTexts.Fits, NumberTexts.decimal_digits}
 abbrev pub fails : (ℕ → Bool) → List ℕ → Bool
 fails p text = list_all (λ b. not (p b)) text
 
-pub first_at : (p : ℕ → Bool) (xs : List ℕ) (y : ℕ) (ys : List ℕ) → fails p xs ≡ true → p y ≡ true → position_or_len p (xs ++ y ∷ ys) ≡ length xs
+pub first_at : (p : ℕ → Bool) (xs : List ℕ) (y : ℕ) (ys : List ℕ) → fails p xs ≡ true → p y ≡ true →
+    position_or_len p (xs ++ y ∷ ys) ≡ length xs
 first_at p [] y ys e is = ap (λ (b : Bool). cond (not b) (1 + position_or_len p ys) 0) is
 first_at p (x ∷ xs) y ys e is =
     let parts = and_parts (not (p x)) (fails p xs) e in
@@ -26,9 +29,11 @@ first_none p (x ∷ xs) e =
     ap (λ (b : Bool). cond b (1 + position_or_len p xs) 0) parts.0 ∙ omega (arith, rest)
 
 -- a test that holds of each byte of which another one does
-pub implied : (p q : ℕ → Bool) → ((b : ℕ) → p b ≡ true → q b ≡ true) → (xs : List ℕ) → list_all p xs ≡ true → list_all q xs ≡ true
+pub implied : (p q : ℕ → Bool) → ((b : ℕ) → p b ≡ true → q b ≡ true) → (xs : List ℕ) → list_all p xs ≡ true →
+    list_all q xs ≡ true
 implied p q h [] e = refl
-implied p q h (x ∷ xs) e = let parts = and_parts (p x) (list_all p xs) e in and_from (q x) (list_all q xs) (h x parts.0) (implied p q h xs parts.1)
+implied p q h (x ∷ xs) e = let parts = and_parts (p x) (list_all p xs) e in
+    and_from (q x) (list_all q xs) (h x parts.0) (implied p q h xs parts.1)
 
 -- a byte at most 47 is no digit
 digit_other : (c b : ℕ) → c ≤ 47 → is_ascii_digit b ≡ true → (b == c) ≡ false
@@ -59,7 +64,12 @@ pub record IsOperand (text : List ℕ) : Type 0 where
   pub some : 0 < length text
 
 digit_plain : (b : ℕ) → is_ascii_digit b ≡ true → is_plain b ≡ true
-digit_plain b digit = rw (digit_other 32 b (omega arith) digit, digit_other 44 b (omega arith) digit, digit_other 10 b (omega arith) digit) refl
+digit_plain b digit = rw (
+  digit_other 32 b (omega arith) digit,
+  digit_other 44 b (omega arith) digit,
+  digit_other 10 b
+      (omega arith) digit,
+) refl
 
 plain_digits : (n : ℕ) → n < 2 ^ 64 → are_plain (decimal n) ≡ true
 plain_digits n small = implied is_ascii_digit is_plain digit_plain (decimal n) (digits_of n small)
@@ -90,5 +100,10 @@ both_plain xs ys one other = list_all-append is_plain xs ys ∙ and_from (are_pl
 
 pub place_operand : (base : ℕ) (offset : ℤ) → base ≤ 10 → Fits (2 ^ 15) offset → IsOperand (place_text base offset)
 place_operand base offset small fits =
-    let distance = both_plain (distance_text offset) (93 ∷ []) (plain_distance (2 ^ 15) offset (omega arith) fits) refl in
-    record { plain = both_plain (register_text base) (distance_text offset ++ 93 ∷ []) (plain_digits base (omega arith)) distance; some = omega arith }
+    let distance = both_plain (distance_text offset) (93 ∷ []) (plain_distance (2 ^ 15) offset (omega arith) fits)
+    refl in
+    record {
+      plain = both_plain (register_text base) (distance_text offset ++ 93 ∷ []) (plain_digits base (omega arith))
+          distance;
+      some = omega arith;
+    }

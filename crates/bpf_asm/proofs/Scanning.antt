@@ -1,11 +1,15 @@
 -- Walking over a text byte by byte.
-use Rattle.std.proofs.Common.{◌≡◌, ℕ, zero, suc, ◌+◌, ◌-◌, ◌*◌, ◌^◌, ◌<◌, ◌≤◌, Bool, true, false, cond, not, map, ◌==◌, leb, Some, None, Err, List, [], ◌∷◌, ◌++◌, length, get_or, drop, take, min, refl, sym, ap, subst, ◌∙◌, arith}
+use Rattle.std.proofs.Common.{◌≡◌, ℕ, zero, suc, ◌+◌, ◌-◌, ◌*◌, ◌^◌, ◌<◌, ◌≤◌, Bool, true, false, cond, not, map, ◌==◌}
+use Rattle.std.proofs.Common.{leb, Some, None, Err, List, [], ◌∷◌, ◌++◌, length, get_or, drop, take, min, refl, sym, ap}
+use Rattle.std.proofs.Common.{subst, ◌∙◌, arith}
 use Rattle.std.proofs.Math.{Seq.drop-cons, ListN.drop_of_length-le}
 use Rattle.std.specs.Prelude.{reverse}
-use Rattle.std.specs.{List.position_or_len, List.slice_split, List.onto_first, List.list_all, Str.Parse.digits_value_after, Char.digit_value}
+use Rattle.std.specs.{List.position_or_len, List.slice_split, List.onto_first, List.list_all}
+use Rattle.std.specs.{Str.Parse.digits_value_after, Char.digit_value}
 use Rattle.std.specs.Char.{is_ascii_digit}
-use Rattle.std.proofs.lemmas.{List.take_more, List.reverse-append, List.reverse-reverse, List.drop-take, List.Splits.slice_split_first, Bool.and_parts}
-use Rattle.std.proofs.lemmas.{Bool.and_from, Bool.leb-true, Bool.eq-eqb, Str.digit_value_digit}
+use Rattle.std.proofs.lemmas.{List.take_more, List.reverse-append, List.reverse-reverse, List.drop-take}
+use Rattle.std.proofs.lemmas.{List.Splits.slice_split_first, Bool.and_parts, Bool.and_from, Bool.leb-true, Bool.eq-eqb}
+use Rattle.std.proofs.lemmas.{Str.digit_value_digit}
 use Rattle.bpf_asm.specs.declared.fault.LineFault.TheVariants as fault
 use Rattle.bpf_asm.specs.{Operands.read_between, Operands.read_place}
 use Rattle.bpf_asm.specs.Reading.{is_space, is_comma, after_spaces, before_spaces, operands_in, single, is_empty}
@@ -17,21 +21,26 @@ abbrev pub Passed : (ℕ → Bool) → List ℕ → ℕ → Type 0
 Passed p text k = position_or_len p text ≡ k + position_or_len p (drop k text)
 
 front_of : (text : List ℕ) (k : ℕ) → k < length text → drop k text ≡ get_or text k 0 ∷ drop (k + 1) text
-front_of text k h = let one : suc k ≡ k + 1 = omega arith in subst (λ j. drop k text ≡ get_or text k 0 ∷ drop j text) one (drop-cons text k 0 h)
+front_of text k h = let one : suc k ≡ k + 1 = omega arith in
+    subst (λ j. drop k text ≡ get_or text k 0 ∷ drop j text) one (drop-cons text k 0 h)
 
 pub passed_none : (p : ℕ → Bool) (text : List ℕ) → Passed p text 0
 passed_none p text = omega arith
 
-pub passed_more : (p : ℕ → Bool) (text : List ℕ) (k : ℕ) → k < length text → p (get_or text k 0) ≡ false → Passed p text k → Passed p text (k + 1)
+pub passed_more : (p : ℕ → Bool) (text : List ℕ) (k : ℕ) → k < length text → p (get_or text k 0) ≡ false →
+    Passed p text k → Passed p text (k + 1)
 passed_more p text k h fails before =
     let first : position_or_len p (drop k text) ≡ 1 + position_or_len p (drop (k + 1) text) =
-    ap (position_or_len p) (front_of text k h) ∙ ap (λ (b : Bool). cond (not b) (1 + position_or_len p (drop (k + 1) text)) 0) fails in
+    ap (position_or_len p) (front_of text k h)
+    ∙ ap (λ (b : Bool). cond (not b) (1 + position_or_len p (drop (k + 1) text)) 0) fails in
     omega (arith, before, first)
 
-pub passed_here : (p : ℕ → Bool) (text : List ℕ) (k : ℕ) → k < length text → p (get_or text k 0) ≡ true → Passed p text k → position_or_len p text ≡ k
+pub passed_here : (p : ℕ → Bool) (text : List ℕ) (k : ℕ) → k < length text → p (get_or text k 0) ≡ true →
+    Passed p text k → position_or_len p text ≡ k
 passed_here p text k h passes before =
     let first : position_or_len p (drop k text) ≡ 0 =
-    ap (position_or_len p) (front_of text k h) ∙ ap (λ (b : Bool). cond (not b) (1 + position_or_len p (drop (k + 1) text)) 0) passes in
+    ap (position_or_len p) (front_of text k h)
+    ∙ ap (λ (b : Bool). cond (not b) (1 + position_or_len p (drop (k + 1) text)) 0) passes in
     omega (arith, before, first)
 
 pub passed_all : (p : ℕ → Bool) (text : List ℕ) (k : ℕ) → length text ≤ k → Passed p text k → position_or_len p text ≡ k
@@ -41,19 +50,24 @@ passed_all p text k h before =
 
 -- ---- spaces before a text
 
-pub spaces_more : (text : List ℕ) (k : ℕ) → k < length text → get_or text k 0 ≡ 32 → after_spaces text ≡ after_spaces (drop k text) → after_spaces text ≡ after_spaces (drop (k + 1) text)
+pub spaces_more : (text : List ℕ) (k : ℕ) → k < length text → get_or text k 0 ≡ 32 →
+    after_spaces text ≡ after_spaces (drop k text) → after_spaces text ≡ after_spaces (drop (k + 1) text)
 spaces_more text k h space before =
     before ∙ ap after_spaces (front_of text k h ∙ ap (λ (b : ℕ). b ∷ drop (k + 1) text) space)
 
 abbrev on_byte : ℕ → List ℕ → Bool → List ℕ
 on_byte b rest is = cond is (after_spaces rest) (b ∷ rest)
 
-pub spaces_end : (text : List ℕ) (k : ℕ) → k < length text → is_space (get_or text k 0) ≡ false → after_spaces text ≡ after_spaces (drop k text) → after_spaces text ≡ drop k text
+pub spaces_end : (text : List ℕ) (k : ℕ) → k < length text → is_space (get_or text k 0) ≡ false →
+    after_spaces text ≡ after_spaces (drop k text) → after_spaces text ≡ drop k text
 spaces_end text k h other before =
-    before ∙ ap after_spaces (front_of text k h) ∙ ap (on_byte (get_or text k 0) (drop (k + 1) text)) other ∙ sym (front_of text k h)
+    before ∙ ap after_spaces (front_of text k h) ∙ ap (on_byte (get_or text k 0) (drop (k + 1) text)) other
+    ∙ sym (front_of text k h)
 
-pub spaces_all : (text : List ℕ) (k : ℕ) → length text ≤ k → after_spaces text ≡ after_spaces (drop k text) → after_spaces text ≡ drop k text
-spaces_all text k h before = let none : drop k text ≡ [] = drop_of_length-le text {i = k} h in before ∙ ap after_spaces none ∙ sym none
+pub spaces_all : (text : List ℕ) (k : ℕ) → length text ≤ k → after_spaces text ≡ after_spaces (drop k text) →
+    after_spaces text ≡ drop k text
+spaces_all text k h before = let none : drop k text ≡ [] = drop_of_length-le text {i = k} h in before
+    ∙ ap after_spaces none ∙ sym none
 
 -- ---- spaces at the end of a text
 
@@ -66,26 +80,36 @@ turned xs b is = reverse (cond is (after_spaces (reverse xs)) (b ∷ reverse xs)
 pub before_other : (xs : List ℕ) (b : ℕ) → is_space b ≡ false → before_spaces (xs ++ b ∷ []) ≡ xs ++ b ∷ []
 before_other xs b other =
     let back : reverse (xs ++ b ∷ []) ≡ b ∷ reverse xs = reverse-append xs (b ∷ []) in
-    ap (λ (r : List ℕ). reverse (after_spaces r)) back ∙ ap (turned xs b) other ∙ ap reverse (sym back) ∙ reverse-reverse (xs ++ b ∷ [])
+    ap (λ (r : List ℕ). reverse (after_spaces r)) back ∙ ap (turned xs b) other ∙ ap reverse (sym back)
+    ∙ reverse-reverse (xs ++ b ∷ [])
 
-last_of : (text : List ℕ) (end : ℕ) → 0 < end → end ≤ length text → take end text ≡ take (end - 1) text ++ get_or text (end - 1) 0 ∷ []
+last_of : (text : List ℕ) (end : ℕ) → 0 < end → end ≤ length text →
+    take end text ≡ take (end - 1) text ++ get_or text (end - 1) 0 ∷ []
 last_of text end some within =
     let back : end - 1 + 1 ≡ end = omega arith in
-    subst (λ (k : ℕ). take k text ≡ take (end - 1) text ++ get_or text (end - 1) 0 ∷ []) back (take_more text (end - 1) 0 (omega arith))
+    subst (λ (k : ℕ). take k text ≡ take (end - 1) text ++ get_or text (end - 1) 0 ∷ []) back
+    (take_more text (end - 1) 0 (omega arith))
 
-pub ends_in_space : (text : List ℕ) (end : ℕ) → 0 < end → end ≤ length text → get_or text (end - 1) 0 ≡ 32 → before_spaces (take end text) ≡ before_spaces text → before_spaces (take (end - 1) text) ≡ before_spaces text
+pub ends_in_space : (text : List ℕ) (end : ℕ) → 0 < end → end ≤ length text → get_or text (end - 1) 0 ≡ 32 →
+    before_spaces (take end text) ≡ before_spaces text → before_spaces (take (end - 1) text) ≡ before_spaces text
 ends_in_space text end some within space before =
-    sym (before_space (take (end - 1) text)) ∙ ap (λ (b : ℕ). before_spaces (take (end - 1) text ++ b ∷ [])) (sym space) ∙ ap before_spaces (sym (last_of text end some within)) ∙ before
+    sym (before_space (take (end - 1) text)) ∙ ap (λ (b : ℕ). before_spaces (take (end - 1) text ++ b ∷ [])) (sym space)
+    ∙ ap before_spaces (sym (last_of text end some within)) ∙ before
 
-pub ends_in_other : (text : List ℕ) (end : ℕ) → 0 < end → end ≤ length text → is_space (get_or text (end - 1) 0) ≡ false → before_spaces (take end text) ≡ before_spaces text → take end text ≡ before_spaces text
+pub ends_in_other : (text : List ℕ) (end : ℕ) → 0 < end → end ≤ length text →
+    is_space (get_or text (end - 1) 0) ≡ false → before_spaces (take end text) ≡ before_spaces text →
+    take end text ≡ before_spaces text
 ends_in_other text end some within other before =
     let last = last_of text end some within in
-    last ∙ sym (before_other (take (end - 1) text) (get_or text (end - 1) 0) other) ∙ ap before_spaces (sym last) ∙ before
+    last ∙ sym (before_other (take (end - 1) text) (get_or text (end - 1) 0) other) ∙ ap before_spaces (sym last)
+    ∙ before
 
 -- ---- pieces
 
-onto_whole : (p : ℕ → Bool) (x : ℕ) (xs : List ℕ) (b : Bool) → length (x ∷ xs) ≤ cond (not b) (1 + position_or_len p xs) 0 → (length xs ≤ position_or_len p xs → slice_split p xs ≡ xs ∷ [])
-    → cond b ([] ∷ slice_split p xs) (onto_first x (slice_split p xs)) ≡ (x ∷ xs) ∷ []
+onto_whole : (p : ℕ → Bool) (x : ℕ) (xs : List ℕ) (b : Bool) →
+    length (x ∷ xs) ≤ cond (not b) (1 + position_or_len p xs) 0 →
+    (length xs ≤ position_or_len p xs → slice_split p xs ≡ xs ∷ []) →
+    cond b ([] ∷ slice_split p xs) (onto_first x (slice_split p xs)) ≡ (x ∷ xs) ∷ []
 onto_whole p x xs true h rest = absurd (omega arith)
 onto_whole p x xs false h rest = ap (onto_first x) (rest (omega arith))
 
@@ -97,9 +121,11 @@ split_whole p (x ∷ xs) h = onto_whole p x xs (p x) h (split_whole p xs)
 -- ---- the number that digits spell, capped
 
 -- one more digit to capped numbers that are the same is the same capped
-pub value_capped : (digits : List ℕ) (m n : ℕ) → min m (2 ^ 64) ≡ min n (2 ^ 64) → min (digits_value_after 10 m digits) (2 ^ 64) ≡ min (digits_value_after 10 n digits) (2 ^ 64)
+pub value_capped : (digits : List ℕ) (m n : ℕ) → min m (2 ^ 64) ≡ min n (2 ^ 64) →
+    min (digits_value_after 10 m digits) (2 ^ 64) ≡ min (digits_value_after 10 n digits) (2 ^ 64)
 value_capped [] m n same = same
-value_capped (d ∷ digits) m n same = value_capped digits (m * 10 + digit_value d) (n * 10 + digit_value d) (omega (arith, same))
+value_capped (d ∷ digits) m n same =
+    value_capped digits (m * 10 + digit_value d) (n * 10 + digit_value d) (omega (arith, same))
 
 all_at : (p : ℕ → Bool) (xs : List ℕ) (k : ℕ) → list_all p xs ≡ true → k < length xs → p (get_or xs k 0) ≡ true
 all_at p [] k h l = absurd (omega arith)
@@ -112,8 +138,10 @@ digit_value_is d h =
     digit_value_digit d (leb-true 48 d parts.0, leb-true d 57 parts.1)
 
 -- the number so far with one more digit, and what is left of the digits
-pub value_more : (digits : List ℕ) (k number new : ℕ) (whole : ℕ) → k < length digits → list_all is_ascii_digit digits ≡ true → new ≡ min (10 * number + (get_or digits k 0 - 48)) (2 ^ 64)
-    → min (digits_value_after 10 number (drop k digits)) (2 ^ 64) ≡ whole → min (digits_value_after 10 new (drop (k + 1) digits)) (2 ^ 64) ≡ whole
+pub value_more : (digits : List ℕ) (k number new : ℕ) (whole : ℕ) → k < length digits →
+    list_all is_ascii_digit digits ≡ true → new ≡ min (10 * number + (get_or digits k 0 - 48)) (2 ^ 64) →
+    min (digits_value_after 10 number (drop k digits)) (2 ^ 64) ≡ whole →
+    min (digits_value_after 10 new (drop (k + 1) digits)) (2 ^ 64) ≡ whole
 value_more digits k number new whole within all is before =
     let d = get_or digits k 0 in
     let value = digit_value_is d (all_at is_ascii_digit digits k all within) in
@@ -147,24 +175,30 @@ some_operands text =
     let pieces = pieces_of is_comma text in
     ap (λ (ps : List (List ℕ)). is_empty (map after_spaces ps)) pieces.are
 
-pub first_operand : (text operand rest : List ℕ) (end : ℕ) → end < length text → end ≡ position_or_len is_comma text → operand ≡ after_spaces (take end text) → rest ≡ drop (end + 1) text
-    → operands_in (Some text) ≡ operand ∷ operands_in (Some rest)
+pub first_operand : (text operand rest : List ℕ) (end : ℕ) → end < length text → end ≡ position_or_len is_comma text →
+    operand ≡ after_spaces (take end text) → rest ≡ drop (end + 1) text →
+    operands_in (Some text) ≡ operand ∷ operands_in (Some rest)
 first_operand text operand rest end within place is left =
     ap (map after_spaces) (slice_split_first is_comma text 0 (omega arith))
-    ∙ ap (λ (k : ℕ). after_spaces (take k text) ∷ map after_spaces (slice_split is_comma (drop (k + 1) text))) (sym place)
+    ∙ ap (λ (k : ℕ). after_spaces (take k text) ∷ map after_spaces (slice_split is_comma (drop (k + 1) text)))
+    (sym place)
     ∙ ap (λ (t : List ℕ). after_spaces (take end text) ∷ map after_spaces (slice_split is_comma t)) (sym left)
     ∙ ap (λ (o : List ℕ). o ∷ map after_spaces (slice_split is_comma rest)) (sym is)
 
-pub last_operand : (text : List ℕ) (end : ℕ) → length text ≤ end → end ≡ position_or_len is_comma text → operands_in (Some text) ≡ after_spaces text ∷ []
+pub last_operand : (text : List ℕ) (end : ℕ) → length text ≤ end → end ≡ position_or_len is_comma text →
+    operands_in (Some text) ≡ after_spaces text ∷ []
 last_operand text end past place = ap (map after_spaces) (split_whole is_comma text (omega arith))
 
 -- ---- places in memory
 
-pub place_is : (text : List ℕ) → 2 ≤ length text → get_or text 0 0 ≡ 91 → get_or text (length text - 1) 0 ≡ 93 → read_between (take (length text - 1 - 1) (drop 1 text)) ≡ read_place text
+pub place_is : (text : List ℕ) → 2 ≤ length text → get_or text 0 0 ≡ 91 → get_or text (length text - 1) 0 ≡ 93 →
+    read_between (take (length text - 1 - 1) (drop 1 text)) ≡ read_place text
 place_is text long opens closes =
     let one : (get_or text 0 0 == 91) ≡ true = eq-eqb (get_or text 0 0) 91 opens in
     let other : (get_or text (length text - 1) 0 == 93) ≡ true = eq-eqb (get_or text (length text - 1) 0) 93 closes in
-    let inner : drop 1 (take (1 + (length text - 1 - 1)) text) ≡ take (length text - 1 - 1) (drop 1 text) = drop-take 1 (length text - 1 - 1) text in
+    let inner : drop 1 (take (1 + (length text - 1 - 1)) text) ≡ take (length text - 1 - 1) (drop 1 text) =
+    drop-take 1 (length text - 1 - 1) text in
     let size : 1 + (length text - 1 - 1) ≡ length text - 1 = omega arith in
     ap read_between (sym inner) ∙ ap (λ (k : ℕ). read_between (drop 1 (take k text))) size
-    ∙ ap (λ (b : Bool). cond b (read_between (drop 1 (take (length text - 1) text))) (Err fault.Operand)) (sym (and_from (get_or text 0 0 == 91) (get_or text (length text - 1) 0 == 93) one other))
+    ∙ ap (λ (b : Bool). cond b (read_between (drop 1 (take (length text - 1) text))) (Err fault.Operand))
+    (sym (and_from (get_or text 0 0 == 91) (get_or text (length text - 1) 0 == 93) one other))

@@ -1,7 +1,8 @@
 -- The instructions that a text says, and those that its image decodes to.
 use Rattle.std.specs.Prelude.{ℕ, List, map, filter_map, Option, None, Result, Ok, Err}
 use Rattle.std.specs.List.{slice_split}
-use Rattle.machine_spec.specs.declared.{instruction.Instruction.Instruction, instruction.Placed.Placed, instruction.IsaFault.IsaFault}
+use Rattle.machine_spec.specs.declared.{instruction.Instruction.Instruction, instruction.Placed.Placed}
+use Rattle.machine_spec.specs.declared.{instruction.IsaFault.IsaFault}
 use Rattle.machine_spec.specs.Image.{read_image}
 use Rattle.bpf_asm.specs.declared.fault.LineFault.{LineFault}
 use Rattle.bpf_asm.specs.{Reading.is_line_feed, Reading.read_line}
@@ -25,5 +26,5 @@ without_slots (Ok code) = Ok (map (λ placed. placed.instruction) code)
 without_slots (Err fault) = Err fault
 
 -- the instructions that an image decodes to, or its refusal
-abbrev pub decoded : List ℕ → Result (List Instruction) IsaFault
-decoded image = without_slots (read_image image)
+abbrev pub decoded_image : List ℕ → Result (List Instruction) IsaFault
+decoded_image image = without_slots (read_image image)

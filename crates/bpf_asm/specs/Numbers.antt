@@ -1,5 +1,6 @@
 -- Numbers and distances as texts spell them. A text is the list of its bytes.
-use Rattle.std.specs.Prelude.{ℕ, ◌^◌, ℤ, pos, negsuc, neg_ℤ, Bool, not, ◌&&◌, ◌||◌, ◌==◌, nat_lt, int_le, min, if◌then◌else◌, List, ◌∷◌, length, drop, slice_index, Option, Some, None, suc, decimal}
+use Rattle.std.specs.Prelude.{ℕ, ◌^◌, ℤ, pos, negsuc, neg_ℤ, Bool, not, ◌&&◌, ◌||◌, ◌==◌, nat_lt, int_le, min}
+use Rattle.std.specs.Prelude.{if◌then◌else◌, List, ◌∷◌, length, drop, slice_index, Option, Some, None, suc, decimal}
 use Rattle.std.specs.{List.list_all, Char.is_ascii_digit, Str.Parse.digits_value}
 
 -- one decimal digit or more

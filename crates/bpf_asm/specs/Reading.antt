@@ -1,14 +1,19 @@
 -- What a line says: an instruction, nothing, or why it is refused.
-use Rattle.std.specs.Prelude.{ℕ, Bool, true, false, ◌==◌, nat_lt, if◌then◌else◌, List, [], ◌∷◌, length, map, reverse, Option, Some, None, Result, Ok, Err}
+use Rattle.std.specs.Prelude.{ℕ, Bool, true, false, ◌==◌, nat_lt, if◌then◌else◌, List, [], ◌∷◌, length, map, reverse}
+use Rattle.std.specs.Prelude.{Option, Some, None, Result, Ok, Err}
 use Rattle.std.specs.{List.slice_split, List.position_or_len, List.before_first, List.after_first}
-use Rattle.machine_spec.specs.declared.operation.{Change.Change, Change.TheVariants.Negate, Change.TheVariants.Order, Change.TheVariants.SignExtend}
-use Rattle.machine_spec.specs.declared.instruction.{Source.Source, Source.TheVariants.Register, Source.TheVariants.Immediate, Distance.Distance}
-use Rattle.machine_spec.specs.declared.instruction.{Distance.TheVariants.Short, Distance.TheVariants.Long, Instruction.Instruction}
-use Rattle.machine_spec.specs.declared.instruction.Instruction.TheVariants.{Move, Compute, Load, Unary, Store, JumpIf, Jump, Wide, Call, Exit}
+use Rattle.machine_spec.specs.declared.{operation.Change.Change, instruction.Source.Source}
+use Rattle.machine_spec.specs.declared.{instruction.Distance.Distance, instruction.Instruction.Instruction}
+use Rattle.machine_spec.specs.declared.operation.Change.TheVariants.{Negate, Order, SignExtend}
+use Rattle.machine_spec.specs.declared.instruction.Source.TheVariants.{Register, Immediate}
+use Rattle.machine_spec.specs.declared.instruction.Distance.TheVariants.{Short, Long}
+use Rattle.machine_spec.specs.declared.instruction.Instruction.TheVariants.{Move, Compute, Load, Unary, Store, JumpIf}
+use Rattle.machine_spec.specs.declared.instruction.Instruction.TheVariants.{Jump, Wide, Call, Exit}
 use Rattle.bpf_asm.specs.declared.fault.LineFault.{LineFault}
 use Rattle.bpf_asm.specs.declared.fault.LineFault.TheVariants as fault
 use Rattle.bpf_asm.specs.{Faults.both, Faults.read_as, Words.form_named}
-use Rattle.bpf_asm.specs.Operands.{read_register, read_immediate, read_wide, read_short, read_long, read_source, read_place}
+use Rattle.bpf_asm.specs.Operands.{read_register, read_immediate, read_wide, read_short, read_long, read_source}
+use Rattle.bpf_asm.specs.Operands.{read_place}
 
 -- ---- the parts of a line
 
@@ -71,20 +76,25 @@ with_one read (Some text) = read text
 with_one read None = Err fault.Operand
 
 -- two operands are read; the fault Operand where there is another number of them
-abbrev pub with_two : {A B : Type 0} → (List ℕ → Result A LineFault) → (List ℕ → Result B LineFault) → Option (List ℕ × List ℕ) → Result (A × B) LineFault
+abbrev pub with_two : {A B : Type 0} → (List ℕ → Result A LineFault) → (List ℕ → Result B LineFault) →
+    Option (List ℕ × List ℕ) → Result (A × B) LineFault
 with_two first second (Some texts) = both (first texts.0) (second texts.1)
 with_two first second None = Err fault.Operand
 
 -- three operands are read; the fault Operand where there is another number of them
-abbrev pub with_three : {A B C : Type 0} → (List ℕ → Result A LineFault) → (List ℕ → Result B LineFault) → (List ℕ → Result C LineFault) → Option (List ℕ × List ℕ × List ℕ) → Result ((A × B) × C) LineFault
+abbrev pub with_three : {A B C : Type 0} → (List ℕ → Result A LineFault) → (List ℕ → Result B LineFault) →
+    (List ℕ → Result C LineFault) → Option (List ℕ × List ℕ × List ℕ) → Result ((A × B) × C) LineFault
 with_three first second third (Some texts) = both (both (first texts.0) (second texts.1)) (third texts.2)
 with_three first second third None = Err fault.Operand
 
 -- a change of one number with its operands: the register, of a sign extension dst and src
 abbrev pub read_change : Change → List (List ℕ) → Result Instruction LineFault
-read_change (Negate width) operands = read_as (λ dst. Unary (Negate width) dst dst) (with_one read_register (single operands))
-read_change (Order order width) operands = read_as (λ dst. Unary (Order order width) dst dst) (with_one read_register (single operands))
-read_change (SignExtend width part) operands = read_as (λ p. Unary (SignExtend width part) p.0 p.1) (with_two read_register read_register (pair operands))
+read_change (Negate width) operands =
+    read_as (λ dst. Unary (Negate width) dst dst) (with_one read_register (single operands))
+read_change (Order order width) operands =
+    read_as (λ dst. Unary (Order order width) dst dst) (with_one read_register (single operands))
+read_change (SignExtend width part) operands =
+    read_as (λ p. Unary (SignExtend width part) p.0 p.1) (with_two read_register read_register (pair operands))
 
 -- the source of a store: a register or an immediate, as the store's word says
 abbrev pub read_stored : Source → List ℕ → Result Source LineFault
@@ -98,12 +108,17 @@ read_distance (Long _) text = read_as Long (read_long text)
 
 -- an instruction of a form, with these operands in its fields
 abbrev pub read_operands : Instruction → List (List ℕ) → Result Instruction LineFault
-read_operands (Move width _ _) operands = read_as (λ p. Move width p.0 p.1) (with_two read_register read_source (pair operands))
-read_operands (Compute width operation _ _) operands = read_as (λ p. Compute width operation p.0 p.1) (with_two read_register read_source (pair operands))
-read_operands (Load size extension _ _ _) operands = read_as (λ p. Load size extension p.0 p.1.0 p.1.1) (with_two read_register read_place (pair operands))
+read_operands (Move width _ _) operands =
+    read_as (λ p. Move width p.0 p.1) (with_two read_register read_source (pair operands))
+read_operands (Compute width operation _ _) operands =
+    read_as (λ p. Compute width operation p.0 p.1) (with_two read_register read_source (pair operands))
+read_operands (Load size extension _ _ _) operands =
+    read_as (λ p. Load size extension p.0 p.1.0 p.1.1) (with_two read_register read_place (pair operands))
 read_operands (Unary change _ _) operands = read_change change operands
-read_operands (Store size _ _ source) operands = read_as (λ p. Store size p.0.0 p.0.1 p.1) (with_two read_place (read_stored source) (pair operands))
-read_operands (JumpIf width test _ _ _) operands = read_as (λ p. JumpIf width test p.0.0 p.0.1 p.1) (with_three read_register read_source read_short (triple operands))
+read_operands (Store size _ _ source) operands =
+    read_as (λ p. Store size p.0.0 p.0.1 p.1) (with_two read_place (read_stored source) (pair operands))
+read_operands (JumpIf width test _ _ _) operands =
+    read_as (λ p. JumpIf width test p.0.0 p.0.1 p.1) (with_three read_register read_source read_short (triple operands))
 read_operands (Jump distance) operands = read_as Jump (with_one (read_distance distance) (single operands))
 read_operands (Wide _ _) operands = read_as (λ p. Wide p.0 p.1) (with_two read_register read_wide (pair operands))
 read_operands (Call _) operands = read_as Call (with_one read_immediate (single operands))
@@ -125,7 +140,8 @@ some_read (Err f) = Err f
 -- word, and after a space the operands.
 abbrev pub read_trimmed : List ℕ → Result (Option Instruction) LineFault
 read_trimmed [] = Ok None
-read_trimmed (byte ∷ text) = if byte == 35 then Ok None else some_read (read_form (form_named (before_first is_space (byte ∷ text))) (rest_of (byte ∷ text)))
+read_trimmed (byte ∷ text) = if byte == 35 then Ok None else some_read
+    (read_form (form_named (before_first is_space (byte ∷ text))) (rest_of (byte ∷ text)))
 
 -- the instruction of a line, if it says one, or the line's fault
 unfoldable pub read_line : List ℕ → Result (Option Instruction) LineFault

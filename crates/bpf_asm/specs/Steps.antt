@@ -6,8 +6,10 @@ use Rattle.bpf_asm.specs.{Images.before_bytes, Images.with_line}
 
 -- the image was old before the line with this number and is new after it
 pub record IsAdded (number : ℕ) (reading : Result (Option Instruction) LineFault) (old new : List ℕ) : Type 0 where
-  pub whatever : (later : ℕ → Result (List ℕ) AsmFault) → before_bytes old (with_line number (length old) reading later) ≡ before_bytes new (later (length new))
+  pub whatever : (later : ℕ → Result (List ℕ) AsmFault) →
+      before_bytes old (with_line number (length old) reading later) ≡ before_bytes new (later (length new))
 
 -- the line with this number is refused with this fault, after lines whose image is old
-pub record IsRefused (number : ℕ) (reading : Result (Option Instruction) LineFault) (old : List ℕ) (fault : AsmFault) : Type 0 where
+pub record IsRefused (number : ℕ) (reading : Result (Option Instruction) LineFault) (old : List ℕ)
+    (fault : AsmFault) : Type 0 where
   pub whatever : (later : ℕ → Result (List ℕ) AsmFault) → with_line number (length old) reading later ≡ Err fault

@@ -1,23 +1,30 @@
 -- The word of each instruction, and the instruction of each word.
 use Rattle.std.specs.Prelude.{ℕ, ℤ, pos, if◌then◌else◌, List, [], ◌∷◌, ◌++◌, codes, Option, None, find}
 use Rattle.std.specs.{List.flat_map, List.filter_map, Str.bytes_eq}
-use Rattle.machine_spec.specs.declared.operation.{Width.Width, Width.TheVariants.Bits32, Width.TheVariants.Bits64, Operation.Operation}
-use Rattle.machine_spec.specs.declared.operation.{SwappedWidth.SwappedWidth, ExtendedWidth.ExtendedWidth, ByteOrder.ByteOrder}
-use Rattle.machine_spec.specs.declared.operation.{ByteOrder.TheVariants.LittleEndian, ByteOrder.TheVariants.BigEndian, ByteOrder.TheVariants.Swapped}
-use Rattle.machine_spec.specs.declared.operation.{Change.Change, Change.TheVariants.Negate, Change.TheVariants.Order, Change.TheVariants.SignExtend, Test.Test}
-use Rattle.machine_spec.specs.declared.operation.Operation.TheVariants.{Add, Sub, Mul, Div, SignedDiv, Or, And, LeftShift, RightShift, Mod, SignedMod, Xor}
+use Rattle.machine_spec.specs.declared.{operation.Width.Width, operation.Operation.Operation}
+use Rattle.machine_spec.specs.declared.{operation.SwappedWidth.SwappedWidth, operation.ExtendedWidth.ExtendedWidth}
+use Rattle.machine_spec.specs.declared.{operation.ByteOrder.ByteOrder, operation.Change.Change, operation.Test.Test}
+use Rattle.machine_spec.specs.declared.{instruction.Size.Size, instruction.Extension.Extension}
+use Rattle.machine_spec.specs.declared.{instruction.Distance.Distance, instruction.Source.Source}
+use Rattle.machine_spec.specs.declared.{instruction.Instruction.Instruction, opcode.TheConstants.TEMPLATES}
+use Rattle.machine_spec.specs.declared.operation.Width.TheVariants.{Bits32, Bits64}
+use Rattle.machine_spec.specs.declared.operation.ByteOrder.TheVariants.{LittleEndian, BigEndian, Swapped}
+use Rattle.machine_spec.specs.declared.operation.Change.TheVariants.{Negate, Order, SignExtend}
+use Rattle.machine_spec.specs.declared.operation.Operation.TheVariants.{Add, Sub, Mul, Div, SignedDiv, Or, And}
+use Rattle.machine_spec.specs.declared.operation.Operation.TheVariants.{LeftShift, RightShift, Mod, SignedMod, Xor}
 use Rattle.machine_spec.specs.declared.operation.Operation.TheVariants.{ArithmeticRightShift}
 use Rattle.machine_spec.specs.declared.operation.SwappedWidth.TheVariants as swapped
 use Rattle.machine_spec.specs.declared.operation.ExtendedWidth.TheVariants as extended
-use Rattle.machine_spec.specs.declared.operation.Test.TheVariants.{Equal, NotEqual, Greater, GreaterOrEqual, Less, LessOrEqual, AnyBit, SignedGreater}
+use Rattle.machine_spec.specs.declared.operation.Test.TheVariants.{Equal, NotEqual, Greater, GreaterOrEqual, Less}
+use Rattle.machine_spec.specs.declared.operation.Test.TheVariants.{LessOrEqual, AnyBit, SignedGreater}
 use Rattle.machine_spec.specs.declared.operation.Test.TheVariants.{SignedGreaterOrEqual, SignedLess, SignedLessOrEqual}
-use Rattle.machine_spec.specs.declared.instruction.{Size.Size, Size.TheVariants.Byte, Size.TheVariants.Half, Size.TheVariants.Word, Size.TheVariants.Double}
-use Rattle.machine_spec.specs.declared.instruction.{Extension.Extension, Extension.TheVariants.Zero, Extension.TheVariants.Sign, Distance.Distance}
-use Rattle.machine_spec.specs.declared.instruction.{Distance.TheVariants.Short, Distance.TheVariants.Long, Source.Source, Source.TheVariants.Register}
-use Rattle.machine_spec.specs.declared.instruction.{Source.TheVariants.Immediate, Instruction.Instruction}
-use Rattle.machine_spec.specs.declared.instruction.Instruction.TheVariants.{Move, Compute, Load, Unary, Store, JumpIf, Jump, Wide, Call, Exit}
-use Rattle.machine_spec.specs.declared.opcode.TheConstants.{TEMPLATES}
-use Rattle.machine_spec.specs.{Opcodes.Fields, Opcodes.has_signed_form, Opcodes.filled}
+use Rattle.machine_spec.specs.declared.instruction.Size.TheVariants.{Byte, Half, Word, Double}
+use Rattle.machine_spec.specs.declared.instruction.Extension.TheVariants.{Zero, Sign}
+use Rattle.machine_spec.specs.declared.instruction.Distance.TheVariants.{Short, Long}
+use Rattle.machine_spec.specs.declared.instruction.Source.TheVariants.{Register, Immediate}
+use Rattle.machine_spec.specs.declared.instruction.Instruction.TheVariants.{Move, Compute, Load, Unary, Store, JumpIf}
+use Rattle.machine_spec.specs.declared.instruction.Instruction.TheVariants.{Jump, Wide, Call, Exit}
+use Rattle.machine_spec.specs.{Opcodes.Fields, Opcodes.has_signed_form, Opcodes.with_fields}
 
 -- the bits of a width
 abbrev pub width_text : Width → List ℕ
@@ -124,14 +131,16 @@ selection offset imm = record { opcode = 0; dst = 0; src = 0; offset = offset; i
 -- a move that extends the sign of 8, 16 or 32 bits, the imm of a byte order of 32 or 64 bits (RFC 9669, sections 4.1,
 -- 4.2).
 abbrev pub selections : Instruction → List Fields
-selections (Compute _ operation _ (Immediate _)) = if has_signed_form operation then selection (pos 1) (pos 0) ∷ [] else []
-selections (Move _ _ (Register _)) = selection (pos 8) (pos 0) ∷ selection (pos 16) (pos 0) ∷ selection (pos 32) (pos 0) ∷ []
+selections (Compute _ operation _ (Immediate _)) = if has_signed_form operation then selection (pos 1) (pos 0)
+    ∷ [] else []
+selections (Move _ _ (Register _)) = selection (pos 8) (pos 0) ∷ selection (pos 16) (pos 0) ∷ selection (pos 32) (pos 0)
+    ∷ []
 selections (Unary (Order _ _) _ _) = selection (pos 0) (pos 32) ∷ selection (pos 0) (pos 64) ∷ []
 selections _ = []
 
 -- the other instructions of a template's opcode, by what the profile fills the template with
 abbrev pub others_of : Instruction → List Instruction
-others_of template = filter_map (filled template) (selections template)
+others_of template = filter_map (with_fields template) (selections template)
 
 -- The instructions of the profile's opcodes, with 0 in their fields: the first of each opcode, then the others.
 abbrev pub forms : List Instruction

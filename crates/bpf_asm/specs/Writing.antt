@@ -1,11 +1,14 @@
 -- The text of code: a line for each instruction.
 use Rattle.std.specs.Prelude.{ℕ, List, [], ◌∷◌, ◌++◌, codes, decimal}
 use Rattle.std.specs.{List.flat_map, Fmt.signed_decimal}
-use Rattle.machine_spec.specs.declared.operation.{Change.Change, Change.TheVariants.Negate, Change.TheVariants.Order, Change.TheVariants.SignExtend}
-use Rattle.machine_spec.specs.declared.instruction.{Distance.Distance, Distance.TheVariants.Short, Distance.TheVariants.Long, Instruction.Instruction}
-use Rattle.machine_spec.specs.declared.instruction.Placed.{Placed}
-use Rattle.machine_spec.specs.declared.instruction.Instruction.TheVariants.{Move, Compute, Load, Unary, Store, JumpIf, Jump, Wide, Call, Exit}
-use Rattle.bpf_asm.specs.{Numbers.distance_text, Operands.register_text, Operands.source_text, Operands.place_text, Words.word_of}
+use Rattle.machine_spec.specs.declared.{operation.Change.Change, instruction.Distance.Distance}
+use Rattle.machine_spec.specs.declared.{instruction.Instruction.Instruction, instruction.Placed.Placed}
+use Rattle.machine_spec.specs.declared.operation.Change.TheVariants.{Negate, Order, SignExtend}
+use Rattle.machine_spec.specs.declared.instruction.Distance.TheVariants.{Short, Long}
+use Rattle.machine_spec.specs.declared.instruction.Instruction.TheVariants.{Move, Compute, Load, Unary, Store, JumpIf}
+use Rattle.machine_spec.specs.declared.instruction.Instruction.TheVariants.{Jump, Wide, Call, Exit}
+use Rattle.bpf_asm.specs.{Numbers.distance_text, Operands.register_text, Operands.source_text, Operands.place_text}
+use Rattle.bpf_asm.specs.{Words.word_of}
 
 -- the operands of a change of one number: its register, of a sign extension dst and src
 abbrev pub change_operands : Change → ℕ → ℕ → List (List ℕ)
@@ -32,15 +35,15 @@ operands_of (Call number) = signed_decimal number ∷ []
 operands_of Exit = []
 
 -- operands with a comma and a space between two
-abbrev pub joined : List (List ℕ) → List ℕ
-joined [] = []
-joined (operand ∷ []) = operand
-joined (operand ∷ next ∷ operands) = operand ++ (codes ", " ++ joined (next ∷ operands))
+abbrev pub joined_by_commas : List (List ℕ) → List ℕ
+joined_by_commas [] = []
+joined_by_commas (operand ∷ []) = operand
+joined_by_commas (operand ∷ next ∷ operands) = operand ++ (codes ", " ++ joined_by_commas (next ∷ operands))
 
 -- operands after a space, if there are some
 abbrev pub operands_text : List (List ℕ) → List ℕ
 operands_text [] = []
-operands_text (operand ∷ operands) = codes " " ++ joined (operand ∷ operands)
+operands_text (operand ∷ operands) = codes " " ++ joined_by_commas (operand ∷ operands)
 
 -- the line of an instruction, without its line feed
 abbrev pub line_of : Instruction → List ℕ

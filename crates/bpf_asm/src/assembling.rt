@@ -7,7 +7,7 @@ ghost use Rattle.bpf_isa.specs.Spelling.{HasRegisters};
 ghost use Rattle.bpf_asm.specs.declared.fault.AsmFault.TheVariants as faults;
 ghost use Rattle.bpf_asm.specs.Reading.{is_line_feed, read_line};
 ghost use Rattle.bpf_asm.specs.Images.{lines_image, image_of};
-ghost use Rattle.bpf_asm.specs.Decoding.{decoded, instructions_of};
+ghost use Rattle.bpf_asm.specs.Decoding.{decoded_image, instructions_of};
 ghost use Rattle.bpf_asm.specs.Steps.{IsAdded, IsRefused};
 
 use crate::fault::{AsmFault, at_line};
@@ -68,7 +68,7 @@ pub fn assemble(alloc: Global, text: &str) -> Result<Vec<u8>, AsmFault>
     // What it answers is what the text says, unless memory runs out.
     ensures exact { AnswersAs faults.Memory (λ v. v.items) result (image_of text.now) }
     // The image decodes, to the instructions of the text's lines.
-    ensures decodes { IfOk result (λ v. decoded v.items ≡ Ok (instructions_of text.now)) }
+    ensures decodes { IfOk result (λ v. decoded_image v.items ≡ Ok (instructions_of text.now)) }
 {
     let mut image = Vec::new(alloc);
     add_lines(&mut image, text.as_bytes())?;

@@ -34,8 +34,8 @@ pub fn register(text: &[u8]) -> Result<u8, LineFault>
 }
 
 /// A number that lies between two others.
-fn ranged(low: i128, high: i128, number: Option<i128>) -> Result<i128, LineFault>
-    ensures is { result ≡ definitions.ranged low high number }
+fn number_in_range(low: i128, high: i128, number: Option<i128>) -> Result<i128, LineFault>
+    ensures is { result ≡ definitions.number_in_range low high number }
     ensures is_in { IfOk result (λ z. (low ≤ℤ z) × (z ≤ℤ high)) }
 {
     match number {
@@ -50,7 +50,7 @@ fn ranged(low: i128, high: i128, number: Option<i128>) -> Result<i128, LineFault
 pub fn immediate(text: &[u8]) -> Result<i32, LineFault>
     ensures { result ≡ definitions.read_immediate text.now }
 {
-    let number = ranged(-0x8000_0000, 0x7fff_ffff, number(text))?;
+    let number = number_in_range(-0x8000_0000, 0x7fff_ffff, number(text))?;
     Ok(number as i32)
 }
 
@@ -58,7 +58,7 @@ pub fn immediate(text: &[u8]) -> Result<i32, LineFault>
 pub fn wide(text: &[u8]) -> Result<u64, LineFault>
     ensures { result ≡ definitions.read_wide text.now }
 {
-    let number = ranged(0, 0xffff_ffff_ffff_ffff, number(text))?;
+    let number = number_in_range(0, 0xffff_ffff_ffff_ffff, number(text))?;
     Ok(number as u64)
 }
 
@@ -66,7 +66,7 @@ pub fn wide(text: &[u8]) -> Result<u64, LineFault>
 pub fn short(text: &[u8]) -> Result<i16, LineFault>
     ensures { result ≡ definitions.read_short text.now }
 {
-    let distance = ranged(-0x8000, 0x7fff, distance(text))?;
+    let distance = number_in_range(-0x8000, 0x7fff, distance(text))?;
     Ok(distance as i16)
 }
 
@@ -74,7 +74,7 @@ pub fn short(text: &[u8]) -> Result<i16, LineFault>
 pub fn long(text: &[u8]) -> Result<i32, LineFault>
     ensures { result ≡ definitions.read_long text.now }
 {
-    let distance = ranged(-0x8000_0000, 0x7fff_ffff, distance(text))?;
+    let distance = number_in_range(-0x8000_0000, 0x7fff_ffff, distance(text))?;
     Ok(distance as i32)
 }
 

@@ -52,7 +52,7 @@ fn change(change: Change, rest: Option<&[u8]>) -> Result<Instruction, LineFault>
 }
 
 /// What a store stores, which the form says to be a register or a number.
-fn stored(source: Source, text: &[u8]) -> Result<Source, LineFault>
+fn with_source(source: Source, text: &[u8]) -> Result<Source, LineFault>
     ensures { result ≡ definitions.read_stored source text.now }
 {
     match source {
@@ -65,7 +65,7 @@ fn place_and_stored(source: Source, rest: Option<&[u8]>) -> Result<((u8, i16), S
     ensures { result ≡ with_two operands.read_place (definitions.read_stored source) (pair (operands_in (option_map (λ r. r.now) rest.entry))) }
 {
     match two(rest) {
-        Some((base, operand)) => both(place(base), stored(source, operand)),
+        Some((base, operand)) => both(place(base), with_source(source, operand)),
         None => Err(LineFault::Operand),
     }
 }
@@ -128,7 +128,7 @@ fn call(rest: Option<&[u8]>) -> Result<i32, LineFault>
 }
 
 /// The instruction of a form, with these operands.
-fn filled(form: Instruction, rest: Option<&[u8]>) -> Result<Instruction, LineFault>
+fn with_operands(form: Instruction, rest: Option<&[u8]>) -> Result<Instruction, LineFault>
     ensures { result ≡ definitions.read_operands form (operands_in (option_map (λ r. r.now) rest.entry)) }
 {
     match form {
@@ -172,7 +172,7 @@ fn instruction(line: &[u8]) -> Result<Instruction, LineFault>
 {
     let (word, rest) = word_and_rest(line);
     match form_named(word) {
-        Some(form) => filled(form, rest),
+        Some(form) => with_operands(form, rest),
         None => Err(LineFault::Word),
     }
 }

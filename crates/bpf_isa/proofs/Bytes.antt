@@ -1,5 +1,7 @@
 -- The bytes of a slot are the spelling of its instruction.
-use Rattle.std.proofs.Common.{◌≡◌, ◌⊎◌, ℕ, zero, suc, ◌+◌, ◌*◌, ◌/◌, ◌%◌, ◌^◌, ◌<◌, ◌≤◌, ℤ, pos, Bool, true, false, ◌&&◌, eqb, ltb, List, [], ◌∷◌, ◌++◌, length, get_or, drop, Option, Some, None, Result, Ok, Err, refl, sym, ap, inl, inr, ⊎_elim, subst, ◌∙◌, append_assoc, arith}
+use Rattle.std.proofs.Common.{◌≡◌, ◌⊎◌, ℕ, zero, suc, ◌+◌, ◌*◌, ◌/◌, ◌%◌, ◌^◌, ◌<◌, ◌≤◌, ℤ, pos, Bool, true, false}
+use Rattle.std.proofs.Common.{◌&&◌, eqb, ltb, List, [], ◌∷◌, ◌++◌, length, get_or, drop, Option, Some, None, Result, Ok}
+use Rattle.std.proofs.Common.{Err, refl, sym, ap, inl, inr, ⊎_elim, subst, ◌∙◌, append_assoc, arith}
 use Rattle.std.specs.Int.{w16, w32, from_le_bytes, to_le_bytes, cast_signed, cast_unsigned}
 use Rattle.std.proofs.Math.Seq.{drop-cons}
 use Rattle.std.proofs.lemmas.Nat.{le_bytes_2, le_bytes_4}
@@ -8,11 +10,12 @@ use Rattle.std.proofs.lemmas.Bool.{eqb-true, eq-eqb, ltb-true, cases_eq, cond-tr
 use Rattle.std.proofs.lemmas.List.{append-nil}
 use Rattle.std.proofs.lemmas.Option.{same_Some, none-some}
 use Rattle.machine_spec.specs.declared.instruction.Distance.TheVariants.{Short, Long}
-use Rattle.machine_spec.specs.declared.instruction.Instruction.{Instruction}
-use Rattle.machine_spec.specs.declared.instruction.Instruction.TheVariants.{Move, Compute, Load, Unary, Store, JumpIf, Jump, Wide, Call, Exit}
-use Rattle.machine_spec.specs.declared.instruction.IsaFault.{IsaFault}
+use Rattle.machine_spec.specs.declared.{instruction.Instruction.Instruction, instruction.IsaFault.IsaFault}
+use Rattle.machine_spec.specs.declared.instruction.Instruction.TheVariants.{Move, Compute, Load, Unary, Store, JumpIf}
+use Rattle.machine_spec.specs.declared.instruction.Instruction.TheVariants.{Jump, Wide, Call, Exit}
 use Rattle.machine_spec.specs.Opcodes.{Fields, uses_of, has_zeros}
-use Rattle.machine_spec.specs.Image.{slot_count, byte_at, word_at, upper_at, fields_at, read_slot, form_at, if_read, slot_after, slots_of}
+use Rattle.machine_spec.specs.Image.{slot_count, byte_at, word_at, upper_at, fields_at, read_slot, form_at, if_read}
+use Rattle.machine_spec.specs.Image.{slot_after, slots_of}
 use Rattle.machine_spec.proofs.Readings.{IsRead, read_parts, wide_template, wide_is, narrow_template, narrow_slots}
 use Rattle.machine_spec.proofs.Slots.{slot_after_form}
 use Rattle.bpf_isa.specs.Code.{AreBytes}
@@ -22,7 +25,9 @@ use Rattle.bpf_isa.proofs.Fields.{IsSpelled, filled_spelled, filled_reads}
 
 abbrev pub slot_bytes : List ℕ → ℕ → List ℕ
 slot_bytes image slot =
-    (byte_at image slot 0 ∷ byte_at image slot 1 ∷ []) ++ ((byte_at image slot 2 ∷ byte_at image slot 3 ∷ []) ++ (byte_at image slot 4 ∷ byte_at image slot 5 ∷ byte_at image slot 6 ∷ byte_at image slot 7 ∷ []))
+    (byte_at image slot 0 ∷ byte_at image slot 1 ∷ [])
+    ++ ((byte_at image slot 2 ∷ byte_at image slot 3 ∷ [])
+    ++ (byte_at image slot 4 ∷ byte_at image slot 5 ∷ byte_at image slot 6 ∷ byte_at image slot 7 ∷ []))
 
 -- ---- from fields back to bytes
 
@@ -38,15 +43,19 @@ four_fit a b c d p q r s (suc (suc zero)) = r
 four_fit a b c d p q r s (suc (suc (suc zero))) = s
 four_fit a b c d p q r s (suc (suc (suc (suc i)))) = omega arith
 
-half_again : (a b : ℕ) → a < 256 → b < 256 → to_le_bytes w16 (cast_unsigned w16 (cast_signed w16 (from_le_bytes w16 (a ∷ b ∷ [])))) ≡ a ∷ b ∷ []
+half_again : (a b : ℕ) → a < 256 → b < 256 →
+    to_le_bytes w16 (cast_unsigned w16 (cast_signed w16 (from_le_bytes w16 (a ∷ b ∷ [])))) ≡ a ∷ b ∷ []
 half_again a b p q =
     let below : from_le_bytes w16 (a ∷ b ∷ []) < 2 ^ 16 = omega arith in
-    ap (to_le_bytes w16) (of_z-to_z w16 (from_le_bytes w16 (a ∷ b ∷ [])) below) ∙ le_bytes_2 (a ∷ b ∷ []) _ refl (two_fit a b p q) refl
+    ap (to_le_bytes w16) (of_z-to_z w16 (from_le_bytes w16 (a ∷ b ∷ [])) below)
+    ∙ le_bytes_2 (a ∷ b ∷ []) _ refl (two_fit a b p q) refl
 
-word_again : (a b c d : ℕ) → a < 256 → b < 256 → c < 256 → d < 256 → to_le_bytes w32 (cast_unsigned w32 (cast_signed w32 (from_le_bytes w32 (a ∷ b ∷ c ∷ d ∷ [])))) ≡ a ∷ b ∷ c ∷ d ∷ []
+word_again : (a b c d : ℕ) → a < 256 → b < 256 → c < 256 → d < 256 →
+    to_le_bytes w32 (cast_unsigned w32 (cast_signed w32 (from_le_bytes w32 (a ∷ b ∷ c ∷ d ∷ [])))) ≡ a ∷ b ∷ c ∷ d ∷ []
 word_again a b c d p q r s =
     let below : from_le_bytes w32 (a ∷ b ∷ c ∷ d ∷ []) < 2 ^ 32 = omega arith in
-    ap (to_le_bytes w32) (of_z-to_z w32 (from_le_bytes w32 (a ∷ b ∷ c ∷ d ∷ [])) below) ∙ le_bytes_4 (a ∷ b ∷ c ∷ d ∷ []) _ refl (four_fit a b c d p q r s) refl
+    ap (to_le_bytes w32) (of_z-to_z w32 (from_le_bytes w32 (a ∷ b ∷ c ∷ d ∷ [])) below)
+    ∙ le_bytes_4 (a ∷ b ∷ c ∷ d ∷ []) _ refl (four_fit a b c d p q r s) refl
 
 abbrev layout : ℕ → ℕ → List ℕ → List ℕ → List ℕ
 layout opcode registers offset imm = (opcode ∷ registers ∷ []) ++ (offset ++ imm)
@@ -83,13 +92,18 @@ second image slot upper e =
     on_choice test (Some (word_at image slot 4)) None (some_number upper) (IsSecond image slot upper) e
     (λ is. λ e.
     let both = and_parts (ltb slot (slot_count image)) (eqb (word_at image slot 0) 0) is in
-    record { within = ltb-true _ _ both.0; zero = eqb-true _ _ both.1; is = sym (same_Some (word_at image slot 4) upper e) })
+    record {
+      within = ltb-true _ _ both.0;
+      zero = eqb-true _ _ both.1;
+      is = sym (same_Some (word_at image slot 4) upper e);
+    })
     (λ _. λ e. absurd (none-some upper e))
 
 abbrev second_layout : ℕ → ℕ → ℕ → ℕ → List ℕ → List ℕ
 second_layout a b c d rest = a ∷ b ∷ c ∷ d ∷ rest
 
-second_same : (a b c d : ℕ) (rest other : List ℕ) → a ≡ 0 → b ≡ 0 → c ≡ 0 → d ≡ 0 → rest ≡ other → second_layout 0 0 0 0 rest ≡ second_layout a b c d other
+second_same : (a b c d : ℕ) (rest other : List ℕ) → a ≡ 0 → b ≡ 0 → c ≡ 0 → d ≡ 0 → rest ≡ other →
+    second_layout 0 0 0 0 rest ≡ second_layout a b c d other
 second_same a b c d rest other p q r s t = rw (p, q, r, s, t) refl
 
 word_below : (image : List ℕ) (slot : ℕ) → AreBytes image → word_at image slot 4 < 2 ^ 32
@@ -97,7 +111,8 @@ word_below image slot fits =
     let fit : (k : ℕ) → byte_at image slot k < 256 = λ k. fits (8 * slot + k) in
     omega (arith, fit 4, fit 5, fit 6, fit 7)
 
-second_again : (image : List ℕ) (slot upper : ℕ) → AreBytes image → IsSecond image slot upper → second_bytes (Some upper) ≡ slot_bytes image slot
+second_again : (image : List ℕ) (slot upper : ℕ) → AreBytes image → IsSecond image slot upper →
+    second_bytes (Some upper) ≡ slot_bytes image slot
 second_again image slot upper fits is =
     let byte = λ (k : ℕ). byte_at image slot k in
     let fit : (k : ℕ) → byte k < 256 = λ k. fits (8 * slot + k) in
@@ -106,7 +121,8 @@ second_again image slot upper fits is =
     let b : byte 1 ≡ 0 = omega (arith, nothing) in
     let c : byte 2 ≡ 0 = omega (arith, nothing) in
     let d : byte 3 ≡ 0 = omega (arith, nothing) in
-    let half = le_bytes_4 (byte 4 ∷ byte 5 ∷ byte 6 ∷ byte 7 ∷ []) _ refl (four_fit (byte 4) (byte 5) (byte 6) (byte 7) (fit 4) (fit 5) (fit 6) (fit 7)) refl in
+    let half = le_bytes_4 (byte 4 ∷ byte 5 ∷ byte 6 ∷ byte 7 ∷ []) _ refl
+    (four_fit (byte 4) (byte 5) (byte 6) (byte 7) (fit 4) (fit 5) (fit 6) (fit 7)) refl in
     second_same (byte 0) (byte 1) (byte 2) (byte 3) _ _ a b c d (ap (to_le_bytes w32) is.is ∙ half)
 
 -- ---- what was read
@@ -114,13 +130,17 @@ second_again image slot upper fits is =
 abbrev done : Instruction → Result Instruction IsaFault
 done i = Ok i
 
-pub slot_read : (image : List ℕ) (slot : ℕ) (i : Instruction) → read_slot image slot ≡ done i → IsRead (fields_at image slot) i
+pub slot_read : (image : List ℕ) (slot : ℕ) (i : Instruction) → read_slot image slot ≡ done i →
+    IsRead (fields_at image slot) i
 unfolding read_slot
 slot_read image slot i e = read_parts slot (fields_at image slot) i e
 
-pub form_read : (image : List ℕ) (slot : ℕ) (i : Instruction) → form_at image slot ≡ Some i → read_slot image slot ≡ done i
+pub form_read : (image : List ℕ) (slot : ℕ) (i : Instruction) → form_at image slot ≡ Some i →
+    read_slot image slot ≡ done i
 form_read image slot i e =
-    let by : (r : Result Instruction IsaFault) → if_read r ≡ Some i → r ≡ done i = λ r. elim r as (λ r. if_read r ≡ Some i → r ≡ done i) [ Ok j ↦ λ e. cc | Err f ↦ λ e. absurd cc ] in
+    let by : (r : Result Instruction IsaFault) → if_read r ≡ Some i →
+    r ≡ done i = λ r. elim r as (λ r. if_read r ≡ Some i → r ≡ done i)
+    [ Ok j ↦ λ e. cc | Err f ↦ λ e. absurd cc ] in
     by (read_slot image slot) e
 
 -- an instruction of one slot, whose fields are its spelling's
@@ -137,19 +157,29 @@ record IsWide (image : List ℕ) (slot : ℕ) (i : Instruction) : Type 0 where
   offset : (fields_at image slot).offset ≡ pos 0
   is : Wide (fields_at image slot).dst (upper * 2 ^ 32 + cast_unsigned w32 (fields_at image slot).imm) ≡ i
 
-narrow_or_wide : (image : List ℕ) (slot : ℕ) (i : Instruction) → IsRead (fields_at image slot) i → IsNarrow image slot i ⊎ IsWide image slot i
+narrow_or_wide : (image : List ℕ) (slot : ℕ) (i : Instruction) → IsRead (fields_at image slot) i →
+    IsNarrow image slot i ⊎ IsWide image slot i
 narrow_or_wide image slot i read = elim (cases_eq (byte_at image slot 0) 0x18) [
   | inl is ↦
       let f = fields_at image slot in
       let wide = wide_is f i read is in
       let there : f.upper ≡ upper_at image (slot + 1) = cond-true _ _ _ (eq-eqb (byte_at image slot 0) 0x18 is) in
-      let low = zeros (uses_of (Wide 0 0)) f (subst (λ t. has_zeros (uses_of t) f ≡ true) (wide_template f read.template is read.found) read.zeros) in
-      inr (record { upper = wide.0; second = second image (slot + 1) wide.0 (sym there ∙ wide.1); opcode = is; src = low.src refl; offset = low.offset refl; is = wide.2 })
+      let low = zeros (uses_of (Wide 0 0)) f (subst (λ t. has_zeros (uses_of t) f ≡ true)
+      (wide_template f read.template is read.found) read.zeros) in
+      inr (record {
+        upper = wide.0;
+        second = second image (slot + 1) wide.0 (sym there ∙ wide.1);
+        opcode = is;
+        src = low.src refl;
+        offset = low.offset refl;
+        is = wide.2;
+      })
   | inr other ↦
       let f = fields_at image slot in
       inl (record {
         slots = narrow_slots f i read other;
-        spelled = filled_spelled f read.template i (narrow_template f i read other) read.opcode read.is_filled (zeros (uses_of read.template) f read.zeros);
+        spelled = filled_spelled f read.template i (narrow_template f i read other) read.opcode read.is_filled
+            (zeros (uses_of read.template) f read.zeros);
       })
 ]
 
@@ -170,13 +200,15 @@ no_second (Call _) one = refl
 no_second Exit one = refl
 
 -- the number of a 64-bit immediate has the halves that it was made of
-wide_spelled : (f : Fields) (bits upper : ℕ) → bits < 2 ^ 32 → f.imm ≡ cast_signed w32 bits → f.opcode ≡ 0x18 → f.src ≡ 0 → f.offset ≡ pos 0 → IsSpelled f (Wide f.dst (upper * 2 ^ 32 + cast_unsigned w32 f.imm))
+wide_spelled : (f : Fields) (bits upper : ℕ) → bits < 2 ^ 32 → f.imm ≡ cast_signed w32 bits → f.opcode ≡ 0x18 →
+    f.src ≡ 0 → f.offset ≡ pos 0 → IsSpelled f (Wide f.dst (upper * 2 ^ 32 + cast_unsigned w32 f.imm))
 wide_spelled f bits upper below imm opcode src offset =
     let lower : cast_unsigned w32 f.imm ≡ bits = ap (cast_unsigned w32) imm ∙ of_z-to_z w32 bits below in
     let low : (upper * 2 ^ 32 + cast_unsigned w32 f.imm) % 2 ^ 32 ≡ bits = omega (arith, lower, below) in
     record { opcode = opcode; dst = refl; src = src; offset = offset; imm = imm ∙ ap (cast_signed w32) (sym low) }
 
-wide_upper : (z : ℤ) (bits upper : ℕ) → bits < 2 ^ 32 → cast_unsigned w32 z ≡ bits → upper ≡ (upper * 2 ^ 32 + cast_unsigned w32 z) / 2 ^ 32
+wide_upper : (z : ℤ) (bits upper : ℕ) → bits < 2 ^ 32 → cast_unsigned w32 z ≡ bits →
+    upper ≡ (upper * 2 ^ 32 + cast_unsigned w32 z) / 2 ^ 32
 wide_upper z bits upper below lower = omega (arith, lower, below)
 
 abbrev second_of : ℕ → List ℕ
@@ -185,12 +217,14 @@ second_of upper = second_bytes (Some upper)
 both_same : (a b c d : List ℕ) → a ≡ b → c ≡ d → a ++ c ≡ b ++ d
 both_same a b c d p q = rw (p, q) refl
 
-narrow_same : (image : List ℕ) (slot : ℕ) (i : Instruction) → AreBytes image → IsNarrow image slot i → slots_bytes image slot (slots_of i) ≡ first_bytes (spelled_fields i) ++ second_bytes (spelled_fields i).upper
+narrow_same : (image : List ℕ) (slot : ℕ) (i : Instruction) → AreBytes image → IsNarrow image slot i →
+    slots_bytes image slot (slots_of i) ≡ first_bytes (spelled_fields i) ++ second_bytes (spelled_fields i).upper
 narrow_same image slot i fits narrow =
     let first = sym (bytes_again image slot fits) ∙ same_bytes (fields_at image slot) i narrow.spelled in
     ap (slots_bytes image slot) narrow.slots ∙ both_same _ _ _ _ first (sym (no_second i narrow.slots))
 
-wide_same : (image : List ℕ) (slot : ℕ) (i : Instruction) → AreBytes image → IsWide image slot i → slots_bytes image slot (slots_of i) ≡ first_bytes (spelled_fields i) ++ second_bytes (spelled_fields i).upper
+wide_same : (image : List ℕ) (slot : ℕ) (i : Instruction) → AreBytes image → IsWide image slot i →
+    slots_bytes image slot (slots_of i) ≡ first_bytes (spelled_fields i) ++ second_bytes (spelled_fields i).upper
 wide_same image slot i fits wide =
     let f = fields_at image slot in
     let bits = word_at image slot 4 in
@@ -199,21 +233,29 @@ wide_same image slot i fits wide =
     let first = sym (bytes_again image slot fits) ∙ same_bytes f _ spelled in
     let lower : cast_unsigned w32 f.imm ≡ bits = of_z-to_z w32 bits below in
     let upper = ap second_of (wide_upper f.imm bits wide.upper below lower) in
-    let second = append-nil (slot_bytes image (slot + 1)) ∙ sym (second_again image (slot + 1) wide.upper fits wide.second) ∙ upper in
-    subst (λ j. slots_bytes image slot (slots_of j) ≡ first_bytes (spelled_fields j) ++ second_bytes (spelled_fields j).upper) wide.is (both_same _ _ _ _ first second)
+    let second = append-nil (slot_bytes image (slot + 1))
+    ∙ sym (second_again image (slot + 1) wide.upper fits wide.second) ∙ upper in
+    subst (λ j. slots_bytes image slot (slots_of j) ≡ first_bytes (spelled_fields j)
+    ++ second_bytes (spelled_fields j).upper) wide.is (both_same _ _ _ _ first second)
 
-pub slot_spelled : (image : List ℕ) (slot : ℕ) (i : Instruction) → AreBytes image → read_slot image slot ≡ done i → slots_bytes image slot (slots_of i) ≡ spelling i
+pub slot_spelled : (image : List ℕ) (slot : ℕ) (i : Instruction) → AreBytes image → read_slot image slot ≡ done i →
+    slots_bytes image slot (slots_of i) ≡ spelling i
 unfolding spelling
-slot_spelled image slot i fits e = ⊎_elim (narrow_same image slot i fits) (wide_same image slot i fits) (narrow_or_wide image slot i (slot_read image slot i e))
+slot_spelled image slot i fits e =
+    ⊎_elim (narrow_same image slot i fits) (wide_same image slot i fits)
+    (narrow_or_wide image slot i (slot_read image slot i e))
 
-pub next_slot : (image : List ℕ) (slot : ℕ) (i : Instruction) → read_slot image slot ≡ done i → slot_after image slot ≡ slot + slots_of i
+pub next_slot : (image : List ℕ) (slot : ℕ) (i : Instruction) → read_slot image slot ≡ done i →
+    slot_after image slot ≡ slot + slots_of i
 next_slot image slot i e = slot_after_form image slot i (ap if_read e)
 
 -- the image has all slots of an instruction
-pub inside : (image : List ℕ) (slot : ℕ) (i : Instruction) → read_slot image slot ≡ done i → slot < slot_count image → slot + slots_of i ≤ slot_count image
+pub inside : (image : List ℕ) (slot : ℕ) (i : Instruction) → read_slot image slot ≡ done i → slot < slot_count image →
+    slot + slots_of i ≤ slot_count image
 inside image slot i e lt = ⊎_elim
     (λ (narrow : IsNarrow image slot i). omega (arith, narrow.slots))
-    (λ (wide : IsWide image slot i). let two : 2 ≡ slots_of i = ap slots_of wide.is in omega (arith, two, wide.second.within))
+    (λ (wide : IsWide image slot i). let two : 2 ≡ slots_of i = ap slots_of wide.is in
+    omega (arith, two, wide.second.within))
     (narrow_or_wide image slot i (slot_read image slot i e))
 
 pub some_slots : (i : Instruction) → 1 ≤ slots_of i
@@ -230,28 +272,48 @@ some_slots Exit = omega arith
 
 -- ---- the bytes from a slot on
 
-one_more : (bytes : List ℕ) (n k : ℕ) → n + k < length bytes → drop (n + k) bytes ≡ get_or bytes (n + k) 0 ∷ drop (n + suc k) bytes
+one_more : (bytes : List ℕ) (n k : ℕ) → n + k < length bytes →
+    drop (n + k) bytes ≡ get_or bytes (n + k) 0 ∷ drop (n + suc k) bytes
 one_more bytes n k lt =
     let next : suc (n + k) ≡ n + suc k = omega arith in
     drop-cons bytes (n + k) 0 lt ∙ ap (λ (m : ℕ). get_or bytes (n + k) 0 ∷ drop m bytes) next
 
-eight : (bytes : List ℕ) (n : ℕ) → n + 8 ≤ length bytes → drop (n + 0) bytes ≡ get_or bytes (n + 0) 0 ∷ get_or bytes (n + 1) 0 ∷ get_or bytes (n + 2) 0 ∷ get_or bytes (n + 3) 0 ∷ get_or bytes (n + 4) 0 ∷ get_or bytes (n + 5) 0 ∷ get_or bytes (n + 6) 0 ∷ get_or bytes (n + 7) 0 ∷ drop (n + 8) bytes
+eight : (bytes : List ℕ) (n : ℕ) → n + 8 ≤ length bytes →
+    drop (n + 0) bytes ≡ get_or bytes (n + 0) 0 ∷ get_or bytes (n + 1) 0 ∷ get_or bytes (n + 2) 0
+    ∷ get_or bytes (n + 3) 0 ∷ get_or bytes (n + 4) 0 ∷ get_or bytes (n + 5) 0 ∷ get_or bytes (n + 6) 0
+    ∷ get_or bytes (n + 7) 0 ∷ drop (n + 8) bytes
 eight bytes n long =
-    rw (one_more bytes n 0 (omega arith), one_more bytes n 1 (omega arith), one_more bytes n 2 (omega arith), one_more bytes n 3 (omega arith), one_more bytes n 4 (omega arith), one_more bytes n 5 (omega arith), one_more bytes n 6 (omega arith), one_more bytes n 7 (omega arith)) refl
+    rw (
+      one_more bytes n 0 (omega arith),
+      one_more bytes n 1 (omega arith),
+      one_more bytes n 2 (omega arith),
+      one_more
+          bytes n 3 (omega arith),
+      one_more bytes n 4 (omega arith),
+      one_more bytes n 5 (omega arith),
+      one_more bytes
+          n 6 (omega arith),
+      one_more bytes n 7 (omega arith),
+    ) refl
 
-pub from_slot : (image : List ℕ) (slot : ℕ) → 8 * slot + 8 ≤ length image → drop (8 * slot) image ≡ slot_bytes image slot ++ drop (8 * (slot + 1)) image
+pub from_slot : (image : List ℕ) (slot : ℕ) → 8 * slot + 8 ≤ length image →
+    drop (8 * slot) image ≡ slot_bytes image slot ++ drop (8 * (slot + 1)) image
 from_slot image slot long =
     let start : 8 * slot ≡ 8 * slot + 0 = omega arith in
     let end : 8 * slot + 8 ≡ 8 * (slot + 1) = omega arith in
-    ap (λ (n : ℕ). drop n image) start ∙ eight image (8 * slot) long ∙ ap (λ (n : ℕ). slot_bytes image slot ++ drop n image) end
+    ap (λ (n : ℕ). drop n image) start ∙ eight image (8 * slot) long
+    ∙ ap (λ (n : ℕ). slot_bytes image slot ++ drop n image) end
 
-pub from_slots : (image : List ℕ) (slot count : ℕ) → 8 * (slot + count) ≤ length image → drop (8 * slot) image ≡ slots_bytes image slot count ++ drop (8 * (slot + count)) image
-from_slots image slot zero long = let same : 8 * slot ≡ 8 * (slot + 0) = omega arith in ap (λ (n : ℕ). drop n image) same
+pub from_slots : (image : List ℕ) (slot count : ℕ) → 8 * (slot + count) ≤ length image →
+    drop (8 * slot) image ≡ slots_bytes image slot count ++ drop (8 * (slot + count)) image
+from_slots image slot zero long = let same : 8 * slot ≡ 8 * (slot + 0) = omega arith in
+    ap (λ (n : ℕ). drop n image) same
 from_slots image slot (suc count) long =
     let rest = from_slots image (slot + 1) count (omega arith) in
     let end : 8 * (slot + 1 + count) ≡ 8 * (slot + suc count) = omega arith in
     from_slot image slot (omega arith) ∙ ap (λ (l : List ℕ). slot_bytes image slot ++ l) rest
-    ∙ sym (append_assoc (slot_bytes image slot) (slots_bytes image (slot + 1) count) (drop (8 * (slot + 1 + count)) image))
+    ∙ sym (append_assoc (slot_bytes image slot) (slots_bytes image (slot + 1) count)
+    (drop (8 * (slot + 1 + count)) image))
     ∙ ap (λ (n : ℕ). slots_bytes image slot (suc count) ++ drop n image) end
 
 -- ---- the registers that an instruction names
@@ -271,6 +333,11 @@ slot_registers image slot i e =
     let src = number_below uses.src f.src high.src low.src in
     let changed = filled_reads f dst src read.template i read.is_filled in
     ⊎_elim
-    (λ (narrow : IsNarrow image slot i). record { dst = rw (← narrow.spelled.dst) dst; src = rw (← narrow.spelled.src) src; changed = changed })
-    (λ (wide : IsWide image slot i). subst HasRegisters wide.is (record { dst = dst; src = omega arith; changed = omega arith }))
+    (λ (narrow : IsNarrow image slot i). record {
+      dst = rw (← narrow.spelled.dst) dst;
+      src = rw (← narrow.spelled.src) src;
+      changed = changed;
+    })
+    (λ (wide : IsWide image slot i). subst HasRegisters wide.is
+    (record { dst = dst; src = omega arith; changed = omega arith }))
     (narrow_or_wide image slot i read)

@@ -4,7 +4,8 @@ use Rattle.std.proofs.lemmas.Bool.{and_parts, eqb-true, leb-true}
 use Rattle.machine_spec.specs.Opcodes.{Fields, Uses, is_zero, has_register, has_registers, has_zeros}
 
 -- what follows from a choice follows on both ways
-pub on_choice : {A : Type 0} (b : Bool) (x y z : A) (P : Type 0) → cond b x y ≡ z → (b ≡ true → x ≡ z → P) → (b ≡ false → y ≡ z → P) → P
+pub on_choice : {A : Type 0} (b : Bool) (x y z : A) (P : Type 0) → cond b x y ≡ z → (b ≡ true → x ≡ z → P) →
+    (b ≡ false → y ≡ z → P) → P
 on_choice true x y z P e held failed = held refl e
 on_choice false x y z P e held failed = failed refl e
 
@@ -26,7 +27,8 @@ pub record HasZeros (u : Uses) (f : Fields) : Type 0 where
 
 pub zeros : (u : Uses) (f : Fields) → has_zeros u f ≡ true → HasZeros u f
 zeros u f h =
-    let a = and_parts (((u.dst || eqb f.dst 0) && (u.src || eqb f.src 0)) && (u.offset || is_zero f.offset)) (u.imm || is_zero f.imm) h in
+    let a = and_parts (((u.dst || eqb f.dst 0) && (u.src || eqb f.src 0)) && (u.offset || is_zero f.offset))
+    (u.imm || is_zero f.imm) h in
     let b = and_parts ((u.dst || eqb f.dst 0) && (u.src || eqb f.src 0)) (u.offset || is_zero f.offset) a.0 in
     let c = and_parts (u.dst || eqb f.dst 0) (u.src || eqb f.src 0) b.0 in
     record {

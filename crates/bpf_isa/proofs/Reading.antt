@@ -1,15 +1,19 @@
 -- Reading an image slot after slot, as a loop does, and that what is read is the image's code.
-use Rattle.std.proofs.Common.{◌≡◌, ◌≢◌, ℕ, zero, suc, ◌+◌, ◌-◌, ◌<◌, ◌≤◌, true, false, cond, eqb, List, [], ◌∷◌, ◌++◌, length, map, Option, Some, None, Result, Ok, Err, refl, sym, ap, inl, inr, subst, ◌==◌, if◌then◌else◌, ◌∙◌, append_assoc, length-append, arith}
+use Rattle.std.proofs.Common.{◌≡◌, ◌≢◌, ℕ, zero, suc, ◌+◌, ◌-◌, ◌<◌, ◌≤◌, true, false, cond, eqb, List, [], ◌∷◌, ◌++◌}
+use Rattle.std.proofs.Common.{length, map, Option, Some, None, Result, Ok, Err, refl, sym, ap, inl, inr, subst, ◌==◌}
+use Rattle.std.proofs.Common.{if◌then◌else◌, ◌∙◌, append_assoc, length-append, arith}
 use Rattle.std.specs.Prelude.{slice_get, option_and_then, IfOk}
 use Rattle.std.proofs.lemmas.Bool.{lt-ltb, le-ltb, eq-eqb, ne_eqb, cases_eq, cond_both}
 use Rattle.std.proofs.lemmas.List.{append-nil}
 use Rattle.std.proofs.lemmas.Option.{same_Some, slice_get_past}
-use Rattle.machine_spec.specs.declared.instruction.Instruction.{Instruction}
-use Rattle.machine_spec.specs.declared.instruction.Instruction.TheVariants.{Move, Compute, Load, Unary, Store, JumpIf, Jump, Wide, Call, Exit}
-use Rattle.machine_spec.specs.declared.instruction.Placed.{Placed}
-use Rattle.machine_spec.specs.declared.instruction.IsaFault.{IsaFault}
+use Rattle.machine_spec.specs.declared.{instruction.Instruction.Instruction, instruction.Placed.Placed}
+use Rattle.machine_spec.specs.declared.{instruction.IsaFault.IsaFault}
+use Rattle.machine_spec.specs.declared.instruction.Instruction.TheVariants.{Move, Compute, Load, Unary, Store, JumpIf}
+use Rattle.machine_spec.specs.declared.instruction.Instruction.TheVariants.{Jump, Wide, Call, Exit}
 use Rattle.machine_spec.specs.declared.instruction.IsaFault.TheVariants as fault
-use Rattle.machine_spec.specs.Image.{slot_count, slot_after, first_slots_from, first_slots, has_size, read_slot, read_slots, then_placed, read_image, form_at, if_read, slots_of, number_from, number_at, IsCodeOf}
+use Rattle.machine_spec.specs.Image.{slot_count, slot_after, first_slots_from, first_slots, has_size, read_slot}
+use Rattle.machine_spec.specs.Image.{read_slots, then_placed, read_image, form_at, if_read, slots_of, number_from}
+use Rattle.machine_spec.specs.Image.{number_at, IsCodeOf}
 use Rattle.wire_spec.specs.Memory.{AnswersAs}
 use Rattle.bpf_isa.specs.Code.{AreBytes, IsTable, IsKept}
 use Rattle.bpf_isa.proofs.Cases.{on_choice}
@@ -35,60 +39,74 @@ with_front front (Err e) = Err e
 abbrev pub rest_from : List ℕ → ℕ → ℕ → Reading
 rest_from image steps slot = read_slots image (first_slots_from image steps slot)
 
-regroup : (front : List Placed) (p : Placed) (r : Reading) → with_front front (then_placed p.slot (Ok p.instruction) r) ≡ with_front (front ++ p ∷ []) r
+regroup : (front : List Placed) (p : Placed) (r : Reading) →
+    with_front front (then_placed p.slot (Ok p.instruction) r) ≡ with_front (front ++ p ∷ []) r
 regroup front p (Ok code) = ap read_all (simp append_assoc)
 regroup front p (Err e) = refl
 
-open_step : (image : List ℕ) (steps slot : ℕ) → slot < slot_count image → rest_from image (suc steps) slot ≡ then_placed slot (read_slot image slot) (rest_from image steps (slot_after image slot))
+open_step : (image : List ℕ) (steps slot : ℕ) → slot < slot_count image →
+    rest_from image (suc steps) slot
+    ≡ then_placed slot (read_slot image slot) (rest_from image steps (slot_after image slot))
 open_step image steps slot lt = rw (lt-ltb slot (slot_count image) lt) refl
 
-pub goes_on : (image : List ℕ) (front : List Placed) (slot : ℕ) (i : Instruction) (total : Reading) → length front ≤ slot → slot < slot_count image → read_slot image slot ≡ Ok i
+pub goes_on : (image : List ℕ) (front : List Placed) (slot : ℕ) (i : Instruction) (total : Reading) →
+    length front ≤ slot → slot < slot_count image → read_slot image slot ≡ Ok i
     → with_front front (rest_from image (slot_count image - length front) slot) ≡ total
-    → with_front (front ++ record { slot = slot; instruction = i } ∷ []) (rest_from image (slot_count image - (length front + 1)) (slot + slots_of i)) ≡ total
+    → with_front (front ++ record { slot = slot; instruction = i } ∷ [])
+    (rest_from image (slot_count image - (length front + 1)) (slot + slots_of i)) ≡ total
 goes_on image front slot i total few lt read so_far =
     let p : Placed = record { slot = slot; instruction = i } in
     let left = slot_count image - (length front + 1) in
     let k : slot_count image - length front ≡ suc left = omega arith in
-    let opened : rest_from image (slot_count image - length front) slot ≡ then_placed slot (Ok i) (rest_from image left (slot + slots_of i)) =
+    let opened : rest_from image (slot_count image - length front) slot
+    ≡ then_placed slot (Ok i) (rest_from image left (slot + slots_of i)) =
     ap (λ (n : ℕ). rest_from image n slot) k ∙ open_step image left slot lt
     ∙ ap (λ (r : Result Instruction IsaFault). then_placed slot r (rest_from image left (slot_after image slot))) read
     ∙ ap (λ (s : ℕ). then_placed slot (read_one i) (rest_from image left s)) (next_slot image slot i read) in
     sym (ap (with_front front) opened ∙ regroup front p (rest_from image left (slot + slots_of i))) ∙ so_far
 
-pub ends : (image : List ℕ) (front : List Placed) (slot : ℕ) (e : IsaFault) (total : Reading) → length front ≤ slot → slot < slot_count image → read_slot image slot ≡ Err e
-    → with_front front (rest_from image (slot_count image - length front) slot) ≡ total → total ≡ Err e
+pub ends : (image : List ℕ) (front : List Placed) (slot : ℕ) (e : IsaFault) (total : Reading) → length front ≤ slot →
+    slot < slot_count image → read_slot image slot ≡ Err e →
+    with_front front (rest_from image (slot_count image - length front) slot) ≡ total → total ≡ Err e
 ends image front slot e total few lt read so_far =
     let left = slot_count image - (length front + 1) in
     let k : slot_count image - length front ≡ suc left = omega arith in
     let opened : rest_from image (slot_count image - length front) slot ≡ Err e =
     ap (λ (n : ℕ). rest_from image n slot) k ∙ open_step image left slot lt
-    ∙ ap (λ (r : Result Instruction IsaFault). then_placed slot r (rest_from image left (slot_after image slot))) read in
+    ∙ ap (λ (r : Result Instruction IsaFault). then_placed slot r (rest_from image left (slot_after image slot)))
+    read in
     sym so_far ∙ ap (with_front front) opened
 
 closed : (image : List ℕ) (steps slot : ℕ) → slot_count image ≤ slot → rest_from image steps slot ≡ Ok []
 closed image zero slot le = refl
 closed image (suc steps) slot le = rw (le-ltb slot (slot_count image) le) refl
 
-pub is_done : (image : List ℕ) (front : List Placed) (slot steps : ℕ) (total : Reading) → slot_count image ≤ slot → with_front front (rest_from image steps slot) ≡ total → total ≡ Ok front
-is_done image front slot steps total le so_far = sym so_far ∙ ap (with_front front) (closed image steps slot le) ∙ ap read_all (append-nil front)
+pub is_done : (image : List ℕ) (front : List Placed) (slot steps : ℕ) (total : Reading) → slot_count image ≤ slot →
+    with_front front (rest_from image steps slot) ≡ total → total ≡ Ok front
+is_done image front slot steps total le so_far = sym so_far ∙ ap (with_front front) (closed image steps slot le)
+    ∙ ap read_all (append-nil front)
 
 -- ---- the table
 
 abbrev some_of : ℕ → Option ℕ
 some_of n = Some n
 
-number-push : (code : List Placed) (p : Placed) (k slot : ℕ) → p.slot ≢ slot → number_from k (code ++ p ∷ []) slot ≡ number_from k code slot
+number-push : (code : List Placed) (p : Placed) (k slot : ℕ) → p.slot ≢ slot →
+    number_from k (code ++ p ∷ []) slot ≡ number_from k code slot
 number-push [] p k slot other = rw (ne_eqb p.slot slot other) refl
 number-push (q ∷ code) p k slot other = ap (cond (eqb q.slot slot) (Some k)) (number-push code p (k + 1) slot other)
 
-number-push_here : (code : List Placed) (p : Placed) (k : ℕ) → number_from k code p.slot ≡ None → number_from k (code ++ p ∷ []) p.slot ≡ Some (k + length code)
+number-push_here : (code : List Placed) (p : Placed) (k : ℕ) → number_from k code p.slot ≡ None →
+    number_from k (code ++ p ∷ []) p.slot ≡ Some (k + length code)
 number-push_here [] p k none = rw (eq-eqb p.slot p.slot refl) (ap some_of (omega arith))
 number-push_here (q ∷ code) p k none =
-    on_choice (eqb q.slot p.slot) (some_of k) (number_from (k + 1) code p.slot) None (number_from k ((q ∷ code) ++ p ∷ []) p.slot ≡ Some (k + length (q ∷ code))) none
+    on_choice (eqb q.slot p.slot) (some_of k) (number_from (k + 1) code p.slot) None
+    (number_from k ((q ∷ code) ++ p ∷ []) p.slot ≡ Some (k + length (q ∷ code))) none
     (λ _. λ e. absurd cc)
     (λ other. λ e. let rest = number-push_here code p (k + 1) e in rw other (rest ∙ ap some_of (omega arith)))
 
-get_push_other : (xs : List (Option ℕ)) (x : Option ℕ) (slot : ℕ) → length xs ≢ slot → slice_get (xs ++ x ∷ []) slot ≡ slice_get xs slot
+get_push_other : (xs : List (Option ℕ)) (x : Option ℕ) (slot : ℕ) → length xs ≢ slot →
+    slice_get (xs ++ x ∷ []) slot ≡ slice_get xs slot
 get_push_other [] x zero other = absurd (other refl)
 get_push_other [] x (suc slot) other = refl
 get_push_other (y ∷ xs) x zero other = refl
@@ -105,28 +123,37 @@ entry numbers slot = option_and_then (λ number. number) (slice_get numbers slot
 abbrev flat : Option (Option ℕ) → Option ℕ
 flat o = option_and_then (λ number. number) o
 
-table_pushed : (code : List Placed) (numbers : List (Option ℕ)) (i : Instruction) → IsTable code numbers → IsTable (code ++ record { slot = length numbers; instruction = i } ∷ []) (numbers ++ Some (length code) ∷ [])
+table_pushed : (code : List Placed) (numbers : List (Option ℕ)) (i : Instruction) → IsTable code numbers →
+    IsTable (code ++ record { slot = length numbers; instruction = i } ∷ []) (numbers ++ Some (length code) ∷ [])
 table_pushed code numbers i table =
     let p : Placed = record { slot = length numbers; instruction = i } in
     let more = numbers ++ Some (length code) ∷ [] in
     let here : entry more (length numbers) ≡ number_at (code ++ p ∷ []) (length numbers) =
-    let none : number_at code (length numbers) ≡ None = sym (table.entries (length numbers)) ∙ ap flat (slice_get_past numbers (length numbers) (omega arith)) in
-    ap flat (get_push_here numbers (Some (length code))) ∙ sym (number-push_here code p 0 none ∙ ap some_of (omega arith)) in
+    let none : number_at code (length numbers) ≡ None = sym (table.entries (length numbers))
+    ∙ ap flat (slice_get_past numbers (length numbers) (omega arith)) in
+    ap flat (get_push_here numbers (Some (length code)))
+    ∙ sym (number-push_here code p 0 none ∙ ap some_of (omega arith)) in
     record {
       entries = λ slot. elim (cases_eq (length numbers) slot) [
         | inl same ↦ subst (λ (s : ℕ). entry more s ≡ number_at (code ++ p ∷ []) s) same here
-        | inr other ↦ ap flat (get_push_other numbers (Some (length code)) slot other) ∙ table.entries slot ∙ sym (number-push code p 0 slot other)
+        | inr other ↦ ap flat (get_push_other numbers (Some (length code)) slot other) ∙ table.entries slot
+            ∙ sym (number-push code p 0 slot other)
       ];
     }
 
-pub table_push : (code : List Placed) (numbers : List (Option ℕ)) (slot n : ℕ) (i : Instruction) → IsTable code numbers → slot ≡ length numbers → n ≡ length code → IsTable (code ++ record { slot = slot; instruction = i } ∷ []) (numbers ++ Some n ∷ [])
+pub table_push : (code : List Placed) (numbers : List (Option ℕ)) (slot n : ℕ) (i : Instruction) →
+    IsTable code numbers → slot ≡ length numbers → n ≡ length code →
+    IsTable (code ++ record { slot = slot; instruction = i } ∷ []) (numbers ++ Some n ∷ [])
 table_push code numbers slot n i table e d = rw (e, d) (table_pushed code numbers i table)
 
 -- no instruction begins at the next slot
-pub table_skip : (code : List Placed) (numbers : List (Option ℕ)) → IsTable code numbers → IsTable code (numbers ++ None ∷ [])
+pub table_skip : (code : List Placed) (numbers : List (Option ℕ)) → IsTable code numbers →
+    IsTable code (numbers ++ None ∷ [])
 table_skip code numbers table =
-    let none : number_at code (length numbers) ≡ None = sym (table.entries (length numbers)) ∙ ap flat (slice_get_past numbers (length numbers) (omega arith)) in
-    let here : entry (numbers ++ None ∷ []) (length numbers) ≡ number_at code (length numbers) = ap flat (get_push_here numbers None) ∙ sym none in
+    let none : number_at code (length numbers) ≡ None = sym (table.entries (length numbers))
+    ∙ ap flat (slice_get_past numbers (length numbers) (omega arith)) in
+    let here : entry (numbers ++ None ∷ []) (length numbers) ≡ number_at code (length numbers) =
+    ap flat (get_push_here numbers None) ∙ sym none in
     record {
       entries = λ slot. elim (cases_eq (length numbers) slot) [
         | inl same ↦ subst (λ (s : ℕ). entry (numbers ++ None ∷ []) s ≡ number_at code s) same here
@@ -138,7 +165,8 @@ table_skip code numbers table =
 abbrev pub entered : List (Option ℕ) → ℕ → ℕ → List (Option ℕ)
 entered numbers n slots = (numbers ++ Some n ∷ []) ++ (if slots == 2 then None ∷ [] else [])
 
-pub table_enter : (code : List Placed) (numbers : List (Option ℕ)) (slot n : ℕ) (i : Instruction) → IsTable code numbers → slot ≡ length numbers → n ≡ length code
+pub table_enter : (code : List Placed) (numbers : List (Option ℕ)) (slot n : ℕ) (i : Instruction) →
+    IsTable code numbers → slot ≡ length numbers → n ≡ length code
     → IsTable (code ++ record { slot = slot; instruction = i } ∷ []) (entered numbers n (slots_of i))
 table_enter code numbers slot n i table e d =
     let placed = code ++ record { slot = slot; instruction = i } ∷ [] in
@@ -147,10 +175,12 @@ table_enter code numbers slot n i table e d =
     (λ _. table_skip placed (numbers ++ Some n ∷ []) pushed)
     (λ _. subst (IsTable placed) (sym (append-nil (numbers ++ Some n ∷ []))) pushed)
 
-lengths : (numbers : List (Option ℕ)) (n : ℕ) (rest : List (Option ℕ)) → length ((numbers ++ Some n ∷ []) ++ rest) ≡ length numbers + suc (length rest)
+lengths : (numbers : List (Option ℕ)) (n : ℕ) (rest : List (Option ℕ)) →
+    length ((numbers ++ Some n ∷ []) ++ rest) ≡ length numbers + suc (length rest)
 lengths numbers n rest = omega (arith, length-append (numbers ++ Some n ∷ []) rest, length-append numbers (Some n ∷ []))
 
-pub entered_length : (numbers : List (Option ℕ)) (n : ℕ) (i : Instruction) → length (entered numbers n (slots_of i)) ≡ length numbers + slots_of i
+pub entered_length : (numbers : List (Option ℕ)) (n : ℕ) (i : Instruction) →
+    length (entered numbers n (slots_of i)) ≡ length numbers + slots_of i
 entered_length numbers n (Wide _ _) = lengths numbers n (None ∷ [])
 entered_length numbers n (Move _ _ _) = lengths numbers n []
 entered_length numbers n (Compute _ _ _ _) = lengths numbers n []
@@ -172,27 +202,35 @@ record Cons (image : List ℕ) (slot : ℕ) (slots : List ℕ) (code : List Plac
   later : read_slots image slots ≡ Ok others
   whole : code ≡ record { slot = slot; instruction = instruction } ∷ others
 
-cons_by : (image : List ℕ) (slot : ℕ) (slots : List ℕ) (code : List Placed) (r : Result Instruction IsaFault) (rs : Reading) → read_slot image slot ≡ r → read_slots image slots ≡ rs → then_placed slot r rs ≡ Ok code → Cons image slot slots code
-cons_by image slot slots code (Ok i) (Ok others) here later e = record { instruction = i; others = others; here = here; later = later; whole = cc }
+cons_by : (image : List ℕ) (slot : ℕ) (slots : List ℕ) (code : List Placed) (r : Result Instruction IsaFault)
+    (rs : Reading) → read_slot image slot ≡ r → read_slots image slots ≡ rs → then_placed slot r rs ≡ Ok code →
+    Cons image slot slots code
+cons_by image slot slots code (Ok i) (Ok others) here later e =
+    record { instruction = i; others = others; here = here; later = later; whole = cc }
 cons_by image slot slots code (Ok i) (Err f) here later e = absurd cc
 cons_by image slot slots code (Err f) rs here later e = absurd cc
 
-slots_read : (image : List ℕ) (slots : List ℕ) (code : List Placed) → read_slots image slots ≡ Ok code → map (λ placed. placed.slot) code ≡ slots
+slots_read : (image : List ℕ) (slots : List ℕ) (code : List Placed) → read_slots image slots ≡ Ok code →
+    map (λ placed. placed.slot) code ≡ slots
 slots_read image [] code e = let nothing : [] ≡ code = cc in rw (← nothing) refl
 slots_read image (slot ∷ slots) code e =
     let c = cons_by image slot slots code (read_slot image slot) (read_slots image slots) refl refl e in
     rw c.whole (ap (λ (l : List ℕ). slot ∷ l) (slots_read image slots c.others c.later))
 
-forms_cons : (image : List ℕ) (slot : ℕ) (i : Instruction) (others : List Placed) (k : ℕ) (placed : Placed) → read_slot image slot ≡ Ok i
-    → ((k : ℕ) (placed : Placed) → slice_get others k ≡ Some placed → form_at image placed.slot ≡ Some placed.instruction)
-    → slice_get (record { slot = slot; instruction = i } ∷ others) k ≡ Some placed → form_at image placed.slot ≡ Some placed.instruction
+forms_cons : (image : List ℕ) (slot : ℕ) (i : Instruction) (others : List Placed) (k : ℕ) (placed : Placed) →
+    read_slot image slot ≡ Ok i
+    → ((k : ℕ) (placed : Placed) → slice_get others k ≡ Some placed →
+    form_at image placed.slot ≡ Some placed.instruction)
+    → slice_get (record { slot = slot; instruction = i } ∷ others) k ≡ Some placed →
+    form_at image placed.slot ≡ Some placed.instruction
 forms_cons image slot i others zero placed here later at =
     let p : Placed = record { slot = slot; instruction = i } in
     let same : p ≡ placed = same_Some p placed at in
     subst (λ (q : Placed). form_at image q.slot ≡ Some q.instruction) same (ap if_read here)
 forms_cons image slot i others (suc k) placed here later at = later k placed at
 
-forms_read : (image : List ℕ) (slots : List ℕ) (code : List Placed) → read_slots image slots ≡ Ok code → (k : ℕ) (placed : Placed) → slice_get code k ≡ Some placed → form_at image placed.slot ≡ Some placed.instruction
+forms_read : (image : List ℕ) (slots : List ℕ) (code : List Placed) → read_slots image slots ≡ Ok code →
+    (k : ℕ) (placed : Placed) → slice_get code k ≡ Some placed → form_at image placed.slot ≡ Some placed.instruction
 forms_read image [] code e k placed at =
     let nothing : [] ≡ code = cc in
     let none : slice_get code k ≡ None = rw (← nothing) refl in
@@ -211,20 +249,30 @@ pub unsized_read : (image : List ℕ) → has_size image ≡ false → read_imag
 unfolding read_image
 unsized_read image size = rw size refl
 
-pub is_code_from : (image : List ℕ) (code : List Placed) → has_size image ≡ true → read_slots image (first_slots image) ≡ Ok code → IsCodeOf image code
-is_code_from image code size e = record { size = size; slots = slots_read image (first_slots image) code e; forms = forms_read image (first_slots image) code e }
+pub is_code_from : (image : List ℕ) (code : List Placed) → has_size image ≡ true →
+    read_slots image (first_slots image) ≡ Ok code → IsCodeOf image code
+is_code_from image code size e =
+    record {
+      size = size;
+      slots = slots_read image (first_slots image) code e;
+      forms = forms_read image (first_slots image) code e;
+    }
 
-slots_again : (image : List ℕ) (code : List Placed) → ((k : ℕ) (placed : Placed) → slice_get code k ≡ Some placed → form_at image placed.slot ≡ Some placed.instruction) → read_slots image (map (λ placed. placed.slot) code) ≡ Ok code
+slots_again : (image : List ℕ) (code : List Placed) →
+    ((k : ℕ) (placed : Placed) → slice_get code k ≡ Some placed → form_at image placed.slot ≡ Some placed.instruction) →
+    read_slots image (map (λ placed. placed.slot) code) ≡ Ok code
 slots_again image [] forms = refl
 slots_again image (p ∷ code) forms =
     rw (form_read image p.slot p.instruction (forms 0 p refl), slots_again image code (λ k. forms (suc k))) refl
 
 -- the code of an image is what it reads as
 pub code_read : (image : List ℕ) (code : List Placed) → IsCodeOf image code → read_image image ≡ Ok code
-code_read image code is = sized_read image is.size ∙ ap (read_slots image) (sym is.slots) ∙ slots_again image code is.forms
+code_read image code is = sized_read image is.size ∙ ap (read_slots image) (sym is.slots)
+    ∙ slots_again image code is.forms
 
 pub one_code : (image : List ℕ) (code other : List Placed) → IsCodeOf image code → IsCodeOf image other → code ≡ other
-one_code image code other is other_is = let same : read_all code ≡ read_all other = sym (code_read image code is) ∙ code_read image other other_is in cc
+one_code image code other is other_is = let same : read_all code ≡ read_all other = sym (code_read image code is)
+    ∙ code_read image other other_is in cc
 
 -- ---- the loop's ends
 
@@ -232,7 +280,8 @@ front_none : (r : Reading) → with_front [] r ≡ r
 front_none (Ok code) = refl
 front_none (Err e) = refl
 
-pub starts : (image : List ℕ) → with_front [] (rest_from image (slot_count image - 0) 0) ≡ read_slots image (first_slots image)
+pub starts : (image : List ℕ) → with_front [] (rest_from image (slot_count image - 0) 0)
+    ≡ read_slots image (first_slots image)
 unfolding first_slots
 starts image =
     let all : slot_count image - 0 ≡ slot_count image = omega arith in
@@ -241,17 +290,24 @@ starts image =
 pub table_none : IsTable [] []
 table_none = record { entries = λ slot. refl }
 
-pub kept : (image : List ℕ) (code : List Placed) (numbers : List (Option ℕ)) → AreBytes image → has_size image ≡ true → read_slots image (first_slots image) ≡ Ok code → IsTable code numbers → IsKept code numbers
+pub kept : (image : List ℕ) (code : List Placed) (numbers : List (Option ℕ)) → AreBytes image → has_size image ≡ true →
+    read_slots image (first_slots image) ≡ Ok code → IsTable code numbers → IsKept code numbers
 kept image code numbers bytes size read table =
-    record { image = record { image = image; bytes = bytes; is_code = is_code_from image code size read }; table = table }
+    record {
+      image = record { image = image; bytes = bytes; is_code = is_code_from image code size read };
+      table = table;
+    }
 
-pub if_ok_code : (image : List ℕ) (r : Reading) → has_size image ≡ true → AnswersAs fault.Memory (λ (code : List Placed). code) r (read_slots image (first_slots image)) → IfOk r (λ code. IsCodeOf image code)
+pub if_ok_code : (image : List ℕ) (r : Reading) → has_size image ≡ true →
+    AnswersAs fault.Memory (λ (code : List Placed). code) r (read_slots image (first_slots image)) →
+    IfOk r (λ code. IsCodeOf image code)
 if_ok_code image (Ok code) size read = is_code_from image code size read
 if_ok_code image (Err e) size read = tt
 
 pub read_code : (image : List ℕ) (code : List Placed) → read_image image ≡ Ok code → IsCodeOf image code
 unfolding read_image
 read_code image code e =
-    on_choice (has_size image) (read_slots image (first_slots image)) (Err fault.Size) (read_all code) (IsCodeOf image code) e
+    on_choice (has_size image) (read_slots image (first_slots image)) (Err fault.Size) (read_all code)
+    (IsCodeOf image code) e
     (λ size. λ e. is_code_from image code size e)
     (λ _. λ e. absurd cc)

@@ -1,5 +1,6 @@
 -- How many slots an image has, and how many instructions begin in them.
-use Rattle.std.proofs.Common.{◌≡◌, ℕ, zero, suc, ◌*◌, ◌%◌, ◌<◌, ◌≤◌, true, ◌&&◌, eqb, leb, ltb, List, [], ◌∷◌, length, sym, ap, ◌∙◌, arith}
+use Rattle.std.proofs.Common.{◌≡◌, ℕ, zero, suc, ◌*◌, ◌%◌, ◌<◌, ◌≤◌, true, ◌&&◌, eqb, leb, ltb, List, [], ◌∷◌, length}
+use Rattle.std.proofs.Common.{sym, ap, ◌∙◌, arith}
 use Rattle.std.proofs.lemmas.Bool.{eqb-true, leb-true, lt-ltb, and_parts, cond_both}
 use Rattle.std.proofs.lemmas.List.{length-map}
 use Rattle.machine_spec.specs.declared.instruction.Placed.{Placed}
@@ -23,10 +24,12 @@ pub slots_few : (image : List ℕ) (steps slot : ℕ) → length (first_slots_fr
 slots_few image zero slot = omega arith
 slots_few image (suc steps) slot =
     let others = slots_few image steps (slot_after image slot) in
-    cond_both (ltb slot (slot_count image)) (slot ∷ first_slots_from image steps (slot_after image slot)) [] (λ l. length l ≤ suc steps) (λ _. omega arith) (λ _. omega arith)
+    cond_both (ltb slot (slot_count image)) (slot ∷ first_slots_from image steps (slot_after image slot)) []
+    (λ l. length l ≤ suc steps) (λ _. omega arith) (λ _. omega arith)
 
 -- an instruction begins at slot 0
-slots_some : (image : List ℕ) (steps : ℕ) → 0 < steps → 0 < slot_count image → 0 < length (first_slots_from image steps 0)
+slots_some : (image : List ℕ) (steps : ℕ) → 0 < steps → 0 < slot_count image →
+    0 < length (first_slots_from image steps 0)
 slots_some image zero some_steps some = omega arith
 slots_some image (suc steps) some_steps some = rw (lt-ltb 0 (slot_count image) some) (omega arith)
 

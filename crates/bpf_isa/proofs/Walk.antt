@@ -1,93 +1,124 @@
 -- Code and image, from the first slot to the last.
-use Rattle.std.proofs.Common.{◌≡◌, ℕ, zero, suc, ◌+◌, ◌*◌, ◌<◌, ◌≤◌, Bool, true, false, cond, eqb, ltb, List, [], ◌∷◌, ◌++◌, length, map, drop, Option, Some, None, Ok, refl, sym, ap, ◌∙◌, arith}
+use Rattle.std.proofs.Common.{◌≡◌, ℕ, zero, suc, ◌+◌, ◌*◌, ◌<◌, ◌≤◌, Bool, true, false, cond, eqb, ltb, List, [], ◌∷◌}
+use Rattle.std.proofs.Common.{◌++◌, length, map, drop, Option, Some, None, Ok, refl, sym, ap, ◌∙◌, arith}
 use Rattle.std.specs.Prelude.{slice_get, option_map, IfSome}
 use Rattle.std.proofs.lemmas.Bool.{ltb-true, ltb-false}
 use Rattle.std.proofs.lemmas.List.{drop_all}
 use Rattle.std.proofs.lemmas.List.Concat.{flat_map-cons}
 use Rattle.std.proofs.lemmas.Option.{same_Some, slice_get-map}
 use Rattle.machine_spec.specs.declared.instruction.Placed.{Placed}
-use Rattle.machine_spec.specs.Image.{slot_count, slot_after, first_slots_from, first_slots, read_slot, form_at, slots_of, number_from, number_at, IsCodeOf}
+use Rattle.machine_spec.specs.Image.{slot_count, slot_after, first_slots_from, first_slots, read_slot, form_at}
+use Rattle.machine_spec.specs.Image.{slots_of, number_from, number_at, IsCodeOf}
 use Rattle.bpf_isa.specs.Code.{AreBytes}
-use Rattle.bpf_isa.specs.Spelling.{spelling, spelled, HasRegisters}
+use Rattle.bpf_isa.specs.Spelling.{spelling, image_bytes, HasRegisters}
 use Rattle.bpf_isa.proofs.Cases.{on_choice}
 use Rattle.bpf_isa.proofs.Slots.{IsSized, sized}
-use Rattle.bpf_isa.proofs.Bytes.{slots_bytes, from_slots, slot_spelled, slot_registers, form_read, next_slot, inside, some_slots}
+use Rattle.bpf_isa.proofs.Bytes.{slots_bytes, from_slots, slot_spelled, slot_registers, form_read, next_slot, inside}
+use Rattle.bpf_isa.proofs.Bytes.{some_slots}
 
 abbrev firsts_of : List Placed → List ℕ
 firsts_of code = map (λ placed. placed.slot) code
 
 -- at each slot the instruction that is placed there
 abbrev AreForms : List ℕ → List Placed → Type 0
-AreForms image code = (k : ℕ) (placed : Placed) → slice_get code k ≡ Some placed → form_at image placed.slot ≡ Some placed.instruction
+AreForms image code = (k : ℕ) (placed : Placed) → slice_get code k ≡ Some placed →
+    form_at image placed.slot ≡ Some placed.instruction
 
 -- ---- the bytes of an image are its code's spelling
 
 -- the bytes from a slot on, where the instructions from there on are known
 abbrev Goes : List ℕ → ℕ → List Placed → Type 0
-Goes image slot code = drop (8 * slot) image ≡ spelled code
+Goes image slot code = drop (8 * slot) image ≡ image_bytes code
 
 ended : (image : List ℕ) (slot : ℕ) → IsSized image → slot_count image ≤ slot → Goes image slot []
 ended image slot size past = drop_all (8 * slot) image (let whole = size.whole in omega arith)
 
-one_on : (image : List ℕ) (slot : ℕ) (p : Placed) (code : List Placed) → AreBytes image → IsSized image → slot < slot_count image → read_slot image slot ≡ Ok p.instruction → Goes image (slot + slots_of p.instruction) code → Goes image slot (p ∷ code)
+one_on : (image : List ℕ) (slot : ℕ) (p : Placed) (code : List Placed) → AreBytes image → IsSized image →
+    slot < slot_count image → read_slot image slot ≡ Ok p.instruction →
+    Goes image (slot + slots_of p.instruction) code → Goes image slot (p ∷ code)
 one_on image slot p code fits size within read rest =
     let whole = size.whole in
     let all = inside image slot p.instruction read within in
     let long : 8 * (slot + slots_of p.instruction) ≤ length image = omega arith in
-    let bytes : slots_bytes image slot (slots_of p.instruction) ≡ spelling p.instruction = slot_spelled image slot p.instruction fits read in
-    from_slots image slot (slots_of p.instruction) long ∙ ap (λ (t : List ℕ). slots_bytes image slot (slots_of p.instruction) ++ t) rest ∙ ap (λ (t : List ℕ). t ++ spelled code) bytes ∙ sym (flat_map-cons (λ placed. spelling placed.instruction) p code)
+    let bytes : slots_bytes image slot (slots_of p.instruction) ≡ spelling p.instruction =
+    slot_spelled image slot p.instruction fits read in
+    from_slots image slot (slots_of p.instruction) long
+    ∙ ap (λ (t : List ℕ). slots_bytes image slot (slots_of p.instruction) ++ t) rest
+    ∙ ap (λ (t : List ℕ). t ++ image_bytes code) bytes
+    ∙ sym (flat_map-cons (λ placed. spelling placed.instruction) p code)
 
-goes : (image : List ℕ) → AreBytes image → IsSized image → (steps slot : ℕ) (code : List Placed) → slot_count image ≤ slot + steps → firsts_of code ≡ first_slots_from image steps slot → AreForms image code → Goes image slot code
+goes : (image : List ℕ) → AreBytes image → IsSized image → (steps slot : ℕ) (code : List Placed) →
+    slot_count image ≤ slot + steps → firsts_of code ≡ first_slots_from image steps slot → AreForms image code →
+    Goes image slot code
 goes image fits size zero slot [] enough e forms = ended image slot size (omega arith)
 goes image fits size zero slot (p ∷ code) enough e forms = absurd cc
 goes image fits size (suc steps) slot [] enough e forms =
-    on_choice (ltb slot (slot_count image)) (slot ∷ first_slots_from image steps (slot_after image slot)) [] [] (Goes image slot []) (sym e)
+    on_choice (ltb slot (slot_count image)) (slot ∷ first_slots_from image steps (slot_after image slot)) [] []
+    (Goes image slot []) (sym e)
     (λ _. λ e. absurd cc)
     (λ past. λ _. ended image slot size (ltb-false _ _ past))
 goes image fits size (suc steps) slot (p ∷ code) enough e forms =
-    on_choice (ltb slot (slot_count image)) (slot ∷ first_slots_from image steps (slot_after image slot)) [] (firsts_of (p ∷ code)) (Goes image slot (p ∷ code)) (sym e)
+    on_choice (ltb slot (slot_count image)) (slot ∷ first_slots_from image steps (slot_after image slot)) []
+    (firsts_of (p ∷ code)) (Goes image slot (p ∷ code)) (sym e)
     (λ within. λ e.
     let here : slot ≡ p.slot = cc in
     let later : first_slots_from image steps (slot_after image slot) ≡ firsts_of code = cc in
-    let read : read_slot image slot ≡ Ok p.instruction = form_read image slot p.instruction (ap (form_at image) here ∙ forms 0 p refl) in
+    let read : read_slot image slot ≡ Ok p.instruction =
+    form_read image slot p.instruction (ap (form_at image) here ∙ forms 0 p refl) in
     let next = next_slot image slot p.instruction read in
     let some = some_slots p.instruction in
-    let rest = goes image fits size steps (slot + slots_of p.instruction) code (omega arith) (sym later ∙ ap (first_slots_from image steps) next) (λ k. forms (suc k)) in
+    let rest = goes image fits size steps (slot + slots_of p.instruction) code (omega arith)
+    (sym later ∙ ap (first_slots_from image steps) next) (λ k. forms (suc k)) in
     one_on image slot p code fits size (ltb-true _ _ within) read rest)
     (λ _. λ e. absurd cc)
 
-pub code_spelled : (image : List ℕ) (code : List Placed) → AreBytes image → IsCodeOf image code → image ≡ spelled code
+pub code_spelled : (image : List ℕ) (code : List Placed) → AreBytes image → IsCodeOf image code →
+    image ≡ image_bytes code
 unfolding first_slots
-code_spelled image code fits is = goes image fits (sized image is.size) (slot_count image) 0 code (omega arith) is.slots is.forms
+code_spelled image code fits is =
+    goes image fits (sized image is.size) (slot_count image) 0 code (omega arith) is.slots is.forms
 
-pub one_image : (image other : List ℕ) (code : List Placed) → AreBytes image → AreBytes other → IsCodeOf image code → IsCodeOf other code → image ≡ other
-one_image image other code fits other_fits is other_is = code_spelled image code fits is ∙ sym (code_spelled other code other_fits other_is)
+pub one_image : (image other : List ℕ) (code : List Placed) → AreBytes image → AreBytes other → IsCodeOf image code →
+    IsCodeOf other code → image ≡ other
+one_image image other code fits other_fits is other_is = code_spelled image code fits is
+    ∙ sym (code_spelled other code other_fits other_is)
 
 -- ---- each instruction of a code
 
-slots_below : (image : List ℕ) (steps slot k s : ℕ) → slice_get (first_slots_from image steps slot) k ≡ Some s → s < slot_count image
+slots_below : (image : List ℕ) (steps slot k s : ℕ) → slice_get (first_slots_from image steps slot) k ≡ Some s →
+    s < slot_count image
 slots_below image zero slot k s e = absurd cc
 slots_below image (suc steps) slot k s e =
-    let within : (b : Bool) → ltb slot (slot_count image) ≡ b → slice_get (cond b (slot ∷ first_slots_from image steps (slot_after image slot)) []) k ≡ Some s → s < slot_count image =
-    λ b. elim b as (λ b. ltb slot (slot_count image) ≡ b → slice_get (cond b (slot ∷ first_slots_from image steps (slot_after image slot)) []) k ≡ Some s → s < slot_count image) [
-      | true ↦ λ lt. elim k as (λ k. slice_get (slot ∷ first_slots_from image steps (slot_after image slot)) k ≡ Some s → s < slot_count image) [
-        | zero ↦ λ e. let same : slot ≡ s = same_Some slot s e in let below = ltb-true _ _ lt in omega arith
-        | suc k ↦ λ e. slots_below image steps (slot_after image slot) k s e
-      ]
+    let within : (b : Bool) → ltb slot (slot_count image) ≡ b →
+    slice_get (cond b (slot ∷ first_slots_from image steps (slot_after image slot)) []) k ≡ Some s →
+    s < slot_count image =
+    λ b. elim b as (λ b. ltb slot (slot_count image) ≡ b →
+    slice_get (cond b (slot ∷ first_slots_from image steps (slot_after image slot)) []) k ≡ Some s →
+    s < slot_count image) [
+      | true ↦ λ lt. elim k as (λ k. slice_get (slot ∷ first_slots_from image steps (slot_after image slot)) k ≡ Some s
+          → s < slot_count image) [
+            | zero ↦ λ e. let same : slot ≡ s = same_Some slot s e in let below = ltb-true _ _ lt in omega arith
+            | suc k ↦ λ e. slots_below image steps (slot_after image slot) k s e
+          ]
       | false ↦ λ _. λ e. absurd cc
     ] in
     within (ltb slot (slot_count image)) refl e
 
-pub placed_small : (image : List ℕ) (code : List Placed) (k : ℕ) (p : Placed) → IsCodeOf image code → slice_get code k ≡ Some p → p.slot < 4096
+pub placed_small : (image : List ℕ) (code : List Placed) (k : ℕ) (p : Placed) → IsCodeOf image code →
+    slice_get code k ≡ Some p → p.slot < 4096
 unfolding first_slots
 placed_small image code k p is at =
-    let slot : slice_get (firsts_of code) k ≡ Some p.slot = slice_get-map (λ placed. placed.slot) code k ∙ ap (option_map (λ placed. placed.slot)) at in
-    let below = slots_below image (slot_count image) 0 k p.slot (ap (λ (l : List ℕ). slice_get l k) (sym is.slots) ∙ slot) in
+    let slot : slice_get (firsts_of code) k ≡ Some p.slot = slice_get-map (λ placed. placed.slot) code k
+    ∙ ap (option_map (λ placed. placed.slot)) at in
+    let below = slots_below image (slot_count image) 0 k p.slot
+    (ap (λ (l : List ℕ). slice_get l k) (sym is.slots) ∙ slot) in
     let few = (sized image is.size).few in
     omega arith
 
-pub placed_registers : (image : List ℕ) (code : List Placed) (k : ℕ) (p : Placed) → IsCodeOf image code → slice_get code k ≡ Some p → HasRegisters p.instruction
-placed_registers image code k p is at = slot_registers image p.slot p.instruction (form_read image p.slot p.instruction (is.forms k p at))
+pub placed_registers : (image : List ℕ) (code : List Placed) (k : ℕ) (p : Placed) → IsCodeOf image code →
+    slice_get code k ≡ Some p → HasRegisters p.instruction
+placed_registers image code k p is at =
+    slot_registers image p.slot p.instruction (form_read image p.slot p.instruction (is.forms k p at))
 
 -- ---- numbers of slots
 
@@ -98,6 +129,7 @@ number_below (p ∷ code) k slot n e =
     (λ _. λ e. let same : k ≡ n = same_Some k n e in omega arith)
     (λ _. λ e. let rest = number_below code (k + 1) slot n e in omega arith)
 
-pub number_within : (code : List Placed) (slot : ℕ) (o : Option ℕ) → o ≡ number_at code slot → IfSome o (λ n. n < length code)
+pub number_within : (code : List Placed) (slot : ℕ) (o : Option ℕ) → o ≡ number_at code slot →
+    IfSome o (λ n. n < length code)
 number_within code slot None e = tt
 number_within code slot (Some n) e = let below = number_below code 0 slot n (sym e) in omega arith

@@ -1,12 +1,13 @@
 -- Code as a list of placed instructions.
-use Rattle.std.specs.Prelude.{◌≡◌, ℕ, ◌<◌, List, [], ◌∷◌, slice_index, slice_get, Option, option_and_then, map, Some, None, ◌==◌, if◌then◌else◌}
-use Rattle.machine_spec.specs.declared.instruction.Instruction.{Instruction}
-use Rattle.machine_spec.specs.declared.instruction.Placed.{Placed}
+use Rattle.std.specs.Prelude.{◌≡◌, ℕ, ◌<◌, List, [], ◌∷◌, slice_index, slice_get, Option, option_and_then, map, Some}
+use Rattle.std.specs.Prelude.{None, ◌==◌, if◌then◌else◌}
+use Rattle.machine_spec.specs.declared.{instruction.Instruction.Instruction, instruction.Placed.Placed}
 use Rattle.machine_spec.specs.Image.{IsCodeOf, number_at}
 
 -- each instruction with its slot, of two lists of one length
 abbrev pub placed_of : List ℕ → List Instruction → List Placed
-placed_of (slot ∷ slots) (instruction ∷ instructions) = record { slot = slot; instruction = instruction } ∷ placed_of slots instructions
+placed_of (slot ∷ slots) (instruction ∷ instructions) = record { slot = slot; instruction = instruction }
+    ∷ placed_of slots instructions
 placed_of (slot ∷ slots) [] = []
 placed_of [] instructions = []
 

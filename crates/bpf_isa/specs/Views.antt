@@ -1,6 +1,5 @@
 -- The parts of a slot as the definitions of images name them.
-use Rattle.bpf_isa.specs.declared.slot.SlotFields.{SlotFields}
-use Rattle.bpf_isa.specs.declared.form.UsedFields.{UsedFields}
+use Rattle.bpf_isa.specs.declared.{slot.SlotFields.SlotFields, form.UsedFields.UsedFields}
 use Rattle.machine_spec.specs.Opcodes.{Fields, Uses}
 
 -- the fields of a slot

@@ -189,8 +189,8 @@ fn signed_where(unsigned: Operation, signed: Operation, offset: i16) -> Option<O
 }
 
 /// The operation that an offset selects.
-fn selected(operation: Operation, offset: i16) -> Option<Operation>
-    ensures { result ≡ definitions.selected operation offset }
+fn chosen_operation(operation: Operation, offset: i16) -> Option<Operation>
+    ensures { result ≡ definitions.chosen_operation operation offset }
 {
     match operation {
         Operation::Div | Operation::SignedDiv => {
@@ -314,7 +314,7 @@ fn filled_move(width: Width, source: Source, fields: SlotFields) -> Option<Instr
 }
 
 fn filled_distance(distance: Distance, fields: SlotFields) -> Option<Instruction>
-    ensures { result ≡ definitions.filled (Instruction.Jump distance) (view fields) }
+    ensures { result ≡ definitions.with_fields (Instruction.Jump distance) (view fields) }
 {
     Some(Instruction::Jump(match distance {
         Distance::Short(_) => Distance::Short(fields.offset),
@@ -323,7 +323,7 @@ fn filled_distance(distance: Distance, fields: SlotFields) -> Option<Instruction
 }
 
 /// The number with these halves.
-fn joined(upper: u32, lower: u32) -> u64
+fn wide_number(upper: u32, lower: u32) -> u64
     ensures { result ≡ upper * 2 ^ 32 + lower }
 {
     u64::from(upper) * 0x1_0000_0000 + u64::from(lower)
@@ -334,14 +334,14 @@ fn widening(dst: u8, imm: i32, upper: Option<u32>) -> Option<Instruction>
     ensures { result ≡ option_map (λ u. Instruction.Wide dst (u * 2 ^ 32 + cast_unsigned w32 imm)) upper }
 {
     match upper {
-        Some(upper) => Some(Instruction::Wide(dst, joined(upper, imm.cast_unsigned()))),
+        Some(upper) => Some(Instruction::Wide(dst, wide_number(upper, imm.cast_unsigned()))),
         None => None,
     }
 }
 
 /// A template with these fields in place of its own, if they encode an instruction.
-pub fn filled(template: Instruction, fields: SlotFields) -> Option<Instruction>
-    ensures { result ≡ definitions.filled template (view fields) }
+pub fn with_fields(template: Instruction, fields: SlotFields) -> Option<Instruction>
+    ensures { result ≡ definitions.with_fields template (view fields) }
 {
     let dst = fields.dst;
     let offset = fields.offset;
@@ -351,7 +351,7 @@ pub fn filled(template: Instruction, fields: SlotFields) -> Option<Instruction>
             width,
             dst,
             filled_source(source, fields),
-            selected(operation, offset),
+            chosen_operation(operation, offset),
         ),
         Instruction::Load(size, extension, _, _, _) => {
             Some(Instruction::Load(size, extension, dst, fields.src, offset))

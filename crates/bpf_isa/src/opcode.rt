@@ -114,10 +114,10 @@ fn source_bit(source: Source) -> u8
     }
 }
 
-fn coded(code: u8, source: Source, class: u8) -> u8
+fn opcode_byte(code: u8, source: Source, class: u8) -> u8
     requires code { code ≤ 13 }
     requires class { class ≤ 7 }
-    ensures { result ≡ definitions.coded code source class }
+    ensures { result ≡ definitions.opcode_byte code source class }
 {
     16 * code + (source_bit(source) + class)
 }
@@ -137,9 +137,13 @@ pub fn change_opcode(change: Change) -> u8
     ensures { result ≡ definitions.change_opcode change }
 {
     match change {
-        Change::Negate(width) => coded(8, Source::Immediate(0), arithmetic_class(width)),
+        Change::Negate(width) => opcode_byte(8, Source::Immediate(0), arithmetic_class(width)),
         Change::Order(order, _) => order_opcode(order),
-        Change::SignExtend(width, _) => coded(11, Source::Register(0), arithmetic_class(width)),
+        Change::SignExtend(width, _) => opcode_byte(
+            11,
+            Source::Register(0),
+            arithmetic_class(width),
+        ),
     }
 }
 
@@ -148,15 +152,15 @@ pub fn opcode_of(instruction: Instruction) -> u8
     ensures { result ≡ opcode_of instruction }
 {
     match instruction {
-        Instruction::Move(width, _, source) => coded(11, source, arithmetic_class(width)),
+        Instruction::Move(width, _, source) => opcode_byte(11, source, arithmetic_class(width)),
         Instruction::Compute(width, operation, _, source) => {
-            coded(operation_code(operation), source, arithmetic_class(width))
+            opcode_byte(operation_code(operation), source, arithmetic_class(width))
         }
         Instruction::Load(size, extension, _, _, _) => load_mode(extension) + size_bits(size),
         Instruction::Unary(change, _, _) => change_opcode(change),
         Instruction::Store(size, _, _, source) => 0x60 + (store_class(source) + size_bits(size)),
         Instruction::JumpIf(width, test, _, source, _) => {
-            coded(test_code(test), source, jump_class(width))
+            opcode_byte(test_code(test), source, jump_class(width))
         }
         Instruction::Jump(Distance::Short(_)) => 0x05,
         Instruction::Jump(Distance::Long(_)) => 0x06,

@@ -1,7 +1,7 @@
 //! One slot of an image: its fields, and the instruction that they encode.
 
 ghost use Rattle.std.specs.Prelude.{◌≡◌, ◌<◌};
-ghost use Rattle.machine_spec.specs.Image.{slot_count, word_at, upper_at, fields_at, if_filled, read_slot, checked};
+ghost use Rattle.machine_spec.specs.Image.{slot_count, word_at, upper_at, fields_at, if_filled, read_slot, checked_instruction};
 ghost use Rattle.bpf_isa.specs.Views.{view};
 
 use crate::{form, opcode};
@@ -96,7 +96,7 @@ fn accepted(
     fields: SlotFields,
     template: Option<Instruction>,
 ) -> Result<Instruction, IsaFault>
-    ensures { result ≡ checked slot (view fields) template }
+    ensures { result ≡ checked_instruction slot (view fields) template }
 {
     let Some(template) = template else {
         return Err(if opcode::is_left_out(fields.opcode) {
@@ -112,7 +112,7 @@ fn accepted(
     if !form::has_zeros(uses, fields) {
         return Err(IsaFault::Unused(slot));
     }
-    if_filled(slot, fields, form::filled(template, fields))
+    if_filled(slot, fields, form::with_fields(template, fields))
 }
 
 /// The instruction at a slot, or the slot's refusal, the first of opcode, registers, unused fields

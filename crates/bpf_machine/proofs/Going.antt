@@ -1,11 +1,10 @@
 -- What is known of a step and of an end, once the instruction is fetched.
 use Rattle.std.proofs.Common.{◌≡◌, ℕ, suc, ◌+◌, ◌<◌, ◌^◌, true, false, Some, refl, ap, ◌∙◌, subst, arith}
-use Rattle.machine_spec.specs.declared.instruction.Instruction.{Instruction}
-use Rattle.machine_spec.specs.declared.instruction.Trap.{Trap}
-use Rattle.machine_spec.specs.declared.outcome.Outcome.{Outcome}
+use Rattle.machine_spec.specs.declared.{instruction.Instruction.Instruction, instruction.Trap.Trap}
+use Rattle.machine_spec.specs.declared.{outcome.Outcome.Outcome}
 use Rattle.machine_spec.specs.Image.{Program, slot_count}
 use Rattle.machine_spec.specs.Summaries.{summary_of}
-use Rattle.machine_spec.specs.Machine.{Input, State, access_of, after}
+use Rattle.machine_spec.specs.Machine.{Input, State, access_of, state_after}
 use Rattle.machine_spec.specs.Traps.{calls_wrongly, trap_at}
 use Rattle.machine_spec.specs.Meaning.{Step, Reaches, outcome_of}
 use Rattle.machine_spec.proofs.Meanings.{exit_is, other_than_exit}
@@ -19,26 +18,46 @@ use Rattle.bpf_machine.proofs.Only.{ends_only}
 
 module _ (program : Program) (input : Input) (s : State) where
   pub writable : (i : Instruction) → IsNext program input s i → IsWritable (access_of (summary_of i).memory s.registers)
-  writable i next = let free = is_free program input s i next.no_trap next.form in record { record_stays = free.record_write; in_stack = free.stack_bounds }
+  writable i next = let free = is_free program input s i next.no_trap next.form in
+      record { record_stays = free.record_write; in_stack = free.stack_bounds }
 
   pub rightly : (i : Instruction) → IsNext program input s i → calls_wrongly input (summary_of i).call s ≡ false
   rightly i next = (is_free program input s i next.no_trap next.form).argument
 
-  pub stepped : (i : Instruction) (t : State) → IsNext program input s i → (summary_of i).exits ≡ false → t ≡ after i input s → Step program input s t
-  stepped i t next stays is = record { instruction = i; form = next.form; goes_on = other_than_exit i stays; no_trap = next.no_trap; next_is = is }
+  pub stepped : (i : Instruction) (t : State) → IsNext program input s i → (summary_of i).exits ≡ false →
+      t ≡ state_after i input s → Step program input s t
+  stepped i t next stays is = record {
+    instruction = i;
+    form = next.form;
+    goes_on = other_than_exit i stays;
+    no_trap = next.no_trap;
+    next_is = is;
+  }
 
   pub exited : (i : Instruction) → IsNext program input s i → (summary_of i).exits ≡ true → IsExit program input s
   exited i next exits = record { form = next.form ∙ ap Some (exit_is i exits); no_trap = next.no_trap }
 
-  pub ends_trapped : (n : ℕ) (reported : Trap) → Reaches program input n s → trap_at program input s ≡ Some reported → EndsOnlyIn program input (end.Trap reported) n
-  ends_trapped n reported chain trap = ends_only program input (end.Trap reported) n (record { last = s; chain = chain; trap = trap })
+  pub ends_trapped : (n : ℕ) (reported : Trap) → Reaches program input n s → trap_at program input s ≡ Some reported →
+      EndsOnlyIn program input (end.Trap reported) n
+  ends_trapped n reported chain trap =
+      ends_only program input (end.Trap reported) n (record { last = s; chain = chain; trap = trap })
 
-  pub ends_out : (n : ℕ) (outcome : Outcome) → Reaches program input n s → IsExit program input s → outcome ≡ outcome_of (s.registers 0) s.emitted → EndsOnlyIn program input (end.Out outcome) (n + 1)
+  pub ends_out : (n : ℕ) (outcome : Outcome) → Reaches program input n s → IsExit program input s →
+      outcome ≡ outcome_of (s.registers 0) s.emitted → EndsOnlyIn program input (end.Out outcome) (n + 1)
   ends_out n outcome chain at is =
-      ends_only program input (end.Out outcome) (n + 1) (record { steps = n; last = s; count = refl; chain = chain; end = record { form = at.form; no_trap = at.no_trap; outcome_is = is } })
+      ends_only program input (end.Out outcome) (n + 1) (record {
+        steps = n;
+        last = s;
+        count = refl;
+        chain = chain;
+        end =
+            record { form = at.form; no_trap = at.no_trap; outcome_is = is };
+      })
 
-  pub one_more : (n : ℕ) (t : State) → Reaches program input n s → Step program input s t → Reaches program input (n + 1) t
-  one_more n t chain step = let e : suc n ≡ n + 1 = omega arith in subst (λ k. Reaches program input k t) e (s, chain, step)
+  pub one_more : (n : ℕ) (t : State) → Reaches program input n s → Step program input s t →
+      Reaches program input (n + 1) t
+  one_more n t chain step = let e : suc n ≡ n + 1 = omega arith in
+      subst (λ k. Reaches program input k t) e (s, chain, step)
 
   -- the count and the slot are small
   pub small_slot : (n : ℕ) → Reaches program input n s → slot_count program.image < 2 ^ 61 → s.slot < 2 ^ 62

@@ -1,11 +1,13 @@
 -- A walk over the first slots of an image, and bytes written one after the other.
-use Rattle.std.proofs.Common.{◌≡◌, ◌≢◌, ℕ, zero, suc, ◌+◌, ◌-◌, ◌<◌, ◌≤◌, Bool, true, false, ◌&&◌, nat_lt, nat_le, ◌==◌, List, length, slice_set, Option, Some, refl, sym, ap, ◌∙◌, subst, ⊎_elim, arith}
+use Rattle.std.proofs.Common.{◌≡◌, ◌≢◌, ℕ, zero, suc, ◌+◌, ◌-◌, ◌<◌, ◌≤◌, Bool, true, false, ◌&&◌, nat_lt, nat_le, ◌==◌}
+use Rattle.std.proofs.Common.{List, length, slice_set, Option, Some, refl, sym, ap, ◌∙◌, subst, ⊎_elim, arith}
 use Rattle.std.specs.Prelude.{slice_get, option_and_then, slice_index}
 use Rattle.std.specs.List.{list_any}
-use Rattle.std.proofs.lemmas.Bool.{cond_both, lt-ltb, le-ltb, le-leb, eq-eqb, ne_eqb, ltb-true, leb-true, and_parts, and_from, cases_eq, false≢true}
+use Rattle.std.proofs.lemmas.Bool.{cond_both, lt-ltb, le-ltb, le-leb, eq-eqb, ne_eqb, ltb-true, leb-true, and_parts}
+use Rattle.std.proofs.lemmas.Bool.{and_from, cases_eq, false≢true}
 use Rattle.std.proofs.lemmas.Option.{slice_get-get_or}
 use Rattle.machine_spec.specs.Image.{slot_count, slot_after, first_slots_from, first_slots, is_first_slot}
-use Rattle.machine_spec.specs.Machine.{written}
+use Rattle.machine_spec.specs.Machine.{stack_with_bytes}
 use Rattle.bpf_machine.specs.Views.{stack_of}
 use Rattle.bpf_machine.proofs.Pieces.{get-set_same, get-set_other}
 
@@ -24,9 +26,11 @@ module _ (image : List ℕ) (target : ℕ) where
 
   pub comes_here : (left slot : ℕ) → 0 < left → slot < slot_count image → slot ≡ target → comes left slot ≡ true
   comes_here zero slot some within same = absurd (omega arith)
-  comes_here (suc steps) slot some within same = rw (lt-ltb slot (slot_count image) within, eq-eqb slot target same) refl
+  comes_here (suc steps) slot some within same =
+      rw (lt-ltb slot (slot_count image) within, eq-eqb slot target same) refl
 
-  pub comes_later : (steps left slot : ℕ) → left ≡ suc steps → slot < slot_count image → slot ≢ target → comes left slot ≡ comes steps (slot_after image slot)
+  pub comes_later : (steps left slot : ℕ) → left ≡ suc steps → slot < slot_count image → slot ≢ target →
+      comes left slot ≡ comes steps (slot_after image slot)
   comes_later steps left slot more within other =
       ap (λ n. comes n slot) more ∙ rw (lt-ltb slot (slot_count image) within, ne_eqb slot target other) refl
 
@@ -37,26 +41,38 @@ pub record Wrote (old new : List (Option ℕ)) (start : ℕ) (bytes : List ℕ) 
   pub outside : (place : ℕ) → ((j : ℕ) → j < k → place ≢ start + j) → stack_of new place ≡ stack_of old place
 
 pub Wrote-none : (old : List (Option ℕ)) (start : ℕ) (bytes : List ℕ) → Wrote old old start bytes 0
-Wrote-none old start bytes = record { size = refl; inside = λ j below. absurd (omega arith); outside = λ place apart. refl }
+Wrote-none old start bytes = record {
+  size = refl;
+  inside = λ j below. absurd (omega arith);
+  outside = λ place apart. refl;
+}
 
 abbrev flat : Option (Option ℕ) → Option ℕ
 flat o = option_and_then (λ byte. byte) o
 
-pub Wrote-more : (old new : List (Option ℕ)) (start : ℕ) (bytes : List ℕ) (k : ℕ) → Wrote old new start bytes k → k < length bytes → start + k < length new → length (slice_set new (start + k) (Some (slice_index bytes k))) ≡ length new
-    → Wrote old (slice_set new (start + k) (Some (slice_index bytes k))) start bytes (k + 1)
+pub Wrote-more : (old new : List (Option ℕ)) (start : ℕ) (bytes : List ℕ) (k : ℕ) → Wrote old new start bytes k →
+    k < length bytes → start + k < length new →
+    length (slice_set new (start + k) (Some (slice_index bytes k))) ≡ length new →
+    Wrote old (slice_set new (start + k) (Some (slice_index bytes k))) start bytes (k + 1)
 Wrote-more old new start bytes k wrote below within kept = record {
   size = kept ∙ wrote.size;
   inside = λ j less. ⊎_elim
-      (λ (same : j ≡ k). subst (λ (i : ℕ). stack_of (slice_set new (start + k) (Some (slice_index bytes k))) (start + i) ≡ slice_get bytes i) (sym same)
-      (ap flat (get-set_same new (start + k) (Some (slice_index bytes k)) within) ∙ sym (slice_get-get_or bytes k 0 below)))
-      (λ (other : j ≢ k). ap flat (get-set_other new (start + k) (start + j) (Some (slice_index bytes k)) (λ e. other (omega arith))) ∙ wrote.inside j (omega arith))
+      (λ (same : j ≡ k). subst (λ (i : ℕ). stack_of (slice_set new (start + k) (Some (slice_index bytes k))) (start + i)
+      ≡ slice_get bytes i) (sym same)
+      (ap flat (get-set_same new (start + k) (Some (slice_index bytes k)) within)
+      ∙ sym (slice_get-get_or bytes k 0 below)))
+      (λ (other : j ≢ k). ap flat (get-set_other new (start + k) (start + j) (Some (slice_index bytes k))
+      (λ e. other (omega arith))) ∙ wrote.inside j (omega arith))
       (cases_eq j k);
-  outside = λ place apart. ap flat (get-set_other new (start + k) place (Some (slice_index bytes k)) (λ e. apart k (omega arith) (sym e))) ∙ wrote.outside place (λ j less. apart j (omega arith));
+  outside = λ place apart. ap flat (get-set_other new (start + k) place (Some (slice_index bytes k))
+      (λ e. apart k (omega arith) (sym e))) ∙ wrote.outside place (λ j less. apart j (omega arith));
 }
 
-pub Wrote-all : (old new : List (Option ℕ)) (start : ℕ) (bytes : List ℕ) → Wrote old new start bytes (length bytes) → (place : ℕ) → stack_of new place ≡ written (stack_of old) start bytes place
+pub Wrote-all : (old new : List (Option ℕ)) (start : ℕ) (bytes : List ℕ) → Wrote old new start bytes (length bytes) →
+    (place : ℕ) → stack_of new place ≡ stack_with_bytes (stack_of old) start bytes place
 Wrote-all old new start bytes wrote place =
-    cond_both (nat_le start place && nat_lt place (start + length bytes)) (slice_get bytes (place - start)) (stack_of old place) (λ b. stack_of new place ≡ b)
+    cond_both (nat_le start place && nat_lt place (start + length bytes)) (slice_get bytes (place - start))
+    (stack_of old place) (λ b. stack_of new place ≡ b)
     (λ inside.
     let parts = and_parts _ _ inside in
     let low : start ≤ place = leb-true start place parts.0 in

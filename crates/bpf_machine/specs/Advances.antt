@@ -1,8 +1,7 @@
 -- What the plain machine does at a state, as relations between states of the machine.
 use Rattle.std.specs.Prelude.{◌≡◌, Some, None, Result, Ok, Err}
-use Rattle.machine_spec.specs.declared.instruction.Instruction.{Instruction}
+use Rattle.machine_spec.specs.declared.{instruction.Instruction.Instruction, instruction.Trap.Trap}
 use Rattle.machine_spec.specs.declared.instruction.Instruction.TheVariants.{Exit}
-use Rattle.machine_spec.specs.declared.instruction.Trap.{Trap}
 use Rattle.machine_spec.specs.Image.{Program, form_at}
 use Rattle.machine_spec.specs.Machine.{Input, State}
 use Rattle.machine_spec.specs.Traps.{trap_at}

@@ -2,9 +2,8 @@
 use Rattle.std.specs.Prelude.{ℕ, ◌<◌, ◌^◌, List, Option, Some, None, slice_get, option_and_then, unsigned_abs}
 use Rattle.machine_spec.specs.Values.{Value, Nothing, Number, Address}
 use Rattle.machine_spec.specs.Machine.{Access}
-use Rattle.bpf_machine.specs.declared.tagged.Tagged.{Tagged}
+use Rattle.bpf_machine.specs.declared.{tagged.Tagged.Tagged, memory.Span.Span}
 use Rattle.bpf_machine.specs.declared.tagged.Tagged.TheVariants as tagged
-use Rattle.bpf_machine.specs.declared.memory.Span.{Span}
 
 -- a tagged value as the definitions have it
 abbrev pub value_of : Tagged → Value
@@ -27,7 +26,12 @@ stack_of bytes place = option_and_then (λ byte. byte) (slice_get bytes place)
 
 -- the bytes of a span, if there is one
 abbrev pub access_in : Option Span → Option Access
-access_in (Some span) = Some (record { direction = span.direction; region = span.region; start = span.start; size = span.size })
+access_in (Some span) = Some (record {
+  direction = span.direction;
+  region = span.region;
+  start = span.start;
+  size = span.size;
+})
 access_in None = None
 
 -- the offset of an address is so small that its sum with a displacement fits in 128 bits

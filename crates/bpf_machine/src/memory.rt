@@ -4,7 +4,7 @@ ghost use Rattle.machine_spec.specs.declared.limits.TheConstants.{STACK_SIZE};
 ghost use Rattle.machine_spec.specs.Traps.{is_wrong_room};
 ghost use Rattle.machine_spec.specs.Values as values;
 ghost use Rattle.machine_spec.specs.Values.{little_endian, byte_count};
-ghost use Rattle.machine_spec.specs.Machine.{access_at, access_of, named, byte_in, bytes_from, bytes_read, length_of, loaded};
+ghost use Rattle.machine_spec.specs.Machine.{access_at, access_of, named_access, byte_in, bytes_from, bytes_read, length_of, value_loaded};
 ghost use Rattle.bpf_machine.specs.Views.{value_of, registers_of, stack_of, access_in, IsNear};
 ghost use Rattle.bpf_machine.specs.States.{input_of};
 
@@ -72,8 +72,8 @@ pub fn span_of(memory: Option<MemoryOperand>, registers: &[Tagged; REGISTERS]) -
 }
 
 /// The bytes that an address and a length name, none where they are no address and no number.
-pub fn named(direction: Direction, address: Tagged, count: Tagged) -> Option<Span>
-    ensures { access_in result ≡ named direction (value_of address) (value_of count) }
+pub fn named_access(direction: Direction, address: Tagged, count: Tagged) -> Option<Span>
+    ensures { access_in result ≡ named_access direction (value_of address) (value_of count) }
 {
     match address {
         Tagged::Address(region, start) => match count {
@@ -94,9 +94,9 @@ pub fn named(direction: Direction, address: Tagged, count: Tagged) -> Option<Spa
 /// Where the room begins that an address and a length name, which is on the stack, and how many bytes
 /// it has.
 pub fn room_of(address: Tagged, count: Tagged) -> (usize, usize)
-    requires { is_wrong_room (named Direction.Write (value_of address) (value_of count)) ≡ false }
+    requires { is_wrong_room (named_access Direction.Write (value_of address) (value_of count)) ≡ false }
     ensures within { result.0 + result.1 ≤ STACK_SIZE }
-    ensures room { named Direction.Write (value_of address) (value_of count)
+    ensures room { named_access Direction.Write (value_of address) (value_of count)
         ≡ Some (record { direction = Direction.Write; region = Region.Stack; start = pos result.0; size = result.1 }) }
     ensures count { values.Number result.1 ≡ value_of count }
 {
@@ -182,9 +182,9 @@ impl<'a> Run<'a> {
         count: Tagged,
     ) -> Result<Vec<u8>, AllocError>
         ensures { IfOk result (λ bytes. bytes.items
-            ≡ bytes_read (input_of self.now) (stack_of stack.now) (named Direction.Read (value_of address) (value_of count))) }
+            ≡ bytes_read (input_of self.now) (stack_of stack.now) (named_access Direction.Read (value_of address) (value_of count))) }
     {
-        match named(Direction::Read, address, count) {
+        match named_access(Direction::Read, address, count) {
             Some(span) => {
                 self.bytes_from(stack, span.region, span.start.unsigned_abs(), span.size)
             }
@@ -235,7 +235,7 @@ impl<'a> Run<'a> {
         extension: Extension,
     ) -> u64
         requires { place < 2 ^ 127 + 2 }
-        ensures { values.extended extension size (values.Number (little_endian
+        ensures { values.extended_value extension size (values.Number (little_endian
             (bytes_from (byte_in (input_of self.now) (stack_of stack.now) region) place (byte_count size)))) ≡ values.Number result }
     {
         match size {
@@ -249,7 +249,7 @@ impl<'a> Run<'a> {
     /// The number that a load reads at an offset from a base, extended to 64 bits; `Nothing` where
     /// the base is no address. A byte that isn't there counts as 0, which happens in a state with a
     /// trap alone.
-    pub fn loaded(
+    pub fn value_loaded(
         &self,
         stack: &Stack,
         base: Tagged,
@@ -258,8 +258,8 @@ impl<'a> Run<'a> {
         extension: Extension,
     ) -> Tagged
         requires { IsNear (value_of base) }
-        ensures { value_of result ≡ values.extended extension size
-            (loaded (input_of self.now) (stack_of stack.now) (access_at Direction.Read (value_of base) offset size)) }
+        ensures { value_of result ≡ values.extended_value extension size
+            (value_loaded (input_of self.now) (stack_of stack.now) (access_at Direction.Read (value_of base) offset size)) }
     {
         match base {
             Tagged::Address(region, at) => {
@@ -273,7 +273,7 @@ impl<'a> Run<'a> {
 }
 
 fn extended_byte(extension: Extension, number: u8) -> u64
-    ensures { values.extended extension Size.Byte (values.Number number) ≡ values.Number result }
+    ensures { values.extended_value extension Size.Byte (values.Number number) ≡ values.Number result }
 {
     match extension {
         Extension::Zero => u64::from(number),
@@ -282,7 +282,7 @@ fn extended_byte(extension: Extension, number: u8) -> u64
 }
 
 fn extended_half(extension: Extension, number: u16) -> u64
-    ensures { values.extended extension Size.Half (values.Number number) ≡ values.Number result }
+    ensures { values.extended_value extension Size.Half (values.Number number) ≡ values.Number result }
 {
     match extension {
         Extension::Zero => u64::from(number),
@@ -291,7 +291,7 @@ fn extended_half(extension: Extension, number: u16) -> u64
 }
 
 fn extended_word(extension: Extension, number: u32) -> u64
-    ensures { values.extended extension Size.Word (values.Number number) ≡ values.Number result }
+    ensures { values.extended_value extension Size.Word (values.Number number) ≡ values.Number result }
 {
     match extension {
         Extension::Zero => u64::from(number),
@@ -300,7 +300,7 @@ fn extended_word(extension: Extension, number: u32) -> u64
 }
 
 fn extended_double(extension: Extension, number: u64) -> u64
-    ensures { values.extended extension Size.Double (values.Number number) ≡ values.Number result }
+    ensures { values.extended_value extension Size.Double (values.Number number) ≡ values.Number result }
 {
     match extension {
         Extension::Zero => number,

@@ -1,7 +1,7 @@
 //! The stack of the plain machine.
 ghost use Rattle.std.specs.Prelude.{◌≡◌, ℕ, ◌+◌, ◌≤◌, length, None, IfOk};
 ghost use Rattle.machine_spec.specs.declared.limits.TheConstants.{STACK_SIZE};
-ghost use Rattle.machine_spec.specs.Machine.{written};
+ghost use Rattle.machine_spec.specs.Machine.{stack_with_bytes};
 ghost use Rattle.bpf_machine.specs.Views.{stack_of};
 
 use machine_spec::STACK_SIZE;
@@ -40,7 +40,7 @@ fn unset(alloc: Global) -> Result<Vec<Option<u8>>, AllocError>
 /// Sets bytes from a place on.
 fn set(stack: &mut [Option<u8>], start: usize, bytes: &[u8])
     requires { start + length bytes.now ≤ length stack.old }
-    ensures { (place : ℕ) → stack_of stack.new place ≡ written (stack_of stack.old) start bytes.now place }
+    ensures { (place : ℕ) → stack_of stack.new place ≡ stack_with_bytes (stack_of stack.old) start bytes.now place }
 {
     for k in 0..bytes.len() {
         stack[start + k] = Some(bytes[k]);
@@ -70,7 +70,7 @@ impl Stack {
     /// Sets bytes from a place on, which end within the stack.
     pub fn write(&mut self, start: usize, bytes: &[u8])
         requires { start + length bytes.now ≤ STACK_SIZE }
-        ensures { (place : ℕ) → stack_of self.new place ≡ written (stack_of self.old) start bytes.now place }
+        ensures { (place : ℕ) → stack_of self.new place ≡ stack_with_bytes (stack_of self.old) start bytes.now place }
     {
         set(&mut self.bytes, start, bytes);
     }

@@ -61,8 +61,8 @@ pub fn number_held(value: Tagged) -> u64
 
 /// What a move leaves in its destination: at 64 bits the value, at 32 the low half of a number and
 /// `Nothing` of another value.
-pub fn moved(width: Width, value: Tagged) -> Tagged
-    ensures { value_of result ≡ values.moved width (value_of value) }
+pub fn moved_value(width: Width, value: Tagged) -> Tagged
+    ensures { value_of result ≡ values.moved_value width (value_of value) }
 {
     match width {
         Width::Bits64 => value,
@@ -127,7 +127,7 @@ fn computed_number(width: Width, operation: Operation, first: u64, second: Tagge
 }
 
 /// The result of an operation on two values; `Nothing` where it does not take them.
-pub fn computed(width: Width, operation: Operation, first: Tagged, second: Tagged) -> Tagged
+pub fn computed_value(width: Width, operation: Operation, first: Tagged, second: Tagged) -> Tagged
     requires { IsNear (value_of first) }
     ensures { value_of result ≡ values.result_of width operation (value_of first) (value_of second) }
 {
@@ -151,8 +151,8 @@ pub fn can_compute(width: Width, operation: Operation, first: Tagged, second: Ta
 }
 
 /// The change of a number; `Nothing` of another value.
-pub fn changed(by: Change, value: Tagged) -> Tagged
-    ensures { value_of result ≡ values.changed by (value_of value) }
+pub fn changed_value(by: Change, value: Tagged) -> Tagged
+    ensures { value_of result ≡ values.changed_value by (value_of value) }
 {
     match value {
         Tagged::Nothing => Tagged::Nothing,

@@ -9,7 +9,7 @@ ghost use Rattle.bpf_machine.specs.Views.{registers_of, stack_of, access_in, IsN
 ghost use Rattle.bpf_machine.specs.States.{program_run, input_of, state_of};
 
 use crate::machine::Machine;
-use crate::memory::{Run, Span, named, span_of};
+use crate::memory::{Run, Span, named_access, span_of};
 use crate::registers::{REGISTERS, get, operand};
 use crate::slots::is_first_slot;
 use crate::stack::Stack;
@@ -104,8 +104,8 @@ fn is_call_nothing(registers: &[Tagged; REGISTERS], helper: Option<Helper>) -> b
 
 /// Whether a register that an instruction reads holds nothing.
 #[tactic(auto, using(crate::proofs::ReadParts::reads_parts))]
-fn reads_nothing(summary: Summary, registers: &[Tagged; REGISTERS]) -> bool
-    ensures { result ≡ definitions.reads_nothing summary (registers_of registers.now) }
+fn reads_unset_register(summary: Summary, registers: &[Tagged; REGISTERS]) -> bool
+    ensures { result ≡ definitions.reads_unset_register summary (registers_of registers.now) }
 {
     is_operand_nothing(registers, summary.takes)
         || is_base_nothing(registers, summary.memory)
@@ -153,8 +153,8 @@ fn has_wrong_condition(condition: Option<Condition>, registers: &[Tagged; REGIST
 // ---- memory
 
 /// Whether `size` bytes from a place on lie in a region of this length.
-fn is_within(start: i128, size: u64, length: usize) -> bool
-    ensures { result ≡ definitions.is_within start size length }
+fn is_in_region(start: i128, size: u64, length: usize) -> bool
+    ensures { result ≡ definitions.is_in_region start size length }
 {
     0 <= start && start.unsigned_abs() + size as u128 <= length as u128
 }
@@ -176,7 +176,7 @@ fn leaves_record(run: &Run, span: Option<Span>) -> bool
             if span.region.is_stack() {
                 false
             } else {
-                !is_within(span.start, span.size, run.length_of(span.region))
+                !is_in_region(span.start, span.size, run.length_of(span.region))
             }
         }
         None => false,
@@ -189,7 +189,7 @@ fn leaves_stack(span: Option<Span>) -> bool
     match span {
         Some(span) => {
             if span.region.is_stack() {
-                !is_within(span.start, span.size, STACK_SIZE)
+                !is_in_region(span.start, span.size, STACK_SIZE)
             } else {
                 false
             }
@@ -266,12 +266,12 @@ fn is_wrong_argument(run: &Run, machine: &Machine, argument: Argument) -> bool
         Argument::Number(register) => !is_number(get(registers, register)),
         Argument::Bytes(address, count) => {
             let address = get(registers, address);
-            let span = named(Direction::Read, address, get(registers, count));
+            let span = named_access(Direction::Read, address, get(registers, count));
             names_wrongly(run, &machine.stack, span)
         }
         Argument::Room(address, count) => {
             let address = get(registers, address);
-            is_wrong_room(named(Direction::Write, address, get(registers, count)))
+            is_wrong_room(named_access(Direction::Write, address, get(registers, count)))
         }
     }
 }
@@ -316,8 +316,8 @@ pub fn jump_target(slot: usize, distance: i32) -> Option<usize>
     }
 }
 
-fn is_target(run: &Run, slot: Option<usize>) -> bool
-    ensures { result ≡ definitions.is_target (program_run run.now) slot }
+fn is_valid_target(run: &Run, slot: Option<usize>) -> bool
+    ensures { result ≡ definitions.is_valid_target (program_run run.now) slot }
 {
     match slot {
         Some(slot) => is_first_slot(run.image, slot),
@@ -349,7 +349,7 @@ fn jumps_wrongly(
     match jump {
         Some(distance) => {
             is_met(condition, &machine.registers)
-                && !is_target(run, jump_target(machine.slot, distance))
+                && !is_valid_target(run, jump_target(machine.slot, distance))
         }
         None => false,
     }
@@ -369,7 +369,7 @@ pub fn trap_of(run: &Run, summary: Summary, machine: &Machine) -> Option<Trap>
         Some(Trap::Frame)
     } else if summary.calls_no_helper() {
         Some(Trap::Helper)
-    } else if reads_nothing(summary, registers) {
+    } else if reads_unset_register(summary, registers) {
         Some(Trap::Unset)
     } else if has_wrong_operands(summary.takes, registers) {
         Some(Trap::WrongType)

@@ -10,12 +10,16 @@ use Rattle.catalogue.specs.Finders.{Seen, Finds}
 use Rattle.catalogue.specs.Versions.{IsThisOrLater}
 use Rattle.catalogue.specs.declared.fault.CatFault.TheVariants.{NoReader}
 use Rattle.broker.specs.declared.fault.BrokerFault.{BrokerFault}
-use Rattle.broker.specs.declared.fault.BrokerFault.TheVariants.{Partition, NoProgram, Memory, Catalogue as CatalogueRefuses, Log as LogRefuses, Book as BookRefuses}
+use Rattle.broker.specs.declared.fault.BrokerFault.TheVariants.{Partition, NoProgram, Memory}
+use Rattle.broker.specs.declared.fault.BrokerFault.TheVariants.{Catalogue as CatalogueRefuses, Log as LogRefuses}
+use Rattle.broker.specs.declared.fault.BrokerFault.TheVariants.{Book as BookRefuses}
 
 -- Over some table that the catalogue had, a load has this result.
 abbrev pub LoadIs : List ℕ → Program → Result (ℕ × Version) BrokerFault → Type 0
-LoadIs name program (Ok loaded) = (table : LiveTable) × (next : LiveTable) × Publishes table name program (Ok loaded) next
-LoadIs name program (Err (CatalogueRefuses fault)) = (table : LiveTable) × (next : LiveTable) × Publishes table name program (Err fault) next
+LoadIs name program (Ok loaded) = (table : LiveTable) × (next : LiveTable)
+    × Publishes table name program (Ok loaded) next
+LoadIs name program (Err (CatalogueRefuses fault)) = (table : LiveTable) × (next : LiveTable)
+    × Publishes table name program (Err fault) next
 LoadIs name program (Err Partition) = ⊥
 LoadIs name program (Err NoProgram) = ⊥
 LoadIs name program (Err Memory) = ⊥
@@ -38,7 +42,8 @@ pub record IsFound (name : List ℕ) (known : Version) (old new : Seen) (found :
   pub fresh : known.name ≡ name → IsThisOrLater known found
 
 -- The receipt is of the mark of what the finder found, in the log of this input partition.
-pub record IsDeployed (input : ℕ) (name : List ℕ) (known : Version) (old : Seen) (receipt : Received) (version : ℕ) (new : Seen) : Type 0 where
+pub record IsDeployed (input : ℕ) (name : List ℕ) (known : Version) (old : Seen) (receipt : Received) (version : ℕ)
+    (new : Seen) : Type 0 where
   pub program : Program
   pub partition_is : receipt.before.partition ≡ input
   pub item_is : receipt.item ≡ Marked name version program
@@ -48,10 +53,13 @@ pub record IsDeployed (input : ℕ) (name : List ℕ) (known : Version) (old : S
 -- that holds is returned: there is no such partition, the finder gets no reading, it finds none, the log refuses the
 -- mark.
 abbrev pub DeployIs : ℕ → ℕ → List ℕ → Version → Seen → Result (Received × ℕ) BrokerFault → Seen → Type 0
-DeployIs inputs input name known old (Ok deployed) new = (input < inputs) × IsDeployed input name known old deployed.0 deployed.1 new
+DeployIs inputs input name known old (Ok deployed) new = (input < inputs)
+    × IsDeployed input name known old deployed.0 deployed.1 new
 DeployIs inputs input name known old (Err Partition) new = (inputs ≤ input) × (new ≡ old)
 DeployIs inputs input name known old (Err Memory) new = ⊥
-DeployIs inputs input name known old (Err (CatalogueRefuses fault)) new = (input < inputs) × IsFindFault fault × (new.versions ≡ old.versions)
+DeployIs inputs input name known old (Err (CatalogueRefuses fault)) new = (input < inputs) × IsFindFault fault
+    × (new.versions ≡ old.versions)
 DeployIs inputs input name known old (Err NoProgram) new = (input < inputs) × IsFound name known old new None
-DeployIs inputs input name known old (Err (LogRefuses fault)) new = (input < inputs) × (found : ℕ × Program) × IsFound name known old new (Some found)
+DeployIs inputs input name known old (Err (LogRefuses fault)) new = (input < inputs) × (found : ℕ × Program)
+    × IsFound name known old new (Some found)
 DeployIs inputs input name known old (Err (BookRefuses fault)) new = ⊥

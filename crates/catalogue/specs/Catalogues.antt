@@ -9,7 +9,8 @@ use Rattle.catalogue.specs.Faults.{IsFaultOf}
 
 -- A load that isn't refused makes the name's next version; else the refusal is the first one.
 abbrev pub LoadsAs : LiveTable → List ℕ → Program → Result Version Refusal → Type 0
-LoadsAs table name program (Ok version) = IsLiveRefusal table name program None × (version ≡ next_version table name program)
+LoadsAs table name program (Ok version) = IsLiveRefusal table name program None
+    × (version ≡ next_version table name program)
 LoadsAs table name program (Err refused) = RefusedAs (IsLiveRefusal table name program) refused
 
 -- A load that isn't refused returns the name's next version and publishes the table with it; else the table is as it

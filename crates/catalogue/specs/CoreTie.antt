@@ -25,13 +25,16 @@ refusal_for fault.Memory = None
 abbrev pub DoesInCore : World → List ℕ → List ℕ → LiveTable → Result (ℕ × Version) CatFault → LiveTable → Type 0
 DoesInCore w name image table (Ok loaded) next =
     IsRefusal w (event.Load name image) None
-    × Happens w (event.Load name image) (Loaded loaded.0) (record w { table = with_program w.table name (program_of image) })
+    × Happens w (event.Load name image) (Loaded loaded.0)
+    (record w { table = with_program w.table name (program_of image) })
     × IsLive (with_program w.table name (program_of image)) next
 DoesInCore w name image table (Err reported) next =
-    (next ≡ table) × (reported ≢ fault.Memory → (first : Refusal) × (refusal_for reported ≡ Some first) × IsRefusal w (event.Load name image) (Some first))
+    (next ≡ table) × (reported ≢ fault.Memory →
+    (first : Refusal) × (refusal_for reported ≡ Some first) × IsRefusal w (event.Load name image) (Some first))
 
 -- A load over the live table of a world does in the core what it does to this table.
 abbrev pub FollowsCore : Type 0
 FollowsCore =
     (w : World) (name image : List ℕ) (table next : LiveTable) (result : Result (ℕ × Version) CatFault)
-    → IsLive w.table table → Publishes table name (program_of image) result next → DoesInCore w name image table result next
+    → IsLive w.table table → Publishes table name (program_of image) result next →
+    DoesInCore w name image table result next

@@ -4,7 +4,7 @@ use Rattle.std.specs.Str.{bytes_eq}
 use Rattle.std.specs.Arc.{arc_value}
 use Rattle.std.specs.declared.sync.Arc.{Arc}
 use Rattle.machine_spec.specs.Image.{Program}
-use Rattle.log_item.specs.declared.program.Program.{Program as Loaded}
+use Rattle.log_item.specs.declared.{program.Program.Program as Loaded}
 pub use Rattle.log_spec.specs.Catalogue.{Version, among}
 
 -- a version's number and program, as they are seen
@@ -35,7 +35,8 @@ IsThisOrLater version (Some found) = (version.number ≤ found.0) × (found.0 �
 
 -- the newest of three is found under a name and kept: the known one, the one kept before, and the one that was read;
 -- other names are as they were
-pub record SeesNewest (known : Version) (name : List ℕ) (read : Option (ℕ × Program)) (old new : List Version) (found : Option (ℕ × Program)) : Type 0 where
+pub record SeesNewest (known : Version) (name : List ℕ) (read : Option (ℕ × Program)) (old new : List Version)
+    (found : Option (ℕ × Program)) : Type 0 where
   pub newest : found ≡ newer (newer (under_name known name) (among old name)) read
   pub seen : among new name ≡ found
   pub others : (other : List ℕ) → other ≢ name → among new other ≡ among old other

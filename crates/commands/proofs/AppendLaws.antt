@@ -1,5 +1,6 @@
 -- What a line appends of a reader's bytes, and what it prints of that.
-use Rattle.std.proofs.Common.{◌≡◌, ◌≢◌, ◌⊎◌, ℕ, ◌<◌, ◌≤◌, List, [], ◌∷◌, ◌++◌, ◌-◌, length, take, drop, Result, Ok, Err, refl, sym, ap, subst, inl, inr, ◌∙◌, append-nil, arith}
+use Rattle.std.proofs.Common.{◌≡◌, ◌≢◌, ◌⊎◌, ℕ, ◌<◌, ◌≤◌, List, [], ◌∷◌, ◌++◌, ◌-◌, length, take, drop, Result, Ok, Err}
+use Rattle.std.proofs.Common.{refl, sym, ap, subst, inl, inr, ◌∙◌, append-nil, arith}
 use Rattle.std.proofs.Math.Seq.{drop-append_seam}
 use Rattle.std.proofs.lemmas.List.{take_all, length-drop}
 use Rattle.std.specs.Prelude.{Option, Some, None, IfSome, ⊤}
@@ -16,9 +17,8 @@ use Rattle.broker.specs.declared.stream.StreamFault.{StreamFault}
 use Rattle.broker.specs.declared.stream.StreamFault.TheVariants as stream
 use Rattle.broker.proofs.StreamLaws.{more_bytes, not_part}
 use Rattle.script.specs.declared.command.Source.{Source}
-use Rattle.commands.specs.declared.reading.Unread.{Unread}
+use Rattle.commands.specs.declared.{reading.Unread.Unread, stop.Stop.Stop}
 use Rattle.commands.specs.declared.reading.Unread.TheVariants as unread
-use Rattle.commands.specs.declared.stop.Stop.{Stop}
 use Rattle.commands.specs.declared.stop.Stop.TheVariants as stop
 use Rattle.commands.specs.Appends.{append_lines, bytes_of, unread_of, EndsAt, AppendsOf, Prints, AppendDoes}
 use Rattle.commands.specs.Stops.{stop_of_fault, stop_of_unread, end_of_stream, IsUnread, IsUnwritten}
@@ -38,9 +38,10 @@ whole (Some all) None taken is = absurd is
 whole (Some all) (Some left) taken is = record { left = left; known_is = sym is; none_left = λ end. end }
 
 -- what was appended of the bytes that were taken was appended of all
-of_all : (inputs input : ℕ) (before after : Option (List ℕ)) (cause : Stop) (old new : List Received) (rest : List ℕ) (result : Result ⊤ Stop)
-    → Streams input before after old new rest → ((left : List ℕ) → (IsAtEnd after → left ≡ []) → EndsAt inputs input cause old new (rest ++ left) result)
-    → AppendsOf inputs input before cause old new result
+of_all : (inputs input : ℕ) (before after : Option (List ℕ)) (cause : Stop) (old new : List Received) (rest : List ℕ)
+    (result : Result ⊤ Stop) → Streams input before after old new rest →
+    ((left : List ℕ) → (IsAtEnd after → left ≡ []) → EndsAt inputs input cause old new (rest ++ left) result) →
+    AppendsOf inputs input before cause old new result
 of_all inputs input before after cause old new rest result is ends =
     let all = whole before after is.taken is.consumed in
     record {
@@ -58,21 +59,25 @@ of_all inputs input before after cause old new rest result is ends =
 some_byte : (byte : ℕ) (left : List ℕ) → byte ∷ left ≢ []
 some_byte byte left none = cc
 
-short_is : {A : Type 0} (read : Result A BatchFault) (fault : BatchFault) → read ≡ Err fault → read ≡ Err faults.Short → fault ≡ faults.Short
+short_is : {A : Type 0} (read : Result A BatchFault) (fault : BatchFault) → read ≡ Err fault → read ≡ Err faults.Short →
+    fault ≡ faults.Short
 short_is read fault one other = cc
 
 -- with more bytes after them, bytes begin with no batch for the same reason, unless they were too few
-still_bad : (rest left : List ℕ) (fault : BatchFault) → batch_at rest ≡ Err fault → (fault ≡ faults.Short → left ≡ []) → batch_at (rest ++ left) ≡ Err fault
+still_bad : (rest left : List ℕ) (fault : BatchFault) → batch_at rest ≡ Err fault → (fault ≡ faults.Short → left ≡ []) →
+    batch_at (rest ++ left) ≡ Err fault
 still_bad rest [] fault bad none = ap batch_at (append-nil rest) ∙ bad
 still_bad rest (byte ∷ left) fault bad none =
-    batch_at-append rest (byte ∷ left) (λ part. some_byte byte left (none (short_is (batch_at rest) fault bad (batch_at-part rest part)))) ∙ bad
+    batch_at-append rest (byte ∷ left) (λ part. some_byte byte left
+    (none (short_is (batch_at rest) fault bad (batch_at-part rest part)))) ∙ bad
 
 some_left : (rest left : List ℕ) → rest ≢ [] → rest ++ left ≢ []
 some_left [] left some none = absurd (some refl)
 some_left (byte ∷ rest) left some none = some_byte byte (rest ++ left) none
 
-bad_next : (inputs input : ℕ) (after : Option (List ℕ)) (cause : Stop) (old new : List Received) (rest left : List ℕ) (fault : BatchFault)
-    → input < inputs → IsBadNext after rest fault → (IsAtEnd after → left ≡ []) → EndsAt inputs input cause old new (rest ++ left) (Err (stop_of_fault fault))
+bad_next : (inputs input : ℕ) (after : Option (List ℕ)) (cause : Stop) (old new : List Received) (rest left : List ℕ)
+    (fault : BatchFault) → input < inputs → IsBadNext after rest fault → (IsAtEnd after → left ≡ []) →
+    EndsAt inputs input cause old new (rest ++ left) (Err (stop_of_fault fault))
 bad_next inputs input after cause old new rest left fault there bad none = elim (of_fault fault) [
   | inl same ↦ subst (λ (s : Stop). EndsAt inputs input cause old new (rest ++ left) (Err s)) (sym same) tt
   | inr (other, same) ↦
@@ -81,7 +86,8 @@ bad_next inputs input after cause old new rest left fault there bad none = elim 
       (there, some_left rest left b.0, still_bad rest left fault b.1 (λ short. none (b.2 short)))
 ]
 
-unread_ends : (inputs input : ℕ) (cause : Stop) (old new : List Received) (rest : List ℕ) → IsUnread cause → EndsAt inputs input cause old new rest (Err cause)
+unread_ends : (inputs input : ℕ) (cause : Stop) (old new : List Received) (rest : List ℕ) → IsUnread cause →
+    EndsAt inputs input cause old new rest (Err cause)
 unread_ends inputs input (stop.File name) old new rest is = refl
 unread_ends inputs input stop.Memory old new rest is = tt
 unread_ends inputs input other old new rest is = absurd is
@@ -91,63 +97,89 @@ known_or_none None = ([], tt)
 known_or_none (Some all) = (all, refl)
 
 -- nothing is appended
-pub nothing : (inputs input : ℕ) (known : Option (List ℕ)) (cause : Stop) (old new : List Received) (reason : Stop) → new ≡ old
-    → ((rest : List ℕ) → EndsAt inputs input cause old new rest (Err reason)) → AppendsOf inputs input known cause old new (Err reason)
+pub nothing : (inputs input : ℕ) (known : Option (List ℕ)) (cause : Stop) (old new : List Received) (reason : Stop) →
+    new ≡ old → ((rest : List ℕ) → EndsAt inputs input cause old new rest (Err reason)) →
+    AppendsOf inputs input known cause old new (Err reason)
 nothing inputs input known cause old new reason same ends =
     let all = known_or_none known in
-    record { bytes = all.0; known_is = all.1; rest = all.0; appended = record { added = []; new_is = same ∙ sym (append-nil old); are = refl }; ends = ends all.0 }
+    record {
+      bytes = all.0;
+      known_is = all.1;
+      rest = all.0;
+      appended = record { added = []; new_is = same ∙ sym (append-nil old); are = refl };
+      ends = ends all.0;
+    }
 
 -- a file that is not opened
-pub unopened : (inputs input : ℕ) (known : Option (List ℕ)) (name : List ℕ) (old : List Received) (cause : Unread) (reason : Stop) → reason ≡ stop_of_unread name cause
-    → AppendsOf inputs input known (stop.File name) old old (Err reason)
+pub unopened : (inputs input : ℕ) (known : Option (List ℕ)) (name : List ℕ) (old : List Received) (cause : Unread)
+    (reason : Stop) → reason ≡ stop_of_unread name cause →
+    AppendsOf inputs input known (stop.File name) old old (Err reason)
 unopened inputs input known name old unread.File reason is =
-    subst (λ (s : Stop). AppendsOf inputs input known (stop.File name) old old (Err s)) (sym is) (nothing inputs input known (stop.File name) old old (stop.File name) refl (λ rest. refl))
+    subst (λ (s : Stop). AppendsOf inputs input known (stop.File name) old old (Err s)) (sym is)
+    (nothing inputs input known (stop.File name) old old (stop.File name) refl (λ rest. refl))
 unopened inputs input known name old unread.Memory reason is =
-    subst (λ (s : Stop). AppendsOf inputs input known (stop.File name) old old (Err s)) (sym is) (nothing inputs input known (stop.File name) old old stop.Memory refl (λ rest. tt))
+    subst (λ (s : Stop). AppendsOf inputs input known (stop.File name) old old (Err s)) (sym is)
+    (nothing inputs input known (stop.File name) old old stop.Memory refl (λ rest. tt))
 
-pub appends_from : (inputs input : ℕ) (before after : Option (List ℕ)) (cause : Stop) (old new : List Received) (appended : Result ℕ StreamFault) → IsUnread cause
-    → AppendsFrom inputs input before after old appended new → AppendsOf inputs input before cause old new (end_of_stream cause appended)
+pub appends_from : (inputs input : ℕ) (before after : Option (List ℕ)) (cause : Stop) (old new : List Received)
+    (appended : Result ℕ StreamFault) → IsUnread cause → AppendsFrom inputs input before after old appended new →
+    AppendsOf inputs input before cause old new (end_of_stream cause appended)
 appends_from inputs input before after cause old new (Ok count) is (there, (rest, streams, (counted, none, end))) =
-    of_all inputs input before after cause old new rest (Ok tt) streams (λ left none_left. (there, ap (λ (front : List ℕ). front ++ left) none ∙ none_left end))
+    of_all inputs input before after cause old new rest (Ok tt) streams
+    (λ left none_left. (there, ap (λ (front : List ℕ). front ++ left) none ∙ none_left end))
 appends_from inputs input before after cause old new (Err stream.Read) is (there, (rest, streams, stops)) =
-    of_all inputs input before after cause old new rest (Err cause) streams (λ left none_left. unread_ends inputs input cause old new (rest ++ left) is)
+    of_all inputs input before after cause old new rest (Err cause) streams
+    (λ left none_left. unread_ends inputs input cause old new (rest ++ left) is)
 appends_from inputs input before after cause old new (Err (stream.Batch fault)) is (there, (rest, streams, bad)) =
-    of_all inputs input before after cause old new rest (Err (stop_of_fault fault)) streams (λ left none_left. bad_next inputs input after cause old new rest left fault there bad none_left)
+    of_all inputs input before after cause old new rest (Err (stop_of_fault fault)) streams
+    (λ left none_left. bad_next inputs input after cause old new rest left fault there bad none_left)
 appends_from inputs input before after cause old new (Err (stream.Broker broker.Partition)) is (absent, same, kept) =
     nothing inputs input before cause old new (stop.Broker broker.Partition) same (λ rest. (absent, same))
-appends_from inputs input before after cause old new (Err (stream.Broker broker.Memory)) is (there, (rest, streams, stops)) =
+appends_from inputs input before after cause old new (Err (stream.Broker broker.Memory)) is
+    (there, (rest, streams, stops)) =
     of_all inputs input before after cause old new rest (Err stop.Memory) streams (λ left none_left. tt)
-appends_from inputs input before after cause old new (Err (stream.Broker (broker.Log log.Memory))) is (there, (rest, streams, stops)) =
+appends_from inputs input before after cause old new (Err (stream.Broker (broker.Log log.Memory))) is
+    (there, (rest, streams, stops)) =
     of_all inputs input before after cause old new rest (Err stop.Memory) streams (λ left none_left. tt)
-appends_from inputs input before after cause old new (Err (stream.Broker (broker.Log fault))) is (there, (rest, streams, (batch, used, found))) =
+appends_from inputs input before after cause old new (Err (stream.Broker (broker.Log fault))) is
+    (there, (rest, streams, (batch, used, found))) =
     of_all inputs input before after cause old new rest (Err (stop.Broker (broker.Log fault))) streams
     (λ left none_left. (there, batch, used, batch_at-append rest left (not_part rest batch used found) ∙ found))
-appends_from inputs input before after cause old new (Err (stream.Broker broker.NoProgram)) is (there, (rest, streams, stops)) = absurd stops
-appends_from inputs input before after cause old new (Err (stream.Broker (broker.Catalogue fault))) is (there, (rest, streams, stops)) = absurd stops
-appends_from inputs input before after cause old new (Err (stream.Broker (broker.Book fault))) is (there, (rest, streams, stops)) = absurd stops
+appends_from inputs input before after cause old new (Err (stream.Broker broker.NoProgram)) is
+    (there, (rest, streams, stops)) = absurd stops
+appends_from inputs input before after cause old new (Err (stream.Broker (broker.Catalogue fault))) is
+    (there, (rest, streams, stops)) = absurd stops
+appends_from inputs input before after cause old new (Err (stream.Broker (broker.Book fault))) is
+    (there, (rest, streams, stops)) = absurd stops
 
 -- ---- The lines of what was appended
 
-prints : (before after : Option (List ℕ)) (text : List ℕ) (result : Result ⊤ Stop) → Appends before after text → Prints before after text result
+prints : (before after : Option (List ℕ)) (text : List ℕ) (result : Result ⊤ Stop) → Appends before after text →
+    Prints before after text result
 prints before after text (Ok done) is = is
 prints before after text (Err stop.Output) is = tt
 prints before after text (Err stop.Memory) is = tt
 prints before after text (Err other) is = is
 
 -- what was added to a list is what follows its first part
-added_is : (old new added all : List Received) (count : ℕ) → new ≡ old ++ added → all ≡ new → count ≡ length old → take (length all - count) (drop count all) ≡ added
+added_is : (old new added all : List Received) (count : ℕ) → new ≡ old ++ added → all ≡ new → count ≡ length old →
+    take (length all - count) (drop count all) ≡ added
 added_is old new added all count same all_is count_is =
-    let rest : drop count all ≡ added = ap (λ (n : ℕ). drop n all) count_is ∙ ap (drop (length old)) (all_is ∙ same) ∙ drop-append_seam old added in
+    let rest : drop count all ≡ added = ap (λ (n : ℕ). drop n all) count_is ∙ ap (drop (length old)) (all_is ∙ same)
+    ∙ drop-append_seam old added in
     let whole : length (drop count all) ≤ length all - count = omega (arith, length-drop count all) in
     take_all (length all - count) (drop count all) whole ∙ rest
 
 -- all lines were printed
-pub all_printed : (inputs : ℕ) (files : List ℕ → Option (List ℕ)) (input : ℕ) (source : Source) (old new : List Received) (before after : Option (List ℕ)) (appended : Result ⊤ Stop)
-    → AppendsOf inputs input (bytes_of files source) (unread_of source) old new appended
-    → (all : List Received) (count : ℕ) → all ≡ new → count ≡ length old → Appends before after (append_lines input (take (length all - count) (drop count all)))
-    → AppendDoes inputs files input source old new before after appended
+pub all_printed : (inputs : ℕ) (files : List ℕ → Option (List ℕ)) (input : ℕ) (source : Source)
+    (old new : List Received) (before after : Option (List ℕ)) (appended : Result ⊤ Stop) →
+    AppendsOf inputs input (bytes_of files source) (unread_of source) old new appended →
+    (all : List Received) (count : ℕ) → all ≡ new → count ≡ length old →
+    Appends before after (append_lines input (take (length all - count) (drop count all))) →
+    AppendDoes inputs files input source old new before after appended
 all_printed inputs files input source old new before after appended is all count all_is count_is printed =
     let added = is.appended.added in
     let lines : Appends before after (append_lines input added) =
-    subst (λ (l : List Received). Appends before after (append_lines input l)) (added_is old new added all count is.appended.new_is all_is count_is) printed in
+    subst (λ (l : List Received). Appends before after (append_lines input l))
+    (added_is old new added all count is.appended.new_is all_is count_is) printed in
     record { appends = is; printed = prints before after (append_lines input added) appended lines }

@@ -11,18 +11,34 @@ use Rattle.report.specs.Snapshots.{Gathered, IsGathered}
 use Rattle.report.specs.Texts.{report_text}
 use Rattle.commands.specs.Sessions.{Loads, Fetches, Reports}
 
-pub loads : (name text image : List ℕ) (loaded : ℕ × Version) (before after : Option (List ℕ)) → LoadIs text (program_of image) (Ok loaded) → text ≡ name
-    → Appends before after (load_line name loaded.0) → Loads name image before after
+pub loads : (name text image : List ℕ) (loaded : ℕ × Version) (before after : Option (List ℕ)) →
+    LoadIs text (program_of image) (Ok loaded) → text ≡ name → Appends before after (load_line name loaded.0) →
+    Loads name image before after
 loads name text image loaded before after is same printed =
-    record { version = loaded.0; known = loaded.1; loaded = subst (λ (t : List ℕ). LoadIs t (program_of image) (Ok loaded)) same is; printed = printed }
+    record {
+      version = loaded.0;
+      known = loaded.1;
+      loaded = subst (λ (t : List ℕ). LoadIs t (program_of image) (Ok loaded)) same is;
+      printed = printed;
+    }
 
 -- A broker with `number` input partitions was fetched from; a session has as many.
-pub fetches : (cells : ℕ → List ℕ) (number inputs outputs output place max : ℕ) (found : Option (List ℕ)) (before after : Option (List ℕ))
-    → IsFetch cells number outputs output place max found → inputs ≡ number → Appends before after (fetch_line found) → Fetches cells inputs outputs output place max before after
+pub fetches : (cells : ℕ → List ℕ) (number inputs outputs output place max : ℕ) (found : Option (List ℕ))
+    (before after : Option (List ℕ)) → IsFetch cells number outputs output place max found → inputs ≡ number →
+    Appends before after (fetch_line found) → Fetches cells inputs outputs output place max before after
 fetches cells number inputs outputs output place max found before after is same printed =
-    record { found = found; fetched = subst (λ (n : ℕ). IsFetch cells n outputs output place max found) (sym same) is; printed = printed }
+    record {
+      found = found;
+      fetched = subst (λ (n : ℕ). IsFetch cells n outputs output place max found) (sym same) is;
+      printed = printed;
+    }
 
-pub reports : (number inputs outputs : ℕ) (snapshot : Gathered) (before after : Option (List ℕ))
-    → IsGathered number outputs snapshot → inputs ≡ number → Appends before after (report_text snapshot) → Reports inputs outputs before after
+pub reports : (number inputs outputs : ℕ) (snapshot : Gathered) (before after : Option (List ℕ)) →
+    IsGathered number outputs snapshot → inputs ≡ number → Appends before after (report_text snapshot) →
+    Reports inputs outputs before after
 reports number inputs outputs snapshot before after is same printed =
-    record { snapshot = snapshot; gathered = subst (λ (n : ℕ). IsGathered n outputs snapshot) (sym same) is; printed = printed }
+    record {
+      snapshot = snapshot;
+      gathered = subst (λ (n : ℕ). IsGathered n outputs snapshot) (sym same) is;
+      printed = printed;
+    }

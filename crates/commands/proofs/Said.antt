@@ -16,21 +16,29 @@ pub begins : {E : Type 0} (said : Option Command) (command : Command) (made : Re
 begins said command made is given = subst (λ (s : Option Command). IfOk made (λ parts. Begins s parts)) is given
 
 -- Memory ran out before anything was done.
-none_done : (cells : ℕ → List ℕ) (inputs outputs : ℕ) (files : List ℕ → Option (List ℕ)) (said : Option Command) (old : List Received) (before : Option (List ℕ))
-    → LineDoes cells inputs outputs files said old old before before (Err stop.Memory)
+none_done : (cells : ℕ → List ℕ) (inputs outputs : ℕ) (files : List ℕ → Option (List ℕ)) (said : Option Command)
+    (old : List Received) (before : Option (List ℕ)) →
+    LineDoes cells inputs outputs files said old old before before (Err stop.Memory)
 none_done cells inputs outputs files None old before = ((refl, refl), tt)
 none_done cells inputs outputs files (Some (Partitions made outs size)) old before = ((refl, refl), tt)
 none_done cells inputs outputs files (Some (Load name source)) old before = (refl, tt)
 none_done cells inputs outputs files (Some (Deploy input name)) old before = inl ((refl, refl), tt)
 none_done cells inputs outputs files (Some (Put input timestamp key value)) old before = inl ((refl, refl), tt)
 none_done cells inputs outputs files (Some (Append input source)) old before =
-    record { appends = nothing inputs input (bytes_of files source) (unread_of source) old old stop.Memory refl (λ rest. tt); printed = tt }
+    record {
+      appends = nothing inputs input (bytes_of files source) (unread_of source) old old stop.Memory refl
+          (λ rest. tt);
+      printed = tt;
+    }
 none_done cells inputs outputs files (Some (Close input)) old before = inl ((refl, refl), tt)
 none_done cells inputs outputs files (Some (Fetch output place max)) old before = (refl, tt)
 none_done cells inputs outputs files (Some Go) old before = (refl, tt)
 
-pub no_memory : (cells : ℕ → List ℕ) (inputs outputs : ℕ) (files : List ℕ → Option (List ℕ)) (said : Option Command) (old : List Received) (before : Option (List ℕ)) (result : Result ⊤ Stop)
-    → IsErrAnd result (λ reason. reason ≡ stop.Memory) → LineDoes cells inputs outputs files said old old before before result
+pub no_memory : (cells : ℕ → List ℕ) (inputs outputs : ℕ) (files : List ℕ → Option (List ℕ)) (said : Option Command)
+    (old : List Received) (before : Option (List ℕ)) (result : Result ⊤ Stop) →
+    IsErrAnd result (λ reason. reason ≡ stop.Memory) →
+    LineDoes cells inputs outputs files said old old before before result
 no_memory cells inputs outputs files said old before (Ok done) is = absurd is
 no_memory cells inputs outputs files said old before (Err reason) is =
-    subst (λ (s : Stop). LineDoes cells inputs outputs files said old old before before (Err s)) (sym is) (none_done cells inputs outputs files said old before)
+    subst (λ (s : Stop). LineDoes cells inputs outputs files said old old before before (Err s)) (sym is)
+    (none_done cells inputs outputs files said old before)

@@ -3,11 +3,13 @@ use Rattle.std.proofs.Common.{◌≡◌, ℕ, List, ◌∙◌, subst}
 use Rattle.std.specs.Prelude.{Option, Some, None}
 use Rattle.std.specs.Io.KnownBytes.{Appends, Keeps}
 
-pub appended_and_kept : (before written flushed : Option (List ℕ)) (text : List ℕ) → Appends before written text → Keeps written flushed → Appends before flushed text
+pub appended_and_kept : (before written flushed : Option (List ℕ)) (text : List ℕ) → Appends before written text →
+    Keeps written flushed → Appends before flushed text
 appended_and_kept None written flushed text a k = tt
 appended_and_kept (Some xs) None flushed text a k = absurd a
 appended_and_kept (Some xs) (Some ys) None text a k = absurd k
 appended_and_kept (Some xs) (Some ys) (Some zs) text a k = k ∙ a
 
-pub same_text : (before after : Option (List ℕ)) (text line : List ℕ) → Appends before after text → text ≡ line → Appends before after line
+pub same_text : (before after : Option (List ℕ)) (text line : List ℕ) → Appends before after text → text ≡ line →
+    Appends before after line
 same_text before after text line written is = subst (λ (t : List ℕ). Appends before after t) is written

@@ -1,5 +1,6 @@
 -- What a line does that appends record batches, and what it leaves where it ends early.
-use Rattle.std.specs.Prelude.{◌≡◌, ◌≢◌, ℕ, ◌<◌, ◌≤◌, List, [], ◌∷◌, ◌++◌, length, Option, Some, None, Result, Ok, Err, IfSome, ⊤}
+use Rattle.std.specs.Prelude.{◌≡◌, ◌≢◌, ℕ, ◌<◌, ◌≤◌, List, [], ◌∷◌, ◌++◌, length, Option, Some, None, Result, Ok, Err}
+use Rattle.std.specs.Prelude.{IfSome, ⊤}
 use Rattle.std.specs.List.{flat_map}
 use Rattle.std.specs.Io.KnownBytes.{Appends}
 use Rattle.wire_spec.specs.declared.record.Batch.{Batch}
@@ -8,7 +9,9 @@ use Rattle.log_spec.specs.Logs.{records_among}
 use Rattle.part_log.specs.Parts.{Received}
 use Rattle.broker.specs.Streams.{Appended}
 use Rattle.broker.specs.declared.fault.BrokerFault.{BrokerFault}
-use Rattle.broker.specs.declared.fault.BrokerFault.TheVariants.{Partition, NoProgram, Memory, Catalogue as CatalogueRefuses, Log as LogRefuses, Book as BookRefuses}
+use Rattle.broker.specs.declared.fault.BrokerFault.TheVariants.{Partition, NoProgram, Memory}
+use Rattle.broker.specs.declared.fault.BrokerFault.TheVariants.{Catalogue as CatalogueRefuses, Log as LogRefuses}
+use Rattle.broker.specs.declared.fault.BrokerFault.TheVariants.{Book as BookRefuses}
 use Rattle.script.specs.declared.command.Source.{Source}
 use Rattle.script.specs.declared.command.Source.TheVariants.{Line, File}
 use Rattle.script.specs.Texts.{append_line}
@@ -37,7 +40,8 @@ unread_of (File name) = stop.File name
 -- appended; or its log refuses the batch that they begin with.
 abbrev pub IsRefusal : ℕ → ℕ → List Received → List Received → List ℕ → BrokerFault → Type 0
 IsRefusal inputs input old new rest Partition = (inputs ≤ input) × (new ≡ old)
-IsRefusal inputs input old new rest (LogRefuses fault) = (input < inputs) × (batch : Batch) × (used : ℕ) × (batch_at rest ≡ Ok (batch, used))
+IsRefusal inputs input old new rest (LogRefuses fault) = (input < inputs) × (batch : Batch) × (used : ℕ)
+    × (batch_at rest ≡ Ok (batch, used))
 IsRefusal inputs input old new rest NoProgram = ⊥
 IsRefusal inputs input old new rest Memory = ⊥
 IsRefusal inputs input old new rest (CatalogueRefuses fault) = ⊥
@@ -50,7 +54,8 @@ abbrev pub EndsAt : ℕ → ℕ → Stop → List Received → List Received →
 EndsAt inputs input cause old new rest (Ok done) = (input < inputs) × (rest ≡ [])
 EndsAt inputs input cause old new rest (Err (stop.Line fault)) = new ≡ old
 EndsAt inputs input cause old new rest (Err (stop.Broker fault)) = IsRefusal inputs input old new rest fault
-EndsAt inputs input cause old new rest (Err (stop.Batch fault)) = (input < inputs) × (rest ≢ []) × (batch_at rest ≡ Err fault)
+EndsAt inputs input cause old new rest (Err (stop.Batch fault)) = (input < inputs) × (rest ≢ [])
+    × (batch_at rest ≡ Err fault)
 EndsAt inputs input cause old new rest (Err (stop.File name)) = stop.File name ≡ cause
 EndsAt inputs input cause old new rest (Err stop.Output) = ⊤
 EndsAt inputs input cause old new rest (Err stop.Thread) = ⊥
@@ -58,7 +63,8 @@ EndsAt inputs input cause old new rest (Err stop.Memory) = ⊤
 
 -- The batches that some bytes begin with, which are these where they are known, were appended to the log of an input
 -- partition one after the other, up to the end of the bytes or to a fault, and their receipts were added to a list.
-pub record AppendsOf (inputs input : ℕ) (known : Option (List ℕ)) (cause : Stop) (old new : List Received) (result : Result ⊤ Stop) : Type 0 where
+pub record AppendsOf (inputs input : ℕ) (known : Option (List ℕ)) (cause : Stop) (old new : List Received)
+    (result : Result ⊤ Stop) : Type 0 where
   pub bytes : List ℕ
   pub known_is : IfSome known (λ all. bytes ≡ all)
   pub rest : List ℕ
@@ -78,6 +84,7 @@ Prints before after text (Err stop.Memory) = ⊤
 
 -- What `append` does: it appends the batches of the bytes that it names, and prints a line for each, also for those
 -- before a fault.
-pub record AppendDoes (inputs : ℕ) (files : List ℕ → Option (List ℕ)) (input : ℕ) (source : Source) (old new : List Received) (before after : Option (List ℕ)) (result : Result ⊤ Stop) : Type 0 where
+pub record AppendDoes (inputs : ℕ) (files : List ℕ → Option (List ℕ)) (input : ℕ) (source : Source)
+    (old new : List Received) (before after : Option (List ℕ)) (result : Result ⊤ Stop) : Type 0 where
   pub appends : AppendsOf inputs input (bytes_of files source) (unread_of source) old new result
   pub printed : Prints before after (append_lines input appends.appended.added) result

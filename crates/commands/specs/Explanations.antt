@@ -22,11 +22,12 @@ abbrev pub status_of_explained : Explanation → ℕ
 status_of_explained explanation = status_of_refusal explanation.refusal
 
 -- an image with code is explained to an extent, and standard output gets all of the lines
-pub record PrintsExplained (extent : Extent) (image : List ℕ) (status : ℕ) (before after : Option (List ℕ)) : Type 0 where
-  pub explanation : Explanation
-  pub explained : Explains extent image explanation
-  pub status_is : status ≡ status_of_explained explanation
-  pub printed : Appends before after (string_bytes explanation.lines)
+pub record PrintsExplained (extent : Extent) (image : List ℕ) (status : ℕ) (before after : Option (List ℕ)) : Type 0
+  where
+    pub explanation : Explanation
+    pub explained : Explains extent image explanation
+    pub status_is : status ≡ status_of_explained explanation
+    pub printed : Appends before after (string_bytes explanation.lines)
 
 -- an image without code is refused
 pub record IsNoCode (image : List ℕ) (status : ℕ) : Type 0 where

@@ -21,5 +21,6 @@ IsRefusal image refused.Memory = Unit {0}
 
 -- What `check` prints of an image, seen by view: how many instructions its code has, where that has an annotation.
 abbrev pub ChecksAs : {X : Type 0} → List ℕ → (X → List ℕ) → Result X Refused → Type 0
-ChecksAs image view (Ok text) = (accepted : IsAccepted (program_of image)) × (view text ≡ accepted_line (length accepted.code))
+ChecksAs image view (Ok text) = (accepted : IsAccepted (program_of image))
+    × (view text ≡ accepted_line (length accepted.code))
 ChecksAs image view (Err reported) = IsRefusal image reported

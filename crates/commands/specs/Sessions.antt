@@ -1,5 +1,6 @@
 -- What the lines of a script do to its broker.
-use Rattle.std.specs.Prelude.{◌≡◌, ℕ, ◌<◌, ◌≤◌, ◌⊎◌, List, [], ◌∷◌, ◌++◌, length, All, Option, Some, None, Result, Ok, Err, OnOk, ⊤}
+use Rattle.std.specs.Prelude.{◌≡◌, ℕ, ◌<◌, ◌≤◌, ◌⊎◌, List, [], ◌∷◌, ◌++◌, length, All, Option, Some, None, Result, Ok}
+use Rattle.std.specs.Prelude.{Err, OnOk, ⊤}
 use Rattle.std.specs.Io.KnownBytes.{Appends}
 use Rattle.wire_spec.specs.declared.record.Batch.{Batch}
 use Rattle.machine_spec.specs.Image.{Program, program_of}
@@ -11,9 +12,8 @@ use Rattle.broker.specs.Deployments.{LoadIs}
 use Rattle.broker.specs.Fetches.{IsFetch}
 use Rattle.broker.specs.Streams.{IsReceiptOf}
 use Rattle.broker.specs.declared.fault.BrokerFault.TheVariants.{Partition as Absent}
-use Rattle.script.specs.declared.command.Command.{Command}
+use Rattle.script.specs.declared.{command.Command.Command, command.Source.Source}
 use Rattle.script.specs.declared.command.Command.TheVariants.{Partitions, Load, Deploy, Put, Append, Close, Fetch, Go}
-use Rattle.script.specs.declared.command.Source.{Source}
 use Rattle.script.specs.declared.command.Source.TheVariants.{Line, File}
 use Rattle.script.specs.Texts.{load_line, deploy_line, close_line, fetch_line}
 use Rattle.report.specs.Snapshots.{Gathered, IsGathered}
@@ -64,23 +64,27 @@ pub record Loads (name image : List ℕ) (before after : Option (List ℕ)) : Ty
 -- standard output.
 abbrev pub Deploys : ℕ → List ℕ → Received → Option (List ℕ) → Option (List ℕ) → Type 0
 Deploys input name receipt before after =
-    (version : ℕ) × IsMark input name version receipt × Appends before after (deploy_line input (length receipt.before.items) name version)
+    (version : ℕ) × IsMark input name version receipt
+    × Appends before after (deploy_line input (length receipt.before.items) name version)
 
 -- A batch was appended to the log of the input partition, and its line was printed between these contents of standard
 -- output.
 abbrev pub Puts : ℕ → Batch → Received → Option (List ℕ) → Option (List ℕ) → Type 0
-Puts input batch receipt before after = IsReceiptOf input (Records batch) receipt × Appends before after (line_of input receipt)
+Puts input batch receipt before after = IsReceiptOf input (Records batch) receipt
+    × Appends before after (line_of input receipt)
 
 -- The end of the log of the input partition was appended, and its line was printed between these contents of standard
 -- output.
 abbrev pub Closes : ℕ → Received → Option (List ℕ) → Option (List ℕ) → Type 0
-Closes input receipt before after = IsReceiptOf input Closed receipt × Appends before after (close_line input (length receipt.before.items))
+Closes input receipt before after = IsReceiptOf input Closed receipt
+    × Appends before after (close_line input (length receipt.before.items))
 
 -- What an output partition has from a place on, at most `max` rows, was printed as one batch.
-pub record Fetches (cells : ℕ → List ℕ) (inputs outputs output place max : ℕ) (before after : Option (List ℕ)) : Type 0 where
-  pub found : Option (List ℕ)
-  pub fetched : IsFetch cells inputs outputs output place max found
-  pub printed : Appends before after (fetch_line found)
+pub record Fetches (cells : ℕ → List ℕ) (inputs outputs output place max : ℕ) (before after : Option (List ℕ)) : Type 0
+  where
+    pub found : Option (List ℕ)
+    pub fetched : IsFetch cells inputs outputs output place max found
+    pub printed : Appends before after (fetch_line found)
 
 -- The report of a snapshot of `inputs` input and `outputs` output partitions was printed.
 pub record Reports (inputs outputs : ℕ) (before after : Option (List ℕ)) : Type 0 where
@@ -109,38 +113,57 @@ Refuses inputs input stop.Thread = ⊥
 
 -- What a command does that appends one item to the log of an input partition, of whose receipt `Is` holds, and prints
 -- its line, which `Says`. It ends early before anything is done, or where the item's line can't be printed.
-abbrev pub DoesOne : ℕ → ℕ → (Is Says : Received → Type 0) → List Received → List Received → Option (List ℕ) → Option (List ℕ) → Result ⊤ Stop → Type 0
+abbrev pub DoesOne : ℕ → ℕ → (Is Says : Received → Type 0) → List Received → List Received → Option (List ℕ) →
+    Option (List ℕ) → Result ⊤ Stop → Type 0
 DoesOne inputs input Is Says old new before after (Ok done) = (input < inputs) × AddsOne Says old new
-DoesOne inputs input Is Says old new before after (Err reason) = (IsUntouched old new before after × Refuses inputs input reason) ⊎ (AddsOne Is old new × IsUnwritten reason)
+DoesOne inputs input Is Says old new before after (Err reason) =
+    (IsUntouched old new before after × Refuses inputs input reason) ⊎ (AddsOne Is old new × IsUnwritten reason)
 
 -- what `deploy` does with a name: it appends a mark of a version of the name, and prints its line
-abbrev pub DeployDoes : ℕ → ℕ → List ℕ → List Received → List Received → Option (List ℕ) → Option (List ℕ) → Result ⊤ Stop → Type 0
+abbrev pub DeployDoes : ℕ → ℕ → List ℕ → List Received → List Received → Option (List ℕ) → Option (List ℕ) →
+    Result ⊤ Stop → Type 0
 DeployDoes inputs input name old new before after result =
-    DoesOne inputs input (λ receipt. (version : ℕ) × IsMark input name version receipt) (λ receipt. Deploys input name receipt before after) old new before after result
+    DoesOne inputs input (λ receipt. (version : ℕ) × IsMark input name version receipt)
+    (λ receipt. Deploys input name receipt before after) old new before after result
 
 -- what `put` does with a batch: it appends the batch, and prints its line
-abbrev pub PutDoes : ℕ → ℕ → Batch → List Received → List Received → Option (List ℕ) → Option (List ℕ) → Result ⊤ Stop → Type 0
+abbrev pub PutDoes : ℕ → ℕ → Batch → List Received → List Received → Option (List ℕ) → Option (List ℕ) → Result ⊤ Stop →
+    Type 0
 PutDoes inputs input batch old new before after result =
-    DoesOne inputs input (IsReceiptOf input (Records batch)) (λ receipt. Puts input batch receipt before after) old new before after result
+    DoesOne inputs input (IsReceiptOf input (Records batch)) (λ receipt. Puts input batch receipt before after) old new
+    before after result
 
 -- what `close` does: it appends the end of the log, and prints its line
-abbrev pub CloseDoes : ℕ → ℕ → List Received → List Received → Option (List ℕ) → Option (List ℕ) → Result ⊤ Stop → Type 0
+abbrev pub CloseDoes : ℕ → ℕ → List Received → List Received → Option (List ℕ) → Option (List ℕ) → Result ⊤ Stop →
+    Type 0
 CloseDoes inputs input old new before after result =
-    DoesOne inputs input (IsReceiptOf input Closed) (λ receipt. Closes input receipt before after) old new before after result
+    DoesOne inputs input (IsReceiptOf input Closed) (λ receipt. Closes input receipt before after) old new before after
+    result
 
 -- What a command does, by the cells of the broker's input partitions, the numbers of its input and output partitions
 -- and what is known of files: what it appends, of which the receipts are added to a list, and what it prints.
-abbrev pub Does : (ℕ → List ℕ) → ℕ → ℕ → (List ℕ → Option (List ℕ)) → Command → List Received → List Received → Option (List ℕ) → Option (List ℕ) → Result ⊤ Stop → Type 0
-Does cells inputs outputs files (Deploy input name) old new before after result = DeployDoes inputs input name old new before after result
-Does cells inputs outputs files (Put input timestamp key value) old new before after result = PutDoes inputs input (put_batch timestamp key value) old new before after result
-Does cells inputs outputs files (Close input) old new before after result = CloseDoes inputs input old new before after result
-Does cells inputs outputs files (Append input source) old new before after result = AppendDoes inputs files input source old new before after result
-Does cells inputs outputs files (Load name source) old new before after result = (new ≡ old) × OnOk result ((image : List ℕ) × IsImageIn files source image × Loads name image before after)
-Does cells inputs outputs files (Fetch output place max) old new before after result = (new ≡ old) × OnOk result (Fetches cells inputs outputs output place max before after)
-Does cells inputs outputs files Go old new before after result = (new ≡ old) × OnOk result (Reports inputs outputs before after)
-Does cells inputs outputs files (Partitions _ _ _) old new before after result = IsUntouched old new before after × OnOk result ⊥
+abbrev pub Does : (ℕ → List ℕ) → ℕ → ℕ → (List ℕ → Option (List ℕ)) → Command → List Received → List Received →
+    Option (List ℕ) → Option (List ℕ) → Result ⊤ Stop → Type 0
+Does cells inputs outputs files (Deploy input name) old new before after result =
+    DeployDoes inputs input name old new before after result
+Does cells inputs outputs files (Put input timestamp key value) old new before after result =
+    PutDoes inputs input (put_batch timestamp key value) old new before after result
+Does cells inputs outputs files (Close input) old new before after result =
+    CloseDoes inputs input old new before after result
+Does cells inputs outputs files (Append input source) old new before after result =
+    AppendDoes inputs files input source old new before after result
+Does cells inputs outputs files (Load name source) old new before after result = (new ≡ old)
+    × OnOk result ((image : List ℕ) × IsImageIn files source image × Loads name image before after)
+Does cells inputs outputs files (Fetch output place max) old new before after result = (new ≡ old)
+    × OnOk result (Fetches cells inputs outputs output place max before after)
+Does cells inputs outputs files Go old new before after result = (new ≡ old)
+    × OnOk result (Reports inputs outputs before after)
+Does cells inputs outputs files (Partitions _ _ _) old new before after result = IsUntouched old new before after
+    × OnOk result ⊥
 
 -- What a line does that is this command; one that is none is refused.
-abbrev pub LineDoes : (ℕ → List ℕ) → ℕ → ℕ → (List ℕ → Option (List ℕ)) → Option Command → List Received → List Received → Option (List ℕ) → Option (List ℕ) → Result ⊤ Stop → Type 0
-LineDoes cells inputs outputs files (Some command) old new before after result = Does cells inputs outputs files command old new before after result
+abbrev pub LineDoes : (ℕ → List ℕ) → ℕ → ℕ → (List ℕ → Option (List ℕ)) → Option Command → List Received →
+    List Received → Option (List ℕ) → Option (List ℕ) → Result ⊤ Stop → Type 0
+LineDoes cells inputs outputs files (Some command) old new before after result =
+    Does cells inputs outputs files command old new before after result
 LineDoes cells inputs outputs files None old new before after result = IsUntouched old new before after × OnOk result ⊥

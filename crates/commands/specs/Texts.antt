@@ -1,9 +1,8 @@
 -- What `asm` and `dis` do with an image's text.
 use Rattle.std.specs.Prelude.{◌≡◌, ◌⊎◌, ℕ, List, Option, Result, Ok, Err, IfSome}
 use Rattle.std.specs.Io.KnownBytes.{Appends}
-use Rattle.machine_spec.specs.declared.instruction.IsaFault.{IsaFault}
+use Rattle.machine_spec.specs.declared.{instruction.IsaFault.IsaFault, instruction.Placed.Placed}
 use Rattle.machine_spec.specs.declared.instruction.IsaFault.TheVariants as fault
-use Rattle.machine_spec.specs.declared.instruction.Placed.{Placed}
 use Rattle.machine_spec.specs.Image.{read_image}
 use Rattle.verifier_spec.specs.declared.fault.LoadFault.TheVariants.{Isa}
 use Rattle.bpf_asm.specs.Writing.{text_of}

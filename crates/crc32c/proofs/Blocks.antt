@@ -1,5 +1,6 @@
 -- Four bytes, and blocks of sixteen, at a time.
-use Rattle.std.proofs.Common.{◌≡◌, ℕ, zero, suc, ◌+◌, ◌*◌, ◌/◌, ◌^◌, ◌<◌, ◌≤◌, List, [], ◌∷◌, ◌++◌, length, get_or, take, drop, refl, sym, ◌∙◌, ap, arith, append_assoc, append-nil, length-take-le}
+use Rattle.std.proofs.Common.{◌≡◌, ℕ, zero, suc, ◌+◌, ◌*◌, ◌/◌, ◌^◌, ◌<◌, ◌≤◌, List, [], ◌∷◌, ◌++◌, length, get_or}
+use Rattle.std.proofs.Common.{take, drop, refl, sym, ◌∙◌, ap, arith, append_assoc, append-nil, length-take-le}
 use Rattle.std.specs.Int.Bits.{bit_and, bit_xor, xor_assoc, and_mask}
 use Rattle.std.specs.List.{concat}
 use Rattle.std.specs.Simd.{first_chunks}
@@ -9,7 +10,7 @@ use Rattle.std.proofs.lemmas.List.{take_more, take-append-drop}
 use Rattle.std.proofs.lemmas.Nat.{xor_comm, shr-shr}
 use Rattle.std.proofs.lemmas.Simd.{Each1-chunk, length-chunk}
 use Rattle.wire_spec.specs.Checksum.{remainder}
-use Rattle.crc32c.specs.Register.{after, word_at}
+use Rattle.crc32c.specs.Register.{register_after, word_at}
 use Rattle.crc32c.proofs.Linear.{remainder-xor, remainder-add, remainder-split}
 use Rattle.crc32c.proofs.Steps.{after-append, after-number}
 
@@ -43,11 +44,11 @@ from_entries k v =
 
 -- the remainder after one more word of a list
 after-word : (r i : ℕ) (xs : List ℕ) → i + 4 ≤ length xs → Each1 (λ b. b < 256) xs
-    → after r (take (i + 4) xs) ≡ remainder 32 (bit_xor (after r (take i xs)) (word_at xs i))
+    → register_after r (take (i + 4) xs) ≡ remainder 32 (bit_xor (register_after r (take i xs)) (word_at xs i))
 after-word r i xs h fits =
-    let s = after r (take i xs) in
+    let s = register_after r (take i xs) in
     let long : 8 * length (chunk i 4 xs) ≡ 32 = omega (arith, length-chunk i 4 xs h) in
-    ap (after r) (take-add i 4 xs)
+    ap (register_after r) (take-add i 4 xs)
     ∙ after-append r (take i xs) (chunk i 4 xs)
     ∙ after-number s (chunk i 4 xs) (Each1-chunk (λ b. b < 256) i 4 xs fits)
     ∙ ap (λ n. remainder n (bit_xor s (word_at xs i))) long
@@ -66,9 +67,10 @@ turned a b c d =
     ∙ sym (xor_assoc (bit_xor a b) c d ∙ xor_assoc a b (bit_xor c d))
 
 -- four words, one after the other, are four products
-four_words : (r w0 w1 w2 w3 r1 r2 r3 r4 : ℕ) → r1 ≡ remainder 32 (bit_xor r w0) → r2 ≡ remainder 32 (bit_xor r1 w1)
-    → r3 ≡ remainder 32 (bit_xor r2 w2) → r4 ≡ remainder 32 (bit_xor r3 w3)
-    → bit_xor (bit_xor (bit_xor (remainder 32 w3) (remainder 64 w2)) (remainder 96 w1)) (remainder 128 (bit_xor w0 r)) ≡ r4
+four_words : (r w0 w1 w2 w3 r1 r2 r3 r4 : ℕ) → r1 ≡ remainder 32 (bit_xor r w0) → r2 ≡ remainder 32 (bit_xor r1 w1) →
+    r3 ≡ remainder 32 (bit_xor r2 w2) → r4 ≡ remainder 32 (bit_xor r3 w3) →
+    bit_xor (bit_xor (bit_xor (remainder 32 w3) (remainder 64 w2)) (remainder 96 w1)) (remainder 128 (bit_xor w0 r))
+    ≡ r4
 four_words r w0 w1 w2 w3 r1 r2 r3 r4 e1 e2 e3 e4 =
     let p = bit_xor r w0 in
     let f2 : r2 ≡ bit_xor (remainder 64 p) (remainder 32 w1) =
@@ -85,13 +87,14 @@ four_words r w0 w1 w2 w3 r1 r2 r3 r4 e1 e2 e3 e4 =
     ∙ ap (λ q. bit_xor q (remainder 64 w2))
     (pushed 96 32 p (remainder 64 w1) ∙ ap (bit_xor (remainder 128 p)) (sym (remainder-add 64 32 w1)))) in
     turned (remainder 128 (bit_xor w0 r)) (remainder 96 w1) (remainder 64 w2) (remainder 32 w3)
-    ∙ ap (λ q. bit_xor (bit_xor (bit_xor (remainder 128 q) (remainder 96 w1)) (remainder 64 w2)) (remainder 32 w3)) (xor_comm w0 r)
+    ∙ ap (λ q. bit_xor (bit_xor (bit_xor (remainder 128 q) (remainder 96 w1)) (remainder 64 w2)) (remainder 32 w3))
+    (xor_comm w0 r)
     ∙ sym f4
 
-pub after-block : (r : ℕ) (xs : List ℕ) → length xs ≡ 16 → Each1 (λ b. b < 256) xs
-    → bit_xor (bit_xor (bit_xor (remainder 32 (word_at xs 12)) (remainder 64 (word_at xs 8))) (remainder 96 (word_at xs 4)))
-    (remainder 128 (bit_xor (word_at xs 0) r)) ≡ after r xs
-unfolding after
+pub after-block : (r : ℕ) (xs : List ℕ) → length xs ≡ 16 → Each1 (λ b. b < 256) xs →
+    bit_xor (bit_xor (bit_xor (remainder 32 (word_at xs 12)) (remainder 64 (word_at xs 8)))
+    (remainder 96 (word_at xs 4))) (remainder 128 (bit_xor (word_at xs 0) r)) ≡ register_after r xs
+unfolding register_after
 after-block r xs long fits =
     let all : take 16 xs ≡ xs = ap (λ n. take n xs) (sym long) ∙ take-length xs in
     four_words r (word_at xs 0) (word_at xs 4) (word_at xs 8) (word_at xs 12) _ _ _ _
@@ -99,23 +102,24 @@ after-block r xs long fits =
     (after-word r 4 xs (omega arith) fits)
     (after-word r 8 xs (omega arith) fits)
     (after-word r 12 xs (omega arith) fits)
-    ∙ ap (after r) all
+    ∙ ap (register_after r) all
 
 -- ---- the blocks of a list
 
 concat-append : (xss yss : List (List ℕ)) → concat (xss ++ yss) ≡ concat xss ++ concat yss
 concat-append [] yss = refl
-concat-append (xs ∷ xss) yss = ap (λ ys. xs ++ ys) (concat-append xss yss) ∙ sym (append_assoc xs (concat xss) (concat yss))
+concat-append (xs ∷ xss) yss = ap (λ ys. xs ++ ys) (concat-append xss yss)
+    ∙ sym (append_assoc xs (concat xss) (concat yss))
 
 -- the remainder after one more block
 pub after-next_block : (r i : ℕ) (xss : List (List ℕ)) → i < length xss
-    → after r (concat (take (i + 1) xss))
-    ≡ after (after r (concat (take i xss))) (get_or xss i [])
+    → register_after r (concat (take (i + 1) xss))
+    ≡ register_after (register_after r (concat (take i xss))) (get_or xss i [])
 after-next_block r i xss h =
     let block = get_or xss i [] in
     let one : concat (block ∷ []) ≡ block = append-nil block in
-    ap (λ yss. after r (concat yss)) (take_more xss i [] h)
-    ∙ ap (after r) (concat-append (take i xss) (block ∷ []) ∙ ap (λ ys. concat (take i xss) ++ ys) one)
+    ap (λ yss. register_after r (concat yss)) (take_more xss i [] h)
+    ∙ ap (register_after r) (concat-append (take i xss) (block ∷ []) ∙ ap (λ ys. concat (take i xss) ++ ys) one)
     ∙ after-append r (concat (take i xss)) block
 
 concat-first_chunks : (n k : ℕ) (xs : List ℕ) → concat (first_chunks n k xs) ≡ take (k * n) xs
@@ -138,9 +142,9 @@ blocks-are k xs blocks e within fits =
     (omega arith, rw whole (Each1-chunk (λ b. b < 256) 0 (k * 16) xs fits))
 
 -- the remainder after the blocks of a list and what is left
-pub after-blocks : (r n k : ℕ) (xs left : List ℕ) (blocks : List (List ℕ)) → blocks ≡ first_chunks n k xs → left ≡ drop (k * n) xs
-    → after (after r (concat blocks)) left ≡ after r xs
+pub after-blocks : (r n k : ℕ) (xs left : List ℕ) (blocks : List (List ℕ)) → blocks ≡ first_chunks n k xs →
+    left ≡ drop (k * n) xs → register_after (register_after r (concat blocks)) left ≡ register_after r xs
 after-blocks r n k xs left blocks e f =
     sym (after-append r (concat blocks) left)
-    ∙ ap (after r)
+    ∙ ap (register_after r)
     (rw (e, f, concat-first_chunks n k xs) (take-append-drop (k * n) xs))

@@ -20,8 +20,10 @@ one_step : (c h : ℕ) → c < 2 → h * 2 + c ≡ bit_xor (c * (1 + generator *
 one_step zero h small = rw (xor_zero_r h) (omega arith)
 one_step (suc zero) h small =
     let back : bit_xor generator (bit_xor h generator) ≡ h =
-    xor_comm generator (bit_xor h generator) ∙ xor_assoc h generator generator ∙ ap (bit_xor h) (xor_self generator) ∙ xor_zero_r h in
-    let e : bit_xor (generator * 2 + 1) (bit_xor h generator * 2 + 0) ≡ bit_xor generator (bit_xor h generator) * 2 + 1 =
+    xor_comm generator (bit_xor h generator) ∙ xor_assoc h generator generator ∙ ap (bit_xor h) (xor_self generator)
+    ∙ xor_zero_r h in
+    let e : bit_xor (generator * 2 + 1) (bit_xor h generator * 2 + 0)
+    ≡ bit_xor generator (bit_xor h generator) * 2 + 1 =
     xor_block 1 generator (bit_xor h generator) 1 0 (lit< tt) (lit< tt) in
     sym (ap (bit_xor (generator * 2 + 1)) (sym (add-zero (bit_xor h generator * 2))) ∙ e ∙ ap (λ x. x * 2 + 1) back)
 one_step (suc (suc c)) h small = absurd (omega arith)

@@ -1,6 +1,7 @@
 -- Division by the generator is linear over the field of two elements.
 use Rattle.std.proofs.Common.{◌≡◌, ℕ, zero, suc, ◌+◌, ◌*◌, ◌/◌, ◌%◌, ◌^◌, ◌<◌, refl, sym, ◌∙◌, ap, arith}
-use Rattle.std.specs.Int.Bits.{bit_xor, xor_assoc, xor_zero_r, xor_shr, xor_mod, xor_shifted, shifted_half, shifted_even}
+use Rattle.std.specs.Int.Bits.{bit_xor, xor_assoc, xor_zero_r, xor_shr, xor_mod, xor_shifted, shifted_half}
+use Rattle.std.specs.Int.Bits.{shifted_even}
 use Rattle.std.proofs.lemmas.Nat.{xor_comm, shr_split, mod_below, pow_pos}
 use Rattle.wire_spec.specs.Checksum.{generator, without_highest, remainder}
 

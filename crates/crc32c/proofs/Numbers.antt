@@ -1,5 +1,7 @@
 -- Numbers that lists of digits spell, the first digit lowest.
-use Rattle.std.proofs.Common.{◌≡◌, ℕ, zero, suc, ◌+◌, ◌*◌, ◌/◌, ◌%◌, ◌^◌, ◌<◌, ◌≤◌, List, [], ◌∷◌, ◌++◌, length, get_or, refl, sym, ◌∙◌, ap, arith, mul_assoc, mul_comm, mul-add, pow-suc, div-one, one-mul, mul-suc, mul-le-mul_left, lit<}
+use Rattle.std.proofs.Common.{◌≡◌, ℕ, zero, suc, ◌+◌, ◌*◌, ◌/◌, ◌%◌, ◌^◌, ◌<◌, ◌≤◌, List, [], ◌∷◌, ◌++◌, length, get_or}
+use Rattle.std.proofs.Common.{refl, sym, ◌∙◌, ap, arith, mul_assoc, mul_comm, mul-add, pow-suc, div-one, one-mul}
+use Rattle.std.proofs.Common.{mul-suc, mul-le-mul_left, lit<}
 use Rattle.std.proofs.Math.Nat.{div-div-eq-div-mul, pow-zero, mod-one}
 use Rattle.std.proofs.Math.Arith.{mod-mul}
 use Rattle.std.proofs.lemmas.Nat.{mod_below, div-mul-add, mod-mul-add}
@@ -56,7 +58,8 @@ number_l-below base (x ∷ xs) fits =
     let rest = number_l-below base xs fits.1 in
     let more : base * suc (number_l base xs) ≤ base * base ^ length xs = mul-le-mul_left base rest in
     let parts = mul-suc base (number_l base xs) in
-    let whole : base * base ^ length xs ≡ base ^ suc (length xs) = mul_comm base (base ^ length xs) ∙ sym (pow-suc base (length xs)) in
+    let whole : base * base ^ length xs ≡ base ^ suc (length xs) = mul_comm base (base ^ length xs)
+    ∙ sym (pow-suc base (length xs)) in
     omega arith
 
 -- ---- the bytes of a number

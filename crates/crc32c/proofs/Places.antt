@@ -1,5 +1,7 @@
 -- The window as a part of a longer list.
-use Rattle.std.proofs.Common.{◌≡◌, ℕ, zero, suc, ◌+◌, ◌*◌, ◌/◌, ◌%◌, ◌^◌, ◌<◌, ◌≤◌, List, [], ◌∷◌, ◌++◌, length, get_or, take, drop, set, replicate, refl, sym, ◌∙◌, ap, subst, arith, div-one, length-drop, mod-eq_of_lt, lit<}
+use Rattle.std.proofs.Common.{◌≡◌, ℕ, zero, suc, ◌+◌, ◌*◌, ◌/◌, ◌%◌, ◌^◌, ◌<◌, ◌≤◌, List, [], ◌∷◌, ◌++◌, length, get_or}
+use Rattle.std.proofs.Common.{take, drop, set, replicate, refl, sym, ◌∙◌, ap, subst, arith, div-one, length-drop}
+use Rattle.std.proofs.Common.{mod-eq_of_lt, lit<}
 use Rattle.std.proofs.Math.Seq.{take-suc-set, paste}
 use Rattle.std.proofs.lemmas.List.Edits.{take-paste}
 use Rattle.std.proofs.lemmas.Nat.{mod_below, xor_lt, shr-shr, shr_below, or_shifted}
@@ -9,9 +11,10 @@ use Rattle.std.proofs.lemmas.Simd.{Each1-get_or, Each1-from_get_or, Each1-chunk,
 use Rattle.std.specs.Int.Bits.{bit_and, bit_or, bit_xor, xor_mod, and_mask}
 use Rattle.std.specs.Simd.Lanes.{Each1, number_l, chunk}
 use Rattle.wire_spec.specs.Checksum.{remainder}
-use Rattle.crc32c.specs.Register.{after, word_at}
-use Rattle.crc32c.specs.Window.{sum_of_five, later, moved, window_at, after_window}
-use Rattle.crc32c.proofs.Numbers.{number_l-append, number_l-below, number_l-digit, without_first, number_l-bytes, bytes-below}
+use Rattle.crc32c.specs.Register.{register_after, word_at}
+use Rattle.crc32c.specs.Window.{sum_of_five, later, window_behind, window_at, after_window}
+use Rattle.crc32c.proofs.Numbers.{number_l-append, number_l-below, number_l-digit, without_first, number_l-bytes}
+use Rattle.crc32c.proofs.Numbers.{bytes-below}
 use Rattle.crc32c.proofs.Folding.{after_window-next, after_window-kept}
 use Rattle.crc32c.proofs.Steps.{after-number}
 
@@ -25,7 +28,8 @@ Blocks-from xs below = Each1-from_get_or (λ b. b < 2 ^ 128) xs 0 (λ i _. below
 pub window_at-below : (place : ℕ) (blocks : List ℕ) → place + 209 ≤ length blocks → Blocks blocks
     → window_at place blocks < 2 ^ (128 * 209)
 window_at-below place blocks within fits =
-    let below = number_l-below (2 ^ 128) (chunk place 209 blocks) (Each1-chunk (λ x. x < 2 ^ 128) place 209 blocks fits) in
+    let below = number_l-below (2 ^ 128) (chunk place 209 blocks)
+    (Each1-chunk (λ x. x < 2 ^ 128) place 209 blocks fits) in
     let long = length-chunk place 209 blocks within in
     subst (λ k. window_at place blocks < (2 ^ 128) ^ k) long below
 
@@ -34,7 +38,8 @@ pub window_at-block : (place j : ℕ) (blocks : List ℕ) → place + 209 ≤ le
     → window_at place blocks / (2 ^ 128) ^ j % 2 ^ 128 ≡ get_or blocks (place + j) 0
 window_at-block place j blocks within early fits =
     let long = length-chunk place 209 blocks within in
-    number_l-digit (2 ^ 128) j (chunk place 209 blocks) (omega (arith, long)) (Each1-chunk (λ x. x < 2 ^ 128) place 209 blocks fits)
+    number_l-digit (2 ^ 128) j (chunk place 209 blocks) (omega (arith, long))
+    (Each1-chunk (λ x. x < 2 ^ 128) place 209 blocks fits)
     ∙ get_or-chunk place 209 blocks j 0 early
 
 sum_of_five-mod : (a b c d e : ℕ) → sum_of_five a b c d e % 2 ^ 128
@@ -48,19 +53,23 @@ sum_of_five-mod a b c d e =
 
 -- what a window adds to the block behind it
 pub moved-first : (place : ℕ) (blocks : List ℕ) → place + 209 ≤ length blocks → Blocks blocks
-    → moved (window_at place blocks) % 2 ^ 128
+    → window_behind (window_at place blocks) % 2 ^ 128
     ≡ sum_of_five (get_or blocks place 0) (get_or blocks (place + 14) 0) (get_or blocks (place + 39) 0)
     (get_or blocks (place + 54) 0) (get_or blocks (place + 144) 0)
-unfolding moved
+unfolding window_behind
 moved-first place blocks within fits =
     let w = window_at place blocks in
     let b0 : w % 2 ^ 128 ≡ get_or blocks place 0 =
     ap (λ q. q % 2 ^ 128) (sym (div-one w)) ∙ window_at-block place 0 blocks within (omega arith) fits
     ∙ ap (λ k. get_or blocks k 0) (let e : place + 0 ≡ place = omega arith in e) in
-    let b1 : later 14 w % 2 ^ 128 ≡ get_or blocks (place + 14) 0 = window_at-block place 14 blocks within (omega arith) fits in
-    let b2 : later 39 w % 2 ^ 128 ≡ get_or blocks (place + 39) 0 = window_at-block place 39 blocks within (omega arith) fits in
-    let b3 : later 54 w % 2 ^ 128 ≡ get_or blocks (place + 54) 0 = window_at-block place 54 blocks within (omega arith) fits in
-    let b4 : later 144 w % 2 ^ 128 ≡ get_or blocks (place + 144) 0 = window_at-block place 144 blocks within (omega arith) fits in
+    let b1 : later 14 w % 2 ^ 128 ≡ get_or blocks (place + 14) 0 =
+    window_at-block place 14 blocks within (omega arith) fits in
+    let b2 : later 39 w % 2 ^ 128 ≡ get_or blocks (place + 39) 0 =
+    window_at-block place 39 blocks within (omega arith) fits in
+    let b3 : later 54 w % 2 ^ 128 ≡ get_or blocks (place + 54) 0 =
+    window_at-block place 54 blocks within (omega arith) fits in
+    let b4 : later 144 w % 2 ^ 128 ≡ get_or blocks (place + 144) 0 =
+    window_at-block place 144 blocks within (omega arith) fits in
     sum_of_five-mod w (later 14 w) (later 39 w) (later 54 w) (later 144 w)
     ∙ rw (b0, b1, b2, b3, b4) refl
 
@@ -68,19 +77,22 @@ pub block-below : (block : List ℕ) → length block ≡ 16 → Each1 (λ b. b 
 block-below block long fits = subst (λ n. number_l 256 block < 256 ^ n) long (number_l-below 256 block fits)
 
 -- the block that is read, with what the window adds to it
-pub folded_is : (place read : ℕ) (space block : List ℕ) → place + 209 ≤ length space → Blocks space
-    → length block ≡ 16 → Each1 (λ b. b < 256) block → read ≡ number_l 256 block
-    → (r : ℕ) (rest : List (List ℕ)) → after_window r (window_at place space) (block ∷ rest)
+pub folded_is : (place read : ℕ) (space block : List ℕ) → place + 209 ≤ length space → Blocks space →
+    length block ≡ 16 → Each1 (λ b. b < 256) block → read ≡ number_l 256 block → (r : ℕ) (rest : List (List ℕ)) →
+    after_window r (window_at place space) (block ∷ rest)
     ≡ after_window (remainder 128 (bit_xor r (bit_xor (sum_of_five (get_or space place 0) (get_or space (place + 14) 0)
-    (get_or space (place + 39) 0) (get_or space (place + 54) 0) (get_or space (place + 144) 0)) read))) (later 1 (window_at place space)) rest
+    (get_or space (place + 39) 0) (get_or space (place + 54) 0) (get_or space (place + 144) 0)) read)))
+    (later 1 (window_at place space)) rest
 folded_is place read space block within fits long bytes is r rest =
     let sum = sum_of_five (get_or space place 0) (get_or space (place + 14) 0) (get_or space (place + 39) 0)
     (get_or space (place + 54) 0) (get_or space (place + 144) 0) in
     let below : number_l 256 block < 2 ^ 128 = block-below block long bytes in
-    let sum_below : sum < 2 ^ 128 = subst (λ n. n < 2 ^ 128) (moved-first place space within fits) (mod_below (moved (window_at place space)) (2 ^ 128) (lit< tt)) in
+    let sum_below : sum < 2 ^ 128 =
+    subst (λ n. n < 2 ^ 128) (moved-first place space within fits)
+    (mod_below (window_behind (window_at place space)) (2 ^ 128) (lit< tt)) in
     let whole : bit_xor sum read < 2 ^ 128 = xor_lt 128 sum read sum_below (rw is below) in
-    let same : bit_xor sum read ≡ bit_xor (moved (window_at place space)) (number_l 256 block) % 2 ^ 128 =
-    sym (xor_mod (moved (window_at place space)) (number_l 256 block) 128
+    let same : bit_xor sum read ≡ bit_xor (window_behind (window_at place space)) (number_l 256 block) % 2 ^ 128 =
+    sym (xor_mod (window_behind (window_at place space)) (number_l 256 block) 128
     ∙ ap (λ m. bit_xor m (number_l 256 block % 2 ^ 128)) (moved-first place space within fits)
     ∙ ap (bit_xor sum) (mod-eq_of_lt below ∙ sym is)) in
     after_window-next r (window_at place space) (bit_xor sum read) block rest long below same
@@ -113,10 +125,12 @@ window_at-next place x blocks within fits =
     ∙ ap (λ v. v + 2 ^ (128 * 208) * x) (sym kept)
 
 -- a block that is taken away into the window
-pub fold-step : (place x : ℕ) (space block : List ℕ) (rest : List (List ℕ)) → place + 209 < length space → Blocks space
-    → x < 2 ^ 128 → 209 ≤ length rest
-    → after_window 0 (window_at place space) (block ∷ rest) ≡ after_window (remainder 128 x) (later 1 (window_at place space)) rest
-    → after_window 0 (window_at (place + 1) (set space (place + 209) x)) rest ≡ after_window 0 (window_at place space) (block ∷ rest)
+pub fold-step : (place x : ℕ) (space block : List ℕ) (rest : List (List ℕ)) → place + 209 < length space →
+    Blocks space → x < 2 ^ 128 → 209 ≤ length rest →
+    after_window 0 (window_at place space) (block ∷ rest)
+    ≡ after_window (remainder 128 x) (later 1 (window_at place space)) rest →
+    after_window 0 (window_at (place + 1) (set space (place + 209) x)) rest
+    ≡ after_window 0 (window_at place space) (block ∷ rest)
 fold-step place x space block rest within fits below long e =
     let window = window_at place space in
     ap (λ w. after_window 0 w rest) (window_at-next place x space within fits)
@@ -148,15 +162,16 @@ pub window_at-one : (n r : ℕ) → window_at 0 (r ∷ replicate n 0) ≡ r
 window_at-one n r = let none = number_l-no_blocks 208 n in omega arith
 
 -- the bytes of a block
-pub after-bytes_of : (r x : ℕ) → x < 2 ^ 128 → after r (to_le_bytes w128 x) ≡ remainder 128 (bit_xor r x)
+pub after-bytes_of : (r x : ℕ) → x < 2 ^ 128 → register_after r (to_le_bytes w128 x) ≡ remainder 128 (bit_xor r x)
 after-bytes_of r x below =
     after-number r (to_le_bytes w128 x) (bytes-below 0 16 x)
-    ∙ ap (λ n. remainder 128 (bit_xor r n)) (number_l-bytes 0 16 x ∙ ap (λ q. q % 2 ^ 128) (div-one x) ∙ mod-eq_of_lt below)
+    ∙ ap (λ n. remainder 128 (bit_xor r n)) (number_l-bytes 0 16 x ∙ ap (λ q. q % 2 ^ 128) (div-one x)
+    ∙ mod-eq_of_lt below)
 
 -- the words of a number are those of its bytes
-pub words-are : (x j : ℕ) → x < 2 ^ 128 → j < 4
-    → get_or (bit_and x 0xFFFF_FFFF ∷ bit_and (x / 2 ^ 32) 0xFFFF_FFFF ∷ bit_and (x / 2 ^ 64) 0xFFFF_FFFF ∷ x / 2 ^ 96 ∷ []) j 0
-    ≡ word_at (to_le_bytes w128 x) (4 * j)
+pub words-are : (x j : ℕ) → x < 2 ^ 128 → j < 4 →
+    get_or (bit_and x 0xFFFF_FFFF ∷ bit_and (x / 2 ^ 32) 0xFFFF_FFFF ∷ bit_and (x / 2 ^ 64) 0xFFFF_FFFF ∷ x / 2 ^ 96
+    ∷ []) j 0 ≡ word_at (to_le_bytes w128 x) (4 * j)
 words-are x zero below h = and_mask x 32 ∙ ap (λ q. q % 2 ^ 32) (sym (div-one x)) ∙ sym (number_l-bytes 0 4 x)
 words-are x (suc zero) below h = and_mask (x / 2 ^ 32) 32 ∙ sym (number_l-bytes 4 4 x)
 words-are x (suc (suc zero)) below h = and_mask (x / 2 ^ 64) 32 ∙ sym (number_l-bytes 8 4 x)

@@ -1,6 +1,7 @@
--- The generator divides y^209 + y^144 + y^54 + y^39 + y^14 + 1, where y is x^128: so what a polynomial leaves 209 blocks
--- before the end is the sum of what it leaves 144, 54, 39, 14 and 0 blocks before it.
-use Rattle.std.proofs.Common.{◌≡◌, ℕ, zero, suc, ◌+◌, ◌*◌, ◌/◌, ◌%◌, ◌-◌, ◌^◌, ◌<◌, ◌≤◌, refl, sym, ◌∙◌, ap, subst, arith, lit≤}
+-- The generator divides y^209 + y^144 + y^54 + y^39 + y^14 + 1, where y is x^128: so what a polynomial leaves 209
+-- blocks before the end is the sum of what it leaves 144, 54, 39, 14 and 0 blocks before it.
+use Rattle.std.proofs.Common.{◌≡◌, ℕ, zero, suc, ◌+◌, ◌*◌, ◌/◌, ◌%◌, ◌-◌, ◌^◌, ◌<◌, ◌≤◌, refl, sym, ◌∙◌, ap, subst}
+use Rattle.std.proofs.Common.{arith, lit≤}
 use Rattle.std.specs.Int.Bits.{bit_xor}
 use Rattle.std.proofs.lemmas.Nat.{pow-add, pow_pos, mod_below, shr_below}
 use Rattle.wire_spec.specs.Checksum.{remainder}
@@ -46,7 +47,13 @@ highest = refl
 
 spread-xor : (p q : ℕ) → spread (bit_xor p q) ≡ bit_xor (spread p) (spread q)
 spread-xor p q =
-    rw (remainder-xor (128 * 14) p q, remainder-xor (128 * 39) p q, remainder-xor (128 * 54) p q, remainder-xor (128 * 144) p q)
+    rw (
+      remainder-xor (128 * 14) p q,
+      remainder-xor (128 * 39) p q,
+      remainder-xor (128 * 54) p q,
+      remainder-xor
+          (128 * 144) p q,
+    )
     (sum_of_five-xor p (before_end 14 p) (before_end 39 p) (before_end 54 p) (before_end 144 p)
     q (before_end 14 q) (before_end 39 q) (before_end 54 q) (before_end 144 q))
 
@@ -57,7 +64,13 @@ remainder-swap m n p =
 
 spread-remainder : (n p : ℕ) → spread (remainder n p) ≡ remainder n (spread p)
 spread-remainder n p =
-    rw (remainder-swap (128 * 14) n p, remainder-swap (128 * 39) n p, remainder-swap (128 * 54) n p, remainder-swap (128 * 144) n p)
+    rw (
+      remainder-swap (128 * 14) n p,
+      remainder-swap (128 * 39) n p,
+      remainder-swap (128 * 54) n p,
+      remainder-swap
+          (128 * 144) n p,
+    )
     (sym (remainder-sum_of_five n p (before_end 14 p) (before_end 39 p) (before_end 54 p) (before_end 144 p)))
 
 -- a polynomial of one power
@@ -71,16 +84,24 @@ of_power k j e =
     ∙ sym (spread-remainder j 0x8000_0000)
     ∙ ap spread moved_down
 
-of_sum : (p q : ℕ) → before_end 209 p ≡ spread p → before_end 209 q ≡ spread q → before_end 209 (bit_xor p q) ≡ spread (bit_xor p q)
+of_sum : (p q : ℕ) → before_end 209 p ≡ spread p → before_end 209 q ≡ spread q →
+    before_end 209 (bit_xor p q) ≡ spread (bit_xor p q)
 of_sum p q e f =
-    remainder-xor (128 * 209) p q ∙ ap (λ s. bit_xor s (before_end 209 q)) e ∙ ap (bit_xor (spread p)) f ∙ sym (spread-xor p q)
+    remainder-xor (128 * 209) p q ∙ ap (λ s. bit_xor s (before_end 209 q)) e ∙ ap (bit_xor (spread p)) f
+    ∙ sym (spread-xor p q)
 
 remainder-none : (n : ℕ) → remainder n 0 ≡ 0
 remainder-none n = ap (remainder n) (let e : 0 ≡ 0 * 2 ^ n = omega arith in e) ∙ remainder-shifted n 0
 
 of_none : before_end 209 0 ≡ spread 0
 of_none =
-    rw (remainder-none (128 * 209), remainder-none (128 * 14), remainder-none (128 * 39), remainder-none (128 * 54), remainder-none (128 * 144)) refl
+    rw (
+      remainder-none (128 * 209),
+      remainder-none (128 * 14),
+      remainder-none (128 * 39),
+      remainder-none (128 * 54),
+      remainder-none (128 * 144),
+    ) refl
 
 with_top : (k top : ℕ) → suc k ≤ 32 → top < 2 → before_end 209 (top * 2 ^ k) ≡ spread (top * 2 ^ k)
 with_top k zero within below =

@@ -1,12 +1,13 @@
 -- The remainder after more bytes.
-use Rattle.std.proofs.Common.{◌≡◌, ℕ, suc, ◌+◌, ◌*◌, ◌/◌, ◌%◌, ◌^◌, ◌<◌, List, [], ◌∷◌, ◌++◌, length, get_or, take, refl, sym, ◌∙◌, ap, arith}
+use Rattle.std.proofs.Common.{◌≡◌, ℕ, suc, ◌+◌, ◌*◌, ◌/◌, ◌%◌, ◌^◌, ◌<◌, List, [], ◌∷◌, ◌++◌, length, get_or, take}
+use Rattle.std.proofs.Common.{refl, sym, ◌∙◌, ap, arith}
 use Rattle.std.specs.Int.Bits.{bit_and, bit_xor, xor_zero_r, xor_shr, and_mask}
 use Rattle.std.specs.Simd.Lanes.{Each1, number_l}
 use Rattle.std.proofs.lemmas.Nat.{xor_comm}
 use Rattle.std.proofs.lemmas.List.{take_more}
 use Rattle.std.proofs.lemmas.Simd.{Each1-from_get_or}
 use Rattle.wire_spec.specs.Checksum.{remainder, checksum}
-use Rattle.crc32c.specs.Register.{after}
+use Rattle.crc32c.specs.Register.{register_after}
 use Rattle.crc32c.proofs.Linear.{remainder-add, remainder-joined, remainder-split}
 
 -- one look at the table for one byte
@@ -22,24 +23,24 @@ from_entry r b h =
     ∙ ap (bit_xor (remainder 8 (p % 2 ^ 8))) (sym high)
     ∙ sym (remainder-split 0 p)
 
-pub after-append : (r : ℕ) (xs ys : List ℕ) → after r (xs ++ ys) ≡ after (after r xs) ys
-unfolding after
+pub after-append : (r : ℕ) (xs ys : List ℕ) → register_after r (xs ++ ys) ≡ register_after (register_after r xs) ys
+unfolding register_after
 after-append r [] ys = refl
 after-append r (x ∷ xs) ys = after-append (remainder 8 (bit_xor r x)) xs ys
 
 -- the remainder after one more byte of a list
 pub after-take_more : (r i : ℕ) (xs : List ℕ) → i < length xs
-    → after r (take (i + 1) xs) ≡ remainder 8 (bit_xor (after r (take i xs)) (get_or xs i 0))
-unfolding after
-after-take_more r i xs h = ap (after r) (take_more xs i 0 h) ∙ after-append r (take i xs) (get_or xs i 0 ∷ [])
+    → register_after r (take (i + 1) xs) ≡ remainder 8 (bit_xor (register_after r (take i xs)) (get_or xs i 0))
+unfolding register_after
+after-take_more r i xs h = ap (register_after r) (take_more xs i 0 h) ∙ after-append r (take i xs) (get_or xs i 0 ∷ [])
 
 pub each_below : (xs : List ℕ) → ((i : ℕ) → get_or xs i 0 < 256) → Each1 (λ b. b < 256) xs
 each_below xs below = Each1-from_get_or (λ b. b < 256) xs 0 (λ i _. below i)
 
 -- a byte at a time or the whole number of the bytes at once
 pub after-number : (r : ℕ) (xs : List ℕ) → Each1 (λ b. b < 256) xs
-    → after r xs ≡ remainder (8 * length xs) (bit_xor r (number_l 256 xs))
-unfolding after remainder
+    → register_after r xs ≡ remainder (8 * length xs) (bit_xor r (number_l 256 xs))
+unfolding register_after remainder
 after-number r [] fits = sym (xor_zero_r r)
 after-number r (x ∷ xs) fits =
     let n = 8 * length xs in
@@ -51,8 +52,10 @@ after-number r (x ∷ xs) fits =
     ∙ ap (λ m. remainder m (bit_xor r (x + 256 * number_l 256 xs))) more
 
 -- the register that starts from all ones, inverted
-pub checksum_is : (xs : List ℕ) → ((i : ℕ) → get_or xs i 0 < 256) → bit_xor (after 0xFFFF_FFFF xs) 0xFFFF_FFFF ≡ checksum xs
+pub checksum_is : (xs : List ℕ) → ((i : ℕ) → get_or xs i 0 < 256) →
+    bit_xor (register_after 0xFFFF_FFFF xs) 0xFFFF_FFFF ≡ checksum xs
 unfolding checksum
 checksum_is xs below =
     ap (λ r. bit_xor r 0xFFFF_FFFF)
-    (after-number 0xFFFF_FFFF xs (each_below xs below) ∙ ap (remainder (8 * length xs)) (xor_comm 0xFFFF_FFFF (number_l 256 xs)))
+    (after-number 0xFFFF_FFFF xs (each_below xs below)
+    ∙ ap (remainder (8 * length xs)) (xor_comm 0xFFFF_FFFF (number_l 256 xs)))

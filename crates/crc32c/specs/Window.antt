@@ -17,13 +17,13 @@ abbrev pub later : ℕ → ℕ → ℕ
 later blocks window = window / 2 ^ (128 * blocks)
 
 -- what a window of 209 blocks adds to the blocks behind it, the first of them lowest
-unfoldable pub moved : ℕ → ℕ
-moved window = sum_of_five window (later 14 window) (later 39 window) (later 54 window) (later 144 window)
+unfoldable pub window_behind : ℕ → ℕ
+window_behind window = sum_of_five window (later 14 window) (later 39 window) (later 54 window) (later 144 window)
 
 -- the remainder after more blocks, where that of what is before them is r, and the window adds to them
 unfoldable pub after_window : ℕ → ℕ → List (List ℕ) → ℕ
 after_window r window blocks =
-    remainder (128 * length blocks) (bit_xor (bit_xor r (moved window)) (number_l 256 (concat blocks)))
+    remainder (128 * length blocks) (bit_xor (bit_xor r (window_behind window)) (number_l 256 (concat blocks)))
 
 -- the window of 209 blocks from a place on
 abbrev pub window_at : ℕ → List ℕ → ℕ

@@ -9,7 +9,7 @@ ghost use Rattle.std.specs.Prelude.{◌≡◌, ℕ, ◌+◌, ◌*◌, ◌<◌, �
 ghost use Rattle.std.specs.List.{concat};
 ghost use Rattle.std.specs.Simd.Lanes.{Each1};
 ghost use Rattle.wire_spec.specs.Checksum.{remainder, checksum};
-ghost use Rattle.crc32c.specs.Register.{after, word_at};
+ghost use Rattle.crc32c.specs.Register.{register_after, word_at};
 
 mod tables;
 mod window;
@@ -28,7 +28,7 @@ fn after_byte(r: u32, byte: u8) -> u32
 
 // The remainder after the bytes, one at a time.
 fn after_bytes(mut r: u32, bytes: &[u8]) -> u32
-    ensures { result ≡ after r bytes.now }
+    ensures { result ≡ register_after r bytes.now }
 {
     for byte in bytes {
         r = after_byte(r, *byte);
@@ -62,7 +62,7 @@ fn fold_word(word: u32, row: usize) -> u32
 #[inline(always)]
 fn after_words(r: u32, words: [u32; 4]) -> u32
     ensures { (block : List ℕ) → length block ≡ 16 → Each1 (λ b. b < 256) block
-        → ((j : ℕ) → j < 4 → slice_index words j ≡ word_at block (4 * j)) → result ≡ after r block }
+        → ((j : ℕ) → j < 4 → slice_index words j ≡ word_at block (4 * j)) → result ≡ register_after r block }
 {
     fold_word(words[3], 0)
         ^ fold_word(words[2], 4)
@@ -73,14 +73,14 @@ fn after_words(r: u32, words: [u32; 4]) -> u32
 // The remainder after one more block.
 #[inline(always)]
 fn after_block(r: u32, block: &[u8; 16]) -> u32
-    ensures { result ≡ after r block.now }
+    ensures { result ≡ register_after r block.now }
 {
     after_words(r, words(*block))
 }
 
 // The remainder after the blocks.
 fn after_blocks(mut r: u32, blocks: &[[u8; 16]]) -> u32
-    ensures { result ≡ after r (concat blocks.now) }
+    ensures { result ≡ register_after r (concat blocks.now) }
 {
     for block in blocks {
         r = after_block(r, block);

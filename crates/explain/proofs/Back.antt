@@ -5,11 +5,14 @@ use Rattle.verifier_spec.specs.Annotation.{Claims}
 use Rattle.explain.specs.Meetings.{after_step, step, lost_within}
 
 module _ (code : List Placed) (claims : Claims) (r : ℕ) where
-  next_within : (left more j : ℕ) → left ≡ suc more → lost_within code claims r left j ≡ after_step (lost_within code claims r more) (step code claims r j)
+  next_within : (left more j : ℕ) → left ≡ suc more →
+      lost_within code claims r left j ≡ after_step (lost_within code claims r more) (step code claims r j)
   unfolding lost_within
   next_within left more j e = ap (λ (n : ℕ). lost_within code claims r n j) e
 
-  pub one_back : (total n j : ℕ) → n < total → lost_within code claims r (total - n) j ≡ after_step (lost_within code claims r (total - (n + 1))) (step code claims r j)
+  pub one_back : (total n j : ℕ) → n < total →
+      lost_within code claims r (total - n) j
+      ≡ after_step (lost_within code claims r (total - (n + 1))) (step code claims r j)
   one_back total n j below = next_within (total - n) (total - (n + 1)) j (omega arith)
 
   nothing_left : (left j : ℕ) → left ≡ 0 → lost_within code claims r left j ≡ None

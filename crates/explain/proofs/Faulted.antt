@@ -1,28 +1,30 @@
 -- The fault that a load refuses an image with is about something.
-use Rattle.std.proofs.Common.{◌≡◌, ◌≢◌, ℕ, suc, ◌+◌, ◌<◌, ◌≤◌, ℤ, Bool, not, true, false, ◌==◌, ◌&&◌, List, [], ◌∷◌, ◌++◌, length, Option, Some, None, Ok, ◌⊎◌, refl, sym, ap, ◌∙◌, subst, arith, inl, inr}
+use Rattle.std.proofs.Common.{◌≡◌, ◌≢◌, ℕ, suc, ◌+◌, ◌<◌, ◌≤◌, ℤ, Bool, not, true, false, ◌==◌, ◌&&◌, List, [], ◌∷◌}
+use Rattle.std.proofs.Common.{◌++◌, length, Option, Some, None, Ok, ◌⊎◌, refl, sym, ap, ◌∙◌, subst, arith, inl, inr}
 use Rattle.std.specs.Prelude.{is_some, option_map, slice_get}
 use Rattle.std.proofs.lemmas.Bool.{cases_Bool, cases_lt, cond-true, cond-false}
 use Rattle.std.proofs.lemmas.Option.{none-some, same_Some, slice_get_past, slice_get_within}
-use Rattle.machine_spec.specs.declared.helper.TheConstants.{HELPERS}
+use Rattle.machine_spec.specs.declared.{helper.TheConstants.HELPERS, instruction.Placed.Placed, summary.Summary.Summary}
 use Rattle.machine_spec.specs.Image.{program_of, read_image, IsCodeOf}
-use Rattle.machine_spec.specs.declared.instruction.Placed.{Placed}
-use Rattle.machine_spec.specs.declared.summary.Summary.{Summary}
 use Rattle.machine_spec.specs.Summaries.{summary_of}
 use Rattle.machine_spec.specs.Traps.{calls_no_helper, helper_called, arguments_of, read_registers, first_of}
 use Rattle.machine_spec.proofs.Slots.{number_of_zero, number_below}
-use Rattle.verifier_spec.specs.declared.state.Abstract.{Abstract}
-use Rattle.verifier_spec.specs.declared.fault.{Check.Check, VerifyFault.VerifyFault, LoadFault.TheVariants.Verify}
+use Rattle.verifier_spec.specs.declared.{state.Abstract.Abstract, fault.Check.Check, fault.VerifyFault.VerifyFault}
+use Rattle.verifier_spec.specs.declared.fault.LoadFault.TheVariants.{Verify}
 use Rattle.verifier_spec.specs.Kinds.{kind_at, is_unknown}
 use Rattle.verifier_spec.specs.States.{is_proper, entry_state}
 use Rattle.verifier_spec.specs.Checks.{checks, shape_checks, leads_nowhere, leads_back, jump_of}
-use Rattle.verifier_spec.specs.Annotation.{Claims, claim_at, is_covered, are_edges_covered, reached_checks, failed_at, fault_or, fault_from, fault_of}
+use Rattle.verifier_spec.specs.Annotation.{Claims, claim_at, is_covered, are_edges_covered, reached_checks, failed_at}
+use Rattle.verifier_spec.specs.Annotation.{fault_or, fault_from, fault_of}
 use Rattle.verifier_spec.specs.JoinedStates.{joined_states}
 use Rattle.verifier_spec.specs.Loading.{load_fault, code_fault, IsRefusedWith}
 use Rattle.verifier_spec.proofs.JoinedStates.{claim_joined}
 use Rattle.verifier_spec.proofs.BestAnnotation.{AreJoinedProper, fault_is_other}
 use Rattle.explain.specs.declared.reason.Reason.{Reason}
-use Rattle.explain.specs.Reasons.{landing, outside_record, shape_reason, state_reason, reason_of, placed_reason, reason_at}
-use Rattle.explain.proofs.Reasoned.{some_map, found, takes_wrong, is_based_wrong, tests_wrong, writes_record, leaves_record, leaves_stack, argument_found}
+use Rattle.explain.specs.Reasons.{landing_slot, outside_record, shape_reason, state_reason, reason_of, placed_reason}
+use Rattle.explain.specs.Reasons.{reason_at}
+use Rattle.explain.proofs.Reasoned.{some_map, found, takes_wrong, is_based_wrong, tests_wrong, writes_record}
+use Rattle.explain.proofs.Reasoned.{leaves_record, leaves_stack, argument_found}
 use Rattle.explain.proofs.UnsetBytes.{byte_unset}
 
 -- ---- rows of checks
@@ -30,21 +32,26 @@ use Rattle.explain.proofs.UnsetBytes.{byte_unset}
 -- a row that holds has a reason, where those before it don't hold
 abbrev AreReasoned : (Check → Option Reason) → List (Bool × Check) → Type 0
 AreReasoned reason [] = Unit {0}
-AreReasoned reason (row ∷ rows) = (row.0 ≡ true → is_some (reason row.1) ≡ true) × (row.0 ≡ false → AreReasoned reason rows)
+AreReasoned reason (row ∷ rows) = (row.0 ≡ true → is_some (reason row.1) ≡ true)
+    × (row.0 ≡ false → AreReasoned reason rows)
 
-first_reasoned : (reason : Check → Option Reason) (rows : List (Bool × Check)) (kind : Check) → AreReasoned reason rows → first_of rows ≡ Some kind → is_some (reason kind) ≡ true
+first_reasoned : (reason : Check → Option Reason) (rows : List (Bool × Check)) (kind : Check) →
+    AreReasoned reason rows → first_of rows ≡ Some kind → is_some (reason kind) ≡ true
 first_reasoned reason [] kind all e = absurd (none-some kind e)
 first_reasoned reason (row ∷ rows) kind all e = elim (cases_Bool row.0) [
   | inl holds ↦
       let same : row.1 ≡ kind = same_Some row.1 kind (sym (cond-true row.0 (Some row.1) (first_of rows) holds) ∙ e) in
       subst (λ (c : Check). is_some (reason c) ≡ true) same (all.0 holds)
-  | inr fails ↦ first_reasoned reason rows kind (all.1 fails) (sym (cond-false row.0 (Some row.1) (first_of rows) fails) ∙ e)
+  | inr fails ↦ first_reasoned reason rows kind (all.1 fails)
+      (sym (cond-false row.0 (Some row.1) (first_of rows) fails) ∙ e)
 ]
 
-either : (xs ys : List (Bool × Check)) (kind : Check) → first_of (xs ++ ys) ≡ Some kind → (first_of xs ≡ Some kind) ⊎ (first_of ys ≡ Some kind)
+either : (xs ys : List (Bool × Check)) (kind : Check) → first_of (xs ++ ys) ≡ Some kind →
+    (first_of xs ≡ Some kind) ⊎ (first_of ys ≡ Some kind)
 either [] ys kind e = inr e
 either (row ∷ xs) ys kind e = elim (cases_Bool row.0) [
-  | inl holds ↦ inl (cond-true row.0 (Some row.1) (first_of xs) holds ∙ (sym (cond-true row.0 (Some row.1) (first_of (xs ++ ys)) holds) ∙ e))
+  | inl holds ↦ inl (cond-true row.0 (Some row.1) (first_of xs) holds
+      ∙ (sym (cond-true row.0 (Some row.1) (first_of (xs ++ ys)) holds) ∙ e))
   | inr fails ↦ elim (either xs ys kind (sym (cond-false row.0 (Some row.1) (first_of (xs ++ ys)) fails) ∙ e)) [
     | inl left ↦ inl (cond-false row.0 (Some row.1) (first_of xs) fails ∙ left)
     | inr right ↦ inr right
@@ -53,7 +60,8 @@ either (row ∷ xs) ys kind e = elim (cases_Bool row.0) [
 
 -- ---- the rows of an instruction
 
-nowhere_some : (code : List Placed) (slot : ℕ) (jump : Option ℤ) → leads_nowhere code slot jump ≡ true → is_some jump ≡ true
+nowhere_some : (code : List Placed) (slot : ℕ) (jump : Option ℤ) → leads_nowhere code slot jump ≡ true →
+    is_some jump ≡ true
 nowhere_some code slot None e = cc
 nowhere_some code slot (Some offset) e = refl
 
@@ -61,18 +69,24 @@ back_some : (jump : Option ℤ) → leads_back jump ≡ true → is_some jump �
 back_some None e = cc
 back_some (Some offset) e = refl
 
-shape_reasoned : (code : List Placed) (k : ℕ) (placed : Placed) → AreReasoned (shape_reason placed) (shape_checks code k placed)
+shape_reasoned : (code : List Placed) (k : ℕ) (placed : Placed) →
+    AreReasoned (shape_reason placed) (shape_checks code k placed)
 shape_reasoned code k placed =
     let jump = jump_of placed.instruction in (
-      λ e. some_map Reason.NoTarget _ (some_map (landing placed.slot) jump (nowhere_some code placed.slot jump e)),
-      λ _. (λ e. some_map Reason.Back _ (some_map (landing placed.slot) jump (back_some jump e)), λ _. (λ e. refl, λ _. tt)),
+      λ e. some_map Reason.NoTarget _ (some_map (landing_slot placed.slot) jump (nowhere_some code placed.slot jump e)),
+      λ _. (
+        λ e. some_map Reason.Back _ (some_map (landing_slot placed.slot) jump (back_some jump e)),
+        λ _.
+            (λ e. refl, λ _. tt),
+      ),
     )
 
 called_some : (call : Option ℤ) → calls_no_helper HELPERS call ≡ true → is_some call ≡ true
 called_some None e = cc
 called_some (Some number) e = refl
 
-state_reasoned : (placed : Placed) (m : Summary) (s : Abstract) → is_proper s ≡ true → AreReasoned (state_reason placed m s) (checks HELPERS m s)
+state_reasoned : (placed : Placed) (m : Summary) (s : Abstract) → is_proper s ≡ true →
+    AreReasoned (state_reason placed m s) (checks HELPERS m s)
 state_reasoned placed m s proper = (
   λ e. refl,
   λ _. (
@@ -112,36 +126,46 @@ only_claims : (b : Bool) (kind : Check) → first_of ((b, Check.Notes) ∷ []) �
 only_claims true kind e = cc
 only_claims false kind e = cc
 
-rows_reasoned : (code : List Placed) (claims : Claims) (k : ℕ) (placed : Placed) (known : Option Abstract) (kind : Check) → ((s : Abstract) → known ≡ Some s → is_proper s ≡ true)
-    → first_of (shape_checks code k placed ++ reached_checks HELPERS code claims k placed known) ≡ Some kind → kind ≢ Check.Notes → is_some (reason_of placed known kind) ≡ true
+rows_reasoned : (code : List Placed) (claims : Claims) (k : ℕ) (placed : Placed) (known : Option Abstract)
+    (kind : Check) → ((s : Abstract) → known ≡ Some s → is_proper s ≡ true) →
+    first_of (shape_checks code k placed ++ reached_checks HELPERS code claims k placed known) ≡ Some kind →
+    kind ≢ Check.Notes → is_some (reason_of placed known kind) ≡ true
 rows_reasoned code claims k placed None kind proper e other = elim (either (shape_checks code k placed) [] kind e) [
-  | inl shape ↦ first_reasoned (shape_reason placed) (shape_checks code k placed) kind (shape_reasoned code k placed) shape
+  | inl shape ↦ first_reasoned (shape_reason placed) (shape_checks code k placed) kind (shape_reasoned code k placed)
+      shape
   | inr none ↦ absurd (none-some kind none)
 ]
 rows_reasoned code claims k placed (Some s) kind proper e other =
     let m = summary_of placed.instruction in
     let covered = are_edges_covered code claims k placed s in
     elim (either (shape_checks code k placed) (reached_checks HELPERS code claims k placed (Some s)) kind e) [
-      | inl shape ↦ first_reasoned (state_reason placed m s) (shape_checks code k placed) kind (shape_reasoned code k placed) shape
+      | inl shape ↦ first_reasoned (state_reason placed m s) (shape_checks code k placed) kind
+          (shape_reasoned code k placed) shape
       | inr reached ↦ elim (either (checks HELPERS m s) ((not covered, Check.Notes) ∷ []) kind reached) [
-        | inl own ↦ first_reasoned (state_reason placed m s) (checks HELPERS m s) kind (state_reasoned placed m s (proper s refl)) own
+        | inl own ↦ first_reasoned (state_reason placed m s) (checks HELPERS m s) kind
+            (state_reasoned placed m s (proper s refl)) own
         | inr last ↦ absurd (other (only_claims (not covered) kind last))
       ]
     ]
 
 -- ---- the fault of a code
 
-module _ (code : List Placed) (claims : Claims) (proper : (k : ℕ) (s : Abstract) → k < length code → claim_at claims k ≡ Some s → is_proper s ≡ true) where
-  at_reasoned : (k : ℕ) (placed : Placed) (kind : Check) → slice_get code k ≡ Some placed → failed_at HELPERS code claims k placed ≡ Some kind → kind ≢ Check.Notes
-      → is_some (placed_reason (slice_get code k) (claim_at claims k) kind) ≡ true
+module _ (code : List Placed) (claims : Claims) (proper : (k : ℕ) (s : Abstract) → k < length code →
+    claim_at claims k ≡ Some s → is_proper s ≡ true) where
+  at_reasoned : (k : ℕ) (placed : Placed) (kind : Check) → slice_get code k ≡ Some placed →
+      failed_at HELPERS code claims k placed ≡ Some kind → kind ≢ Check.Notes →
+      is_some (placed_reason (slice_get code k) (claim_at claims k) kind) ≡ true
   unfolding failed_at
   at_reasoned k placed kind at e other =
       ap (λ (p : Option Placed). is_some (placed_reason p (claim_at claims k) kind)) at
-      ∙ rows_reasoned code claims k placed (claim_at claims k) kind (λ s is. proper k s (slice_get_within code k placed at) is) e other
+      ∙ rows_reasoned code claims k placed (claim_at claims k) kind
+      (λ s is. proper k s (slice_get_within code k placed at) is) e other
 
-  or_reasoned : (k : ℕ) (failed : Option Check) (later : Option VerifyFault) (f : VerifyFault)
-      → ((kind : Check) → failed ≡ Some kind → kind ≢ Check.Notes → is_some (placed_reason (slice_get code k) (claim_at claims k) kind) ≡ true)
-      → (later ≡ Some f → is_some (reason_at code claims f) ≡ true) → fault_or k failed later ≡ Some f → f.kind ≢ Check.Notes → is_some (reason_at code claims f) ≡ true
+  or_reasoned : (k : ℕ) (failed : Option Check) (later : Option VerifyFault) (f : VerifyFault) →
+      ((kind : Check) → failed ≡ Some kind → kind ≢ Check.Notes →
+      is_some (placed_reason (slice_get code k) (claim_at claims k) kind) ≡ true) →
+      (later ≡ Some f → is_some (reason_at code claims f) ≡ true) → fault_or k failed later ≡ Some f →
+      f.kind ≢ Check.Notes → is_some (reason_at code claims f) ≡ true
   or_reasoned k (Some kind) later f here there e other =
       let mine : VerifyFault = record { pc = k; kind = kind } in
       let same : mine ≡ f = same_Some mine f e in
@@ -149,20 +173,24 @@ module _ (code : List Placed) (claims : Claims) (proper : (k : ℕ) (s : Abstrac
       subst (λ (x : VerifyFault). is_some (reason_at code claims x) ≡ true) same (here kind refl mine_other)
   or_reasoned k None later f here there e other = there e
 
-  from_reasoned : (k : ℕ) (rest : List Placed) (f : VerifyFault) → ((i : ℕ) (placed : Placed) → slice_get rest i ≡ Some placed → slice_get code (k + i) ≡ Some placed)
-      → fault_from HELPERS code claims k rest ≡ Some f → f.kind ≢ Check.Notes → is_some (reason_at code claims f) ≡ true
+  from_reasoned : (k : ℕ) (rest : List Placed) (f : VerifyFault) →
+      ((i : ℕ) (placed : Placed) → slice_get rest i ≡ Some placed → slice_get code (k + i) ≡ Some placed) →
+      fault_from HELPERS code claims k rest ≡ Some f → f.kind ≢ Check.Notes → is_some (reason_at code claims f) ≡ true
   from_reasoned k [] f all e other = absurd (none-some f e)
   from_reasoned k (placed ∷ rest) f all e other =
       let here : k + 0 ≡ k = omega arith in
-      let at : slice_get code k ≡ Some placed = subst (λ (n : ℕ). slice_get code n ≡ Some placed) here (all 0 placed refl) in
-      or_reasoned k (failed_at HELPERS code claims k placed) (fault_from HELPERS code claims (k + 1) rest) f (λ kind failed named. at_reasoned k placed kind at failed named)
+      let at : slice_get code k ≡ Some placed =
+      subst (λ (n : ℕ). slice_get code n ≡ Some placed) here (all 0 placed refl) in
+      or_reasoned k (failed_at HELPERS code claims k placed) (fault_from HELPERS code claims (k + 1) rest) f
+      (λ kind failed named. at_reasoned k placed kind at failed named)
       (λ later. from_reasoned (k + 1) rest f (λ i p q.
       let next : k + suc i ≡ (k + 1) + i = omega arith in
       subst (λ (n : ℕ). slice_get code n ≡ Some p) next (all (suc i) p q))
       later other)
       e other
 
-  code_reasoned : (f : VerifyFault) → fault_of HELPERS code claims ≡ Some f → f.kind ≢ Check.Notes → is_some (reason_at code claims f) ≡ true
+  code_reasoned : (f : VerifyFault) → fault_of HELPERS code claims ≡ Some f → f.kind ≢ Check.Notes →
+      is_some (reason_at code claims f) ≡ true
   unfolding fault_of
   code_reasoned f e other =
       let start : Bool = (length claims == length code) && is_covered entry_state (claim_at claims 0) in
@@ -173,7 +201,8 @@ module _ (code : List Placed) (claims : Claims) (proper : (k : ℕ) (s : Abstrac
             subst (λ (n : ℕ). slice_get code n ≡ Some placed) same at)
             (sym (cond-true start (fault_from HELPERS code claims 0 code) (Some claims_fault) passes) ∙ e) other
         | inr fails ↦
-            let same : claims_fault ≡ f = same_Some claims_fault f (sym (cond-false start (fault_from HELPERS code claims 0 code) (Some claims_fault) fails) ∙ e) in
+            let same : claims_fault ≡ f = same_Some claims_fault f
+            (sym (cond-false start (fault_from HELPERS code claims 0 code) (Some claims_fault) fails) ∙ e) in
             absurd (other (sym (ap (λ (x : VerifyFault). x.kind) same)))
       ]
 
@@ -183,24 +212,30 @@ verified : (o : Option VerifyFault) (f : VerifyFault) → option_map Verify o �
 verified None f e = cc
 verified (Some g) f e = cc
 
-code_fault_is : (image : List ℕ) (code : List Placed) (f : VerifyFault) → read_image image ≡ Ok code → load_fault (program_of image) ≡ Some (Verify f) → fault_of HELPERS code (joined_states HELPERS code) ≡ Some f
+code_fault_is : (image : List ℕ) (code : List Placed) (f : VerifyFault) → read_image image ≡ Ok code →
+    load_fault (program_of image) ≡ Some (Verify f) → fault_of HELPERS code (joined_states HELPERS code) ≡ Some f
 unfolding load_fault
 code_fault_is image code f read e = verified _ f (sym (ap (code_fault HELPERS) read) ∙ e)
 
-pub refusal_reasoned : (image : List ℕ) (code : List Placed) (f : VerifyFault) → IsCodeOf image code → read_image image ≡ Ok code → AreJoinedProper HELPERS code → IsRefusedWith (program_of image) (Verify f)
-    → is_some (reason_at code (joined_states HELPERS code) f) ≡ true
+pub refusal_reasoned : (image : List ℕ) (code : List Placed) (f : VerifyFault) → IsCodeOf image code →
+    read_image image ≡ Ok code → AreJoinedProper HELPERS code → IsRefusedWith (program_of image) (Verify f) →
+    is_some (reason_at code (joined_states HELPERS code) f) ≡ true
 refusal_reasoned image code f of read proper refused =
     let fault = code_fault_is image code f read refused.fault_is in
     let some : 0 < length code = number_below code 0 0 (number_of_zero image code of) in
-    code_reasoned code (joined_states HELPERS code) (λ k s below is. proper k s below (sym (claim_joined HELPERS code k below) ∙ is)) f fault (fault_is_other HELPERS image code of f some fault)
+    code_reasoned code (joined_states HELPERS code) (λ k s below is. proper k s below
+    (sym (claim_joined HELPERS code k below) ∙ is)) f fault (fault_is_other HELPERS image code of f some fault)
 
 -- ---- where it is
 
-no_reason_past : (code : List Placed) (claims : Claims) (f : VerifyFault) → length code ≤ f.pc → is_some (reason_at code claims f) ≡ false
-no_reason_past code claims f past = ap (λ (p : Option Placed). is_some (placed_reason p (claim_at claims f.pc) f.kind)) (slice_get_past code f.pc past)
+no_reason_past : (code : List Placed) (claims : Claims) (f : VerifyFault) → length code ≤ f.pc →
+    is_some (reason_at code claims f) ≡ false
+no_reason_past code claims f past =
+    ap (λ (p : Option Placed). is_some (placed_reason p (claim_at claims f.pc) f.kind)) (slice_get_past code f.pc past)
 
 -- a fault that is about something is at an instruction of the code
-pub reasoned_within : (code : List Placed) (claims : Claims) (f : VerifyFault) → is_some (reason_at code claims f) ≡ true → f.pc < length code
+pub reasoned_within : (code : List Placed) (claims : Claims) (f : VerifyFault) →
+    is_some (reason_at code claims f) ≡ true → f.pc < length code
 reasoned_within code claims f reasoned = elim (cases_lt f.pc (length code)) [
   | inl below ↦ below
   | inr past ↦ let none : is_some (reason_at code claims f) ≡ false = no_reason_past code claims f past in cc

@@ -15,11 +15,14 @@ next_text : (k : ℕ) (text : ℕ → List ℕ) → texts_below (k + 1) text ≡
 unfolding texts_below
 next_text k text = rw add-one refl
 
-pub one_more : (start all more : List ℕ) (k : ℕ) (text : ℕ → List ℕ) → all ≡ start ++ texts_below k text → more ≡ all ++ text k → more ≡ start ++ texts_below (k + 1) text
+pub one_more : (start all more : List ℕ) (k : ℕ) (text : ℕ → List ℕ) → all ≡ start ++ texts_below k text →
+    more ≡ all ++ text k → more ≡ start ++ texts_below (k + 1) text
 one_more start all more k text so pushed =
-    pushed ∙ ap (λ (t : List ℕ). t ++ text k) so ∙ append_assoc start (texts_below k text) (text k) ∙ ap (λ (t : List ℕ). start ++ t) (sym (next_text k text))
+    pushed ∙ ap (λ (t : List ℕ). t ++ text k) so ∙ append_assoc start (texts_below k text) (text k)
+    ∙ ap (λ (t : List ℕ). start ++ t) (sym (next_text k text))
 
-pub same_lines : (code : List Placed) (claims : Claims) (k : ℕ) (placed : Placed) (known : Option Abstract) → slice_get code k ≡ Some placed → known ≡ claim_at claims k
-    → lines_of k (Some placed) known ≡ lines_at code claims k
+pub same_lines : (code : List Placed) (claims : Claims) (k : ℕ) (placed : Placed) (known : Option Abstract) →
+    slice_get code k ≡ Some placed → known ≡ claim_at claims k → lines_of k (Some placed) known ≡ lines_at code claims k
 same_lines code claims k placed known at is =
-    ap (λ (n : Option Abstract). lines_of k (Some placed) n) is ∙ ap (λ (p : Option Placed). lines_of k p (claim_at claims k)) (sym at)
+    ap (λ (n : Option Abstract). lines_of k (Some placed) n) is
+    ∙ ap (λ (p : Option Placed). lines_of k p (claim_at claims k)) (sym at)

@@ -4,29 +4,39 @@ use Rattle.std.specs.Prelude.{find, Option}
 use Rattle.std.specs.List.{flat_map}
 use Rattle.std.specs.Option.{option_or}
 use Rattle.std.proofs.lemmas.List.Folds.{find-append}
-use Rattle.machine_spec.specs.declared.helper.Argument.{Argument}
-use Rattle.machine_spec.specs.declared.summary.Summary.{Summary}
-use Rattle.machine_spec.specs.Traps.{operand_registers, base_registers, condition_registers, argument_registers, call_registers}
+use Rattle.machine_spec.specs.declared.{helper.Argument.Argument, summary.Summary.Summary}
+use Rattle.machine_spec.specs.Traps.{operand_registers, base_registers, condition_registers, argument_registers}
+use Rattle.machine_spec.specs.Traps.{call_registers}
 use Rattle.verifier_spec.specs.declared.state.Abstract.{Abstract}
 use Rattle.verifier_spec.specs.Kinds.{kind_at, is_unknown}
 use Rattle.explain.specs.Reasons.{unknown_register}
 
 -- ---- the first of the arguments
 
-pub in_arguments : (s : Abstract) (argument : Argument) (rest : List Argument) → find (λ r. is_unknown (kind_at s r)) (flat_map argument_registers (argument ∷ rest))
-    ≡ option_or (find (λ r. is_unknown (kind_at s r)) (argument_registers argument)) (find (λ r. is_unknown (kind_at s r)) (flat_map argument_registers rest))
-in_arguments s argument rest = find-append (λ r. is_unknown (kind_at s r)) (argument_registers argument) (flat_map argument_registers rest)
+pub in_arguments : (s : Abstract) (argument : Argument) (rest : List Argument) →
+    find (λ r. is_unknown (kind_at s r)) (flat_map argument_registers (argument ∷ rest))
+    ≡ option_or (find (λ r. is_unknown (kind_at s r)) (argument_registers argument))
+    (find (λ r. is_unknown (kind_at s r)) (flat_map argument_registers rest))
+in_arguments s argument rest =
+    find-append (λ r. is_unknown (kind_at s r)) (argument_registers argument) (flat_map argument_registers rest)
 
 -- ---- all parts
 
-five : (p : ℕ → Bool) (a b c d e : List ℕ) → find p (a ++ b ++ c ++ d ++ e) ≡ option_or (option_or (option_or (option_or (find p a) (find p b)) (find p c)) (find p d)) (find p e)
+five : (p : ℕ → Bool) (a b c d e : List ℕ) →
+    find p (a ++ b ++ c ++ d ++ e)
+    ≡ option_or (option_or (option_or (option_or (find p a) (find p b)) (find p c)) (find p d)) (find p e)
 five p a b c d e =
     find-append p (a ++ b ++ c ++ d) e
     ∙ ap (λ (o : Option ℕ). option_or o (find p e)) (find-append p (a ++ b ++ c) d
-    ∙ ap (λ (o : Option ℕ). option_or o (find p d)) (find-append p (a ++ b) c ∙ ap (λ (o : Option ℕ). option_or o (find p c)) (find-append p a b)))
+    ∙ ap (λ (o : Option ℕ). option_or o (find p d)) (find-append p (a ++ b) c
+    ∙ ap (λ (o : Option ℕ). option_or o (find p c)) (find-append p a b)))
 
-pub unknown_parts : (m : Summary) (s : Abstract) → unknown_register m s ≡
-    option_or (option_or (option_or (option_or (find (λ r. is_unknown (kind_at s r)) (operand_registers m.takes)) (find (λ r. is_unknown (kind_at s r)) (base_registers m.memory)))
-    (find (λ r. is_unknown (kind_at s r)) (condition_registers m.condition))) (find (λ r. is_unknown (kind_at s r)) (call_registers m.call)))
+pub unknown_parts : (m : Summary) (s : Abstract) →
+    unknown_register m s ≡ option_or (option_or (option_or
+    (option_or (find (λ r. is_unknown (kind_at s r)) (operand_registers m.takes))
+    (find (λ r. is_unknown (kind_at s r)) (base_registers m.memory)))
+    (find (λ r. is_unknown (kind_at s r)) (condition_registers m.condition)))
+    (find (λ r. is_unknown (kind_at s r)) (call_registers m.call)))
     (find (λ r. is_unknown (kind_at s r)) (if m.exits then 0 ∷ [] else []))
-unknown_parts m s = five (λ r. is_unknown (kind_at s r)) (operand_registers m.takes) (base_registers m.memory) (condition_registers m.condition) (call_registers m.call) (if m.exits then 0 ∷ [] else [])
+unknown_parts m s = five (λ r. is_unknown (kind_at s r)) (operand_registers m.takes) (base_registers m.memory)
+    (condition_registers m.condition) (call_registers m.call) (if m.exits then 0 ∷ [] else [])

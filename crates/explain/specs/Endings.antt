@@ -1,16 +1,19 @@
 -- The end of a listing: how many of its instructions are never reached, and the verdict.
-use Rattle.std.specs.Prelude.{ℕ, zero, suc, ◌+◌, ◌==◌, if◌then◌else◌, List, [], ◌∷◌, ◌++◌, Option, Some, None, is_none, codes, decimal}
-use Rattle.verifier_spec.specs.declared.fault.{Check.Check, VerifyFault.VerifyFault}
+use Rattle.std.specs.Prelude.{ℕ, zero, suc, ◌+◌, ◌==◌, if◌then◌else◌, List, [], ◌∷◌, ◌++◌, Option, Some, None, is_none}
+use Rattle.std.specs.Prelude.{codes, decimal}
+use Rattle.verifier_spec.specs.declared.{fault.Check.Check, fault.VerifyFault.VerifyFault}
 use Rattle.verifier_spec.specs.Annotation.{Claims, claim_at}
 
 -- how many of the first instructions have no claim
 unfoldable pub unreached_count : Claims → ℕ → ℕ
 unreached_count claims zero = 0
-unreached_count claims (suc k) = if is_none (claim_at claims k) then unreached_count claims k + 1 else unreached_count claims k
+unreached_count claims (suc k) =
+    if is_none (claim_at claims k) then unreached_count claims k + 1 else unreached_count claims k
 
 abbrev pub unreached_text : ℕ → ℕ → List ℕ
 unreached_text unreached count =
-    if unreached == 0 then [] else codes "never reached: " ++ (decimal unreached ++ (codes " of " ++ (decimal count ++ (codes " instructions" ++ 10 ∷ []))))
+    if unreached == 0 then [] else codes "never reached: "
+    ++ (decimal unreached ++ (codes " of " ++ (decimal count ++ (codes " instructions" ++ 10 ∷ []))))
 
 abbrev pub check_text : Check → List ℕ
 check_text Check.JumpTarget = codes "V1 JumpTarget"
@@ -31,7 +34,8 @@ check_text Check.Notes = codes "V15 Notes"
 
 -- `ok`, or `refused: V7 RecordBounds at 3`
 abbrev pub verdict_text : Option VerifyFault → List ℕ
-verdict_text (Some fault) = codes "refused: " ++ (check_text fault.kind ++ (codes " at " ++ (decimal fault.pc ++ 10 ∷ [])))
+verdict_text (Some fault) = codes "refused: "
+    ++ (check_text fault.kind ++ (codes " at " ++ (decimal fault.pc ++ 10 ∷ [])))
 verdict_text None = codes "ok" ++ 10 ∷ []
 
 -- what follows on the first instructions

@@ -1,10 +1,12 @@
 -- What is explained of an image.
-use Rattle.std.specs.Prelude.{◌≡◌, ◌≢◌, ℕ, ◌+◌, min, List, ◌++◌, length, Option, Some, None, option_map, is_some, true, Result, Ok, Err, IfSome, string_bytes}
-use Rattle.machine_spec.specs.declared.helper.TheConstants.{HELPERS}
+use Rattle.std.specs.Prelude.{◌≡◌, ◌≢◌, ℕ, ◌+◌, min, List, ◌++◌, length, Option, Some, None, option_map, is_some, true}
+use Rattle.std.specs.Prelude.{Result, Ok, Err, IfSome, string_bytes}
+use Rattle.machine_spec.specs.declared.{helper.TheConstants.HELPERS, instruction.IsaFault.IsaFault}
+use Rattle.machine_spec.specs.declared.{instruction.Placed.Placed}
 use Rattle.machine_spec.specs.Image.{program_of, read_image}
-use Rattle.machine_spec.specs.declared.instruction.{IsaFault.IsaFault, Placed.Placed}
 use Rattle.machine_spec.specs.declared.instruction.IsaFault.TheVariants as isa
-use Rattle.verifier_spec.specs.declared.fault.{VerifyFault.VerifyFault, LoadFault.TheVariants.Verify}
+use Rattle.verifier_spec.specs.declared.fault.VerifyFault.{VerifyFault}
+use Rattle.verifier_spec.specs.declared.fault.LoadFault.TheVariants.{Verify}
 use Rattle.verifier_spec.specs.Annotation.{Claims}
 use Rattle.verifier_spec.specs.JoinedStates.{joined_states}
 use Rattle.verifier_spec.specs.Loading.{IsAccepted, IsRefusedWith}
@@ -32,14 +34,19 @@ listing extent code claims fault =
     ++ ending_text claims (printed_count code fault) fault
 
 abbrev pub refusal_at : List Placed → Claims → VerifyFault → Refusal
-refusal_at code claims fault = record { fault = fault; reason = reason_at code claims fault; hint = hint_at code claims fault (reason_at code claims fault) }
+refusal_at code claims fault =
+    record {
+      fault = fault;
+      reason = reason_at code claims fault;
+      hint = hint_at code claims fault (reason_at code claims fault);
+    }
 
 -- what a refusal is about is there
 abbrev pub HasReason : Refusal → Type 0
 HasReason refusal = is_some refusal.reason ≡ true
 
--- An image with code is explained: by its verdict, the joined states of its instructions, as many as asked, and what its
--- fault is about.
+-- An image with code is explained: by its verdict, the joined states of its instructions, as many as asked, and what
+-- its fault is about.
 pub record Explains (extent : Extent) (image : List ℕ) (explanation : Explanation) : Type 0 where
   pub code : List Placed
   pub read : read_image image ≡ Ok code

@@ -1,19 +1,17 @@
 -- What usually leads to a refusal: by the kinds that are found, what the instruction does, and which bytes are missing.
-use Rattle.std.specs.Prelude.{ℕ, ◌+◌, ◌^◌, ℤ, pos, ◌+ℤ◌, neg_ℤ, Bool, ◌==◌, ◌&&◌, ◌||◌, not, nat_lt, nat_le, int_lt, int_le, if◌then◌else◌, List, Option, Some, None, is_some, slice_get}
+use Rattle.std.specs.Prelude.{ℕ, ◌+◌, ◌^◌, ℤ, pos, ◌+ℤ◌, neg_ℤ, Bool, ◌==◌, ◌&&◌, ◌||◌, not, nat_lt, nat_le, int_lt}
+use Rattle.std.specs.Prelude.{int_le, if◌then◌else◌, List, Option, Some, None, is_some, slice_get}
 use Rattle.std.specs.{Int.int_min, Int.int_max, Option.option_or}
-use Rattle.wire_spec.specs.declared.limits.TheConstants.{MAX_KEY, MAX_VALUE}
-use Rattle.machine_spec.specs.declared.limits.TheConstants.{STACK_SIZE}
-use Rattle.machine_spec.specs.declared.instruction.{Region.Region, Placed.Placed}
-use Rattle.machine_spec.specs.declared.summary.Summary.{Summary}
+use Rattle.wire_spec.specs.declared.{limits.TheConstants.MAX_KEY, limits.TheConstants.MAX_VALUE}
+use Rattle.machine_spec.specs.declared.{limits.TheConstants.STACK_SIZE, instruction.Region.Region}
+use Rattle.machine_spec.specs.declared.{instruction.Placed.Placed, summary.Summary.Summary}
 use Rattle.machine_spec.specs.Summaries.{summary_of}
 use Rattle.machine_spec.specs.Traps.{is_stack}
-use Rattle.verifier_spec.specs.declared.interval.Interval.{Interval}
-use Rattle.verifier_spec.specs.declared.state.{Abs.Abs, StackSet.StackSet, Abstract.Abstract}
-use Rattle.verifier_spec.specs.declared.fault.VerifyFault.{VerifyFault}
+use Rattle.verifier_spec.specs.declared.{interval.Interval.Interval, state.Abs.Abs, state.StackSet.StackSet}
+use Rattle.verifier_spec.specs.declared.{state.Abstract.Abstract, fault.VerifyFault.VerifyFault}
 use Rattle.verifier_spec.specs.Kinds.{length_range, range_of}
 use Rattle.verifier_spec.specs.Annotation.{Claims, claim_at}
-use Rattle.explain.specs.declared.reason.{Reached.Reached, Reason.Reason}
-use Rattle.explain.specs.declared.hint.Hint.{Hint}
+use Rattle.explain.specs.declared.{reason.Reached.Reached, reason.Reason.Reason, hint.Hint.Hint}
 use Rattle.explain.specs.Reasons.{first_below, is_unset_in}
 use Rattle.explain.specs.Loops.{back_hint}
 use Rattle.explain.specs.Meetings.{lost_hint}
@@ -80,24 +78,33 @@ unset_from set bytes (Some first) = unset_to first (first_below STACK_SIZE (ends
 unset_from set bytes None = None
 
 abbrev pub stack_hint : StackSet → Reached → Option Hint
-stack_hint set bytes = if leaves_region bytes then Some (no_bytes bytes) else unset_from set bytes (first_below STACK_SIZE (is_unset_in set bytes))
+stack_hint set bytes = if leaves_region bytes then Some (no_bytes bytes) else unset_from set bytes
+    (first_below STACK_SIZE (is_unset_in set bytes))
 
 -- ---- arguments of a call
 
 -- the bytes that an address and a number name
-abbrev pub named : ℕ → Abs → Option Interval → Option Reached
-named address (Abs.Addr region low high) (Some range) =
-    Some (record { base = address; kind = Abs.Addr region low high; region = region; first = low; last = (high +ℤ pos range.high) +ℤ neg_ℤ (pos 1) })
-named address _ _ = None
+abbrev pub named_bytes : ℕ → Abs → Option Interval → Option Reached
+named_bytes address (Abs.Addr region low high) (Some range) =
+    Some (record {
+      base = address;
+      kind = Abs.Addr region low high;
+      region = region;
+      first = low;
+      last = (high +ℤ pos range.high) +ℤ neg_ℤ (pos 1);
+    })
+named_bytes address _ _ = None
 
 -- where a helper reads them
 abbrev pub bytes_hint : Abstract → Option Reached → Option Hint
-bytes_hint s (Some bytes) = if is_stack bytes.region then stack_hint s.set bytes else Some (record_hint bytes (length_range s bytes.region).min)
+bytes_hint s (Some bytes) = if is_stack bytes.region then stack_hint s.set bytes else Some
+    (record_hint bytes (length_range s bytes.region).min)
 bytes_hint s None = None
 
 -- where a helper writes them, as many as a number of these
 abbrev pub room_hint : Reached → Interval → Hint
-room_hint bytes range = if not (is_stack bytes.region) then Hint.Room else if range.low == 0 then Hint.NoRoom else no_bytes bytes
+room_hint bytes range = if not (is_stack bytes.region) then Hint.Room else if range.low == 0 then Hint.NoRoom else
+    no_bytes bytes
 
 abbrev pub room_hint_of : Option Reached → Option Interval → Option Hint
 room_hint_of (Some bytes) (Some range) = Some (room_hint bytes range)
@@ -114,8 +121,9 @@ hint_of s m (Reason.ReadOnly _) = Some Hint.ReadOnly
 hint_of s m (Reason.OutsideRecord bytes known) = Some (record_hint bytes known)
 hint_of s m (Reason.OutsideStack bytes) = Some (no_bytes bytes)
 hint_of s m (Reason.UnsetByte bytes place) = unset_from s.set bytes (Some place)
-hint_of s m (Reason.WrongBytes address kind _ count) = bytes_hint s (named address kind (range_of s count))
-hint_of s m (Reason.WrongRoom address kind _ count) = room_hint_of (named address kind (range_of s count)) (range_of s count)
+hint_of s m (Reason.WrongBytes address kind _ count) = bytes_hint s (named_bytes address kind (range_of s count))
+hint_of s m (Reason.WrongRoom address kind _ count) =
+    room_hint_of (named_bytes address kind (range_of s count)) (range_of s count)
 hint_of s m _ = None
 
 abbrev pub hint_with : Abstract → Summary → Option Reason → Option Hint
@@ -126,11 +134,12 @@ abbrev pub hint_where : Placed → Option Abstract → Option Reason → Option 
 hint_where placed (Some s) reason = hint_with s (summary_of placed.instruction) reason
 hint_where placed None reason = None
 
--- Of a fault at an instruction with these states: of a jump back whether it closes a loop, of a register that may hold nothing
--- where it was lost, and else by what the fault is about.
+-- Of a fault at an instruction with these states: of a jump back whether it closes a loop, of a register that may hold
+-- nothing where it was lost, and else by what the fault is about.
 abbrev pub placed_hint : List Placed → Claims → ℕ → Option Reason → Option Placed → Option Hint
 placed_hint code claims pc reason (Some placed) =
-    option_or (option_or (back_hint code pc (Some placed)) (lost_hint code claims pc reason)) (hint_where placed (claim_at claims pc) reason)
+    option_or (option_or (back_hint code pc (Some placed)) (lost_hint code claims pc reason))
+    (hint_where placed (claim_at claims pc) reason)
 placed_hint code claims pc reason None = None
 
 abbrev pub hint_at : List Placed → Claims → VerifyFault → Option Reason → Option Hint

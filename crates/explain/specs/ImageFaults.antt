@@ -1,11 +1,12 @@
 -- What is said of an image that has no code, after its fault.
-use Rattle.std.specs.Prelude.{ℕ, ◌*◌, ◌/◌, ◌%◌, Bool, false, ◌==◌, ◌&&◌, nat_eq, nat_lt, nat_le, if◌then◌else◌, List, [], ◌∷◌, ◌++◌, length, drop, slice_index, Option, Some, None, codes, decimal}
+use Rattle.std.specs.Prelude.{ℕ, ◌*◌, ◌/◌, ◌%◌, Bool, false, ◌==◌, ◌&&◌, nat_eq, nat_lt, nat_le, if◌then◌else◌, List}
+use Rattle.std.specs.Prelude.{[], ◌∷◌, ◌++◌, length, drop, slice_index, Option, Some, None, codes, decimal}
 use Rattle.std.specs.{Fmt.digit_glyph, List.starts_with}
-use Rattle.machine_spec.specs.declared.limits.TheConstants.{MAX_SLOTS}
-use Rattle.machine_spec.specs.declared.instruction.{Instruction.Instruction, IsaFault.IsaFault}
+use Rattle.machine_spec.specs.declared.{limits.TheConstants.MAX_SLOTS, instruction.Instruction.Instruction}
+use Rattle.machine_spec.specs.declared.{instruction.IsaFault.IsaFault}
 use Rattle.bpf_asm.specs.Writing.{line_text}
 use Rattle.explain.specs.declared.slot_bytes.Cleared.{Cleared}
-use Rattle.explain.specs.SlotBytes.{mended, wrong_fields}
+use Rattle.explain.specs.SlotBytes.{mended_instruction, wrong_fields}
 use Rattle.explain.specs.Texts.{texts_below}
 
 -- ---- bytes and fields
@@ -29,7 +30,8 @@ abbrev pub field_text : Bool → List ℕ → List ℕ
 field_text is_cleared name = if is_cleared then codes " " ++ (name ++ codes "=0") else []
 
 abbrev pub fields_text : Cleared → List ℕ
-fields_text c = field_text c.dst (codes "dst") ++ (field_text c.src (codes "src") ++ (field_text c.offset (codes "offset") ++ field_text c.imm (codes "imm")))
+fields_text c = field_text c.dst (codes "dst")
+    ++ (field_text c.src (codes "src") ++ (field_text c.offset (codes "offset") ++ field_text c.imm (codes "imm")))
 
 -- `with imm=0 this is: exit`
 abbrev pub mended_text : Cleared → Option Instruction → List ℕ
@@ -38,26 +40,33 @@ mended_text c None = []
 
 -- the instruction that some bytes begin with, where the fields are 0 with which they are none
 abbrev pub repair_text : List ℕ → List ℕ
-repair_text bytes = mended_text (wrong_fields bytes) (mended bytes (wrong_fields bytes))
+repair_text bytes = mended_text (wrong_fields bytes) (mended_instruction bytes (wrong_fields bytes))
 
 -- ---- by fault
 
 abbrev pub size_text : ℕ → List ℕ
 size_text n =
     if n == 0 then codes "the image is empty" ++ 10 ∷ [] else
-    if nat_le n (8 * MAX_SLOTS) then codes "the image ends " ++ (decimal (n % 8) ++ (codes " bytes into a slot of 8 bytes" ++ 10 ∷ [])) else
+    if nat_le n (8 * MAX_SLOTS) then codes "the image ends "
+    ++ (decimal (n % 8) ++ (codes " bytes into a slot of 8 bytes" ++ 10 ∷ [])) else
     codes "the image has more than 4096 slots of 8 bytes" ++ 10 ∷ []
 
 abbrev pub opcode_text : ℕ → List ℕ
 opcode_text opcode =
-    codes "no instruction has the opcode" ++ (byte_text opcode ++ (codes ": make an image by `tools/image.py OBJECT IMAGE` or `klog asm TEXT IMAGE`" ++ 10 ∷ []))
+    codes "no instruction has the opcode"
+    ++ (byte_text opcode ++ (codes ": make an image by `tools/image.py OBJECT IMAGE` or `klog asm TEXT IMAGE`" ++ 10
+    ∷ []))
 
 -- what an instruction is that klog leaves out, and what to do without it
 abbrev pub left_out_text : ℕ → ℕ → List ℕ
 left_out_text opcode src =
-    if (opcode == 0x85) && (src == 1) then codes "a call with src=1 calls a function of the program: make each function but transform `static inline` with `always_inline`" ++ 10 ∷ [] else
-    if opcode == 0x85 then codes "a call with another src than 0 calls a function of the kernel: call the helpers of klog.h alone" ++ 10 ∷ [] else
-    if opcode == 0x18 then codes "a 64-bit immediate with another src than 0 is the address of a map or a global: keep what it holds in variables of the function" ++ 10 ∷ [] else
+    if (opcode == 0x85) && (src == 1) then codes
+    "a call with src=1 calls a function of the program: make each function but transform `static inline` with `always_inline`" ++ 10 ∷ [] else
+    if opcode == 0x85 then codes
+    "a call with another src than 0 calls a function of the kernel: call the helpers of klog.h alone" ++ 10
+    ∷ [] else
+    if opcode == 0x18 then codes
+    "a 64-bit immediate with another src than 0 is the address of a map or a global: keep what it holds in variables of the function" ++ 10 ∷ [] else
     if nat_le 0xc0 opcode then codes "atomic operations are left out: nobody else reads the stack" ++ 10 ∷ [] else
     codes "packet loads are left out: load from the address of the value or the key" ++ 10 ∷ []
 
@@ -73,16 +82,18 @@ order_text (Some i) = []
 order_text None = codes "the imm of a byte order is 16, 32 or 64" ++ 10 ∷ []
 
 abbrev pub unused_text : List ℕ → List ℕ
-unused_text bytes = repair_text bytes ++ order_text (mended bytes (wrong_fields bytes))
+unused_text bytes = repair_text bytes ++ order_text (mended_instruction bytes (wrong_fields bytes))
 
 abbrev pub second_slot_text : List ℕ → List ℕ
 second_slot_text bytes = codes "second slot:" ++ bytes_line bytes
 
 abbrev pub second_text : List ℕ → List ℕ
-second_text bytes = if nat_lt (length bytes) 16 then codes "no second slot" ++ 10 ∷ [] else second_slot_text (drop 8 bytes)
+second_text bytes = if nat_lt (length bytes) 16 then codes "no second slot" ++ 10
+    ∷ [] else second_slot_text (drop 8 bytes)
 
 abbrev pub wide_text : List ℕ → List ℕ
-wide_text bytes = second_text bytes ++ (codes "a 64-bit immediate has a second slot that begins with 00 00 00 00" ++ 10 ∷ [])
+wide_text bytes = second_text bytes
+    ++ (codes "a 64-bit immediate has a second slot that begins with 00 00 00 00" ++ 10 ∷ [])
 
 abbrev pub flaw_text : List ℕ → IsaFault → List ℕ
 flaw_text bytes (IsaFault.Opcode _) = opcode_text (slice_index bytes 0)
@@ -98,7 +109,8 @@ slot_fault_text slot bytes fault = slot_text slot bytes ++ flaw_text bytes fault
 abbrev pub fault_text : List ℕ → IsaFault → List ℕ
 fault_text image IsaFault.Size = size_text (length image)
 fault_text image (IsaFault.Opcode slot) = slot_fault_text slot (drop (8 * slot) image) (IsaFault.Opcode slot)
-fault_text image (IsaFault.NotInProfile slot) = slot_fault_text slot (drop (8 * slot) image) (IsaFault.NotInProfile slot)
+fault_text image (IsaFault.NotInProfile slot) =
+    slot_fault_text slot (drop (8 * slot) image) (IsaFault.NotInProfile slot)
 fault_text image (IsaFault.Register slot) = slot_fault_text slot (drop (8 * slot) image) (IsaFault.Register slot)
 fault_text image (IsaFault.Unused slot) = slot_fault_text slot (drop (8 * slot) image) (IsaFault.Unused slot)
 fault_text image (IsaFault.Wide slot) = slot_fault_text slot (drop (8 * slot) image) (IsaFault.Wide slot)

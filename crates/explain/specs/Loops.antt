@@ -1,12 +1,12 @@
 -- Whether the code that a jump back leads to comes to the jump again.
-use Rattle.std.specs.Prelude.{ℕ, zero, suc, ◌+◌, ℤ, pos, Bool, false, ◌==◌, ◌&&◌, ◌||◌, not, int_lt, if◌then◌else◌, List, [], ◌∷◌, ◌++◌, length, slice_get, slice_index_or, unsigned_abs, Option, Some, None}
-use Rattle.machine_spec.specs.declared.instruction.Placed.{Placed}
-use Rattle.machine_spec.specs.declared.summary.Summary.{Summary}
+use Rattle.std.specs.Prelude.{ℕ, zero, suc, ◌+◌, ℤ, pos, Bool, false, ◌==◌, ◌&&◌, ◌||◌, not, int_lt, if◌then◌else◌}
+use Rattle.std.specs.Prelude.{List, [], ◌∷◌, ◌++◌, length, slice_get, slice_index_or, unsigned_abs, Option, Some, None}
+use Rattle.machine_spec.specs.declared.{instruction.Placed.Placed, summary.Summary.Summary}
 use Rattle.machine_spec.specs.Summaries.{summary_of}
 use Rattle.machine_spec.specs.Image.{number_at}
 use Rattle.verifier_spec.specs.Checks.{never_falls}
 use Rattle.explain.specs.declared.hint.Hint.{Hint}
-use Rattle.explain.specs.Reasons.{landing}
+use Rattle.explain.specs.Reasons.{landing_slot}
 
 -- ---- one step
 
@@ -15,7 +15,7 @@ abbrev pub number_on : List Placed → ℤ → Option ℕ
 number_on code slot = if int_lt slot (pos 0) then None else number_at code (unsigned_abs slot)
 
 abbrev pub target : List Placed → ℕ → ℤ → Option ℕ
-target code slot offset = number_on code (landing slot offset)
+target code slot offset = number_on code (landing_slot slot offset)
 
 abbrev pub is_there : (ℕ → Bool) → Option ℕ → Bool
 is_there test (Some k) = test k
@@ -31,7 +31,8 @@ falls_to_marked test k m = not (never_falls m) && test (k + 1)
 
 abbrev pub leads_to_marked : List Placed → (ℕ → Bool) → ℕ → Option Placed → Bool
 leads_to_marked code test k (Some placed) =
-    falls_to_marked test k (summary_of placed.instruction) || jumps_to_marked code test placed.slot (summary_of placed.instruction).jump
+    falls_to_marked test k (summary_of placed.instruction) || jumps_to_marked code test placed.slot
+    (summary_of placed.instruction).jump
 leads_to_marked code test k None = false
 
 -- it passes the test itself, or leads to one that does
@@ -40,8 +41,8 @@ is_marked_next code test k = test k || leads_to_marked code test k (slice_get co
 
 -- ---- many steps
 
--- The code from one instruction on comes to another in at most so many steps. From code of n instructions n steps are as
--- good as any number.
+-- The code from one instruction on comes to another in at most so many steps. From code of n instructions n steps are
+-- as good as any number.
 unfoldable pub comes_to : List Placed → ℕ → ℕ → ℕ → Bool
 comes_to code to zero from = from == to
 comes_to code to (suc steps) from = is_marked_next code (comes_to code to steps) from
@@ -59,15 +60,16 @@ is_marked marks k = slice_index_or marks k false
 -- ---- the hint
 
 abbrev pub loop_or_order : Bool → ℤ → ℕ → Hint
-loop_or_order comes landing slot = if comes then Hint.Loop landing slot else Hint.Order landing slot
+loop_or_order comes landing_slot slot = if comes then Hint.Loop landing_slot slot else Hint.Order landing_slot slot
 
 abbrev pub loop_from : List Placed → ℕ → ℕ → ℤ → Option ℕ → Option Hint
-loop_from code k slot landing (Some from) = Some (loop_or_order (comes_to code k (length code) from) landing slot)
-loop_from code k slot landing None = None
+loop_from code k slot landing_slot (Some from) =
+    Some (loop_or_order (comes_to code k (length code) from) landing_slot slot)
+loop_from code k slot landing_slot None = None
 
 -- where a jump of instruction number k leads to an instruction
 abbrev pub loop_hint : List Placed → ℕ → ℕ → ℤ → Option Hint
-loop_hint code k slot offset = loop_from code k slot (landing slot offset) (target code slot offset)
+loop_hint code k slot offset = loop_from code k slot (landing_slot slot offset) (target code slot offset)
 
 abbrev pub jump_hint : List Placed → ℕ → ℕ → Option ℤ → Option Hint
 jump_hint code k slot (Some offset) = if int_lt offset (pos 0) then loop_hint code k slot offset else None

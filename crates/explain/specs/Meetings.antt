@@ -1,17 +1,16 @@
--- Where a register that may hold nothing was lost: two edges met that propagate different kinds of it, or a call left nothing in
--- it.
-use Rattle.std.specs.Prelude.{ℕ, zero, suc, ◌+◌, Bool, true, false, ◌==◌, ◌&&◌, ◌||◌, not, if◌then◌else◌, List, length, slice_get, Option, Some, None, option_map, is_some, is_none, unwrap_or}
+-- Where a register that may hold nothing was lost: two edges met that propagate different kinds of it, or a call left
+-- nothing in it.
+use Rattle.std.specs.Prelude.{ℕ, zero, suc, ◌+◌, Bool, true, false, ◌==◌, ◌&&◌, ◌||◌, not, if◌then◌else◌, List, length}
+use Rattle.std.specs.Prelude.{slice_get, Option, Some, None, option_map, is_some, is_none, unwrap_or}
 use Rattle.std.specs.Option.{option_or}
-use Rattle.machine_spec.specs.declared.helper.TheConstants.{HELPERS}
-use Rattle.machine_spec.specs.declared.instruction.{Placed.Placed}
+use Rattle.machine_spec.specs.declared.{helper.TheConstants.HELPERS, instruction.Placed.Placed}
 use Rattle.machine_spec.specs.Image.{target_of}
-use Rattle.verifier_spec.specs.declared.state.{Abs.Abs, Abstract.Abstract}
+use Rattle.verifier_spec.specs.declared.{state.Abs.Abs, state.Abstract.Abstract}
 use Rattle.verifier_spec.specs.Kinds.{kind_at, is_unknown, is_number_kind, same_region}
 use Rattle.verifier_spec.specs.Checks.{failed_check, jump_of}
 use Rattle.verifier_spec.specs.Transfer.{falls_to, jumps_to}
 use Rattle.verifier_spec.specs.Annotation.{Claims, claim_at}
-use Rattle.explain.specs.declared.hint.{Hint.Hint, Edge.Edge}
-use Rattle.explain.specs.declared.{meeting.Loss.Loss, reason.Reason.Reason}
+use Rattle.explain.specs.declared.{hint.Hint.Hint, hint.Edge.Edge, meeting.Loss.Loss, reason.Reason.Reason}
 use Rattle.explain.specs.Reasons.{first_below}
 
 -- ---- the kind that an edge propagates
@@ -29,11 +28,13 @@ abbrev pub kind_from : List Placed → ℕ → ℕ → ℕ → Placed → Abstra
 kind_from code r j k placed s =
     option_or
     (kind_along (k + 1 == j) r (falls_to placed.instruction s))
-    (kind_along (is_number_of (target_of code placed.slot (jump_of placed.instruction)) j) r (jumps_to placed.instruction s))
+    (kind_along (is_number_of (target_of code placed.slot (jump_of placed.instruction)) j) r
+    (jumps_to placed.instruction s))
 
 -- an instruction that is not reached or fails a check propagates nothing
 abbrev pub kind_passed : List Placed → ℕ → ℕ → ℕ → Option Placed → Option Abstract → Option Abs
-kind_passed code r j k (Some placed) (Some s) = if is_none (failed_check HELPERS placed.instruction s) then kind_from code r j k placed s else None
+kind_passed code r j k (Some placed) (Some s) =
+    if is_none (failed_check HELPERS placed.instruction s) then kind_from code r j k placed s else None
 kind_passed code r j k _ _ = None
 
 -- what instruction number k propagates of a register to instruction number j
@@ -78,11 +79,13 @@ is_lost_before r None = true
 
 -- what propagates nothing of a register leaves nothing in it, or had nothing of it
 abbrev pub lost_in : List Placed → Claims → ℕ → ℕ → Loss
-lost_in code claims r k = if is_lost_before r (claim_at claims k) then Loss.Before k else Loss.Here (Hint.Called (slot_of code k))
+lost_in code claims r k = if is_lost_before r (claim_at claims k) then Loss.Before k else Loss.Here
+    (Hint.Called (slot_of code k))
 
 abbrev pub met_with : List Placed → Claims → ℕ → ℕ → ℕ → Abs → Option ℕ → Loss
 met_with code claims r j k kind (Some other) =
-    Loss.Here (Hint.Met (edge_from code k kind) (edge_from code other (unwrap_or (arrival code claims r j other) Abs.None)) (slot_of code j))
+    Loss.Here (Hint.Met (edge_from code k kind) (edge_from code other
+    (unwrap_or (arrival code claims r j other) Abs.None)) (slot_of code j))
 met_with code claims r j k kind None = lost_in code claims r k
 
 abbrev pub met_from : List Placed → Claims → ℕ → ℕ → ℕ → Option Abs → Loss
@@ -93,8 +96,9 @@ abbrev pub met_first : List Placed → Claims → ℕ → ℕ → Option ℕ →
 met_first code claims r j (Some k) = met_from code claims r j k (arrival code claims r j k)
 met_first code claims r j None = Loss.Here Hint.NeverSet
 
--- At an instruction before which nothing is known of a register: the first edges to it that propagate kinds of different sorts;
--- else the instruction that the first edge to it begins at, which is a call, or before which nothing is known of it either.
+-- At an instruction before which nothing is known of a register: the first edges to it that propagate kinds of
+-- different sorts; else the instruction that the first edge to it begins at, which is a call, or before which nothing
+-- is known of it either.
 unfoldable pub step : List Placed → Claims → ℕ → ℕ → Loss
 step code claims r j = met_first code claims r j (first_below j (arrives code claims r j))
 

@@ -1,30 +1,32 @@
 -- What a refusal is about: the register that a check asks for something else of, the bytes that an access may reach.
-use Rattle.std.specs.Prelude.{ℕ, zero, suc, ℤ, pos, ◌+ℤ◌, neg_ℤ, Bool, ◌&&◌, not, int_le, if◌then◌else◌, List, Option, Some, None, option_map, unwrap_or, find, slice_get}
+use Rattle.std.specs.Prelude.{ℕ, zero, suc, ℤ, pos, ◌+ℤ◌, neg_ℤ, Bool, ◌&&◌, not, int_le, if◌then◌else◌, List, Option}
+use Rattle.std.specs.Prelude.{Some, None, option_map, unwrap_or, find, slice_get}
 use Rattle.std.specs.Option.{option_or}
-use Rattle.machine_spec.specs.declared.limits.TheConstants.{STACK_SIZE}
-use Rattle.machine_spec.specs.declared.instruction.{Source.Source, Source.TheVariants.Register, Source.TheVariants.Immediate, Placed.Placed}
-use Rattle.machine_spec.specs.declared.operation.{Width.Width, Operation.Operation}
-use Rattle.machine_spec.specs.declared.helper.Argument.{Argument}
-use Rattle.machine_spec.specs.declared.summary.{Operands.Operands, MemoryOperand.MemoryOperand, Condition.Condition, Summary.Summary}
+use Rattle.machine_spec.specs.declared.{limits.TheConstants.STACK_SIZE, instruction.Source.Source}
+use Rattle.machine_spec.specs.declared.{instruction.Placed.Placed, operation.Width.Width, operation.Operation.Operation}
+use Rattle.machine_spec.specs.declared.{helper.Argument.Argument, summary.Operands.Operands}
+use Rattle.machine_spec.specs.declared.{summary.MemoryOperand.MemoryOperand, summary.Condition.Condition}
+use Rattle.machine_spec.specs.declared.{summary.Summary.Summary}
+use Rattle.machine_spec.specs.declared.instruction.Source.TheVariants.{Register, Immediate}
 use Rattle.machine_spec.specs.Summaries.{summary_of}
 use Rattle.machine_spec.specs.Values.{moves_address}
 use Rattle.machine_spec.specs.Traps.{helper_called, arguments_of, read_registers}
-use Rattle.verifier_spec.specs.declared.interval.Interval.{Interval}
-use Rattle.verifier_spec.specs.declared.state.{Abs.Abs, StackSet.StackSet, Abstract.Abstract}
-use Rattle.verifier_spec.specs.declared.fault.{Check.Check, VerifyFault.VerifyFault}
+use Rattle.verifier_spec.specs.declared.{interval.Interval.Interval, state.Abs.Abs, state.StackSet.StackSet}
+use Rattle.verifier_spec.specs.declared.{state.Abstract.Abstract, fault.Check.Check, fault.VerifyFault.VerifyFault}
 use Rattle.verifier_spec.specs.Kinds.{kind_at, length_range, range_of, is_unknown, is_number_kind, is_address_kind}
-use Rattle.verifier_spec.specs.Checks.{source_kind, is_one_sign, least_displacement, greatest_displacement, Reach, reach_of, are_set, is_wrong_argument_kind}
+use Rattle.verifier_spec.specs.Checks.{source_kind, is_one_sign, least_displacement, greatest_displacement, Reach}
+use Rattle.verifier_spec.specs.Checks.{reach_of, are_set, is_wrong_argument_kind}
 use Rattle.verifier_spec.specs.Annotation.{Claims, claim_at}
-use Rattle.explain.specs.declared.reason.{Reached.Reached, Reason.Reason}
+use Rattle.explain.specs.declared.{reason.Reached.Reached, reason.Reason.Reason}
 
 -- ---- jumps
 
 -- the slot that a jump at a slot leads to
-abbrev pub landing : ℕ → ℤ → ℤ
-landing slot offset = (pos slot +ℤ pos 1) +ℤ offset
+abbrev pub landing_slot : ℕ → ℤ → ℤ
+landing_slot slot offset = (pos slot +ℤ pos 1) +ℤ offset
 
 abbrev pub landing_of : Placed → Option ℤ
-landing_of placed = option_map (landing placed.slot) (summary_of placed.instruction).jump
+landing_of placed = option_map (landing_slot placed.slot) (summary_of placed.instruction).jump
 
 -- ---- kinds
 
@@ -52,14 +54,16 @@ no_sign s dst (Immediate _) = None
 abbrev pub wrong_move : Abstract → Operation → ℕ → Source → Option Interval → Option Reason
 wrong_move s operation dst source (Some range) =
     if is_one_sign range
-    then Some (Reason.TooFar dst (kind_at s dst) (least_displacement operation range) (greatest_displacement operation range))
+    then Some (Reason.TooFar dst (kind_at s dst) (least_displacement operation range)
+    (greatest_displacement operation range))
     else no_sign s dst source
 wrong_move s operation dst source None = no_number_source s source
 
 -- what an operation can't take: an address that it doesn't move, another address, a number that moves it wrongly
 abbrev pub wrong_operand : Abstract → Width → Operation → ℕ → Source → Abs → Option Reason
 wrong_operand s width operation dst source (Abs.Addr region low high) =
-    if moves_address width operation then wrong_move s operation dst source (range_of s (source_kind s width source)) else no_number s dst
+    if moves_address width operation then wrong_move s operation dst source (range_of s (source_kind s width source))
+    else no_number s dst
 wrong_operand s width operation dst source Abs.None = no_number s dst
 wrong_operand s width operation dst source (Abs.Num low high) = no_number_source s source
 wrong_operand s width operation dst source (Abs.Len region) = no_number_source s source
@@ -68,7 +72,8 @@ abbrev pub wrong_operands : Operands → Abstract → Option Reason
 wrong_operands Operands.Nothing s = None
 wrong_operands (Operands.Any _) s = None
 wrong_operands (Operands.Number width source) s = no_number_source s source
-wrong_operands (Operands.Computed width operation dst source) s = wrong_operand s width operation dst source (kind_at s dst)
+wrong_operands (Operands.Computed width operation dst source) s =
+    wrong_operand s width operation dst source (kind_at s dst)
 
 abbrev pub wrong_base : Option MemoryOperand → Abstract → Option Reason
 wrong_base (Some m) s = no_address s m.base
@@ -80,19 +85,26 @@ wrong_condition None s = None
 
 -- in the order of the checks
 abbrev pub wrong_type : Summary → Abstract → Option Reason
-wrong_type m s = option_or (wrong_operands m.takes s) (option_or (wrong_base m.memory s) (wrong_condition m.condition s))
+wrong_type m s = option_or (wrong_operands m.takes s)
+    (option_or (wrong_base m.memory s) (wrong_condition m.condition s))
 
 -- ---- memory
 
 -- the bytes that an access may reach, from the first to the last
 abbrev pub reached_by : MemoryOperand → Abs → Option Reach → Option Reached
 reached_by m kind (Some reach) =
-    Some (record { base = m.base; kind = kind; region = reach.region; first = reach.low; last = (reach.high +ℤ pos reach.size) +ℤ neg_ℤ (pos 1) })
+    Some (record {
+      base = m.base;
+      kind = kind;
+      region = reach.region;
+      first = reach.low;
+      last = (reach.high +ℤ pos reach.size) +ℤ neg_ℤ (pos 1);
+    })
 reached_by m kind None = None
 
-abbrev pub reached : Option MemoryOperand → Abstract → Option Reached
-reached (Some m) s = reached_by m (kind_at s m.base) (reach_of (Some m) s)
-reached None s = None
+abbrev pub reached_bytes : Option MemoryOperand → Abstract → Option Reached
+reached_bytes (Some m) s = reached_by m (kind_at s m.base) (reach_of (Some m) s)
+reached_bytes None s = None
 
 abbrev pub outside_record : Abstract → Reached → Reason
 outside_record s bytes = Reason.OutsideRecord bytes (length_range s bytes.region).min
@@ -104,7 +116,8 @@ first_below (suc n) test = option_or (first_below n test) (if test n then Some n
 
 -- a stack place is among the bytes and may not be set
 abbrev pub is_unset_in : StackSet → Reached → ℕ → Bool
-is_unset_in set bytes place = int_le bytes.first (pos place) && (int_le (pos place) bytes.last && not (are_set set place 1))
+is_unset_in set bytes place = int_le bytes.first (pos place)
+    && (int_le (pos place) bytes.last && not (are_set set place 1))
 
 abbrev pub unset_byte : StackSet → Option Reached → Option Reason
 unset_byte set (Some bytes) = option_map (Reason.UnsetByte bytes) (first_below STACK_SIZE (is_unset_in set bytes))
@@ -121,11 +134,13 @@ wrong_pair s address count =
 
 -- or bytes that may not be there or not be set
 abbrev pub wrong_bytes : Abstract → ℕ → ℕ → Reason
-wrong_bytes s address count = unwrap_or (wrong_pair s address count) (Reason.WrongBytes address (kind_at s address) count (kind_at s count))
+wrong_bytes s address count = unwrap_or (wrong_pair s address count)
+    (Reason.WrongBytes address (kind_at s address) count (kind_at s count))
 
 -- or room that may have no byte or not lie on the stack
 abbrev pub wrong_room : Abstract → ℕ → ℕ → Reason
-wrong_room s address count = unwrap_or (wrong_pair s address count) (Reason.WrongRoom address (kind_at s address) count (kind_at s count))
+wrong_room s address count = unwrap_or (wrong_pair s address count)
+    (Reason.WrongRoom address (kind_at s address) count (kind_at s count))
 
 abbrev pub wrong_argument : Abstract → Option Argument → Option Reason
 wrong_argument s (Some (Argument.Number r)) = Some (Reason.NoNumber r (kind_at s r))
@@ -156,10 +171,10 @@ state_reason placed m s Check.Frame = Some Reason.Frame
 state_reason placed m s Check.Helper = option_map Reason.NoHelper m.call
 state_reason placed m s Check.Unset = option_map Reason.Unknown (unknown_register m s)
 state_reason placed m s Check.WrongType = wrong_type m s
-state_reason placed m s Check.ReadOnly = option_map Reason.ReadOnly (reached m.memory s)
-state_reason placed m s Check.RecordBounds = option_map (outside_record s) (reached m.memory s)
-state_reason placed m s Check.StackBounds = option_map Reason.OutsideStack (reached m.memory s)
-state_reason placed m s Check.StackUnset = unset_byte s.set (reached m.memory s)
+state_reason placed m s Check.ReadOnly = option_map Reason.ReadOnly (reached_bytes m.memory s)
+state_reason placed m s Check.RecordBounds = option_map (outside_record s) (reached_bytes m.memory s)
+state_reason placed m s Check.StackBounds = option_map Reason.OutsideStack (reached_bytes m.memory s)
+state_reason placed m s Check.StackUnset = unset_byte s.set (reached_bytes m.memory s)
 state_reason placed m s Check.HelperArg = wrong_argument s (first_wrong_argument m s)
 state_reason placed m s Check.Exit = Some (Reason.NoNumber 0 (kind_at s 0))
 state_reason placed m s Check.Memory = None

@@ -1,10 +1,11 @@
 -- The text of a program's instructions, each with what is known before it.
-use Rattle.std.specs.Prelude.{ℕ, zero, suc, ◌+◌, ◌-◌, ℤ, Bool, ◌==◌, ◌&&◌, not, nat_lt, if◌then◌else◌, List, [], ◌∷◌, ◌++◌, slice_get, Option, Some, None, codes, decimal}
+use Rattle.std.specs.Prelude.{ℕ, zero, suc, ◌+◌, ◌-◌, ℤ, Bool, ◌==◌, ◌&&◌, not, nat_lt, if◌then◌else◌, List, [], ◌∷◌}
+use Rattle.std.specs.Prelude.{◌++◌, slice_get, Option, Some, None, codes, decimal}
 use Rattle.std.specs.Ordering.{int_eq}
-use Rattle.wire_spec.specs.declared.limits.TheConstants.{MAX_KEY, MAX_VALUE}
-use Rattle.machine_spec.specs.declared.limits.TheConstants.{STACK_SIZE}
-use Rattle.machine_spec.specs.declared.instruction.{Region.Region, Placed.Placed}
-use Rattle.verifier_spec.specs.declared.state.{Abs.Abs, StackSet.StackSet, Abstract.Abstract}
+use Rattle.wire_spec.specs.declared.{limits.TheConstants.MAX_KEY, limits.TheConstants.MAX_VALUE}
+use Rattle.machine_spec.specs.declared.{limits.TheConstants.STACK_SIZE, instruction.Region.Region}
+use Rattle.machine_spec.specs.declared.{instruction.Placed.Placed}
+use Rattle.verifier_spec.specs.declared.{state.Abs.Abs, state.StackSet.StackSet, state.Abstract.Abstract}
 use Rattle.verifier_spec.specs.Kinds.{kind_at, is_unknown}
 use Rattle.verifier_spec.specs.Checks.{are_set}
 use Rattle.verifier_spec.specs.Annotation.{Claims, claim_at}
@@ -29,7 +30,8 @@ range_text low high = if low == high then decimal low else (decimal low ++ (code
 
 -- one offset, or the ends of an interval, each with its sign
 abbrev pub offsets_text : ℤ → ℤ → List ℕ
-offsets_text low high = if int_eq low high then distance_text low else (distance_text low ++ (codes " to " ++ distance_text high))
+offsets_text low high = if int_eq low high then distance_text low else
+    (distance_text low ++ (codes " to " ++ distance_text high))
 
 -- `0 to 3`, `length of value`, `value+0`
 abbrev pub kind_text : Abs → List ℕ
@@ -50,7 +52,8 @@ registers_text s = texts_below 11 (λ r. register_text r (kind_at s r)) ++ 10 �
 -- `  value: 1 to 65536 bytes`, left out where it says no more than at the entry
 abbrev pub length_text : Region → ℕ → ℕ → ℕ → List ℕ
 length_text region low high limit =
-    if (low == 0) && (high == limit) then [] else codes "  " ++ (region_word region ++ (codes ": " ++ (range_text low high ++ (codes " bytes" ++ 10 ∷ []))))
+    if (low == 0) && (high == limit) then [] else codes "  "
+    ++ (region_word region ++ (codes ": " ++ (range_text low high ++ (codes " bytes" ++ 10 ∷ []))))
 
 -- a place is in a set
 abbrev pub is_in : StackSet → ℕ → Bool
@@ -63,13 +66,14 @@ begins set place = not (nat_lt 0 place && is_in set (place - 1))
 abbrev pub ends : StackSet → ℕ → Bool
 ends set place = not (is_in set (place + 1))
 
--- `  stack set: 504 to 511`: the first place of those that are set one after another gives the line's beginning, the last one
--- its end
+-- `  stack set: 504 to 511`: the first place of those that are set one after another gives the line's beginning, the
+-- last one its end
 abbrev pub beginning_text : StackSet → ℕ → List ℕ
 beginning_text set place = if begins set place then codes "  stack set: " ++ decimal place else []
 
 abbrev pub end_text : StackSet → ℕ → List ℕ
-end_text set place = if ends set place then (if begins set place then 10 ∷ [] else codes " to " ++ (decimal place ++ 10 ∷ [])) else []
+end_text set place = if ends set place then (if begins set place then 10 ∷ [] else codes " to "
+    ++ (decimal place ++ 10 ∷ [])) else []
 
 abbrev pub place_text : StackSet → ℕ → List ℕ
 place_text set place = if is_in set place then beginning_text set place ++ end_text set place else []
@@ -80,7 +84,9 @@ stack_text set = texts_below STACK_SIZE (place_text set)
 -- ---- instructions
 
 abbrev pub state_text : Abstract → List ℕ
-state_text s = registers_text s ++ (length_text Region.Key s.key.min s.key.max MAX_KEY ++ (length_text Region.Value s.value.min s.value.max MAX_VALUE ++ stack_text s.set))
+state_text s = registers_text s
+    ++ (length_text Region.Key s.key.min s.key.max MAX_KEY
+    ++ (length_text Region.Value s.value.min s.value.max MAX_VALUE ++ stack_text s.set))
 
 -- what is known before an instruction, which may be unreached
 abbrev pub claim_text : Option Abstract → List ℕ
@@ -89,7 +95,8 @@ claim_text None = codes "  unreached" ++ 10 ∷ []
 
 -- `3 slot 4: exit`
 abbrev pub instruction_text : ℕ → Placed → List ℕ
-instruction_text k placed = decimal k ++ (codes " slot " ++ (decimal placed.slot ++ (codes ": " ++ line_text placed.instruction)))
+instruction_text k placed = decimal k
+    ++ (codes " slot " ++ (decimal placed.slot ++ (codes ": " ++ line_text placed.instruction)))
 
 abbrev pub lines_of : ℕ → Option Placed → Option Abstract → List ℕ
 lines_of k (Some placed) known = instruction_text k placed ++ claim_text known

@@ -1,9 +1,10 @@
 -- Which instructions are listed: all, or the refused one and those on the way to it.
-use Rattle.std.specs.Prelude.{ℕ, Bool, true, false, ◌==◌, ◌&&◌, ◌||◌, if◌then◌else◌, List, [], length, Option, Some, None, is_some}
+use Rattle.std.specs.Prelude.{ℕ, Bool, true, false, ◌==◌, ◌&&◌, ◌||◌, if◌then◌else◌, List, [], length, Option, Some}
+use Rattle.std.specs.Prelude.{None, is_some}
 use Rattle.machine_spec.specs.declared.instruction.Placed.{Placed}
 use Rattle.verifier_spec.specs.declared.fault.VerifyFault.{VerifyFault}
 use Rattle.verifier_spec.specs.Annotation.{Claims, claim_at}
-use Rattle.explain.specs.declared.way.{Extent.Extent, Selection.Selection}
+use Rattle.explain.specs.declared.{way.Extent.Extent, way.Selection.Selection}
 use Rattle.explain.specs.Loops.{comes_to, is_marked}
 use Rattle.explain.specs.Texts.{lines_at}
 

@@ -41,8 +41,8 @@ fn reached_by(m: MemoryOperand, kind: Abs) -> Option<Reached>
 }
 
 /// The bytes that an instruction may read or write.
-pub fn reached(memory: Option<MemoryOperand>, state: &Abstract) -> Option<Reached>
-    ensures { result ≡ definitions.reached memory state.now }
+pub fn reached_bytes(memory: Option<MemoryOperand>, state: &Abstract) -> Option<Reached>
+    ensures { result ≡ definitions.reached_bytes memory state.now }
 {
     match memory {
         Some(m) => reached_by(m, kinds::kind_at(state, m.base)),

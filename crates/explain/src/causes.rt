@@ -5,7 +5,7 @@ ghost use Rattle.std.specs.Option.{option_copied};
 ghost use Rattle.machine_spec.specs.Summaries.{summary_of};
 ghost use Rattle.explain.specs.Reasons as definitions;
 
-use crate::accesses::{outside_record, outside_stack, reached, read_only, unset_byte};
+use crate::accesses::{outside_record, outside_stack, reached_bytes, read_only, unset_byte};
 use crate::operands::{first_wrong_argument, wrong_argument, wrong_type};
 use crate::reason::Reason;
 use crate::registers::unknown_register;
@@ -19,8 +19,8 @@ use verifier_spec::{Abstract, Check, VerifyFault};
 // ---- jumps
 
 /// The slot that a jump leads to.
-fn landing(slot: usize, offset: i32) -> i128
-    ensures { result ≡ definitions.landing slot offset }
+fn landing_slot(slot: usize, offset: i32) -> i128
+    ensures { result ≡ definitions.landing_slot slot offset }
 {
     slot as i128 + 1 + offset as i128
 }
@@ -29,7 +29,7 @@ fn landing_of(placed: Placed) -> Option<i128>
     ensures { result ≡ definitions.landing_of placed }
 {
     match Summary::of(placed.instruction).jump {
-        Some(offset) => Some(landing(placed.slot, offset)),
+        Some(offset) => Some(landing_slot(placed.slot, offset)),
         None => None,
     }
 }
@@ -108,10 +108,10 @@ fn state_reason(placed: Placed, state: &Abstract, check: Check) -> Option<Reason
         Check::Helper => no_helper(summary.call),
         Check::Unset => unknown(unknown_register(summary, state)),
         Check::WrongType => wrong_type(summary, state),
-        Check::ReadOnly => read_only(reached(summary.memory, state)),
-        Check::RecordBounds => outside_record(state, reached(summary.memory, state)),
-        Check::StackBounds => outside_stack(reached(summary.memory, state)),
-        Check::StackUnset => unset_byte(&state.set, reached(summary.memory, state)),
+        Check::ReadOnly => read_only(reached_bytes(summary.memory, state)),
+        Check::RecordBounds => outside_record(state, reached_bytes(summary.memory, state)),
+        Check::StackBounds => outside_stack(reached_bytes(summary.memory, state)),
+        Check::StackUnset => unset_byte(&state.set, reached_bytes(summary.memory, state)),
         Check::HelperArg => wrong_argument(state, first_wrong_argument(summary, state)),
         Check::Exit => Some(Reason::NoNumber(0, kinds::kind_at(state, 0))),
         Check::Memory => None,

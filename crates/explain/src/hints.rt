@@ -168,7 +168,7 @@ fn last_named(high: i64, range: Interval) -> i128
 
 /// The bytes that an address names with a number.
 fn named_by(address: u8, kind: Abs, range: Interval) -> Option<Reached>
-    ensures { result ≡ definitions.named address kind (Some range) }
+    ensures { result ≡ definitions.named_bytes address kind (Some range) }
 {
     match kind {
         Abs::Addr(region, low, high) => Some(Reached {
@@ -185,8 +185,8 @@ fn named_by(address: u8, kind: Abs, range: Interval) -> Option<Reached>
 }
 
 /// The bytes that an address and a number name.
-fn named(address: u8, kind: Abs, range: Option<Interval>) -> Option<Reached>
-    ensures { result ≡ definitions.named address kind range }
+fn named_bytes(address: u8, kind: Abs, range: Option<Interval>) -> Option<Reached>
+    ensures { result ≡ definitions.named_bytes address kind range }
 {
     match range {
         Some(range) => named_by(address, kind, range),
@@ -246,11 +246,14 @@ fn hint_of(state: &Abstract, summary: Summary, reason: Reason) -> Option<Hint>
         Reason::OutsideStack(bytes) => Some(no_bytes(bytes)),
         Reason::UnsetByte(bytes, place) => unset_from(&state.set, bytes, Some(place)),
         Reason::WrongBytes(address, kind, _, count) => {
-            bytes_hint(state, named(address, kind, kinds::range_of(state, count)))
+            bytes_hint(
+                state,
+                named_bytes(address, kind, kinds::range_of(state, count)),
+            )
         }
         Reason::WrongRoom(address, kind, _, count) => {
             let range = kinds::range_of(state, count);
-            room_hint_of(named(address, kind, range), range)
+            room_hint_of(named_bytes(address, kind, range), range)
         }
         Reason::NoTarget(_)
         | Reason::Back(_)

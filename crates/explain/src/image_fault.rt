@@ -3,7 +3,7 @@
 ghost use Rattle.std.specs.Prelude.{◌≡◌, ◌++◌, IfOk, OnOk, string_bytes};
 ghost use Rattle.explain.specs.ImageFaults as definitions;
 
-use crate::slot_bytes::{Cleared, byte_at, from_slot, mended, wrong_fields};
+use crate::slot_bytes::{Cleared, byte_at, from_slot, mended_instruction, wrong_fields};
 use bpf_asm::push_line;
 use bpf_isa::Instruction;
 use machine_spec::{IsaFault, MAX_SLOTS};
@@ -90,7 +90,7 @@ fn push_repair(text: &mut String, bytes: &[u8]) -> Result<(), AllocError>
     ensures { OnOk result (string_bytes text.new ≡ string_bytes text.old ++ definitions.repair_text bytes.now) }
 {
     let cleared = wrong_fields(bytes);
-    push_mended(text, cleared, mended(bytes, cleared))
+    push_mended(text, cleared, mended_instruction(bytes, cleared))
 }
 
 // ---- by fault
@@ -164,7 +164,7 @@ fn push_unused(text: &mut String, bytes: &[u8]) -> Result<(), AllocError>
     ensures { OnOk result (string_bytes text.new ≡ string_bytes text.old ++ definitions.unused_text bytes.now) }
 {
     push_repair(text, bytes)?;
-    push_order(text, mended(bytes, wrong_fields(bytes)))
+    push_order(text, mended_instruction(bytes, wrong_fields(bytes)))
 }
 
 /// Appends the line of a second slot.

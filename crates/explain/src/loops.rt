@@ -22,9 +22,9 @@ pub fn is_marked(marks: &[bool], k: usize) -> bool
 }
 
 /// The slot to which a jump leads, which may be before the first.
-fn landing(slot: usize, offset: i32) -> i64
+fn landing_slot(slot: usize, offset: i32) -> i64
     requires { slot < MAX_SLOTS }
-    ensures { result ≡ reasons.landing slot offset }
+    ensures { result ≡ reasons.landing_slot slot offset }
 {
     slot as i64 + 1 + offset as i64
 }
@@ -34,7 +34,7 @@ fn target(code: &Code, slot: usize, offset: i32) -> Option<usize>
     requires { slot < MAX_SLOTS }
     ensures { result ≡ definitions.target code.now slot offset }
 {
-    let landing = landing(slot, offset);
+    let landing = landing_slot(slot, offset);
     if landing < 0 {
         None
     } else {
@@ -160,7 +160,7 @@ fn loop_hint(
         return Ok(None);
     };
     let comes = comes_to(alloc, code, from, number)?;
-    Ok(Some(loop_or_order(comes, landing(slot, offset), slot)))
+    Ok(Some(loop_or_order(comes, landing_slot(slot, offset), slot)))
 }
 
 /// The hint for an instruction that jumps back, if it does.

@@ -42,8 +42,8 @@ pub fn byte_at(bytes: &[u8], i: usize) -> u8
     if i < bytes.len() { bytes[i] } else { 0 }
 }
 
-fn kept(is_cleared: bool, byte: u8) -> u8
-    ensures is { result ≡ definitions.kept is_cleared byte }
+fn kept_byte(is_cleared: bool, byte: u8) -> u8
+    ensures is { result ≡ definitions.kept_byte is_cleared byte }
     ensures is_within { result ≤ byte }
 {
     if is_cleared { 0 } else { byte }
@@ -53,7 +53,7 @@ fn kept(is_cleared: bool, byte: u8) -> u8
 fn registers(cleared: Cleared, byte: u8) -> u8
     ensures { result ≡ definitions.registers cleared byte }
 {
-    kept(cleared.dst, byte % 16) + kept(cleared.src, byte / 16 * 16)
+    kept_byte(cleared.dst, byte % 16) + kept_byte(cleared.src, byte / 16 * 16)
 }
 
 /// The first two slots of some bytes with 0 in some fields, and in the first four bytes of the
@@ -64,12 +64,12 @@ fn cleared_slots(bytes: &[u8], cleared: Cleared) -> [u8; 16]
     [
         byte_at(bytes, 0),
         registers(cleared, byte_at(bytes, 1)),
-        kept(cleared.offset, byte_at(bytes, 2)),
-        kept(cleared.offset, byte_at(bytes, 3)),
-        kept(cleared.imm, byte_at(bytes, 4)),
-        kept(cleared.imm, byte_at(bytes, 5)),
-        kept(cleared.imm, byte_at(bytes, 6)),
-        kept(cleared.imm, byte_at(bytes, 7)),
+        kept_byte(cleared.offset, byte_at(bytes, 2)),
+        kept_byte(cleared.offset, byte_at(bytes, 3)),
+        kept_byte(cleared.imm, byte_at(bytes, 4)),
+        kept_byte(cleared.imm, byte_at(bytes, 5)),
+        kept_byte(cleared.imm, byte_at(bytes, 6)),
+        kept_byte(cleared.imm, byte_at(bytes, 7)),
         0,
         0,
         0,
@@ -82,18 +82,18 @@ fn cleared_slots(bytes: &[u8], cleared: Cleared) -> [u8; 16]
 }
 
 /// The instruction that some bytes begin with, with 0 in some fields, if they are one then.
-#[tactic(auto, unfolding(crate::specs::SlotBytes::mended))]
-pub fn mended(bytes: &[u8], cleared: Cleared) -> Option<Instruction>
-    ensures { result ≡ definitions.mended bytes.now cleared }
+#[tactic(auto, unfolding(crate::specs::SlotBytes::mended_instruction))]
+pub fn mended_instruction(bytes: &[u8], cleared: Cleared) -> Option<Instruction>
+    ensures { result ≡ definitions.mended_instruction bytes.now cleared }
 {
     form_at(&cleared_slots(bytes, cleared), 0)
 }
 
 /// One field less is cleared where the bytes are an instruction with the field's own value.
-fn tried(bytes: &[u8], cleared: Cleared, less: Cleared) -> Cleared
-    ensures { result ≡ definitions.tried bytes.now cleared less }
+fn fields_to_clear(bytes: &[u8], cleared: Cleared, less: Cleared) -> Cleared
+    ensures { result ≡ definitions.fields_to_clear bytes.now cleared less }
 {
-    if mended(bytes, less).is_some() {
+    if mended_instruction(bytes, less).is_some() {
         less
     } else {
         cleared
@@ -104,8 +104,8 @@ fn tried(bytes: &[u8], cleared: Cleared, less: Cleared) -> Cleared
 pub fn wrong_fields(bytes: &[u8]) -> Cleared
     ensures { result ≡ definitions.wrong_fields bytes.now }
 {
-    let c = tried(bytes, ALL, Cleared { imm: false, ..ALL });
-    let c = tried(bytes, c, Cleared { offset: false, ..c });
-    let c = tried(bytes, c, Cleared { src: false, ..c });
-    tried(bytes, c, Cleared { dst: false, ..c })
+    let c = fields_to_clear(bytes, ALL, Cleared { imm: false, ..ALL });
+    let c = fields_to_clear(bytes, c, Cleared { offset: false, ..c });
+    let c = fields_to_clear(bytes, c, Cleared { src: false, ..c });
+    fields_to_clear(bytes, c, Cleared { dst: false, ..c })
 }

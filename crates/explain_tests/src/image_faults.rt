@@ -142,7 +142,9 @@ a 64-bit immediate has a second slot that begins with 00 00 00 00
 
 /// The fault of an image without code, and what it is about.
 fn fault_lines(alloc: Global, image: &[u8]) -> Result<String, Fail> {
-    let fault = explain_image(alloc, image, Extent::All).err().ok_or("code")?;
+    let fault = explain_image(alloc, image, Extent::All)
+        .err()
+        .ok_or("code")?;
     let why = image_fault_text(alloc, image, fault)?;
     let lines = format!(in alloc; "{fault}\n{why}")?;
     Ok(lines)

@@ -12,9 +12,7 @@ pub(crate) fn explained_to(
     extent: Extent,
 ) -> Result<Explanation, Fail> {
     let image = assemble(alloc, program).ok().ok_or("no image")?;
-    let explanation = explain_image(alloc, &image, extent)
-        .ok()
-        .ok_or("no code")?;
+    let explanation = explain_image(alloc, &image, extent).ok().ok_or("no code")?;
     Ok(explanation)
 }
 

@@ -1,5 +1,5 @@
 ghost use Rattle.std.specs.Prelude.{◌≡◌, ◌≤◌, true, false, IfSome};
-ghost use Rattle.verifier_spec.specs.Intervals.{if_any, equal_to, different_from, above, at_least, at_most, below, passing_part, opposite, narrowed};
+ghost use Rattle.verifier_spec.specs.Intervals.{if_any, equal_to, different_from, above, at_least, at_most, below, passing_part, opposite, narrowed_interval};
 
 use machine_spec::{Test, Width};
 use verifier_spec::Interval;
@@ -106,7 +106,7 @@ fn opposite(test: Test) -> Test
 
 fn edge(width: Width, test: Test, along: bool, x: Interval, constant: u64) -> Option<Interval>
     requires { x.low ≤ x.high }
-    ensures { result ≡ narrowed width test along x constant }
+    ensures { result ≡ narrowed_interval width test along x constant }
 {
     match width {
         Width::Bits32 => Some(x),
@@ -130,7 +130,7 @@ pub fn narrowed(
     constant: u64,
 ) -> Option<Interval>
     requires { x.low ≤ x.high }
-    ensures narrowed { result ≡ narrowed width test along x constant }
+    ensures narrowed { result ≡ narrowed_interval width test along x constant }
     ensures inside { IfSome result (λ part. (x.low ≤ part.low) × ((part.low ≤ part.high) × (part.high ≤ x.high))) }
 {
     edge(width, test, along, x, constant)

@@ -1,6 +1,6 @@
 ghost use Rattle.std.specs.Prelude.{◌≡◌, ◌≤◌, ◌<◌, ◌%◌};
 ghost use Rattle.machine_spec.specs.Arithmetic.{bit_count, limit};
-ghost use Rattle.verifier_spec.specs.Intervals.{whole, cut, unless_wrapping, is_non_negative};
+ghost use Rattle.verifier_spec.specs.Intervals.{whole, cut_to_width, unless_wrapping, is_non_negative};
 
 use machine_spec::Width;
 use verifier_spec::Interval;
@@ -25,7 +25,7 @@ pub fn whole(width: Width) -> Interval
 /// more, any 32 bits.
 pub fn cut(width: Width, x: Interval) -> Interval
     requires { x.low ≤ x.high }
-    ensures range { result ≡ cut width x }
+    ensures range { result ≡ cut_to_width width x }
     ensures ordered { result.low ≤ result.high }
     ensures limited { result.high < limit width }
 {
@@ -37,7 +37,7 @@ pub fn cut(width: Width, x: Interval) -> Interval
 
 fn cut_32(x: Interval) -> Interval
     requires { x.low ≤ x.high }
-    ensures range { result ≡ cut Width.Bits32 x }
+    ensures range { result ≡ cut_to_width Width.Bits32 x }
     ensures ordered { result.low ≤ result.high }
     ensures limited { result.high < limit Width.Bits32 }
 {

@@ -3,8 +3,7 @@ use Rattle.std.proofs.Common.{◌≡◌, ℕ, ◌+◌, ◌≤◌, List, ◌∷�
 use Rattle.std.specs.Prelude.{ℤ, pos}
 use Rattle.std.specs.List.{flat_map}
 use Rattle.std.proofs.lemmas.List.{take_at, take-take, take_all, length-take, length-append}
-use Rattle.wire_spec.specs.declared.record.Header.{Header}
-use Rattle.wire_spec.specs.declared.record.Record.{Record}
+use Rattle.wire_spec.specs.declared.{record.Header.Header, record.Record.Record}
 use Rattle.wire_spec.specs.Varint.{varint, varlong}
 use Rattle.wire_spec.specs.RecordSpelling.{nullable, header, record_body}
 use Rattle.kafka_record.specs.Keeps.{Keeps}
@@ -25,16 +24,20 @@ pub ruleset keeping = (Keeps-same, Keeps-append, Keeps-then)
 -- ---- The parts of a body
 
 -- all of its parts in a row
-pub body_is : (delta delta' : ℤ) (t : ℤ) (r : Record) (hs : List Header) (old a b c new : List ℕ) → delta' ≡ delta → t ≡ r.timestamp_delta → hs ≡ r.headers
-    → a ≡ old ++ 0 ∷ (varlong t ++ varint delta') → b ≡ a ++ nullable r.key → c ≡ b ++ nullable r.value → new ≡ c ++ (varint (pos (length hs)) ++ flat_map header hs)
-    → new ≡ old ++ record_body delta r
+pub body_is : (delta delta' : ℤ) (t : ℤ) (r : Record) (hs : List Header) (old a b c new : List ℕ) → delta' ≡ delta →
+    t ≡ r.timestamp_delta → hs ≡ r.headers → a ≡ old ++ 0 ∷ (varlong t ++ varint delta') → b ≡ a ++ nullable r.key →
+    c ≡ b ++ nullable r.value → new ≡ c ++ (varint (pos (length hs)) ++ flat_map header hs) →
+    new ≡ old ++ record_body delta r
 body_is delta delta' t r hs old a b c new same_delta same_t same_hs e1 e2 e3 e4 =
-    let row : new ≡ (((old ++ 0 ∷ (varlong t ++ varint delta')) ++ nullable r.key) ++ nullable r.value) ++ (varint (pos (length hs)) ++ flat_map header hs) = cc in
+    let row : new ≡ (((old ++ 0 ∷ (varlong t ++ varint delta')) ++ nullable r.key) ++ nullable r.value)
+    ++ (varint (pos (length hs)) ++ flat_map header hs) = cc in
     row ∙ rw (same_delta, same_t, same_hs) (simp append_assoc)
 
 -- the sum of their lengths
-pub length_is : (delta : ℤ) (r : Record) (t d k v n h : ℕ) → t ≡ length (varlong r.timestamp_delta) → d ≡ length (varint delta) → k ≡ length (nullable r.key) → v ≡ length (nullable r.value) → n ≡ length (varint (pos (length r.headers))) → h ≡ length (flat_map header r.headers)
-    → 1 + t + d + (k + v) + n + h ≡ length (record_body delta r)
+pub length_is : (delta : ℤ) (r : Record) (t d k v n h : ℕ) → t ≡ length (varlong r.timestamp_delta) →
+    d ≡ length (varint delta) → k ≡ length (nullable r.key) → v ≡ length (nullable r.value) →
+    n ≡ length (varint (pos (length r.headers))) → h ≡ length (flat_map header r.headers) →
+    1 + t + d + (k + v) + n + h ≡ length (record_body delta r)
 length_is delta r t d k v n h e1 e2 e3 e4 e5 e6 =
     let hs = flat_map header r.headers in
     let n' = varint (pos (length r.headers)) in
@@ -42,4 +45,12 @@ length_is delta r t d k v n h e1 e2 e3 e4 e5 e6 =
     let k' = nullable r.key in
     let d' = varint delta in
     let t' = varlong r.timestamp_delta in
-    omega (arith, length-append n' hs, length-append v' (n' ++ hs), length-append k' (v' ++ (n' ++ hs)), length-append d' (k' ++ (v' ++ (n' ++ hs))), length-append t' (d' ++ (k' ++ (v' ++ (n' ++ hs)))))
+    omega (
+      arith,
+      length-append n' hs,
+      length-append v' (n' ++ hs),
+      length-append k' (v' ++ (n' ++ hs)),
+      length-append
+          d' (k' ++ (v' ++ (n' ++ hs))),
+      length-append t' (d' ++ (k' ++ (v' ++ (n' ++ hs)))),
+    )

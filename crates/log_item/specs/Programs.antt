@@ -1,14 +1,13 @@
 -- What loading an image returns, and what holds of every run of a program.
-use Rattle.std.specs.Prelude.{◌≡◌, ℕ, ◌+◌, ◌<◌, ◌≤◌, pos, ◌≤ℤ◌, ◌⊎◌, true, List, length, slice_get, Option, Some, None, Result, Ok, Err, IsSome, unsigned_abs}
-use Rattle.machine_spec.specs.declared.instruction.Instruction.{Instruction}
-use Rattle.machine_spec.specs.declared.instruction.Placed.{Placed}
-use Rattle.machine_spec.specs.declared.outcome.Outcome.{Outcome}
-use Rattle.machine_spec.specs.declared.helper.Argument.{Argument}
-use Rattle.machine_spec.specs.declared.summary.{Direction.TheVariants.Read, Direction.TheVariants.Write, Summary.Summary}
+use Rattle.std.specs.Prelude.{◌≡◌, ℕ, ◌+◌, ◌<◌, ◌≤◌, pos, ◌≤ℤ◌, ◌⊎◌, true, List, length, slice_get, Option, Some, None}
+use Rattle.std.specs.Prelude.{Result, Ok, Err, IsSome, unsigned_abs}
+use Rattle.machine_spec.specs.declared.{instruction.Instruction.Instruction, instruction.Placed.Placed}
+use Rattle.machine_spec.specs.declared.{outcome.Outcome.Outcome, helper.Argument.Argument, summary.Summary.Summary}
+use Rattle.machine_spec.specs.declared.summary.Direction.TheVariants.{Read, Write}
 use Rattle.machine_spec.specs.Values.{Registers}
 use Rattle.machine_spec.specs.Summaries.{summary_of}
 use Rattle.machine_spec.specs.Image.{Program, program_of, form_at, IsCodeOf}
-use Rattle.machine_spec.specs.Machine.{Input, State, Access, access_of, named, byte_in}
+use Rattle.machine_spec.specs.Machine.{Input, State, Access, access_of, named_access, byte_in}
 use Rattle.machine_spec.specs.Traps.{helper_called, arguments_of, is_read, trap_at}
 use Rattle.machine_spec.specs.Meaning.{Reaches, Means}
 use Rattle.verifier_spec.specs.declared.fault.LoadFault.{LoadFault}
@@ -22,8 +21,8 @@ ProgramIs image (Err fault) = FaultIs image fault
 
 -- the bytes that an argument of a helper names, or the room; of another argument none
 abbrev pub argument_access : Registers → Argument → Option Access
-argument_access registers (Argument.Bytes address count) = named Read (registers address) (registers count)
-argument_access registers (Argument.Room address count) = named Write (registers address) (registers count)
+argument_access registers (Argument.Bytes address count) = named_access Read (registers address) (registers count)
+argument_access registers (Argument.Room address count) = named_access Write (registers address) (registers count)
 argument_access registers _ = None
 
 -- the bytes are read or written by address: those of a load or a store, or those that an argument of the called helper
@@ -31,13 +30,15 @@ argument_access registers _ = None
 abbrev pub IsAccess : Summary → Registers → Access → Type 0
 IsAccess m registers a =
     (access_of m.memory registers ≡ Some a)
-    ⊎ ((k : ℕ) × (argument : Argument) × (slice_get (arguments_of (helper_called m.call)) k ≡ Some argument) × (argument_access registers argument ≡ Some a))
+    ⊎ ((k : ℕ) × (argument : Argument) × (slice_get (arguments_of (helper_called m.call)) k ≡ Some argument)
+    × (argument_access registers argument ≡ Some a))
 
 -- Each byte that the instruction at a state reads by address is there: it lies in this record's key or value, or is set
 -- in the stack.
 abbrev pub ReadsWithin : Program → Input → State → Type 0
 ReadsWithin program input s =
-    (i : Instruction) (a : Access) (place : ℕ) → form_at program.image s.slot ≡ Some i → IsAccess (summary_of i) s.registers a → is_read a.direction ≡ true
+    (i : Instruction) (a : Access) (place : ℕ) → form_at program.image s.slot ≡ Some i →
+    IsAccess (summary_of i) s.registers a → is_read a.direction ≡ true
     → place < a.size → (pos 0 ≤ℤ a.start) × IsSome (byte_in input s.stack a.region (unsigned_abs a.start + place))
 
 -- A program runs to one outcome on an input: it means that and nothing else, after at most as many

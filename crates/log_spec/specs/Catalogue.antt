@@ -1,5 +1,6 @@
 -- The catalogue: the programs that were loaded, by name.
-use Rattle.std.specs.Prelude.{ℕ, zero, suc, ◌+◌, ◌-◌, ◌^◌, Bool, ◌==◌, ◌&&◌, ◌||◌, not, nat_le, if◌then◌else◌, List, [], ◌∷◌, ◌++◌, length, slice_get, Option, Some, None, is_none, ◌≡◌}
+use Rattle.std.specs.Prelude.{ℕ, zero, suc, ◌+◌, ◌-◌, ◌^◌, Bool, ◌==◌, ◌&&◌, ◌||◌, not, nat_le, if◌then◌else◌, List, []}
+use Rattle.std.specs.Prelude.{◌∷◌, ◌++◌, length, slice_get, Option, Some, None, is_none, ◌≡◌}
 use Rattle.std.specs.{List.list_all, List.list_any, Str.bytes_eq}
 use Rattle.machine_spec.specs.Image.{Program}
 use Rattle.verifier_spec.specs.Loading.{IsAccepted, IsRefusedWith}
@@ -32,7 +33,8 @@ program_named table name (suc k) = slice_get (programs_of table name) k
 abbrev pub with_program : Table → List ℕ → Program → Table
 with_program [] name program = record { name = name; programs = program ∷ [] } ∷ []
 with_program (entry ∷ table) name program =
-    if bytes_eq entry.name name then record { name = entry.name; programs = entry.programs ++ program ∷ [] } ∷ table else entry ∷ with_program table name program
+    if bytes_eq entry.name name then record { name = entry.name; programs = entry.programs ++ program ∷ [] }
+    ∷ table else entry ∷ with_program table name program
 
 -- ---- the live table
 
@@ -50,7 +52,8 @@ LiveTable = List Version
 -- the number and the program of a name's version; none where the name is not loaded
 abbrev pub among : LiveTable → List ℕ → Option (ℕ × Program)
 among [] name = None
-among (version ∷ table) name = if bytes_eq version.name name then Some (version.number, version.program) else among table name
+among (version ∷ table) name =
+    if bytes_eq version.name name then Some (version.number, version.program) else among table name
 
 -- how many versions a name has, by its version in a live table; 0 where it has none
 abbrev pub count_of : Option (ℕ × Program) → ℕ
@@ -64,7 +67,8 @@ next_version table name program = record { name = name; number = count_of (among
 -- the table with a version in the place of the one of its name, or at the end, and nothing else changed
 abbrev pub with_version : LiveTable → Version → LiveTable
 with_version [] version = version ∷ []
-with_version (first ∷ table) version = if bytes_eq first.name version.name then version ∷ table else first ∷ with_version table version
+with_version (first ∷ table) version = if bytes_eq first.name version.name then version ∷ table else first
+    ∷ with_version table version
 
 -- a version is the last one of an entry: it has the number of its programs, and the last of them
 pub record IsLast (entry : Entry) (version : Version) : Type 0 where
@@ -84,7 +88,8 @@ IsLive (entry ∷ table) [] = ⊥
 
 -- an ASCII letter, digit or hyphen
 abbrev pub is_name_byte : ℕ → Bool
-is_name_byte byte = (nat_le 97 byte && nat_le byte 122) || ((nat_le 65 byte && nat_le byte 90) || ((nat_le 48 byte && nat_le byte 57) || (byte == 45)))
+is_name_byte byte = (nat_le 97 byte && nat_le byte 122) ||
+    ((nat_le 65 byte && nat_le byte 90) || ((nat_le 48 byte && nat_le byte 57) || (byte == 45)))
 
 -- a name has 1 to 32 such bytes
 abbrev pub is_name : List ℕ → Bool
@@ -108,7 +113,8 @@ name_refusal table name = first_refusal (has_name table name) (length table) (le
 
 -- the same by a live table
 abbrev pub live_refusal : LiveTable → List ℕ → Option Refusal
-live_refusal table name = first_refusal (not (is_none (among table name))) (length table) (count_of (among table name)) name
+live_refusal table name = first_refusal (not (is_none (among table name))) (length table) (count_of (among table name))
+    name
 
 -- a program is refused exactly where it is not accepted, and then with its fault
 abbrev pub IsProgramRefusal : Program → Option Refusal → Type 0

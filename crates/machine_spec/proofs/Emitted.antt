@@ -1,23 +1,28 @@
 -- The emissions of a run: no more than there may be, and each within the limits of a record.
-use Rattle.std.proofs.Common.{◌≡◌, ℕ, zero, suc, ◌+◌, ◌<◌, ◌≤◌, Bool, true, false, ℤ, if◌then◌else◌, List, [], ◌∷◌, length, length-append, Option, Some, None, refl, sym, subst, ⊎_elim, inl, inr, ◌⊎◌, arith}
+use Rattle.std.proofs.Common.{◌≡◌, ℕ, zero, suc, ◌+◌, ◌<◌, ◌≤◌, Bool, true, false, ℤ, if◌then◌else◌, List, [], ◌∷◌}
+use Rattle.std.proofs.Common.{length, length-append, Option, Some, None, refl, sym, subst, ⊎_elim, inl, inr, ◌⊎◌, arith}
 use Rattle.std.specs.Prelude.{◌==◌, nat_le, nat_lt, unsigned_abs, pos, not, int_lt, All}
 use Rattle.std.specs.List.{list_any}
-use Rattle.std.proofs.lemmas.Bool.{or_parts, and_parts, not-false, leb-true, leb-false, ltb-false, cases_Bool, cond-true, cond-false, eqb-true, false≢true}
+use Rattle.std.proofs.lemmas.Bool.{or_parts, and_parts, not-false, leb-true, leb-false, ltb-false, cases_Bool}
+use Rattle.std.proofs.lemmas.Bool.{cond-true, cond-false, eqb-true, false≢true}
 use Rattle.std.proofs.lemmas.List.Elements as elements
-use Rattle.wire_spec.specs.declared.limits.TheConstants.{MAX_KEY, MAX_VALUE}
-use Rattle.machine_spec.specs.declared.limits.TheConstants.{STACK_SIZE, MAX_EMISSIONS}
-use Rattle.machine_spec.specs.declared.instruction.Region.{Region}
+use Rattle.wire_spec.specs.declared.{limits.TheConstants.MAX_KEY, limits.TheConstants.MAX_VALUE}
+use Rattle.machine_spec.specs.declared.{limits.TheConstants.STACK_SIZE, limits.TheConstants.MAX_EMISSIONS}
+use Rattle.machine_spec.specs.declared.{instruction.Region.Region, instruction.Instruction.Instruction}
+use Rattle.machine_spec.specs.declared.{helper.Helper.Helper, outcome.Emission.Emission}
 use Rattle.machine_spec.specs.declared.instruction.Region.TheVariants as region
-use Rattle.machine_spec.specs.declared.instruction.Instruction.{Instruction}
-use Rattle.machine_spec.specs.declared.instruction.Instruction.TheVariants.{Move, Compute, Load, Unary, Store, JumpIf, Jump, Wide, Call, Exit}
-use Rattle.machine_spec.specs.declared.helper.Helper.{Helper}
-use Rattle.machine_spec.specs.declared.helper.Helper.TheVariants.{LoadValue, LoadKey, EmitRecord, EmitValue, Emit, EmitNull, Offset, Timestamp, Partition}
-use Rattle.machine_spec.specs.declared.outcome.Emission.{Emission}
+use Rattle.machine_spec.specs.declared.instruction.Instruction.TheVariants.{Move, Compute, Load, Unary, Store, JumpIf}
+use Rattle.machine_spec.specs.declared.instruction.Instruction.TheVariants.{Jump, Wide, Call, Exit}
+use Rattle.machine_spec.specs.declared.helper.Helper.TheVariants.{LoadValue, LoadKey, EmitRecord, EmitValue, Emit}
+use Rattle.machine_spec.specs.declared.helper.Helper.TheVariants.{EmitNull, Offset, Timestamp, Partition}
 use Rattle.machine_spec.specs.Image.{Program, form_at, slot_count}
 use Rattle.machine_spec.specs.Summaries.{summary_of}
 use Rattle.machine_spec.specs.Values.{Value, Nothing, Number, Address}
-use Rattle.machine_spec.specs.Machine.{Input, State, bytes_of, length_of, byte_in, bytes_from, bytes_read, bytes_at, named, signature_of, helper_of, number_held, emit_code, emitted_after, whole_record, bare_record, effect_of, called, after}
-use Rattle.machine_spec.specs.Traps.{is_within, names_wrongly, is_wrong_argument, calls_wrongly, arguments_of, traps, trap_of, trap_at}
+use Rattle.machine_spec.specs.Machine.{Input, State, bytes_of, length_of, byte_in, bytes_from, bytes_read, bytes_at}
+use Rattle.machine_spec.specs.Machine.{named_access, signature_of, helper_of, number_held, emit_code, emitted_after}
+use Rattle.machine_spec.specs.Machine.{whole_record, bare_record, effect_of, state_after_call, state_after}
+use Rattle.machine_spec.specs.Traps.{is_in_region, names_wrongly, is_wrong_argument, calls_wrongly, arguments_of, traps}
+use Rattle.machine_spec.specs.Traps.{trap_of, trap_at}
 use Rattle.machine_spec.specs.declared.instruction.Trap.TheVariants as trap
 use Rattle.machine_spec.specs.declared.summary.Direction.TheVariants.{Read}
 use Rattle.machine_spec.specs.Meaning.{Reaches}
@@ -57,22 +62,33 @@ pub length_from : (byte : ℕ → Option ℕ) (place count : ℕ) → length (by
 length_from byte place zero = refl
 length_from byte place (suc count) = let rest = length_from byte (place + 1) count in omega (arith, rest)
 
-within_is_few : (start : ℤ) (size len : ℕ) → is_within start size len ≡ true → len ≤ MAX_VALUE → size ≤ MAX_VALUE
+within_is_few : (start : ℤ) (size len : ℕ) → is_in_region start size len ≡ true → len ≤ MAX_VALUE → size ≤ MAX_VALUE
 within_is_few start size len inside few =
-    let fits = leb-true (unsigned_abs start + size) len (and_parts (not (int_lt start (pos 0))) (nat_le (unsigned_abs start + size) len) inside).1 in
+    let fits = leb-true (unsigned_abs start + size) len
+    (and_parts (not (int_lt start (pos 0))) (nat_le (unsigned_abs start + size) len) inside).1 in
     omega (arith, fits)
 
-module _ (input : Input) (key : length (bytes_of input.given.key) ≤ MAX_KEY) (value : length (bytes_of input.given.value) ≤ MAX_VALUE) where
-  emitted_one : (emitted : List Emission) (emission : Emission) → length (bytes_of emission.value) ≤ MAX_VALUE → (emission.headers ≡ input.given.headers) ⊎ (emission.headers ≡ [])
-      → AreEmissions input emitted → AreEmissions input (emitted_after input emitted emission)
+module _ (input : Input) (key : length (bytes_of input.given.key) ≤ MAX_KEY)
+    (value : length (bytes_of input.given.value) ≤ MAX_VALUE) where
+  emitted_one : (emitted : List Emission) (emission : Emission) → length (bytes_of emission.value) ≤ MAX_VALUE →
+      (emission.headers ≡ input.given.headers) ⊎ (emission.headers ≡ []) → AreEmissions input emitted →
+      AreEmissions input (emitted_after input emitted emission)
   emitted_one emitted emission short headers are = ⊎_elim
       (λ added.
-      let fits = no_refusal (nat_le input.place.outputs emission.out) (nat_lt MAX_KEY (length (bytes_of emission.key))) (nat_le MAX_EMISSIONS (length emitted)) (eqb-true _ 0 added) in
+      let fits = no_refusal (nat_le input.place.outputs emission.out) (nat_lt MAX_KEY (length (bytes_of emission.key)))
+      (nat_le MAX_EMISSIONS (length emitted)) (eqb-true _ 0 added) in
       let room : length emitted < MAX_EMISSIONS = leb-false MAX_EMISSIONS (length emitted) fits.2 in
-      let is : IsEmission input emission = record { out = leb-false input.place.outputs emission.out fits.0; key = ltb-false MAX_KEY (length (bytes_of emission.key)) fits.1; value = short; headers = headers } in
+      let is : IsEmission input emission =
+      record {
+        out = leb-false input.place.outputs emission.out fits.0;
+        key = ltb-false MAX_KEY (length (bytes_of emission.key)) fits.1;
+        value = short;
+        headers = headers;
+      } in
       subst (AreEmissions input) (sym (cond-true _ _ _ added))
       (record {
-        each = elements.All-append (IsEmission input) emitted (emission ∷ []) are.each (one_emission (IsEmission input) emission is);
+        each = elements.All-append (IsEmission input) emitted (emission ∷ []) are.each
+            (one_emission (IsEmission input) emission is);
         few = let more = length-append emitted (emission ∷ []) in omega (arith, more);
       }))
       (λ refused. subst (AreEmissions input) (sym (cond-false _ _ _ refused)) are)
@@ -86,47 +102,69 @@ module _ (input : Input) (key : length (bytes_of input.given.key) ≤ MAX_KEY) (
   few_bytes region.Key = omega (arith, key)
   few_bytes region.Value = value
 
-  within_few : (stack : ℕ → Option ℕ) (at : Region) (start : ℤ) (n : ℕ) → names_wrongly input stack (named Read (Address at start) (Number n)) ≡ false → n ≤ MAX_VALUE
+  within_few : (stack : ℕ → Option ℕ) (at : Region) (start : ℤ) (n : ℕ) →
+      names_wrongly input stack (named_access Read (Address at start) (Number n)) ≡ false → n ≤ MAX_VALUE
   within_few stack region.Stack start n h =
-      let inside = not-false (is_within start n STACK_SIZE) (names_parts input stack (record { direction = Read; region = region.Stack; start = start; size = n }) h).1 in
+      let inside = not-false (is_in_region start n STACK_SIZE)
+      (names_parts input stack (record { direction = Read; region = region.Stack; start = start; size = n })
+      h).1 in
       within_is_few start n STACK_SIZE inside (omega arith)
   within_few stack region.Key start n h =
-      let inside = not-false (is_within start n (length_of input region.Key)) (names_parts input stack (record { direction = Read; region = region.Key; start = start; size = n }) h).0 in
+      let inside = not-false (is_in_region start n (length_of input region.Key))
+      (names_parts input stack (record { direction = Read; region = region.Key; start = start; size = n })
+      h).0 in
       within_is_few start n (length_of input region.Key) inside (few_bytes region.Key)
   within_few stack region.Value start n h =
-      let inside = not-false (is_within start n (length_of input region.Value)) (names_parts input stack (record { direction = Read; region = region.Value; start = start; size = n }) h).0 in
+      let inside = not-false (is_in_region start n (length_of input region.Value))
+      (names_parts input stack (record { direction = Read; region = region.Value; start = start; size = n })
+      h).0 in
       within_is_few start n (length_of input region.Value) inside (few_bytes region.Value)
 
-  named_few : (stack : ℕ → Option ℕ) (address count : Value) → names_wrongly input stack (named Read address count) ≡ false → length (bytes_read input stack (named Read address count)) ≤ MAX_VALUE
+  named_few : (stack : ℕ → Option ℕ) (address count : Value) →
+      names_wrongly input stack (named_access Read address count) ≡ false →
+      length (bytes_read input stack (named_access Read address count)) ≤ MAX_VALUE
   named_few stack Nothing count h = absurd (false≢true (sym h))
   named_few stack (Number n) count h = absurd (false≢true (sym h))
   named_few stack (Address at start) Nothing h = absurd (false≢true (sym h))
   named_few stack (Address at start) (Address other there) h = absurd (false≢true (sym h))
-  named_few stack (Address at start) (Number n) h = subst (λ k. k ≤ MAX_VALUE) (sym (length_from (byte_in input stack at) (unsigned_abs start) n)) (within_few stack at start n h)
+  named_few stack (Address at start) (Number n) h =
+      subst (λ k. k ≤ MAX_VALUE) (sym (length_from (byte_in input stack at) (unsigned_abs start) n))
+      (within_few stack at start n h)
 
   -- ---- a call, an instruction and a run
 
-  effect_emits : (helper : Helper) (s : State) → list_any (is_wrong_argument input s) (signature_of helper).arguments ≡ false → AreEmissions input s.emitted → AreEmissions input (effect_of helper input s).emitted
+  effect_emits : (helper : Helper) (s : State) →
+      list_any (is_wrong_argument input s) (signature_of helper).arguments ≡ false → AreEmissions input s.emitted →
+      AreEmissions input (effect_of helper input s).emitted
   effect_emits LoadValue s right are = are
   effect_emits LoadKey s right are = are
-  effect_emits EmitRecord s right are = emitted_one s.emitted (whole_record input (number_held (s.registers 1))) value (inl refl) are
+  effect_emits EmitRecord s right are =
+      emitted_one s.emitted (whole_record input (number_held (s.registers 1))) value (inl refl) are
   effect_emits EmitValue s right are =
       let bytes = named_few s.stack (s.registers 2) (s.registers 3) (or_parts _ _ (or_parts _ _ right).1).0 in
-      emitted_one s.emitted (bare_record (number_held (s.registers 1)) input.given.key (Some (bytes_at input s 2 3))) bytes (inr refl) are
+      emitted_one s.emitted (bare_record (number_held (s.registers 1)) input.given.key (Some (bytes_at input s 2 3)))
+      bytes (inr refl) are
   effect_emits Emit s right are =
-      let bytes = named_few s.stack (s.registers 4) (s.registers 5) (or_parts _ _ (or_parts _ _ (or_parts _ _ right).1).1).0 in
-      emitted_one s.emitted (bare_record (number_held (s.registers 1)) (Some (bytes_at input s 2 3)) (Some (bytes_at input s 4 5))) bytes (inr refl) are
-  effect_emits EmitNull s right are = emitted_one s.emitted (bare_record (number_held (s.registers 1)) input.given.key None) (omega arith) (inr refl) are
+      let bytes = named_few s.stack (s.registers 4) (s.registers 5)
+      (or_parts _ _ (or_parts _ _ (or_parts _ _ right).1).1).0 in
+      emitted_one s.emitted (bare_record (number_held (s.registers 1)) (Some (bytes_at input s 2 3))
+      (Some (bytes_at input s 4 5))) bytes (inr refl) are
+  effect_emits EmitNull s right are =
+      emitted_one s.emitted (bare_record (number_held (s.registers 1)) input.given.key None) (omega arith) (inr refl)
+      are
   effect_emits Offset s right are = are
   effect_emits Timestamp s right are = are
   effect_emits Partition s right are = are
 
-  call_emits : (helper : Option Helper) (s : State) → list_any (is_wrong_argument input s) (arguments_of helper) ≡ false → AreEmissions input s.emitted → AreEmissions input (called helper input s).emitted
+  call_emits : (helper : Option Helper) (s : State) →
+      list_any (is_wrong_argument input s) (arguments_of helper) ≡ false → AreEmissions input s.emitted →
+      AreEmissions input (state_after_call helper input s).emitted
   call_emits None s right are = are
   call_emits (Some helper) s right are = effect_emits helper s right are
 
-  instruction_emits : (i : Instruction) (s : State) → calls_wrongly input (summary_of i).call s ≡ false → AreEmissions input s.emitted → AreEmissions input (after i input s).emitted
-  unfolding after
+  instruction_emits : (i : Instruction) (s : State) → calls_wrongly input (summary_of i).call s ≡ false →
+      AreEmissions input s.emitted → AreEmissions input (state_after i input s).emitted
+  unfolding state_after
   instruction_emits (Move width dst source) s right are = are
   instruction_emits (Compute width operation dst source) s right are = are
   instruction_emits (Load size extension dst base offset) s right are = are
@@ -138,19 +176,27 @@ module _ (input : Input) (key : length (bytes_of input.given.key) ≤ MAX_KEY) (
   instruction_emits (Call number) s right are = call_emits (helper_of number) s right are
   instruction_emits Exit s right are = are
 
-  arguments_right : (program : Program) (s : State) (i : Instruction) → form_at program.image s.slot ≡ Some i → trap_at program input s ≡ None → calls_wrongly input (summary_of i).call s ≡ false
+  arguments_right : (program : Program) (s : State) (i : Instruction) → form_at program.image s.slot ≡ Some i →
+      trap_at program input s ≡ None → calls_wrongly input (summary_of i).call s ≡ false
   unfolding trap_at
-  arguments_right program s i form no_trap = from (nat_lt s.slot (slot_count program.image)) (subst (λ o. (if nat_lt s.slot (slot_count program.image) then trap_of program input o s else Some trap.RanOff) ≡ None) form no_trap)
+  arguments_right program s i form no_trap =
+      from (nat_lt s.slot (slot_count program.image)) (subst
+      (λ o. (if nat_lt s.slot (slot_count program.image) then trap_of program input o s else Some trap.RanOff)
+      ≡ None) form no_trap)
     where
-      from : (b : Bool) → (if b then trap_of program input (Some i) s else Some trap.RanOff) ≡ None → calls_wrongly input (summary_of i).call s ≡ false
+      from : (b : Bool) → (if b then trap_of program input (Some i) s else Some trap.RanOff) ≡ None →
+          calls_wrongly input (summary_of i).call s ≡ false
       from true e = (none_hold (traps program input (summary_of i) s) e).1.1.1.1.1.1.1.1.1.1.0
       from false e = absurd (cc e)
 
   -- the emissions of a run are within the limits at each state on its way
   pub run_emits : (program : Program) (n : ℕ) (s : State) → Reaches program input n s → AreEmissions input s.emitted
-  run_emits program zero s reached = subst (λ (t : State). AreEmissions input t.emitted) (sym reached) (record { each = λ k d h. absurd (omega arith); few = omega arith })
+  run_emits program zero s reached =
+      subst (λ (t : State). AreEmissions input t.emitted) (sym reached)
+      (record { each = λ k d h. absurd (omega arith); few = omega arith })
   run_emits program (suc n) s reached =
       let step = reached.2 in
       let before = run_emits program n reached.0 reached.1 in
       subst (λ (t : State). AreEmissions input t.emitted) (sym step.next_is)
-      (instruction_emits step.instruction reached.0 (arguments_right program reached.0 step.instruction step.form step.no_trap) before)
+      (instruction_emits step.instruction reached.0 (arguments_right program reached.0 step.instruction step.form
+      step.no_trap) before)

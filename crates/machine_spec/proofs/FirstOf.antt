@@ -7,7 +7,8 @@ abbrev pub NoneHolds : {A : Type 0} → List (Bool × A) → Type 0
 NoneHolds [] = Unit {0}
 NoneHolds (row ∷ rows) = (row.0 ≡ false) × NoneHolds rows
 
-first_fails : {A : Type 0} (b : Bool) (x : A) (rest : Option A) → (if b then Some x else rest) ≡ None → (b ≡ false) × (rest ≡ None)
+first_fails : {A : Type 0} (b : Bool) (x : A) (rest : Option A) → (if b then Some x else rest) ≡ None →
+    (b ≡ false) × (rest ≡ None)
 first_fails true x rest h = absurd (cc h)
 first_fails false x rest h = (refl, h)
 

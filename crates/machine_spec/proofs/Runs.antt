@@ -1,16 +1,15 @@
 -- Runs of small programs, worked out by computing: what the definitions say of them is what a reader expects.
-use Rattle.std.proofs.Common.{◌≡◌, ◌≢◌, ℕ, zero, suc, ◌+◌, ◌-◌, ◌/◌, ◌%◌, ◌^◌, Bool, true, false, List, [], ◌∷◌, ◌++◌, map, Option, Some, None, refl, ap, subst, pos}
-use Rattle.machine_spec.specs.declared.instruction.Instruction.{Instruction}
+use Rattle.std.proofs.Common.{◌≡◌, ◌≢◌, ℕ, zero, suc, ◌+◌, ◌-◌, ◌/◌, ◌%◌, ◌^◌, Bool, true, false, List, [], ◌∷◌, ◌++◌}
+use Rattle.std.proofs.Common.{map, Option, Some, None, refl, ap, subst, pos}
+use Rattle.machine_spec.specs.declared.{instruction.Instruction.Instruction, instruction.Trap.Trap}
+use Rattle.machine_spec.specs.declared.{outcome.Emission.Emission, outcome.Outcome.Outcome}
 use Rattle.machine_spec.specs.declared.instruction.Instruction.TheVariants.{Exit}
-use Rattle.machine_spec.specs.declared.instruction.Trap.{Trap}
 use Rattle.machine_spec.specs.declared.instruction.Trap.TheVariants as trap
-use Rattle.machine_spec.specs.declared.outcome.Emission.{Emission}
-use Rattle.machine_spec.specs.declared.outcome.Outcome.{Outcome}
 use Rattle.machine_spec.specs.declared.outcome.Outcome.TheVariants.{Kept, Rejected}
 use Rattle.machine_spec.specs.Opcodes.{template_of, is_left_out}
 use Rattle.machine_spec.specs.Image.{Program, program_of, form_at, read_slot, read_fields, first_slots}
 use Rattle.machine_spec.specs.Summaries.{summary_of}
-use Rattle.machine_spec.specs.Machine.{Input, State, entry, after}
+use Rattle.machine_spec.specs.Machine.{Input, State, entry, state_after}
 use Rattle.machine_spec.specs.Traps.{trap_at}
 use Rattle.machine_spec.specs.Meaning.{Reaches, Means, IsTrapped, outcome_of}
 use Rattle.machine_spec.proofs.Meanings.{exit_is, other_than_exit, step_on}
@@ -27,7 +26,7 @@ pub data Turn : Type 0 where
 
 abbrev turn_at : Bool → Input → State → Instruction → Turn
 turn_at true input s i = Ends (outcome_of (s.registers 0) s.emitted)
-turn_at false input s i = Goes (after i input s)
+turn_at false input s i = Goes (state_after i input s)
 
 abbrev turn_by : Input → State → Option Trap → Option Instruction → Turn
 turn_by input s (Some reported) form = Trapped reported
@@ -58,52 +57,75 @@ run turns image input = run_from turns (program_of image) input 0 (entry input)
 
 -- ---- what is computed is what the program means
 
-ends_at : (exits : Bool) (input : Input) (s : State) (i : Instruction) (outcome : Outcome) → (summary_of i).exits ≡ exits → turn_at exits input s i ≡ Ends outcome
-    → (i ≡ Exit) × (outcome ≡ outcome_of (s.registers 0) s.emitted)
+ends_at : (exits : Bool) (input : Input) (s : State) (i : Instruction) (outcome : Outcome) →
+    (summary_of i).exits ≡ exits → turn_at exits input s i ≡ Ends outcome →
+    (i ≡ Exit) × (outcome ≡ outcome_of (s.registers 0) s.emitted)
 ends_at true input s i outcome is e = (exit_is i is, cc)
 ends_at false input s i outcome is e = absurd cc
 
-ends_by : (input : Input) (s : State) (t : Option Trap) (form : Option Instruction) (outcome : Outcome) → turn_by input s t form ≡ Ends outcome
-    → (t ≡ None) × (form ≡ Some Exit) × (outcome ≡ outcome_of (s.registers 0) s.emitted)
+ends_by : (input : Input) (s : State) (t : Option Trap) (form : Option Instruction) (outcome : Outcome) →
+    turn_by input s t form ≡ Ends outcome → (t ≡ None) × (form ≡ Some Exit)
+    × (outcome ≡ outcome_of (s.registers 0) s.emitted)
 ends_by input s (Some reported) form outcome e = absurd cc
 ends_by input s None None outcome e = absurd cc
-ends_by input s None (Some i) outcome e = let end = ends_at (summary_of i).exits input s i outcome refl e in (refl, ap Some end.0, end.1)
+ends_by input s None (Some i) outcome e = let end = ends_at (summary_of i).exits input s i outcome refl e in
+    (refl, ap Some end.0, end.1)
 
-never_trapped : (exits : Bool) (input : Input) (s : State) (i : Instruction) (reported : Trap) → turn_at exits input s i ≡ Trapped reported → ⊥
+never_trapped : (exits : Bool) (input : Input) (s : State) (i : Instruction) (reported : Trap) →
+    turn_at exits input s i ≡ Trapped reported → ⊥
 never_trapped true input s i reported e = cc
 never_trapped false input s i reported e = cc
 
-trapped_by : (input : Input) (s : State) (t : Option Trap) (form : Option Instruction) (reported : Trap) → turn_by input s t form ≡ Trapped reported → t ≡ Some reported
+trapped_by : (input : Input) (s : State) (t : Option Trap) (form : Option Instruction) (reported : Trap) →
+    turn_by input s t form ≡ Trapped reported → t ≡ Some reported
 trapped_by input s (Some other) form reported e = cc
 trapped_by input s None None reported e = absurd cc
 trapped_by input s None (Some i) reported e = absurd (never_trapped (summary_of i).exits input s i reported e)
 
 -- an instruction other than EXIT, and the state after it
 abbrev GoesOn : Input → State → Option Trap → Option Instruction → State → Type 0
-GoesOn input s t form next = (i : Instruction) × (t ≡ None) × (form ≡ Some i) × (i ≢ Exit) × (after i input s ≡ next)
+GoesOn input s t form next = (i : Instruction) × (t ≡ None) × (form ≡ Some i) × (i ≢ Exit)
+    × (state_after i input s ≡ next)
 
-goes_at : (exits : Bool) (input : Input) (s : State) (i : Instruction) (next : State) → (summary_of i).exits ≡ exits → turn_at exits input s i ≡ Goes next → (i ≢ Exit) × (after i input s ≡ next)
+goes_at : (exits : Bool) (input : Input) (s : State) (i : Instruction) (next : State) → (summary_of i).exits ≡ exits →
+    turn_at exits input s i ≡ Goes next → (i ≢ Exit) × (state_after i input s ≡ next)
 goes_at true input s i next is e = absurd cc
 goes_at false input s i next is e = (other_than_exit i is, cc)
 
-goes_by : (input : Input) (s : State) (t : Option Trap) (form : Option Instruction) (next : State) → turn_by input s t form ≡ Goes next → GoesOn input s t form next
+goes_by : (input : Input) (s : State) (t : Option Trap) (form : Option Instruction) (next : State) →
+    turn_by input s t form ≡ Goes next → GoesOn input s t form next
 goes_by input s (Some reported) form next e = absurd cc
 goes_by input s None None next e = absurd cc
-goes_by input s None (Some i) next e = let on = goes_at (summary_of i).exits input s i next refl e in (i, refl, refl, on.0, on.1)
+goes_by input s None (Some i) next e = let on = goes_at (summary_of i).exits input s i next refl e in
+    (i, refl, refl, on.0, on.1)
 
 module _ (program : Program) (input : Input) where
-  end_means : (n : ℕ) (s : State) (outcome : Outcome) → Reaches program input n s → turn program input s ≡ Ends outcome → Means program input outcome (n + 1)
+  end_means : (n : ℕ) (s : State) (outcome : Outcome) → Reaches program input n s →
+      turn program input s ≡ Ends outcome → Means program input outcome (n + 1)
   end_means n s outcome chain e =
       let end = ends_by input s (trap_at program input s) (form_at program.image s.slot) outcome e in
-      record { steps = n; last = s; count = refl; chain = chain; end = record { form = end.1; no_trap = end.0; outcome_is = end.2 } }
+      record {
+        steps = n;
+        last = s;
+        count = refl;
+        chain = chain;
+        end = record { form = end.1; no_trap = end.0; outcome_is = end.2 };
+      }
 
-  goes_reaches : (n : ℕ) (s next : State) → Reaches program input n s → turn program input s ≡ Goes next → Reaches program input (n + 1) next
+  goes_reaches : (n : ℕ) (s next : State) → Reaches program input n s → turn program input s ≡ Goes next →
+      Reaches program input (n + 1) next
   goes_reaches n s next chain e =
       let on = goes_by input s (trap_at program input s) (form_at program.image s.slot) next e in
       subst (Reaches program input (n + 1)) on.4 (step_on program input n s on.0 chain on.2 on.3 on.1)
 
-  trap_reached : (n : ℕ) (s : State) (reported : Trap) → Reaches program input n s → turn program input s ≡ Trapped reported → IsTrapped program input reported n
-  trap_reached n s reported chain e = record { last = s; chain = chain; trap = trapped_by input s (trap_at program input s) (form_at program.image s.slot) reported e }
+  trap_reached : (n : ℕ) (s : State) (reported : Trap) → Reaches program input n s →
+      turn program input s ≡ Trapped reported → IsTrapped program input reported n
+  trap_reached n s reported chain e =
+      record {
+        last = s;
+        chain = chain;
+        trap = trapped_by input s (trap_at program input s) (form_at program.image s.slot) reported e;
+      }
 
   -- what the definitions say of such an end
   abbrev pub IsEnd : End → Type 0
@@ -113,27 +135,33 @@ module _ (program : Program) (input : Input) where
   end_is : (e f : End) → Some e ≡ Some f → e ≡ f
   end_is e f same = cc
 
-  ends_as : (turns n : ℕ) (s : State) (end : End) → Reaches program input n s
-      → ((next : State) → Reaches program input (n + 1) next → run_from turns program input (n + 1) next ≡ Some end → IsEnd end)
-      → (t : Turn) → turn program input s ≡ t → run_by (run_from turns program input (n + 1)) n t ≡ Some end → IsEnd end
-  ends_as turns n s end chain later (Ends outcome) at e = subst IsEnd (end_is (Out outcome (n + 1)) end e) (end_means n s outcome chain at)
+  ends_as : (turns n : ℕ) (s : State) (end : End) → Reaches program input n s →
+      ((next : State) → Reaches program input (n + 1) next → run_from turns program input (n + 1) next ≡ Some end →
+      IsEnd end) → (t : Turn) → turn program input s ≡ t →
+      run_by (run_from turns program input (n + 1)) n t ≡ Some end → IsEnd end
+  ends_as turns n s end chain later (Ends outcome) at e =
+      subst IsEnd (end_is (Out outcome (n + 1)) end e) (end_means n s outcome chain at)
   ends_as turns n s end chain later (Goes next) at e = later next (goes_reaches n s next chain at) e
-  ends_as turns n s end chain later (Trapped reported) at e = subst IsEnd (end_is (Stopped reported n) end e) (trap_reached n s reported chain at)
+  ends_as turns n s end chain later (Trapped reported) at e =
+      subst IsEnd (end_is (Stopped reported n) end e) (trap_reached n s reported chain at)
   ends_as turns n s end chain later Lost at e = absurd cc
 
-  ends_from : (turns n : ℕ) (s : State) (end : End) → Reaches program input n s → run_from turns program input n s ≡ Some end → IsEnd end
+  ends_from : (turns n : ℕ) (s : State) (end : End) → Reaches program input n s →
+      run_from turns program input n s ≡ Some end → IsEnd end
   ends_from zero n s end chain e = absurd cc
   ends_from (suc turns) n s end chain e =
-      ends_as turns n s end chain (λ next reaches later. ends_from turns (n + 1) next end reaches later) (turn program input s) refl e
+      ends_as turns n s end chain (λ next reaches later. ends_from turns (n + 1) next end reaches later)
+      (turn program input s) refl e
 
 -- a computed outcome is the program's meaning, and a computed trap is the one that stops it
-pub run_ends : (image : List ℕ) (input : Input) (turns : ℕ) (end : End) → run turns image input ≡ Some end → IsEnd (program_of image) input end
+pub run_ends : (image : List ℕ) (input : Input) (turns : ℕ) (end : End) → run turns image input ≡ Some end →
+    IsEnd (program_of image) input end
 run_ends image input turns end e = ends_from (program_of image) input turns 0 (entry input) end refl e
 
 -- ---- instructions, as the bytes of their slots
 
--- an instruction with an opcode, its registers (the destination's number plus sixteen times the source's), an offset and
--- an immediate below 256
+-- an instruction with an opcode, its registers (the destination's number plus sixteen times the source's), an offset
+-- and an immediate below 256
 abbrev pub slot : ℕ → ℕ → ℕ → ℕ → List ℕ
 slot opcode registers offset imm = opcode ∷ registers ∷ offset ∷ 0 ∷ imm ∷ 0 ∷ 0 ∷ 0 ∷ []
 
@@ -209,18 +237,22 @@ value_by_address = slot 0xbf 0x23 0 0 ++ (slot 0xbf 0x12 0 0 ++ (move_to 1 0 ++ 
 -- mov64 r6, r3; mov64 r5, r4; mov64 r4, r6; mov64 r3, r2; mov64 r2, r1; mov64 r1, 0; call 5; exit
 abbrev exchanged : List ℕ
 exchanged =
-    slot 0xbf 0x36 0 0 ++ (slot 0xbf 0x45 0 0 ++ (slot 0xbf 0x64 0 0 ++ (slot 0xbf 0x23 0 0 ++ (slot 0xbf 0x12 0 0 ++ (move_to 1 0 ++ (call 5 ++ exit))))))
+    slot 0xbf 0x36 0 0 ++ (slot 0xbf 0x45 0 0
+    ++ (slot 0xbf 0x64 0 0 ++ (slot 0xbf 0x23 0 0
+    ++ (slot 0xbf 0x12 0 0 ++ (move_to 1 0 ++ (call 5 ++ exit))))))
 
 -- st32 [r10-8], 7; mov64 r2, r10; add64 r2, -8; mov64 r3, COUNT; mov64 r1, 0; call 4; exit
 abbrev from_stack : ℕ → List ℕ
 from_stack count =
     at_end 0x62 10 8 (small 7)
-    ++ (slot 0xbf 0xa2 0 0 ++ ((0x07 ∷ 2 ∷ 0 ∷ 0 ∷ 0xf8 ∷ 0xff ∷ 0xff ∷ 0xff ∷ []) ++ (move_to 3 count ++ (move_to 1 0 ++ (call 4 ++ exit)))))
+    ++ (slot 0xbf 0xa2 0 0 ++ ((0x07 ∷ 2 ∷ 0 ∷ 0 ∷ 0xf8 ∷ 0xff ∷ 0xff ∷ 0xff ∷ [])
+    ++ (move_to 3 count ++ (move_to 1 0 ++ (call 4 ++ exit)))))
 
 -- mov64 r1, r10; add64 r1, -8; r2 set to a place; mov64 r3, COUNT; call 1; ld64 r0, [r10-8]; exit
 abbrev value_part : List ℕ → ℕ → List ℕ
 value_part at count =
-    slot 0xbf 0xa1 0 0 ++ ((0x07 ∷ 1 ∷ 0 ∷ 0 ∷ 0xf8 ∷ 0xff ∷ 0xff ∷ 0xff ∷ []) ++ (at ++ (move_to 3 count ++ (call 1 ++ (load_64 ++ exit)))))
+    slot 0xbf 0xa1 0 0 ++ ((0x07 ∷ 1 ∷ 0 ∷ 0 ∷ 0xf8 ∷ 0xff ∷ 0xff ∷ 0xff ∷ [])
+    ++ (at ++ (move_to 3 count ++ (call 1 ++ (load_64 ++ exit)))))
 
 abbrev outcomes : List Row
 outcomes =
@@ -243,11 +275,30 @@ outcomes =
     -- mov64 r3, r2; mov64 r2, r1; mov64 r1, 0; call 4; exit: the value is emitted by its address
     ∷ (value_by_address, Some (118 ∷ []), Out (Kept (forwarded ∷ [])) 5)
     -- a null value is emitted as an empty one
-    ∷ (value_by_address, None, Out (Kept (record { out = 0; key = Some (107 ∷ []); value = Some []; headers = [] } ∷ [])) 5)
+    ∷ (
+      value_by_address,
+      None,
+      Out (Kept (record { out = 0; key = Some (107 ∷ []); value = Some []; headers = [] }
+          ∷ [])) 5,
+    )
     -- key and value change places
-    ∷ (exchanged, Some (118 ∷ 119 ∷ []), Out (Kept (record { out = 0; key = Some (118 ∷ 119 ∷ []); value = Some (107 ∷ []); headers = [] } ∷ [])) 8)
+    ∷ (
+      exchanged,
+      Some (118 ∷ 119 ∷ []),
+      Out (Kept (record
+          { out = 0; key = Some (118 ∷ 119 ∷ []); value = Some (107 ∷ []); headers = [] } ∷ [])) 8,
+    )
     -- st32 [r10-8], 7 and four bytes from there
-    ∷ (from_stack 4, None, Out (Kept (record { out = 0; key = Some (107 ∷ []); value = Some (7 ∷ 0 ∷ 0 ∷ 0 ∷ []); headers = [] } ∷ [])) 7)
+    ∷ (
+      from_stack 4,
+      None,
+      Out (Kept (record {
+        out = 0;
+        key = Some (107 ∷ []);
+        value = Some (7 ∷ 0 ∷ 0 ∷ 0 ∷ []);
+        headers = [];
+      } ∷ [])) 7,
+    )
     -- eight bytes of the value, copied to the stack
     ∷ (value_part (move_to 2 0) 8, Some (1 ∷ 0 ∷ 0 ∷ 0 ∷ 0 ∷ 0 ∷ 0 ∷ 0 ∷ []), Out (Rejected 1) 7)
     -- seven bytes have no such part: eight zeros
@@ -257,11 +308,16 @@ outcomes =
     -- ld16 r0, [r1+1]; exit: the low byte is first
     ∷ (slot 0x69 0x10 1 0 ++ exit, Some (9 ∷ 2 ∷ 1 ∷ []), Out (Rejected 258) 2)
     -- mov64 r3, r1; add64 r3, 2; sub64 r3, 1; ld8 r0, [r3+0]; exit: the value's second byte
-    ∷ (slot 0xbf 0x13 0 0 ++ (slot 0x07 3 0 2 ++ (slot 0x17 3 0 1 ++ (slot 0x71 0x30 0 0 ++ exit))), Some (7 ∷ 8 ∷ 9 ∷ []), Out (Rejected 8) 5)
+    ∷ (
+      slot 0xbf 0x13 0 0 ++ (slot 0x07 3 0 2 ++ (slot 0x17 3 0 1 ++ (slot 0x71 0x30 0 0 ++ exit))),
+      Some
+          (7 ∷ 8 ∷ 9 ∷ []),
+      Out (Rejected 8) 5,
+    )
     ∷ []
 
 outcomes_hold : EndAsSaid outcomes
-unfolding read_slot read_fields template_of is_left_out first_slots trap_at after
+unfolding read_slot read_fields template_of is_left_out first_slots trap_at state_after
 outcomes_hold = refl
 
 -- ---- arithmetic
@@ -303,8 +359,9 @@ changes =
     ∷ (on_r0 0xbf 32 (small 0), 2 ^ 64 - 2)
     ∷ []
 
-changes_hold : map (λ row. run 9 (on_r0 0xb7 0 minus_two ++ (row.0 ++ exit)) (of_value None)) changes ≡ map (λ row. Some (Out (Rejected row.1) 3)) changes
-unfolding read_slot read_fields template_of is_left_out first_slots trap_at after
+changes_hold : map (λ row. run 9 (on_r0 0xb7 0 minus_two ++ (row.0 ++ exit)) (of_value None)) changes
+    ≡ map (λ row. Some (Out (Rejected row.1) 3)) changes
+unfolding read_slot read_fields template_of is_left_out first_slots trap_at state_after
 changes_hold = refl
 
 -- ---- conditional jumps
@@ -354,12 +411,13 @@ abbrev jumped : ℕ → List (Option End)
 jumped opcode = map (λ number. run 9 (jump_over opcode number) (of_value (Some (7 ∷ 8 ∷ 9 ∷ [])))) (2 ∷ 3 ∷ 4 ∷ [])
 
 jumps_hold : map (λ row. jumped row.0) jumps ≡ map (λ row. map Some row.1) jumps
-unfolding read_slot read_fields template_of is_left_out first_slots trap_at after
+unfolding read_slot read_fields template_of is_left_out first_slots trap_at state_after
 jumps_hold = refl
 
 -- mov32 r2, -2; mov64 r0, 1; a jump over the next by r2 and -2; mov64 r0, 0; exit
 abbrev by_minus_two : ℕ → List ℕ
-by_minus_two opcode = (0xb4 ∷ 2 ∷ 0 ∷ 0 ∷ minus_two) ++ (move_to 0 1 ++ ((opcode ∷ 2 ∷ 1 ∷ 0 ∷ minus_two) ++ (move_to 0 0 ++ exit)))
+by_minus_two opcode = (0xb4 ∷ 2 ∷ 0 ∷ 0 ∷ minus_two)
+    ++ (move_to 0 1 ++ ((opcode ∷ 2 ∷ 1 ∷ 0 ∷ minus_two) ++ (move_to 0 0 ++ exit)))
 
 -- mov64 r0, 1; a jump without a condition over the next; mov64 r0, 0; exit
 abbrev jumped_over : ℕ → ℕ → ℕ → List ℕ
@@ -378,7 +436,12 @@ more_jumps =
     -- mov64 r0, 1; jgt64 r2, r4, +1; mov64 r0, 0; exit: a value of three bytes is longer than a key of one
     ∷ (move_to 0 1 ++ (slot 0x2d 0x42 1 0 ++ (move_to 0 0 ++ exit)), Some (7 ∷ 8 ∷ 9 ∷ []), Out (Rejected 1) 3)
     -- mov64 r0, 1; jlt64 r2, -1, +1; mov64 r0, 0; exit: the immediate is sign-extended, and the test unsigned
-    ∷ (move_to 0 1 ++ ((0xa5 ∷ 2 ∷ 1 ∷ 0 ∷ 0xff ∷ 0xff ∷ 0xff ∷ 0xff ∷ []) ++ (move_to 0 0 ++ exit)), None, Out (Rejected 1) 3)
+    ∷ (
+      move_to 0 1 ++ ((0xa5 ∷ 2 ∷ 1 ∷ 0 ∷ 0xff ∷ 0xff ∷ 0xff ∷ 0xff ∷ []) ++ (move_to 0 0 ++ exit)),
+      None,
+      Out
+          (Rejected 1) 3,
+    )
     -- ja +1: the distance is in the offset
     ∷ (jumped_over 0x05 1 0, None, Out (Rejected 1) 3)
     -- jal +1: the distance is in the immediate
@@ -394,7 +457,7 @@ more_jumps =
     ∷ []
 
 more_jumps_hold : EndAsSaid more_jumps
-unfolding read_slot read_fields template_of is_left_out first_slots trap_at after
+unfolding read_slot read_fields template_of is_left_out first_slots trap_at state_after
 more_jumps_hold = refl
 
 -- ---- the stack
@@ -404,9 +467,19 @@ stack_uses =
     -- st64 [r10-8], -2; ld64 r0, [r10-8]; exit: the immediate is sign-extended
     (at_end 0x7a 10 8 minus_two ++ (load_64 ++ exit), None, Out (Rejected (2 ^ 64 - 2)) 3)
     -- st32 [r10-8], -2; st32 [r10-4], 1; ld64 r0, [r10-8]; exit: the low word comes first
-    ∷ (at_end 0x62 10 8 minus_two ++ (at_end 0x62 10 4 (small 1) ++ (load_64 ++ exit)), None, Out (Rejected 0x1_ffff_fffe) 4)
+    ∷ (
+      at_end 0x62 10 8 minus_two ++ (at_end 0x62 10 4 (small 1) ++ (load_64 ++ exit)),
+      None,
+      Out
+          (Rejected 0x1_ffff_fffe) 4,
+    )
     -- st64 [r10-8], -2; stx8 [r10-7], r2; ld16 r0, [r10-8]; exit, of a value of three bytes
-    ∷ (at_end 0x7a 10 8 minus_two ++ (at_end 0x73 0x2a 7 (small 0) ++ (at_end 0x69 0xa0 8 (small 0) ++ exit)), Some (7 ∷ 8 ∷ 9 ∷ []), Out (Rejected 0x3fe) 4)
+    ∷ (
+      at_end 0x7a 10 8 minus_two ++ (at_end 0x73 0x2a 7 (small 0) ++ (at_end 0x69 0xa0 8 (small 0) ++ exit)),
+      Some
+          (7 ∷ 8 ∷ 9 ∷ []),
+      Out (Rejected 0x3fe) 4,
+    )
     -- st16 [r10-2], -2; ld8 r0, [r10-1]; exit: the high byte comes last
     ∷ (at_end 0x6a 10 2 minus_two ++ (at_end 0x71 0xa0 1 (small 0) ++ exit), None, Out (Rejected 0xff) 3)
     -- st64 [r10-8], -2; lds8 r0, [r10-8]; exit
@@ -420,7 +493,7 @@ stack_uses =
     ∷ []
 
 stack_uses_hold : EndAsSaid stack_uses
-unfolding read_slot read_fields template_of is_left_out first_slots trap_at after
+unfolding read_slot read_fields template_of is_left_out first_slots trap_at state_after
 stack_uses_hold = refl
 
 -- ---- traps
@@ -505,9 +578,19 @@ trapped_runs =
     -- mov64 r1, 0; call 4: r2 is a number
     ∷ (move_to 1 0 ++ (call 4 ++ exit), None, Stopped trap.HelperArgument 1)
     -- mov64 r3, r2; add64 r3, 1; mov64 r2, r1; mov64 r1, 0; call 4: a byte more than the value has
-    ∷ (slot 0xbf 0x23 0 0 ++ (slot 0x07 3 0 1 ++ (slot 0xbf 0x12 0 0 ++ (move_to 1 0 ++ (call 4 ++ exit)))), Some (118 ∷ []), Stopped trap.HelperArgument 4)
+    ∷ (
+      slot 0xbf 0x23 0 0 ++ (slot 0x07 3 0 1 ++ (slot 0xbf 0x12 0 0 ++ (move_to 1 0 ++ (call 4 ++ exit)))),
+      Some
+          (118 ∷ []),
+      Stopped trap.HelperArgument 4,
+    )
     -- mov64 r3, 0; mov64 r2, r1; add64 r2, 1; mov64 r1, 0; call 4: no bytes, past the end of no bytes
-    ∷ (move_to 3 0 ++ (slot 0xbf 0x12 0 0 ++ (slot 0x07 2 0 1 ++ (move_to 1 0 ++ (call 4 ++ exit)))), None, Stopped trap.HelperArgument 4)
+    ∷ (
+      move_to 3 0 ++ (slot 0xbf 0x12 0 0 ++ (slot 0x07 2 0 1 ++ (move_to 1 0 ++ (call 4 ++ exit)))),
+      None,
+      Stopped
+          trap.HelperArgument 4,
+    )
     -- four of the eight bytes are not set
     ∷ (from_stack 8, None, Stopped trap.HelperArgument 5)
     -- the part has four of the eight bytes that the load reads
@@ -517,7 +600,12 @@ trapped_runs =
     -- room for none
     ∷ (value_part (move_to 2 0) 0, None, Stopped trap.HelperArgument 4)
     -- call 9; mov64 r2, 0; mov64 r3, 1; mov64 r1, r0; call 1: room is named by an address
-    ∷ (call 9 ++ (move_to 2 0 ++ (move_to 3 1 ++ (slot 0xbf 0x01 0 0 ++ (call 1 ++ exit)))), None, Stopped trap.HelperArgument 4)
+    ∷ (
+      call 9 ++ (move_to 2 0 ++ (move_to 3 1 ++ (slot 0xbf 0x01 0 0 ++ (call 1 ++ exit)))),
+      None,
+      Stopped
+          trap.HelperArgument 4,
+    )
     -- mov64 r2, 0; mov64 r3, 1; call 2: and not in the value
     ∷ (move_to 2 0 ++ (move_to 3 1 ++ (call 2 ++ exit)), Some (118 ∷ []), Stopped trap.HelperArgument 2)
     -- call 9; call 4: the first call has clobbered r1
@@ -527,5 +615,5 @@ trapped_runs =
     ∷ []
 
 trapped_runs_hold : EndAsSaid trapped_runs
-unfolding read_slot read_fields template_of is_left_out first_slots trap_at after
+unfolding read_slot read_fields template_of is_left_out first_slots trap_at state_after
 trapped_runs_hold = refl

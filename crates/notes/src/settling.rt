@@ -5,7 +5,7 @@ ghost use Rattle.verifier_spec.specs.Annotation.{claim_at};
 ghost use Rattle.verifier_spec.specs.Checks.{failed_check};
 ghost use Rattle.verifier_spec.specs.Transfer.{falls_to};
 ghost use Rattle.verifier_spec.specs.JoinedStates.{if_passed};
-ghost use Rattle.notes.specs.Derived.{fallen, given_or, derived, at_targets, settled, pair_at, are_rising, kept_claim, kept_states, EachIs, AreDerivedProper, AreTargets};
+ghost use Rattle.notes.specs.Derived.{state_fallen_to, given_or, derived_claims, at_targets, settled_claims, pair_at, are_rising, kept_claim, kept_states, HasEachClaim, AreDerivedProper, AreTargets};
 ghost use Rattle.machine_spec.specs.declared.helper.TheConstants.{HELPERS};
 
 use crate::shape::failed_shape;
@@ -16,10 +16,10 @@ use std::alloc::{AllocError, Global};
 
 /// What falls through from the instruction with this number in its state: nothing where it is not
 /// reached or fails a check.
-fn fallen(code: &Code, k: usize, placed: Placed, state: Option<State>) -> Option<State>
+fn state_fallen_to(code: &Code, k: usize, placed: Placed, state: Option<State>) -> Option<State>
     requires number { k < MAX_SLOTS }
     requires slot { placed.slot < MAX_SLOTS }
-    ensures fallen { result ≡ fallen code.now k (Some placed) state }
+    ensures fallen { result ≡ state_fallen_to code.now k (Some placed) state }
     ensures proper { IfSome state (λ s. is_proper s ≡ true) }
 {
     match state {
@@ -31,7 +31,7 @@ fn fallen(code: &Code, k: usize, placed: Placed, state: Option<State>) -> Option
 fn fallen_from(code: &Code, k: usize, placed: Placed, state: &State) -> Option<State>
     requires number { k < MAX_SLOTS }
     requires slot { placed.slot < MAX_SLOTS }
-    ensures fallen { result ≡ fallen code.now k (Some placed) (Some state.now) }
+    ensures fallen { result ≡ state_fallen_to code.now k (Some placed) (Some state.now) }
     ensures proper { is_proper state.now ≡ true }
 {
     let passed = passed_on(placed, state);
@@ -78,7 +78,7 @@ fn if_marked(mark: bool, claim: Option<State>) -> Option<State>
 fn keep_marked(marks: &[bool], states: &mut [Option<State>])
     requires { length marks.now ≡ length states.old }
     ensures length { length states.new ≡ length states.old }
-    ensures each { EachIs states.new (λ k. if slice_index_or marks.now k false then claim_at states.old k else None) }
+    ensures each { HasEachClaim states.new (λ k. if slice_index_or marks.now k false then claim_at states.old k else None) }
 {
     for k in 0..states.len() {
         states[k] = if_marked(marks[k], state_of(states, k));
@@ -97,17 +97,17 @@ fn follow(
     requires number { k < MAX_SLOTS }
     requires slot { placed.slot < MAX_SLOTS }
     ensures states { states.new ≡ slice_set states.old k (given_or (claim_at states.old k) follows) }
-    ensures fallen { result ≡ fallen code.now k (Some placed) (given_or (claim_at states.old k) follows) }
+    ensures fallen { result ≡ state_fallen_to code.now k (Some placed) (given_or (claim_at states.old k) follows) }
     ensures proper { IfSome (given_or (claim_at states.old k) follows) (λ s. is_proper s ≡ true) }
 {
     states[k] = given_or(state_of(states, k), follows);
-    fallen(code, k, placed, state_of(states, k))
+    state_fallen_to(code, k, placed, state_of(states, k))
 }
 
 /// Gives each instruction without a state the one that follows from those before it.
 fn derive(code: &Code, states: &mut [Option<State>])
     requires { length states.old ≡ length code.now }
-    ensures states { states.new ≡ derived code.now (claim_at states.old) }
+    ensures states { states.new ≡ derived_claims code.now (claim_at states.old) }
     ensures proper { AreDerivedProper code.now (claim_at states.old) (length code.now) }
 {
     let mut follows = Some(State::entry());
@@ -120,7 +120,7 @@ fn derive(code: &Code, states: &mut [Option<State>])
 fn settle(code: &Code, targets: &[bool], states: &mut [Option<State>])
     requires targets { AreTargets code.now targets.now }
     requires long { length states.old ≡ length code.now }
-    ensures states { states.new ≡ settled code.now states.old }
+    ensures states { states.new ≡ settled_claims code.now states.old }
     ensures proper { AreDerivedProper code.now (at_targets code.now states.old) (length code.now) }
 {
     keep_marked(targets, states);
@@ -135,7 +135,7 @@ pub fn settled_states(
 ) -> Vec<Option<State>>
     requires targets { AreTargets code.now targets.now }
     requires long { length states.items ≡ length code.now }
-    ensures states { result.items ≡ settled code.now states.items }
+    ensures states { result.items ≡ settled_claims code.now states.items }
     ensures proper { AreDerivedProper code.now (at_targets code.now states.items) (length code.now) }
 {
     let mut states = states;
@@ -148,7 +148,7 @@ pub fn settled_states(
 /// Gives the instruction with a number a state, if there is one that has none.
 fn put(states: &mut [Option<State>], pair: (usize, State))
     ensures length { length states.new ≡ length states.old }
-    ensures each { EachIs states.new (λ k. given_or (claim_at states.old k) (if pair.0 == k then Some pair.1 else None)) }
+    ensures each { HasEachClaim states.new (λ k. given_or (claim_at states.old k) (if pair.0 == k then Some pair.1 else None)) }
 {
     if pair.0 < states.len() {
         states[pair.0] = given_or(state_of(states, pair.0), Some(pair.1));
@@ -159,7 +159,7 @@ fn put(states: &mut [Option<State>], pair: (usize, State))
 fn put_all(states: &mut [Option<State>], pairs: &[(usize, State)])
     requires { states.old ≡ replicate (length states.old) None }
     ensures length { length states.new ≡ length states.old }
-    ensures each { EachIs states.new (pair_at pairs.now) }
+    ensures each { HasEachClaim states.new (pair_at pairs.now) }
 {
     for pair in pairs {
         put(states, *pair);
@@ -169,7 +169,7 @@ fn put_all(states: &mut [Option<State>], pairs: &[(usize, State)])
 /// Gives each instruction the state that is given of it or follows from those before it.
 fn fill(code: &Code, states: &mut [Option<State>], pairs: &[(usize, State)])
     requires { states.old ≡ replicate (length code.now) None }
-    ensures { states.new ≡ derived code.now (pair_at pairs.now) }
+    ensures { states.new ≡ derived_claims code.now (pair_at pairs.now) }
 {
     put_all(states, pairs);
     derive(code, states);
@@ -181,7 +181,7 @@ pub fn derived_states(
     code: &Code,
     pairs: &[(usize, State)],
 ) -> Result<Vec<Option<State>>, AllocError>
-    ensures { IfOk result (λ states. states.items ≡ derived code.now (pair_at pairs.now)) }
+    ensures { IfOk result (λ states. states.items ≡ derived_claims code.now (pair_at pairs.now)) }
 {
     let mut states = vec![in alloc; None; code.len()]?;
     fill(code, &mut states, pairs);

@@ -1,5 +1,6 @@
 -- Counts with one more record.
-use Rattle.std.proofs.Common.{◌≡◌, ℕ, zero, suc, ◌+◌, ◌<◌, Bool, true, false, cond, List, [], ◌∷◌, ◌++◌, Option, Some, refl, sym, ap, subst, ◌∙◌, arith, add-one}
+use Rattle.std.proofs.Common.{◌≡◌, ℕ, zero, suc, ◌+◌, ◌<◌, Bool, true, false, cond, List, [], ◌∷◌, ◌++◌, Option, Some}
+use Rattle.std.proofs.Common.{refl, sym, ap, subst, ◌∙◌, arith, add-one}
 use Rattle.std.specs.Prelude.{◌==◌, count_by, unwrap_or}
 use Rattle.std.specs.List.Sorted.{IsStrictlySortedBy}
 use Rattle.std.proofs.lemmas.List.{length_push, append-nil}
@@ -7,16 +8,21 @@ use Rattle.std.proofs.lemmas.List.Sums.{sum_by_push, count_by-le-length}
 use Rattle.std.proofs.lemmas.Bool.Decides.{nat_tests}
 use Rattle.report.specs.declared.fate.Fate.{Fate}
 use Rattle.report.specs.declared.fate.Fate.TheVariants.{Unprogrammed, Kept, Rejected}
-use Rattle.report.specs.Totals.{Totals, totals, is_unprogrammed, is_kept, is_rejected_by, rejected_by, listed_count, AreCounts, AreCounted, IsOneMore}
+use Rattle.report.specs.Totals.{Totals, totals, is_unprogrammed, is_kept, is_rejected_by, rejected_by, listed_count}
+use Rattle.report.specs.Totals.{AreCounts, AreCounted, IsOneMore}
 
 -- ---- one more fate in a count
 
-counted_yes : (p : Fate → Bool) (fates : List Fate) (fate : Fate) → p fate ≡ true → count_by p (fates ++ fate ∷ []) ≡ count_by p fates + 1
-counted_yes p fates fate e = sum_by_push (λ f. cond (p f) 1 0) fates fate ∙ ap (λ (b : Bool). count_by p fates + cond b 1 0) e
+counted_yes : (p : Fate → Bool) (fates : List Fate) (fate : Fate) → p fate ≡ true →
+    count_by p (fates ++ fate ∷ []) ≡ count_by p fates + 1
+counted_yes p fates fate e = sum_by_push (λ f. cond (p f) 1 0) fates fate
+    ∙ ap (λ (b : Bool). count_by p fates + cond b 1 0) e
 
-counted_no : (p : Fate → Bool) (fates : List Fate) (fate : Fate) → p fate ≡ false → count_by p (fates ++ fate ∷ []) ≡ count_by p fates
+counted_no : (p : Fate → Bool) (fates : List Fate) (fate : Fate) → p fate ≡ false →
+    count_by p (fates ++ fate ∷ []) ≡ count_by p fates
 counted_no p fates fate e =
-    let more : count_by p (fates ++ fate ∷ []) ≡ count_by p fates + 0 = sum_by_push (λ f. cond (p f) 1 0) fates fate ∙ ap (λ (b : Bool). count_by p fates + cond b 1 0) e in
+    let more : count_by p (fates ++ fate ∷ []) ≡ count_by p fates + 0 = sum_by_push (λ f. cond (p f) 1 0) fates fate
+    ∙ ap (λ (b : Bool). count_by p fates + cond b 1 0) e in
     omega (arith, more)
 
 -- ---- counts
@@ -26,14 +32,15 @@ unfolding IsStrictlySortedBy
 none_counted rejects e = subst (λ (rs : List (ℕ × ℕ)). AreCounts [] (totals 0 0 0 rs)) (sym e)
     (record { records_are = refl; unprogrammed_are = refl; kept_are = refl; rising = tt; rejects_are = λ code. refl })
 
-pub unprogrammed_more : (fates : List Fate) (r u k : ℕ) (rejects : List (ℕ × ℕ)) → AreCounts fates (totals r u k rejects)
-    → AreCounts (fates ++ Unprogrammed ∷ []) (totals (r + 1) (u + 1) k rejects)
+pub unprogrammed_more : (fates : List Fate) (r u k : ℕ) (rejects : List (ℕ × ℕ)) →
+    AreCounts fates (totals r u k rejects) → AreCounts (fates ++ Unprogrammed ∷ []) (totals (r + 1) (u + 1) k rejects)
 unprogrammed_more fates r u k rejects h = record {
   records_are = omega (arith, h.records_are, length_push fates Unprogrammed);
   unprogrammed_are = omega (arith, h.unprogrammed_are, counted_yes is_unprogrammed fates Unprogrammed refl);
   kept_are = omega (arith, h.kept_are, counted_no is_kept fates Unprogrammed refl);
   rising = h.rising;
-  rejects_are = λ code. h.rejects_are code ∙ ap listed_count (sym (counted_no (is_rejected_by code) fates Unprogrammed refl));
+  rejects_are = λ code. h.rejects_are code
+      ∙ ap listed_count (sym (counted_no (is_rejected_by code) fates Unprogrammed refl));
 }
 
 pub kept_more : (fates : List Fate) (r u k : ℕ) (rejects : List (ℕ × ℕ)) → AreCounts fates (totals r u k rejects)
@@ -53,8 +60,8 @@ listed_or_none (suc n) = refl
 listed_next : (n : ℕ) → Some (n + 1) ≡ listed_count (n + 1)
 listed_next n = rw (add-one) refl
 
-pub rejected_more : (fates : List Fate) (r u k code : ℕ) (old new : List (ℕ × ℕ)) → AreCounts fates (totals r u k old) → IsOneMore code old new
-    → AreCounts (fates ++ Rejected code ∷ []) (totals (r + 1) u k new)
+pub rejected_more : (fates : List Fate) (r u k code : ℕ) (old new : List (ℕ × ℕ)) → AreCounts fates (totals r u k old) →
+    IsOneMore code old new → AreCounts (fates ++ Rejected code ∷ []) (totals (r + 1) u k new)
 rejected_more fates r u k code old new h more = record {
   records_are = omega (arith, h.records_are, length_push fates (Rejected code));
   unprogrammed_are = omega (arith, h.unprogrammed_are, counted_no is_unprogrammed fates (Rejected code) refl);
@@ -63,23 +70,30 @@ rejected_more fates r u k code old new h more = record {
   rejects_are = λ other. by_test other (code == other) refl;
 }
   where
-    at_code : (other : ℕ) → code ≡ other → rejected_by other new ≡ listed_count (count_by (is_rejected_by other) (fates ++ Rejected code ∷ []))
+    at_code : (other : ℕ) → code ≡ other → rejected_by other new
+        ≡ listed_count (count_by (is_rejected_by other) (fates ++ Rejected code ∷ []))
     at_code other same =
         let n : ℕ = count_by (is_rejected_by code) fates in
         let same_test : (code == code) ≡ true = grind (arith, nat_tests) in
-        let was : unwrap_or (rejected_by code old) 0 ≡ n = ap (λ (o : Option ℕ). unwrap_or o 0) (h.rejects_are code) ∙ listed_or_none n in
-        let now : rejected_by code new ≡ listed_count (n + 1) = more.here ∙ (ap (λ (m : ℕ). Some (m + 1)) was ∙ listed_next n) in
+        let was : unwrap_or (rejected_by code old) 0 ≡ n = ap (λ (o : Option ℕ). unwrap_or o 0) (h.rejects_are code)
+        ∙ listed_or_none n in
+        let now : rejected_by code new ≡ listed_count (n + 1) = more.here
+        ∙ (ap (λ (m : ℕ). Some (m + 1)) was ∙ listed_next n) in
         let whole : rejected_by code new ≡ listed_count (count_by (is_rejected_by code) (fates ++ Rejected code ∷ [])) =
         now ∙ ap listed_count (sym (counted_yes (is_rejected_by code) fates (Rejected code) same_test)) in
-        subst (λ (c : ℕ). rejected_by c new ≡ listed_count (count_by (is_rejected_by c) (fates ++ Rejected code ∷ []))) same whole
+        subst (λ (c : ℕ). rejected_by c new ≡ listed_count (count_by (is_rejected_by c) (fates ++ Rejected code ∷ [])))
+        same whole
 
-    by_test : (other : ℕ) (b : Bool) → (code == other) ≡ b → rejected_by other new ≡ listed_count (count_by (is_rejected_by other) (fates ++ Rejected code ∷ []))
+    by_test : (other : ℕ) (b : Bool) → (code == other) ≡ b →
+        rejected_by other new ≡ listed_count (count_by (is_rejected_by other) (fates ++ Rejected code ∷ []))
     by_test other true e = at_code other (grind (arith, nat_tests))
     by_test other false e =
-        more.others other e ∙ (h.rejects_are other ∙ ap listed_count (sym (counted_no (is_rejected_by other) fates (Rejected code) e)))
+        more.others other e ∙ (h.rejects_are other
+        ∙ ap listed_count (sym (counted_no (is_rejected_by other) fates (Rejected code) e)))
 
 -- no code rejected more records than there are
-pub few_rejects : (fates : List Fate) (c : Totals) (code n : ℕ) → AreCounts fates c → c.records < n → unwrap_or (rejected_by code c.rejects) 0 < n
+pub few_rejects : (fates : List Fate) (c : Totals) (code n : ℕ) → AreCounts fates c → c.records < n →
+    unwrap_or (rejected_by code c.rejects) 0 < n
 few_rejects fates c code n h few =
     let many : unwrap_or (rejected_by code c.rejects) 0 ≡ count_by (is_rejected_by code) fates =
     ap (λ (o : Option ℕ). unwrap_or o 0) (h.rejects_are code) ∙ listed_or_none (count_by (is_rejected_by code) fates) in
@@ -88,4 +102,8 @@ few_rejects fates c code n h few =
 -- ---- fates that are counted
 
 pub counted_none : (Holds : List Fate → Type 0) (c : Totals) → Holds [] → AreCounted Holds c c
-counted_none Holds c h = record { here = []; holds = h; counted = λ before are. subst (λ (fs : List Fate). AreCounts fs c) (sym (append-nil before)) are }
+counted_none Holds c h = record {
+  here = [];
+  holds = h;
+  counted = λ before are. subst (λ (fs : List Fate). AreCounts fs c) (sym (append-nil before)) are;
+}

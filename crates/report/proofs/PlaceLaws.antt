@@ -1,5 +1,6 @@
 -- What is at each place of a list.
-use Rattle.std.proofs.Common.{◌≡◌, ℕ, zero, suc, ◌+◌, ◌<◌, ◌≤◌, List, [], ◌∷◌, ◌++◌, length, take, get_or, Some, ⊎_elim, refl, sym, ap, subst, ◌∙◌, arith}
+use Rattle.std.proofs.Common.{◌≡◌, ℕ, zero, suc, ◌+◌, ◌<◌, ◌≤◌, List, [], ◌∷◌, ◌++◌, length, take, get_or, Some, ⊎_elim}
+use Rattle.std.proofs.Common.{refl, sym, ap, subst, ◌∙◌, arith}
 use native.Mathlib.Decide.{ℕ_discrete}
 use Rattle.std.specs.Prelude.{slice_get}
 use Rattle.std.proofs.lemmas.List.{take-take, length-take, get_or_read}
@@ -10,20 +11,24 @@ use Rattle.report.specs.Holdings.{Held}
 use Rattle.report.specs.Snapshots.{held_at, AreOutputs, IsShorter, IsLeast}
 
 -- what holds of each element by its place holds with one more
-pushed : {A : Type 0} (P : ℕ → A → Type 0) (xs : List A) (n : ℕ) (x : A) → ((k : ℕ) (y : A) → slice_get xs k ≡ Some y → P (n + k) y) → P (n + length xs) x
-    → (k : ℕ) (y : A) → slice_get (xs ++ x ∷ []) k ≡ Some y → P (n + k) y
+pushed : {A : Type 0} (P : ℕ → A → Type 0) (xs : List A) (n : ℕ) (x : A) →
+    ((k : ℕ) (y : A) → slice_get xs k ≡ Some y → P (n + k) y) → P (n + length xs) x → (k : ℕ) (y : A) →
+    slice_get (xs ++ x ∷ []) k ≡ Some y → P (n + k) y
 pushed P [] n x all at zero y e = subst (P (n + 0)) (same_Some x y e) at
 pushed P [] n x all at (suc k) y e = absurd cc
 pushed P (z ∷ xs) n x all at zero y e = all zero y e
 pushed P (z ∷ xs) n x all at (suc k) y e =
     let move : (j : ℕ) → n + suc j ≡ (n + 1) + j = λ j. omega arith in
-    subst (λ m. P m y) (sym (move k)) (pushed P xs (n + 1) x (λ j w h. subst (λ m. P m w) (move j) (all (suc j) w h)) (subst (λ m. P m x) (move (length xs)) at) k y e)
+    subst (λ m. P m y) (sym (move k)) (pushed P xs (n + 1) x (λ j w h. subst (λ m. P m w) (move j) (all (suc j) w h))
+    (subst (λ m. P m x) (move (length xs)) at) k y e)
 
-pub each_pushed : {A : Type 0} (P : ℕ → A → Type 0) (xs : List A) (x : A) → ((k : ℕ) (y : A) → slice_get xs k ≡ Some y → P k y) → P (length xs) x
-    → (k : ℕ) (y : A) → slice_get (xs ++ x ∷ []) k ≡ Some y → P k y
+pub each_pushed : {A : Type 0} (P : ℕ → A → Type 0) (xs : List A) (x : A) →
+    ((k : ℕ) (y : A) → slice_get xs k ≡ Some y → P k y) → P (length xs) x → (k : ℕ) (y : A) →
+    slice_get (xs ++ x ∷ []) k ≡ Some y → P k y
 each_pushed P xs x all at k y e =
     let from : (j : ℕ) → 0 + j ≡ j = λ j. omega arith in
-    subst (λ m. P m y) (from k) (pushed P xs 0 x (λ j w h. subst (λ m. P m w) (sym (from j)) (all j w h)) (subst (λ m. P m x) (sym (from (length xs))) at) k y e)
+    subst (λ m. P m y) (from k) (pushed P xs 0 x (λ j w h. subst (λ m. P m w) (sym (from j)) (all j w h))
+    (subst (λ m. P m x) (sym (from (length xs))) at) k y e)
 
 pub none_at : {A : Type 0} (P : ℕ → A → Type 0) (k : ℕ) (y : A) → slice_get [] k ≡ Some y → P k y
 none_at P k y e = absurd cc
@@ -33,13 +38,15 @@ none_at P k y e = absurd cc
 -- the same over the first output partitions
 pub record IsLeastOf (outputs : List (List Held)) (n input : ℕ) (first : Log) : Type 0 where
   pub partition_is : first.partition ≡ input
-  pub in_each : (output : ℕ) (h : Held) → output < n → held_at outputs output input ≡ Some h → take (length first.items) h.done.items ≡ first.items
+  pub in_each : (output : ℕ) (h : Held) → output < n → held_at outputs output input ≡ Some h →
+      take (length first.items) h.done.items ≡ first.items
   pub place : ℕ
   pub least : Held
   pub least_at : held_at outputs place input ≡ Some least
   pub in_one : first ≡ least.done
 
-pub least_start : (outputs : List (List Held)) (input place : ℕ) (h : Held) → held_at outputs place input ≡ Some h → h.done.partition ≡ input → IsLeastOf outputs 0 input h.done
+pub least_start : (outputs : List (List Held)) (input place : ℕ) (h : Held) → held_at outputs place input ≡ Some h →
+    h.done.partition ≡ input → IsLeastOf outputs 0 input h.done
 least_start outputs input place h at of = record {
   partition_is = of;
   in_each = λ output other lt e. absurd (omega (arith, lt));
@@ -50,19 +57,23 @@ least_start outputs input place h at of = record {
 }
 
 -- the first items of a log that are all of a shorter one begin with those of a still shorter one
-shorter_yet : (done first shorter : Log) → take (length first.items) done.items ≡ first.items → length shorter.items ≤ length first.items → take (length shorter.items) first.items ≡ shorter.items
-    → take (length shorter.items) done.items ≡ shorter.items
+shorter_yet : (done first shorter : Log) → take (length first.items) done.items ≡ first.items →
+    length shorter.items ≤ length first.items → take (length shorter.items) first.items ≡ shorter.items →
+    take (length shorter.items) done.items ≡ shorter.items
 shorter_yet done first shorter begins le is =
-    sym (take-take (length shorter.items) (length first.items) done.items le) ∙ (ap (take (length shorter.items)) begins ∙ is)
+    sym (take-take (length shorter.items) (length first.items) done.items le)
+    ∙ (ap (take (length shorter.items)) begins ∙ is)
 
-pub least_more : (outputs : List (List Held)) (n input : ℕ) (first shorter : Log) (h : Held) → IsLeastOf outputs n input first → held_at outputs n input ≡ Some h → h.done.partition ≡ input
-    → IsShorter first h.done shorter → IsLeastOf outputs (n + 1) input shorter
+pub least_more : (outputs : List (List Held)) (n input : ℕ) (first shorter : Log) (h : Held) →
+    IsLeastOf outputs n input first → held_at outputs n input ≡ Some h → h.done.partition ≡ input →
+    IsShorter first h.done shorter → IsLeastOf outputs (n + 1) input shorter
 least_more outputs n input first shorter h before at of is = ⊎_elim same other is.is_either
   where
     le : length shorter.items ≤ length first.items
     le = omega (arith, ap (λ (xs : List Item). length xs) is.in_one, length-take (length shorter.items) first.items)
 
-    begins : (output : ℕ) (g : Held) → output < n + 1 → held_at outputs output input ≡ Some g → take (length shorter.items) g.done.items ≡ shorter.items
+    begins : (output : ℕ) (g : Held) → output < n + 1 → held_at outputs output input ≡ Some g →
+        take (length shorter.items) g.done.items ≡ shorter.items
     begins output g lt e = by_place (ℕ_discrete output n)
       where
         by_place : Dec (output ≡ n) → take (length shorter.items) g.done.items ≡ shorter.items
@@ -95,7 +106,8 @@ least_more outputs n input first shorter h before at of is = ⊎_elim same other
     }
 
 -- every output partition is one of the first ones
-pub least_end : (outputs : List (List Held)) (n input : ℕ) (first : Log) → length outputs ≤ n → IsLeastOf outputs n input first → IsLeast outputs input first
+pub least_end : (outputs : List (List Held)) (n input : ℕ) (first : Log) → length outputs ≤ n →
+    IsLeastOf outputs n input first → IsLeast outputs input first
 least_end outputs n input first all of = record {
   partition_is = of.partition_is;
   in_each = λ output h e. of.in_each output h (omega (arith, all, within outputs output input h e)) e;
@@ -105,22 +117,25 @@ least_end outputs n input first all of = record {
   in_one = of.in_one;
 }
   where
-    within : (rest : List (List Held)) (output input : ℕ) (h : Held) → held_at rest output input ≡ Some h → output < length rest
+    within : (rest : List (List Held)) (output input : ℕ) (h : Held) → held_at rest output input ≡ Some h →
+        output < length rest
     within [] output input h e = absurd cc
     within (holdings ∷ rest) zero input h e = omega arith
     within (holdings ∷ rest) (suc output) input h e = let below = within rest output input h e in omega (arith, below)
 
 -- ---- what is at a place of an output partition's list
 
-module _ (inputs count input k : ℕ) (outputs : List (List Held)) (holdings : List Held) (are : AreOutputs inputs count outputs) (lt : k < length outputs) (is : holdings ≡ get_or outputs k holdings) where
-  there : slice_get outputs k ≡ Some holdings
-  there = slice_get_read outputs (length outputs) k holdings refl lt is
+module _ (inputs count input k : ℕ) (outputs : List (List Held)) (holdings : List Held)
+    (are : AreOutputs inputs count outputs) (lt : k < length outputs) (is : holdings ≡ get_or outputs k holdings)
+  where
+    there : slice_get outputs k ≡ Some holdings
+    there = slice_get_read outputs (length outputs) k holdings refl lt is
 
-  pub holdings_count : length holdings ≡ inputs
-  holdings_count = (are k holdings there).count
+    pub holdings_count : length holdings ≡ inputs
+    holdings_count = (are k holdings there).count
 
-  pub partition_at : (h : Held) → slice_get holdings input ≡ Some h → h.done.partition ≡ input
-  partition_at h e = ((are k holdings there).each input h e).1
+    pub partition_at : (h : Held) → slice_get holdings input ≡ Some h → h.done.partition ≡ input
+    partition_at h e = ((are k holdings there).each input h e).1
 
-  pub held_from : (h : Held) → slice_get holdings input ≡ Some h → held_at outputs k input ≡ Some h
-  held_from h e = subst (λ (hs : List Held). slice_get hs input ≡ Some h) (get_or_read outputs k holdings lt is []) e
+    pub held_from : (h : Held) → slice_get holdings input ≡ Some h → held_at outputs k input ≡ Some h
+    held_from h e = subst (λ (hs : List Held). slice_get hs input ≡ Some h) (get_or_read outputs k holdings lt is []) e

@@ -1,7 +1,7 @@
 -- What becomes of the records of a log.
 use Rattle.std.specs.Prelude.{◌≡◌, ℕ, zero, suc, ◌+◌, List, [], ◌∷◌, ◌++◌, slice_get, Option, Some, None}
-use Rattle.wire_spec.specs.declared.record.{Record.Record, Batch.Batch}
-use Rattle.machine_spec.specs.declared.outcome.{Outcome.Outcome, Place.Place}
+use Rattle.wire_spec.specs.declared.{record.Record.Record, record.Batch.Batch}
+use Rattle.machine_spec.specs.declared.{outcome.Outcome.Outcome, outcome.Place.Place}
 use Rattle.machine_spec.specs.declared.outcome.Outcome.TheVariants as ending
 use Rattle.machine_spec.specs.Image.{Program}
 use Rattle.machine_spec.specs.Meaning.{Means}
@@ -17,7 +17,8 @@ fate_of (ending.Rejected code) = Rejected code
 -- What becomes of a record by the program in force: that of what the program means on it. Without one no program runs.
 abbrev pub IsFate : Option Program → Place → Record → Fate → Type 0
 IsFate None place given fate = fate ≡ Unprogrammed
-IsFate (Some program) place given fate = (outcome : Outcome) × (n : ℕ) × Means program (record { given = given; place = place }) outcome n × (fate ≡ fate_of outcome)
+IsFate (Some program) place given fate = (outcome : Outcome) × (n : ℕ)
+    × Means program (record { given = given; place = place }) outcome n × (fate ≡ fate_of outcome)
 
 -- what becomes of a batch's records, in order; each record has the offset after the one before
 abbrev pub AreRecordsFates : ℕ → ℕ → Option Program → Batch → ℕ → List Record → List Fate → Type 0
@@ -28,7 +29,8 @@ AreRecordsFates input outputs program batch offset (given ∷ others) fates =
 
 -- what becomes of an item's records; a mark and the end have none
 abbrev pub AreItemFates : ℕ → ℕ → Option Program → ℕ → Item → List Fate → Type 0
-AreItemFates input outputs program offset (Records batch) fates = AreRecordsFates input outputs program batch offset batch.records fates
+AreItemFates input outputs program offset (Records batch) fates =
+    AreRecordsFates input outputs program batch offset batch.records fates
 AreItemFates input outputs program offset (Marked name version marked) fates = fates ≡ []
 AreItemFates input outputs program offset Closed fates = fates ≡ []
 
@@ -37,5 +39,6 @@ AreItemFates input outputs program offset Closed fates = fates ≡ []
 abbrev pub AreFatesOf : ℕ → ℕ → List Item → ℕ → List Fate → Type 0
 AreFatesOf input outputs items zero fates = fates ≡ []
 AreFatesOf input outputs items (suc k) fates =
-    (before : List Fate) × (here : List Fate) × (item : Item) × AreFatesOf input outputs items k before × (slice_get items k ≡ Some item)
+    (before : List Fate) × (here : List Fate) × (item : Item) × AreFatesOf input outputs items k before
+    × (slice_get items k ≡ Some item)
     × AreItemFates input outputs (in_force items k) (offset_of items k) item here × (fates ≡ before ++ here)

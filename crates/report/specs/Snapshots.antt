@@ -3,7 +3,9 @@ use Rattle.std.specs.Prelude.{◌≡◌, ℕ, List, [], length, take, slice_get,
 use Rattle.part_log.specs.Parts.{Log}
 use Rattle.out_book.specs.declared.fault.BookFault.TheVariants as book
 use Rattle.broker.specs.declared.fault.BrokerFault.{BrokerFault}
-use Rattle.broker.specs.declared.fault.BrokerFault.TheVariants.{Partition, NoProgram, Memory, Catalogue as CatalogueRefuses, Log as LogRefuses, Book as BookRefuses}
+use Rattle.broker.specs.declared.fault.BrokerFault.TheVariants.{Partition, NoProgram, Memory}
+use Rattle.broker.specs.declared.fault.BrokerFault.TheVariants.{Catalogue as CatalogueRefuses, Log as LogRefuses}
+use Rattle.broker.specs.declared.fault.BrokerFault.TheVariants.{Book as BookRefuses}
 use Rattle.report.specs.Holdings.{Held, IsOutput}
 use Rattle.report.specs.Totals.{Tallied, IsTallied}
 
@@ -13,8 +15,8 @@ pub record Gathered : Type 0 where
   pub inputs : List Tallied
 
 -- a snapshot of these parts
-abbrev pub gathered : List (List Held) → List Tallied → Gathered
-gathered outputs inputs = record { outputs = outputs; inputs = inputs }
+abbrev pub gathered_snapshot : List (List Held) → List Tallied → Gathered
+gathered_snapshot outputs inputs = record { outputs = outputs; inputs = inputs }
 
 -- what an output partition holds of an input partition, if both are there
 abbrev pub held_at : List (List Held) → ℕ → ℕ → Option Held
@@ -22,13 +24,15 @@ held_at outputs output input = slice_get (slice_index_or outputs output []) inpu
 
 -- what each output partition holds is at its place
 abbrev pub AreOutputs : ℕ → ℕ → List (List Held) → Type 0
-AreOutputs inputs outputs all = (output : ℕ) (holdings : List Held) → slice_get all output ≡ Some holdings → IsOutput output inputs outputs holdings
+AreOutputs inputs outputs all = (output : ℕ) (holdings : List Held) → slice_get all output ≡ Some holdings →
+    IsOutput output inputs outputs holdings
 
 -- The items of an input partition that are done in every output partition: each has them as its first ones, and one of
 -- them has no other.
 pub record IsLeast (outputs : List (List Held)) (input : ℕ) (first : Log) : Type 0 where
   pub partition_is : first.partition ≡ input
-  pub in_each : (output : ℕ) (h : Held) → held_at outputs output input ≡ Some h → take (length first.items) h.done.items ≡ first.items
+  pub in_each : (output : ℕ) (h : Held) → held_at outputs output input ≡ Some h →
+      take (length first.items) h.done.items ≡ first.items
   pub place : ℕ
   pub least : Held
   pub least_at : held_at outputs place input ≡ Some least
@@ -42,7 +46,8 @@ pub record IsShorter (one other shorter : Log) : Type 0 where
 
 -- the records of each input partition are counted over the items that are done in every output partition
 abbrev pub AreTallies : ℕ → List (List Held) → List Tallied → Type 0
-AreTallies outputs all tallies = (input : ℕ) (t : Tallied) → slice_get tallies input ≡ Some t → IsLeast all input t.first × IsTallied outputs t
+AreTallies outputs all tallies = (input : ℕ) (t : Tallied) → slice_get tallies input ≡ Some t →
+    IsLeast all input t.first × IsTallied outputs t
 
 -- A snapshot of this number of input and output partitions. Each output partition holds the rows of the items that are
 -- done there, and each count is that of what became of the records.

@@ -9,17 +9,22 @@ use Rattle.report.specs.Snapshots.{Gathered}
 -- `out Q in I done D rows R`
 abbrev pub out_line : ℕ → ℕ → ℕ → ℕ → List ℕ
 out_line output input done rows =
-    codes "out " ++ (decimal output ++ (codes " in " ++ (decimal input ++ (codes " done " ++ (decimal done ++ (codes " rows " ++ (decimal rows ++ 10 ∷ [])))))))
+    codes "out " ++ (decimal output
+    ++ (codes " in " ++ (decimal input
+    ++ (codes " done " ++ (decimal done ++ (codes " rows " ++ (decimal rows ++ 10 ∷ [])))))))
 
 -- `in I items M records T unprogrammed U kept K`
 abbrev pub items_line : ℕ → ℕ → ℕ → ℕ → ℕ → List ℕ
 items_line input items records unprogrammed kept =
-    codes "in " ++ (decimal input ++ (codes " items " ++ (decimal items ++ (codes " records " ++ (decimal records ++ (codes " unprogrammed " ++ (decimal unprogrammed
+    codes "in " ++ (decimal input ++ (codes " items "
+    ++ (decimal items ++ (codes " records "
+    ++ (decimal records ++ (codes " unprogrammed " ++ (decimal unprogrammed
     ++ (codes " kept " ++ (decimal kept ++ 10 ∷ [])))))))))
 
 -- `in I reject CODE count N`
 abbrev pub reject_line : ℕ → ℕ → ℕ → List ℕ
-reject_line input code count = codes "in " ++ (decimal input ++ (codes " reject " ++ (decimal code ++ (codes " count " ++ (decimal count ++ 10 ∷ [])))))
+reject_line input code count = codes "in "
+    ++ (decimal input ++ (codes " reject " ++ (decimal code ++ (codes " count " ++ (decimal count ++ 10 ∷ [])))))
 
 -- the lines of the rows that an output partition holds of an input partition
 abbrev pub held_rows : Held → List ℕ
@@ -44,7 +49,8 @@ rejects_text input rejects = flat_map (λ listed. reject_line input listed.0 lis
 -- the lines of what became of the records of an input partition
 abbrev pub tally_text : Tallied → List ℕ
 tally_text t =
-    items_line t.first.partition (length t.first.items) t.totals.records t.totals.unprogrammed t.totals.kept ++ rejects_text t.first.partition t.totals.rejects
+    items_line t.first.partition (length t.first.items) t.totals.records t.totals.unprogrammed t.totals.kept
+    ++ rejects_text t.first.partition t.totals.rejects
 
 -- The rows, by output and by input partition; then, in the same order, how much is held; then, by input partition, what
 -- became of the records.

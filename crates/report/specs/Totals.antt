@@ -1,5 +1,6 @@
 -- How many records met which fate.
-use Rattle.std.specs.Prelude.{◌≡◌, ℕ, zero, suc, ◌+◌, ◌==◌, Bool, true, false, List, ◌++◌, length, count_by, Option, Some, None, unwrap_or}
+use Rattle.std.specs.Prelude.{◌≡◌, ℕ, zero, suc, ◌+◌, ◌==◌, Bool, true, false, List, ◌++◌, length, count_by, Option}
+use Rattle.std.specs.Prelude.{Some, None, unwrap_or}
 use Rattle.std.specs.Ordering.{nat_cmp, is_eq}
 use Rattle.std.specs.Map.{keys_of, lookup}
 use Rattle.std.specs.List.Sorted.{IsStrictlySortedBy}
@@ -18,7 +19,8 @@ pub record Totals : Type 0 where
 
 -- counts of these parts
 abbrev pub totals : ℕ → ℕ → ℕ → List (ℕ × ℕ) → Totals
-totals records unprogrammed kept rejects = record { records = records; unprogrammed = unprogrammed; kept = kept; rejects = rejects }
+totals records unprogrammed kept rejects =
+    record { records = records; unprogrammed = unprogrammed; kept = kept; rejects = rejects }
 
 -- no program ran on the record
 abbrev pub is_unprogrammed : Fate → Bool
@@ -79,8 +81,8 @@ pub record Tallied : Type 0 where
   pub totals : Totals
 
 -- a tally of these parts
-abbrev pub tallied : Log → Totals → Tallied
-tallied first counts = record { first = first; totals = counts }
+abbrev pub tally_of_log : Log → Totals → Tallied
+tally_of_log first counts = record { first = first; totals = counts }
 
 -- the counts of a tally are those of its items
 abbrev pub IsTallied : ℕ → Tallied → Type 0

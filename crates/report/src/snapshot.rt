@@ -1,6 +1,6 @@
 ghost use Rattle.std.specs.Prelude.{◌≡◌, ◌<◌, Some, length, slice_get};
 ghost use Rattle.log_spec.specs.Logs.{IsRowsOf};
-ghost use Rattle.report.specs.Snapshots.{gathered, held_at, IsGathered, IsLeast};
+ghost use Rattle.report.specs.Snapshots.{gathered_snapshot, held_at, IsGathered, IsLeast};
 ghost use Rattle.report.specs.Totals.{AreCountsOf};
 
 use crate::holding::{Holding, Holdings};
@@ -19,19 +19,19 @@ pub struct Snapshot<Id: Names> {
 }
 
 impl<Id: Names> Model for Snapshot<Id> {
-    ghost use Rattle.report.specs.Snapshots.{Gathered, gathered, IsGathered};
+    ghost use Rattle.report.specs.Snapshots.{Gathered, gathered_snapshot, IsGathered};
 
     ghost Value = { Gathered };
 
-    ghost view = { λ s. gathered s.outputs.items s.inputs.items };
+    ghost view = { λ s. gathered_snapshot s.outputs.items s.inputs.items };
 
-    ghost invariant = { λ s. IsGathered Id.inputs Id.outputs (gathered s.outputs.items s.inputs.items) };
+    ghost invariant = { λ s. IsGathered Id.inputs Id.outputs (gathered_snapshot s.outputs.items s.inputs.items) };
 }
 
 impl<Id: Names> Snapshot<Id> {
     pub(crate) fn new(outputs: Vec<Holdings<Id>>, inputs: Vec<Tally<Id>>) -> Snapshot<Id>
-        requires { IsGathered Id.inputs Id.outputs (gathered outputs.items inputs.items) }
-        ensures { result ≡ gathered outputs.items inputs.items }
+        requires { IsGathered Id.inputs Id.outputs (gathered_snapshot outputs.items inputs.items) }
+        ensures { result ≡ gathered_snapshot outputs.items inputs.items }
     {
         Snapshot { outputs, inputs }
     }

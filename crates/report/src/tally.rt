@@ -17,13 +17,13 @@ pub struct Tally<Id: Names> {
 }
 
 impl<Id: Names> Model for Tally<Id> {
-    ghost use Rattle.report.specs.Totals.{Tallied, tallied, IsTallied};
+    ghost use Rattle.report.specs.Totals.{Tallied, tally_of_log, IsTallied};
 
     ghost Value = { Tallied };
 
-    ghost view = { λ t. tallied t.first t.counts };
+    ghost view = { λ t. tally_of_log t.first t.counts };
 
-    ghost invariant = { λ t. IsTallied Id.outputs (tallied t.first t.counts) };
+    ghost invariant = { λ t. IsTallied Id.outputs (tally_of_log t.first t.counts) };
 }
 
 impl<Id: Names> Tally<Id> {

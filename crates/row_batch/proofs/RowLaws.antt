@@ -1,5 +1,7 @@
 -- Batches of the first rows: what they have, and how they grow.
-use Rattle.std.proofs.Common.{◌≡◌, ℕ, zero, suc, ◌+◌, ◌^◌, ◌<◌, ◌≤◌, ℤ, pos, List, [], ◌∷◌, ◌++◌, length, take, drop, get_or, slice_index_or, map, Option, refl, sym, ap, subst, ◌∙◌, append_assoc, negsuc, ⊎_elim, arith}
+use Rattle.std.proofs.Common.{◌≡◌, ℕ, zero, suc, ◌+◌, ◌^◌, ◌<◌, ◌≤◌, ℤ, pos, List, [], ◌∷◌, ◌++◌, length, take, drop}
+use Rattle.std.proofs.Common.{get_or, slice_index_or, map, Option, refl, sym, ap, subst, ◌∙◌, append_assoc, negsuc}
+use Rattle.std.proofs.Common.{⊎_elim, arith}
 use Rattle.std.specs.Prelude.{◌-ℤ◌, ◌+ℤ◌, ◌≤ℤ◌, ◌<ℤ◌, All, FitsSigned}
 use Rattle.std.specs.Int.{w16, w32, w64}
 use Rattle.std.specs.List.{AllByRecursion}
@@ -7,11 +9,11 @@ use Rattle.std.proofs.lemmas.Int.{ints}
 use Rattle.std.proofs.lemmas.Bool.{cases_lt}
 use Rattle.std.proofs.lemmas.List.{length-append, length-map, length-take-le, take-map, take_more, map_push, append-nil}
 use Rattle.std.proofs.lemmas.List.Elements.{All-take}
-use Rattle.wire_spec.specs.declared.limits.TheConstants.{TIMESTAMP_END}
-use Rattle.wire_spec.specs.declared.record.{Record.Record, Batch.Batch}
+use Rattle.wire_spec.specs.declared.{limits.TheConstants.TIMESTAMP_END, record.Record.Record, record.Batch.Batch}
 use Rattle.wire_spec.specs.Varint.{varint}
 use Rattle.wire_spec.specs.RecordSpelling.{RecordFits, record_body, record_spelling}
-use Rattle.wire_spec.specs.BatchSpelling.{max_batch, max_records, IsTimestamp, timestamps, records_spelling, batch_spelling, BatchFits}
+use Rattle.wire_spec.specs.BatchSpelling.{max_batch, max_records, IsTimestamp, timestamps, records_spelling}
+use Rattle.wire_spec.specs.BatchSpelling.{batch_spelling, BatchFits}
 use Rattle.wire_spec.proofs.Varints.{length-varint}
 use Rattle.wire_spec.proofs.RecordLaws.{length-record_body}
 use Rattle.wire_spec.proofs.BatchLaws.{length-covered, records_length}
@@ -26,7 +28,8 @@ bounded : (z : ℤ) → negsuc TIMESTAMP_END ≤ℤ z → z <ℤ pos TIMESTAMP_E
 bounded (pos n) low high = record { sfits = omega (arith, ints, high) }
 bounded (negsuc n) low high = record { sfits = omega (arith, ints, low) }
 
-fits_delta : (base timestamp : ℕ) → base < TIMESTAMP_END → timestamp < TIMESTAMP_END → FitsSigned w64 (pos timestamp -ℤ pos base)
+fits_delta : (base timestamp : ℕ) → base < TIMESTAMP_END → timestamp < TIMESTAMP_END →
+    FitsSigned w64 (pos timestamp -ℤ pos base)
 fits_delta base timestamp low high = bounded (pos timestamp -ℤ pos base) (omega (arith, ints)) (omega (arith, ints))
 
 pub record_fits : (base : ℕ) (row : Row) → base < TIMESTAMP_END → RowFits row → RecordFits (record_of base row)
@@ -52,14 +55,19 @@ head_of row rows fit = fit 0 row (omega arith)
 tail_of : (row : Row) (rows : List Row) → All RowFits (row ∷ rows) → All RowFits rows
 tail_of row rows fit = λ k d lt. fit (suc k) d (omega arith)
 
-records_fit : (base : ℕ) (rows : List Row) → base < TIMESTAMP_END → All RowFits rows → AllByRecursion RecordFits (map (record_of base) rows)
+records_fit : (base : ℕ) (rows : List Row) → base < TIMESTAMP_END → All RowFits rows →
+    AllByRecursion RecordFits (map (record_of base) rows)
 records_fit base [] low fit = tt
-records_fit base (row ∷ rows) low fit = (record_fits base row low (head_of row rows fit), records_fit base rows low (tail_of row rows fit))
+records_fit base (row ∷ rows) low fit =
+    (record_fits base row low (head_of row rows fit), records_fit base rows low (tail_of row rows fit))
 
-records_stamped : (base : ℕ) (rows : List Row) → All RowFits rows → AllByRecursion IsTimestamp (timestamps (pos base) (map (record_of base) rows))
+records_stamped : (base : ℕ) (rows : List Row) → All RowFits rows →
+    AllByRecursion IsTimestamp (timestamps (pos base) (map (record_of base) rows))
 records_stamped base [] fit = tt
-records_stamped base (row ∷ rows) fit =
-    (subst IsTimestamp (sym (stamp_again base row.timestamp)) (is_stamp row.timestamp (head_of row rows fit).time), records_stamped base rows (tail_of row rows fit))
+records_stamped base (row ∷ rows) fit = (
+  subst IsTimestamp (sym (stamp_again base row.timestamp)) (is_stamp row.timestamp (head_of row rows fit).time),
+  records_stamped base rows (tail_of row rows fit),
+)
 
 pub first_fits : (rows : List Row) → All RowFits rows → first_timestamp rows < TIMESTAMP_END
 first_fits [] fit = omega arith
@@ -73,17 +81,22 @@ same_first (row ∷ rows) (suc count) some = refl
 
 -- ---- the bytes
 
-spelling_push : (delta : ℕ) (records : List Record) (given : Record) → records_spelling delta (records ++ given ∷ []) ≡ records_spelling delta records ++ record_spelling (pos (delta + length records)) given
+spelling_push : (delta : ℕ) (records : List Record) (given : Record) →
+    records_spelling delta (records ++ given ∷ []) ≡ records_spelling delta records
+    ++ record_spelling (pos (delta + length records)) given
 spelling_push delta [] given =
     let at : delta ≡ delta + 0 = omega arith in
     append-nil (record_spelling (pos delta) given) ∙ ap (λ (n : ℕ). record_spelling (pos n) given) at
 spelling_push delta (first ∷ records) given =
     let at : suc delta + length records ≡ delta + length (first ∷ records) = omega arith in
     ap (λ (bytes : List ℕ). record_spelling (pos delta) first ++ bytes) (spelling_push (suc delta) records given)
-    ∙ (sym (append_assoc (record_spelling (pos delta) first) (records_spelling (suc delta) records) (record_spelling (pos (suc delta + length records)) given))
-    ∙ ap (λ (n : ℕ). (record_spelling (pos delta) first ++ records_spelling (suc delta) records) ++ record_spelling (pos n) given) at)
+    ∙ (sym (append_assoc (record_spelling (pos delta) first) (records_spelling (suc delta) records)
+    (record_spelling (pos (suc delta + length records)) given))
+    ∙ ap (λ (n : ℕ). (record_spelling (pos delta) first ++ records_spelling (suc delta) records)
+    ++ record_spelling (pos n) given) at)
 
-spelling_longer : (delta fewer more : ℕ) (records : List Record) → fewer ≤ more → length (records_spelling delta (take fewer records)) ≤ length (records_spelling delta (take more records))
+spelling_longer : (delta fewer more : ℕ) (records : List Record) → fewer ≤ more →
+    length (records_spelling delta (take fewer records)) ≤ length (records_spelling delta (take more records))
 spelling_longer delta zero more records le = omega arith
 spelling_longer delta (suc fewer) zero records le = absurd (omega arith)
 spelling_longer delta (suc fewer) (suc more) [] le = omega arith
@@ -93,33 +106,44 @@ spelling_longer delta (suc fewer) (suc more) (given ∷ records) le =
     let b = length-append (record_spelling (pos delta) given) (records_spelling (suc delta) (take more records)) in
     omega (arith, rest, a, b)
 
-pub batch_size : (place : ℕ) (rows : List Row) → length (batch_spelling (batch_of place rows)) ≡ size_with (map (record_of (first_timestamp rows)) rows)
+pub batch_size : (place : ℕ) (rows : List Row) →
+    length (batch_spelling (batch_of place rows)) ≡ size_with (map (record_of (first_timestamp rows)) rows)
 batch_size place rows = omega (arith, length-covered (batch_of place rows), records_length (batch_of place rows))
 
 -- the size of the batch of the first rows, by the first timestamp of all
-pub first_size : (place count : ℕ) (rows : List Row) → 1 ≤ count
-    → length (batch_spelling (batch_of place (take count rows))) ≡ size_with (map (record_of (first_timestamp rows)) (take count rows))
+pub first_size : (place count : ℕ) (rows : List Row) → 1 ≤ count →
+    length (batch_spelling (batch_of place (take count rows)))
+    ≡ size_with (map (record_of (first_timestamp rows)) (take count rows))
 first_size place count rows some =
-    batch_size place (take count rows) ∙ ap (λ (base : ℕ). size_with (map (record_of base) (take count rows))) (same_first rows count some)
+    batch_size place (take count rows)
+    ∙ ap (λ (base : ℕ). size_with (map (record_of base) (take count rows))) (same_first rows count some)
 
 -- ---- a batch that fits
 
 record_small : (delta : ℤ) (given : Record) → RecordFits given → length (record_spelling delta given) ≤ 139444
 record_small delta given fits =
     let body = record_body delta given in
-    omega (arith, length-record_body delta given fits, length-append (varint (pos (length body))) body, length-varint (pos (length body)))
+    omega (
+      arith,
+      length-record_body delta given fits,
+      length-append (varint (pos (length body))) body,
+      length-varint
+          (pos (length body)),
+    )
 
 -- one record has room
-pub one_small : (base : ℕ) (rows : List Row) → base < TIMESTAMP_END → All RowFits rows → size_with (map (record_of base) (take 1 rows)) ≤ max_batch
+pub one_small : (base : ℕ) (rows : List Row) → base < TIMESTAMP_END → All RowFits rows →
+    size_with (map (record_of base) (take 1 rows)) ≤ max_batch
 one_small base [] low fit = omega arith
 one_small base (row ∷ rows) low fit =
     let given = record_of base row in
     let small = record_small (pos 0) given (record_fits base row low (head_of row rows fit)) in
-    let same : length (record_spelling (pos 0) given ++ []) ≡ length (record_spelling (pos 0) given) = ap length (append-nil (record_spelling (pos 0) given)) in
+    let same : length (record_spelling (pos 0) given ++ []) ≡ length (record_spelling (pos 0) given) =
+    ap length (append-nil (record_spelling (pos 0) given)) in
     omega (arith, small, same)
 
-pub batch_fits : (place : ℕ) (rows : List Row) → place < 2 ^ 63 → 1 ≤ length rows → length rows ≤ max_records → All RowFits rows
-    → length (batch_spelling (batch_of place rows)) ≤ max_batch → BatchFits (batch_of place rows)
+pub batch_fits : (place : ℕ) (rows : List Row) → place < 2 ^ 63 → 1 ≤ length rows → length rows ≤ max_records →
+    All RowFits rows → length (batch_spelling (batch_of place rows)) ≤ max_batch → BatchFits (batch_of place rows)
 batch_fits place rows low some few fit small =
     let base = first_timestamp rows in
     let count = length-map rows (record_of base) in
@@ -141,7 +165,8 @@ one_more : (row : Row) → RowFits row → All RowFits (row ∷ [])
 one_more row fits zero d lt = fits
 one_more row fits (suc k) d lt = absurd (omega arith)
 
-pub one_row : (place : ℕ) (row : Row) (rows : List Row) → place < 2 ^ 63 → RowFits row → BatchFits (batch_of place (take 1 (row ∷ rows)))
+pub one_row : (place : ℕ) (row : Row) (rows : List Row) → place < 2 ^ 63 → RowFits row →
+    BatchFits (batch_of place (take 1 (row ∷ rows)))
 one_row place row rows low fits =
     let fit = one_more row fits in
     batch_fits place (row ∷ []) low (omega arith) (omega arith) fit
@@ -161,23 +186,28 @@ none_yet base rows = record { are = refl; size_is = refl; small = omega arith }
 next_records : (base : ℕ) (rows : List Row) (count : ℕ) (row : Row) → count < length rows → row ≡ get_or rows count row
     → map (record_of base) (take (count + 1) rows) ≡ map (record_of base) (take count rows) ++ record_of base row ∷ []
 next_records base rows count row lt is =
-    ap (map (record_of base)) (take_more rows count row lt ∙ ap (λ (r : Row). take count rows ++ r ∷ []) (sym is)) ∙ map_push (record_of base) (take count rows) row
+    ap (map (record_of base)) (take_more rows count row lt ∙ ap (λ (r : Row). take count rows ++ r ∷ []) (sym is))
+    ∙ map_push (record_of base) (take count rows) row
 
 module _ (base : ℕ) (rows : List Row) (count size len : ℕ) (records : List Record) (row : Row) (given : Record)
-    (so_far : UpTo base rows count records size) (lt : count < length rows) (is : row ≡ get_or rows count row) (given_is : given ≡ record_of base row)
+    (so_far : UpTo base rows count records size) (lt : count < length rows) (is : row ≡ get_or rows count row)
+    (given_is : given ≡ record_of base row)
     (len_is : len ≡ length (record_spelling (pos count) given)) where
   pub count_is : length records ≡ count
-  count_is = ap length so_far.are ∙ (length-map (take count rows) (record_of base) ∙ length-take-le count rows (omega (arith, lt)))
+  count_is = ap length so_far.are
+      ∙ (length-map (take count rows) (record_of base) ∙ length-take-le count rows (omega (arith, lt)))
 
   longer : map (record_of base) (take (count + 1) rows) ≡ records ++ given ∷ []
   longer =
       next_records base rows count row lt is
-      ∙ (ap (λ (rs : List Record). rs ++ record_of base row ∷ []) (sym so_far.are) ∙ ap (λ (r : Record). records ++ r ∷ []) (sym given_is))
+      ∙ (ap (λ (rs : List Record). rs ++ record_of base row ∷ []) (sym so_far.are)
+      ∙ ap (λ (r : Record). records ++ r ∷ []) (sym given_is))
 
   grown : size + len ≡ size_with (records ++ given ∷ [])
   grown =
       let at : 0 + length records ≡ count = omega (arith, count_is) in
-      let pushed = spelling_push 0 records given ∙ ap (λ (n : ℕ). records_spelling 0 records ++ record_spelling (pos n) given) at in
+      let pushed = spelling_push 0 records given
+      ∙ ap (λ (n : ℕ). records_spelling 0 records ++ record_spelling (pos n) given) at in
       let more = ap length pushed ∙ length-append (records_spelling 0 records) (record_spelling (pos count) given) in
       omega (arith, so_far.size_is, len_is, more)
 
@@ -193,9 +223,11 @@ module _ (base : ℕ) (rows : List Row) (count size len : ℕ) (records : List R
         (omega (arith, grown, large, ap size_with longer));
   }
 
-pub ends_after : (base : ℕ) (rows : List Row) (count size : ℕ) (records : List Record) → UpTo base rows count records size → count ≡ length rows → AreFirst base rows records
+pub ends_after : (base : ℕ) (rows : List Row) (count size : ℕ) (records : List Record) →
+    UpTo base rows count records size → count ≡ length rows → AreFirst base rows records
 ends_after base rows count size records so_far whole =
-    let many : length records ≡ count = ap length so_far.are ∙ (length-map (take count rows) (record_of base) ∙ length-take-le count rows (omega (arith, whole))) in
+    let many : length records ≡ count = ap length so_far.are
+    ∙ (length-map (take count rows) (record_of base) ∙ length-take-le count rows (omega (arith, whole))) in
     record {
       are = so_far.are ∙ ap (λ (n : ℕ). map (record_of base) (take n rows)) (sym many);
       there = omega (arith, many, whole);
@@ -205,7 +237,8 @@ ends_after base rows count size records so_far whole =
 
 -- ---- the batch of the first rows
 
-pub first_batch_is : (place : ℕ) (rows : List Row) (records : List Record) → place < 2 ^ 63 → 0 < length rows → length rows ≤ max_records → All RowFits rows
+pub first_batch_is : (place : ℕ) (rows : List Row) (records : List Record) → place < 2 ^ 63 → 0 < length rows →
+    length rows ≤ max_records → All RowFits rows
     → AreFirst (first_timestamp rows) rows records
     → IsFirst place rows (length records) (record {
       base_offset = pos place;
@@ -236,7 +269,8 @@ first_batch_is place rows records low some few fit first =
     ap (with base) first.are ∙ ap (λ (b : ℕ). with b (map (record_of b) (take count rows))) (sym same) in
     let small : length (batch_spelling (batch_of place (take count rows))) ≤ max_batch =
     omega (arith, first_size place count rows more, ap size_with first.are, first.few_bytes) in
-    let fits = batch_fits place (take count rows) low (omega (arith, taken, more)) (omega (arith, taken, first.there, few)) (All-take RowFits count rows fit) small in
+    let fits = batch_fits place (take count rows) low (omega (arith, taken, more))
+    (omega (arith, taken, first.there, few)) (All-take RowFits count rows fit) small in
     record {
       some = more;
       there = first.there;
@@ -245,18 +279,22 @@ first_batch_is place rows records low some few fit first =
       full = λ left. omega (arith, first.full left, first_size place (count + 1) rows (omega arith));
     }
   where
-    by_count : (n : ℕ) → (n < length rows → max_batch < size_with (map (record_of (first_timestamp rows)) (take (n + 1) rows))) → 1 ≤ n
+    by_count : (n : ℕ) → (n < length rows →
+        max_batch < size_with (map (record_of (first_timestamp rows)) (take (n + 1) rows))) → 1 ≤ n
     by_count zero full =
-        let one : size_with (map (record_of (first_timestamp rows)) (take (0 + 1) rows)) ≤ max_batch = one_small (first_timestamp rows) rows (first_fits rows fit) fit in
+        let one : size_with (map (record_of (first_timestamp rows)) (take (0 + 1) rows)) ≤ max_batch =
+        one_small (first_timestamp rows) rows (first_fits rows fit) fit in
         absurd (omega (arith, one, full some))
     by_count (suc n) full = omega arith
 
-pub first_is : (rows : List Row) (row : Row) → 0 < length rows → (slice_index_or rows 0 row).timestamp ≡ first_timestamp rows
+pub first_is : (rows : List Row) (row : Row) → 0 < length rows →
+    (slice_index_or rows 0 row).timestamp ≡ first_timestamp rows
 first_is [] row some = absurd (omega arith)
 first_is (first ∷ rows) row some = refl
 
 -- the same by other names of its numbers
-pub first_batch_as : (place : ℕ) (rows : List Row) (records : List Record) (offset stamp : ℤ) → offset ≡ pos place → stamp ≡ pos (first_timestamp rows) → place < 2 ^ 63
+pub first_batch_as : (place : ℕ) (rows : List Row) (records : List Record) (offset stamp : ℤ) → offset ≡ pos place →
+    stamp ≡ pos (first_timestamp rows) → place < 2 ^ 63
     → 0 < length rows → length rows ≤ max_records → All RowFits rows → AreFirst (first_timestamp rows) rows records
     → IsFirst place rows (length records) (record {
       base_offset = offset;
@@ -278,7 +316,8 @@ first_batch_as place rows records offset stamp at base low some few fit first =
       records = records;
     } in
     subst (λ (o : ℤ). IsFirst place rows (length records) (with o stamp)) (sym at)
-    (subst (λ (t : ℤ). IsFirst place rows (length records) (with (pos place) t)) (sym base) (first_batch_is place rows records low some few fit first))
+    (subst (λ (t : ℤ). IsFirst place rows (length records) (with (pos place) t)) (sym base)
+    (first_batch_is place rows records low some few fit first))
 
 -- ---- the most rows that a batch takes
 
@@ -287,32 +326,46 @@ take_less zero zero rows le = refl
 take_less zero (suc fewer) rows le = absurd (omega arith)
 take_less (suc more) zero rows le = refl
 take_less (suc more) (suc fewer) [] le = refl
-take_less (suc more) (suc fewer) (row ∷ rows) le = ap (λ (rs : List Row). row ∷ rs) (take_less more fewer rows (omega arith))
+take_less (suc more) (suc fewer) (row ∷ rows) le =
+    ap (λ (rs : List Row). row ∷ rs) (take_less more fewer rows (omega arith))
 
-size_longer : (base fewer more : ℕ) (rows : List Row) → fewer ≤ more → size_with (map (record_of base) (take fewer rows)) ≤ size_with (map (record_of base) (take more rows))
+size_longer : (base fewer more : ℕ) (rows : List Row) → fewer ≤ more →
+    size_with (map (record_of base) (take fewer rows)) ≤ size_with (map (record_of base) (take more rows))
 size_longer base fewer more rows le =
     let a = ap (λ (rs : List Record). length (records_spelling 0 rs)) (take-map (record_of base) fewer rows) in
     let b = ap (λ (rs : List Record). length (records_spelling 0 rs)) (take-map (record_of base) more rows) in
     omega (arith, spelling_longer 0 fewer more (map (record_of base) rows) le, a, b)
 
-batch_longer : (place fewer more : ℕ) (rows : List Row) → 1 ≤ fewer → fewer ≤ more → length (batch_spelling (batch_of place (take fewer rows))) ≤ length (batch_spelling (batch_of place (take more rows)))
+batch_longer : (place fewer more : ℕ) (rows : List Row) → 1 ≤ fewer → fewer ≤ more →
+    length (batch_spelling (batch_of place (take fewer rows))) ≤ length
+    (batch_spelling (batch_of place (take more rows)))
 batch_longer place fewer more rows some le =
-    omega (arith, first_size place fewer rows some, first_size place more rows (omega arith), size_longer (first_timestamp rows) fewer more rows le)
+    omega (
+      arith,
+      first_size place fewer rows some,
+      first_size place more rows (omega arith),
+      size_longer
+          (first_timestamp rows) fewer more rows le,
+    )
 
 -- no greater number of rows is in one batch
-none_greater : (left : List Row) (place most count more : ℕ) (batch : Batch) → IsFirst place (take most left) count batch → most ≤ length left → more ≤ most
-    → length (batch_spelling (batch_of place (take more left))) ≤ max_batch → count < more → ⊥
+none_greater : (left : List Row) (place most count more : ℕ) (batch : Batch) →
+    IsFirst place (take most left) count batch → most ≤ length left → more ≤ most →
+    length (batch_spelling (batch_of place (take more left))) ≤ max_batch → count < more → ⊥
 none_greater left place most count more batch first there within small lt =
     let long : length (take most left) ≡ most = length-take-le most left there in
     let full = first.full (omega (arith, long, lt, within)) in
-    let same : take (count + 1) (take most left) ≡ take (count + 1) left = take_less most (count + 1) left (omega (arith, lt, within)) in
+    let same : take (count + 1) (take most left) ≡ take (count + 1) left =
+    take_less most (count + 1) left (omega (arith, lt, within)) in
     let size = ap (λ (rs : List Row). length (batch_spelling (batch_of place rs))) same in
     let longer = batch_longer place (count + 1) more left (omega arith) (omega (arith, lt)) in
     omega (arith, full, size, longer, small)
 
-pub most_taken : (rows : List Row) (place max most count : ℕ) (batch : Batch) → most ≤ max → most ≤ max_records → most ≤ length (drop place rows)
-    → ((more : ℕ) → more ≤ max → more ≤ max_records → more ≤ length (drop place rows) → more ≤ most)
-    → IsFirst place (take most (drop place rows)) count batch → TakesMost rows place max count × (batch ≡ batch_of place (take count (drop place rows)))
+pub most_taken : (rows : List Row) (place max most count : ℕ) (batch : Batch) → most ≤ max → most ≤ max_records →
+    most ≤ length (drop place rows) →
+    ((more : ℕ) → more ≤ max → more ≤ max_records → more ≤ length (drop place rows) → more ≤ most) →
+    IsFirst place (take most (drop place rows)) count batch →
+    TakesMost rows place max count × (batch ≡ batch_of place (take count (drop place rows)))
 most_taken rows place max most count batch wanted few there greatest first =
     let left = drop place rows in
     let long : length (take most left) ≡ most = length-take-le most left there in
@@ -328,7 +381,9 @@ most_taken rows place max most count batch wanted few there greatest first =
           few_bytes = subst (λ (b : Batch). length (batch_spelling b) ≤ max_batch) is first.fits.few_bytes;
         };
         most = λ more may. ⊎_elim
-            (λ lt. absurd (none_greater left place most count more batch first there (greatest more may.wanted may.few_records may.there) may.few_bytes lt)) (λ le. le) (cases_lt count more);
+            (λ lt. absurd (none_greater left place most count more batch first there
+            (greatest more may.wanted may.few_records may.there) may.few_bytes lt)) (λ le. le)
+            (cases_lt count more);
       },
       is,
     )

@@ -1,6 +1,6 @@
 -- The first of some rows, as many as one batch has room for.
 use Rattle.std.specs.Prelude.{◌≡◌, ℕ, ◌+◌, ◌<◌, ◌≤◌, ◌^◌, List, ◌∷◌, length, map, take}
-use Rattle.wire_spec.specs.declared.record.{Record.Record, Batch.Batch}
+use Rattle.wire_spec.specs.declared.{record.Record.Record, record.Batch.Batch}
 use Rattle.wire_spec.specs.BatchSpelling.{max_batch, records_spelling, batch_spelling, BatchFits}
 use Rattle.log_spec.specs.declared.row.Row.{Row}
 use Rattle.log_spec.specs.Logs.{RowFits}
@@ -15,7 +15,8 @@ pub record AreFirst (base : ℕ) (rows : List Row) (records : List Record) : Typ
   pub are : records ≡ map (record_of base) (take (length records) rows)
   pub there : length records ≤ length rows
   pub few_bytes : size_with records ≤ max_batch
-  pub full : length records < length rows → max_batch < size_with (map (record_of base) (take (length records + 1) rows))
+  pub full : length records < length rows →
+      max_batch < size_with (map (record_of base) (take (length records + 1) rows))
 
 -- the batch of the first `count` rows, which fits; with one more it would have too many bytes
 pub record IsFirst (place : ℕ) (rows : List Row) (count : ℕ) (batch : Batch) : Type 0 where
@@ -27,4 +28,5 @@ pub record IsFirst (place : ℕ) (rows : List Row) (count : ℕ) (batch : Batch)
 
 -- a batch of one row that fits always fits
 abbrev pub OneRowFits : Type 0
-OneRowFits = (place : ℕ) (row : Row) (rows : List Row) → place < 2 ^ 63 → RowFits row → BatchFits (batch_of place (take 1 (row ∷ rows)))
+OneRowFits = (place : ℕ) (row : Row) (rows : List Row) → place < 2 ^ 63 → RowFits row →
+    BatchFits (batch_of place (take 1 (row ∷ rows)))

@@ -1,12 +1,18 @@
 -- Rows of an output partition as record batches.
-use Rattle.std.specs.Prelude.{◌≡◌, ℕ, ◌+◌, ◌≤◌, ℤ, pos, negsuc, ◌-ℤ◌, List, [], ◌∷◌, length, map, take, drop, Option, Some, None, ◌⊎◌}
-use Rattle.wire_spec.specs.declared.record.{Record.Record, Batch.Batch}
+use Rattle.std.specs.Prelude.{◌≡◌, ℕ, ◌+◌, ◌≤◌, ℤ, pos, negsuc, ◌-ℤ◌, List, [], ◌∷◌, length, map, take, drop, Option}
+use Rattle.std.specs.Prelude.{Some, None, ◌⊎◌}
+use Rattle.wire_spec.specs.declared.{record.Record.Record, record.Batch.Batch}
 use Rattle.wire_spec.specs.BatchSpelling.{max_batch, max_records, batch_spelling, BatchFits}
 use Rattle.log_spec.specs.declared.row.Row.{Row}
 
 -- a row as a record of a batch with this base timestamp
 abbrev pub record_of : ℕ → Row → Record
-record_of base row = record { timestamp_delta = pos row.timestamp -ℤ pos base; key = row.key; value = row.value; headers = row.headers }
+record_of base row = record {
+  timestamp_delta = pos row.timestamp -ℤ pos base;
+  key = row.key;
+  value = row.value;
+  headers = row.headers;
+}
 
 -- the timestamp of the first row; 0 without rows, of which no batch is made
 abbrev pub first_timestamp : List Row → ℕ

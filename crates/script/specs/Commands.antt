@@ -2,9 +2,8 @@
 use Rattle.std.specs.Prelude.{ℕ, ◌==◌, nat_lt, nat_eq, if◌then◌else◌, List, length, drop, Option, Some, None, codes}
 use Rattle.std.specs.List.{list_all, starts_with}
 use Rattle.std.specs.Str.{bytes_eq}
-use Rattle.script.specs.declared.command.Command.{Command}
+use Rattle.script.specs.declared.{command.Command.Command, command.Source.Source}
 use Rattle.script.specs.declared.command.Command.TheVariants.{Partitions, Load, Deploy, Put, Append, Close, Fetch, Go}
-use Rattle.script.specs.declared.command.Source.{Source}
 use Rattle.script.specs.declared.command.Source.TheVariants.{Line, File}
 use Rattle.script.specs.Words.{words_of, word_at, decimal_of, spelled_bytes, hex_bytes}
 
@@ -25,7 +24,8 @@ partitions_of _ _ _ = None
 
 -- `partitions I O CELLS`
 abbrev pub partitions_line : List (List ℕ) → Option Command
-partitions_line words = if length words == 4 then partitions_of (decimal_of (word_at words 1)) (decimal_of (word_at words 2)) (decimal_of (word_at words 3)) else None
+partitions_line words = if length words == 4 then partitions_of (decimal_of (word_at words 1))
+    (decimal_of (word_at words 2)) (decimal_of (word_at words 3)) else None
 
 -- `load NAME FILE`
 abbrev pub load_line : List (List ℕ) → Option Command
@@ -49,7 +49,8 @@ put_of _ _ _ _ = None
 abbrev pub put_line : List (List ℕ) → Option Command
 put_line words =
     if length words == 5
-    then put_of (decimal_of (word_at words 1)) (decimal_of (word_at words 2)) (spelled_bytes (word_at words 3)) (spelled_bytes (word_at words 4))
+    then put_of (decimal_of (word_at words 1)) (decimal_of (word_at words 2)) (spelled_bytes (word_at words 3))
+    (spelled_bytes (word_at words 4))
     else None
 
 -- the command, if its first word is a number
@@ -59,7 +60,8 @@ append_of None source = None
 
 -- `append I FILE`
 abbrev pub append_line : List (List ℕ) → Option Command
-append_line words = if length words == 3 then append_of (decimal_of (word_at words 1)) (source_of (word_at words 2)) else None
+append_line words = if length words == 3 then append_of (decimal_of (word_at words 1)) (source_of (word_at words 2))
+    else None
 
 -- the command, if its word is a number
 abbrev pub close_of : Option ℕ → Option Command
@@ -77,7 +79,8 @@ fetch_of _ _ _ = None
 
 -- `fetch Q PLACE MAX`
 abbrev pub fetch_line : List (List ℕ) → Option Command
-fetch_line words = if length words == 4 then fetch_of (decimal_of (word_at words 1)) (decimal_of (word_at words 2)) (decimal_of (word_at words 3)) else None
+fetch_line words = if length words == 4 then fetch_of (decimal_of (word_at words 1)) (decimal_of (word_at words 2))
+    (decimal_of (word_at words 3)) else None
 
 -- `go`
 abbrev pub go_line : List (List ℕ) → Option Command

@@ -1,10 +1,10 @@
 -- Which commands are refused before anything is done.
 use Rattle.std.specs.Prelude.{ℕ, Bool, true, not, ◌&&◌, nat_lt, nat_le, if◌then◌else◌, List, length, Option, Some, None}
-use Rattle.wire_spec.specs.declared.limits.TheConstants.{MAX_KEY, MAX_VALUE, TIMESTAMP_END}
-use Rattle.log_spec.specs.declared.limits.TheConstants.{MAX_CELLS, MAX_PARTITIONS}
-use Rattle.script.specs.declared.command.Command.{Command}
+use Rattle.wire_spec.specs.declared.{limits.TheConstants.MAX_KEY, limits.TheConstants.MAX_VALUE}
+use Rattle.wire_spec.specs.declared.{limits.TheConstants.TIMESTAMP_END}
+use Rattle.log_spec.specs.declared.{limits.TheConstants.MAX_CELLS, limits.TheConstants.MAX_PARTITIONS}
+use Rattle.script.specs.declared.{command.Command.Command, fault.ScriptFault.ScriptFault}
 use Rattle.script.specs.declared.command.Command.TheVariants.{Partitions, Load, Deploy, Put, Append, Close, Fetch, Go}
-use Rattle.script.specs.declared.fault.ScriptFault.{ScriptFault}
 use Rattle.script.specs.declared.fault.ScriptFault.TheVariants.{Order, Range}
 
 -- a command may come here: `partitions` is first and occurs once, and a program is deployed after it was loaded
@@ -30,10 +30,12 @@ is_count number most = nat_le 1 number && nat_le number most
 -- the numbers of a command are in range: 1 to 64 input and output partitions, 1 to 65,536 cells; timestamps below 2^62,
 -- keys of at most 4,096 bytes and values of at most 65,536
 abbrev pub is_in_range : Command → Bool
-is_in_range (Partitions inputs outputs cells) = is_count inputs MAX_PARTITIONS && (is_count outputs MAX_PARTITIONS && is_count cells MAX_CELLS)
+is_in_range (Partitions inputs outputs cells) = is_count inputs MAX_PARTITIONS
+    && (is_count outputs MAX_PARTITIONS && is_count cells MAX_CELLS)
 is_in_range (Load name source) = true
 is_in_range (Deploy input name) = true
-is_in_range (Put input timestamp key value) = nat_lt timestamp TIMESTAMP_END && (nat_le (text_size key) MAX_KEY && nat_le (text_size value) MAX_VALUE)
+is_in_range (Put input timestamp key value) = nat_lt timestamp TIMESTAMP_END
+    && (nat_le (text_size key) MAX_KEY && nat_le (text_size value) MAX_VALUE)
 is_in_range (Append input source) = true
 is_in_range (Close input) = true
 is_in_range (Fetch output place max) = true
@@ -41,4 +43,6 @@ is_in_range Go = true
 
 -- why a command is refused before anything is done: Order, or else Range
 abbrev pub fault_of : Command → (has_begun is_loaded : Bool) → Option ScriptFault
-fault_of command has_begun is_loaded = if not (is_in_order command has_begun is_loaded) then Some Order else if not (is_in_range command) then Some Range else None
+fault_of command has_begun is_loaded =
+    if not (is_in_order command has_begun is_loaded) then Some Order else if not (is_in_range command) then Some Range
+    else None

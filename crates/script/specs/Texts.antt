@@ -1,5 +1,6 @@
 -- The lines that commands print, each with its line feed.
-use Rattle.std.specs.Prelude.{ℕ, ◌+◌, ◌-◌, ◌/◌, ◌%◌, nat_lt, if◌then◌else◌, List, [], ◌∷◌, ◌++◌, length, Option, Some, None, codes, decimal}
+use Rattle.std.specs.Prelude.{ℕ, ◌+◌, ◌-◌, ◌/◌, ◌%◌, nat_lt, if◌then◌else◌, List, [], ◌∷◌, ◌++◌, length, Option, Some}
+use Rattle.std.specs.Prelude.{None, codes, decimal}
 use Rattle.std.specs.List.{flat_map}
 use Rattle.log_spec.specs.declared.row.Row.{Row}
 
@@ -28,11 +29,14 @@ load_line name version = codes "load " ++ (name ++ (codes " version " ++ (decima
 -- `deploy I index X NAME version V`
 abbrev pub deploy_line : ℕ → ℕ → List ℕ → ℕ → List ℕ
 deploy_line input index name version =
-    codes "deploy " ++ (decimal input ++ (codes " index " ++ (decimal index ++ (codes " " ++ (name ++ (codes " version " ++ (decimal version ++ 10 ∷ [])))))))
+    codes "deploy " ++ (decimal input
+    ++ (codes " index " ++ (decimal index
+    ++ (codes " " ++ (name ++ (codes " version " ++ (decimal version ++ 10 ∷ [])))))))
 
 -- `append I index X base B`
 abbrev pub append_line : ℕ → ℕ → ℕ → List ℕ
-append_line input index base = codes "append " ++ (decimal input ++ (codes " index " ++ (decimal index ++ (codes " base " ++ (decimal base ++ 10 ∷ [])))))
+append_line input index base = codes "append "
+    ++ (decimal input ++ (codes " index " ++ (decimal index ++ (codes " base " ++ (decimal base ++ 10 ∷ [])))))
 
 -- `close I index X`
 abbrev pub close_line : ℕ → ℕ → List ℕ
@@ -50,5 +54,10 @@ fetch_line found = found_text found ++ 10 ∷ []
 -- `row Q I OFFSET NUMBER TS KEY VALUE HEADERS`, of which the last is the number of headers
 abbrev pub row_line : ℕ → Row → List ℕ
 row_line output row =
-    codes "row " ++ (decimal output ++ (codes " " ++ (decimal row.input ++ (codes " " ++ (decimal row.offset ++ (codes " " ++ (decimal row.number ++ (codes " " ++ (decimal row.timestamp
-    ++ (codes " " ++ (bytes_text row.key ++ (codes " " ++ (bytes_text row.value ++ (codes " " ++ (decimal (length row.headers) ++ 10 ∷ [])))))))))))))))
+    codes "row " ++ (decimal output
+    ++ (codes " " ++ (decimal row.input
+    ++ (codes " " ++ (decimal row.offset
+    ++ (codes " " ++ (decimal row.number ++ (codes " " ++ (decimal row.timestamp
+    ++ (codes " " ++ (bytes_text row.key
+    ++ (codes " " ++ (bytes_text row.value
+    ++ (codes " " ++ (decimal (length row.headers) ++ 10 ∷ [])))))))))))))))

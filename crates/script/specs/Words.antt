@@ -1,5 +1,6 @@
 -- The words of a line, and the numbers and bytes that words spell.
-use Rattle.std.specs.Prelude.{ℕ, ◌+◌, ◌*◌, ◌-◌, ◌^◌, Bool, not, ◌&&◌, ◌||◌, ◌==◌, nat_lt, nat_le, min, if◌then◌else◌, List, [], ◌∷◌, length, map, slice_index, slice_index_or, Option, Some, None}
+use Rattle.std.specs.Prelude.{ℕ, ◌+◌, ◌*◌, ◌-◌, ◌^◌, Bool, not, ◌&&◌, ◌||◌, ◌==◌, nat_lt, nat_le, min, if◌then◌else◌}
+use Rattle.std.specs.Prelude.{List, [], ◌∷◌, length, map, slice_index, slice_index_or, Option, Some, None}
 use Rattle.std.specs.List.{slice_split, list_all}
 use Rattle.std.specs.Str.Parse.{digits_value}
 use Rattle.std.specs.Str.{bytes_eq}
@@ -22,7 +23,8 @@ texts words = map (λ w. w.now) words
 
 -- decimal digits, at least one, of which the first is 0 only where it is alone
 abbrev pub is_number : List ℕ → Bool
-is_number word = nat_lt 0 (length word) && (list_all is_ascii_digit word && ((length word == 1) || not (slice_index word 0 == 48)))
+is_number word = nat_lt 0 (length word)
+    && (list_all is_ascii_digit word && ((length word == 1) || not (slice_index word 0 == 48)))
 
 -- The whole number that a word spells. One past 2^64 - 1 counts as 2^64 - 1, which is past every limit.
 abbrev pub decimal_of : List ℕ → Option ℕ
@@ -32,7 +34,8 @@ decimal_of word = if is_number word then Some (min (digits_value 10 word) (2 ^ 6
 
 -- the value of a lower-case hex digit
 abbrev pub hex_digit : ℕ → Option ℕ
-hex_digit b = if nat_le 48 b && nat_le b 57 then Some (b - 48) else if nat_le 97 b && nat_le b 102 then Some (b - 87) else None
+hex_digit b = if nat_le 48 b && nat_le b 57 then Some (b - 48) else if nat_le 97 b
+    && nat_le b 102 then Some (b - 87) else None
 
 -- the byte that two hex digits spell, if both are digits
 abbrev pub pair_of : Option ℕ → Option ℕ → Option ℕ
@@ -59,4 +62,5 @@ some_bytes None = None
 
 -- the bytes that a word spells: `-` is null, `.` is no bytes, and others are hex pairs
 abbrev pub spelled_bytes : List ℕ → Option (Option (List ℕ))
-spelled_bytes word = if bytes_eq word (45 ∷ []) then Some None else if bytes_eq word (46 ∷ []) then Some (Some []) else some_bytes (hex_bytes word)
+spelled_bytes word = if bytes_eq word (45 ∷ []) then Some None else if bytes_eq word (46 ∷ []) then Some (Some []) else
+    some_bytes (hex_bytes word)

@@ -6,11 +6,13 @@ use Rattle.verifier_spec.specs.StackSets.{is_set, with_place, with_places}
 use Rattle.verifier_spec.specs.Checks.{are_set}
 
 -- a run is its first place and the places after it
-pub are_set_first : (set : StackSet) (place count : ℕ) → 0 < count → is_set set place ≡ true → are_set set (place + 1) (count - 1) ≡ are_set set place count
+pub are_set_first : (set : StackSet) (place count : ℕ) → 0 < count → is_set set place ≡ true →
+    are_set set (place + 1) (count - 1) ≡ are_set set place count
 are_set_first set place zero more first = absurd (omega arith)
 are_set_first set place (suc count) more first = rw (first, sub-one) refl
 
-pub are_set_not : (set : StackSet) (place count : ℕ) → 0 < count → is_set set place ≡ false → are_set set place count ≡ false
+pub are_set_not : (set : StackSet) (place count : ℕ) → 0 < count → is_set set place ≡ false →
+    are_set set place count ≡ false
 are_set_not set place zero more first = absurd (omega arith)
 are_set_not set place (suc count) more first = rw first refl
 
@@ -27,15 +29,18 @@ pub with_none : (set : StackSet) (place : ℕ) → with_places set place 0 ≡ s
 with_none set place = refl
 
 -- `count` places and the next one
-next_place : (set : StackSet) (place count : ℕ) → with_places set place (suc count) ≡ with_place (with_places set place count) (place + count)
+next_place : (set : StackSet) (place count : ℕ) →
+    with_places set place (suc count) ≡ with_place (with_places set place count) (place + count)
 next_place set place zero =
     let e : place ≡ place + 0 = omega arith in
     ap (with_place set) e
 next_place set place (suc count) =
     let e : (place + 1) + count ≡ place + suc count = omega arith in
-    next_place (with_place set place) (place + 1) count ∙ ap (with_place (with_places (with_place set place) (place + 1) count)) e
+    next_place (with_place set place) (place + 1) count
+    ∙ ap (with_place (with_places (with_place set place) (place + 1) count)) e
 
-pub with_next : (set : StackSet) (place count : ℕ) → with_places set place (count + 1) ≡ with_place (with_places set place count) (place + count)
+pub with_next : (set : StackSet) (place count : ℕ) →
+    with_places set place (count + 1) ≡ with_place (with_places set place count) (place + count)
 with_next set place count =
     let e : count + 1 ≡ suc count = omega arith in
     ap (with_places set place) e ∙ next_place set place count

@@ -1,5 +1,6 @@
 -- Sets of places by their words.
-use Rattle.std.proofs.Common.{◌≡◌, ℕ, ◌+◌, ◌*◌, ◌/◌, ◌%◌, ◌^◌, ◌<◌, ◌||◌, ◌==◌, not, Bool, true, List, slice_index, bit_and, min, refl, arith, ap, sym, ◌∙◌, inl, inr}
+use Rattle.std.proofs.Common.{◌≡◌, ℕ, ◌+◌, ◌*◌, ◌/◌, ◌%◌, ◌^◌, ◌<◌, ◌||◌, ◌==◌, not, Bool, true, List, slice_index}
+use Rattle.std.proofs.Common.{bit_and, min, refl, arith, ap, sym, ◌∙◌, inl, inr}
 use Rattle.std.specs.Int.{bit_at}
 use Rattle.std.proofs.lemmas.Bool.{cases_Bool, eqb-true, eq-eqb, true≢false}
 use Rattle.std.proofs.lemmas.Nat.{and_le_r}
@@ -38,12 +39,15 @@ bit_same i o low high has = elim (cases_Bool (i == 1)) [
   ]
 ]
 
-pub bits_cover : (i o : ℕ) → o < 2 ^ 64 → ((k : ℕ) → k < 64 → (not (bit_at o k == 1) || (bit_at i k == 1)) ≡ true) → bit_and i o ≡ o
+pub bits_cover : (i o : ℕ) → o < 2 ^ 64 → ((k : ℕ) → k < 64 → (not (bit_at o k == 1) || (bit_at i k == 1)) ≡ true) →
+    bit_and i o ≡ o
 bits_cover i o fits all = same_from_bits_below 64 (bit_and i o) o (omega (arith, and_le_r i o)) fits
     (λ k under. bit_at_and i o k ∙ bit_same (bit_at i k) (bit_at o k) (bit_at-lt i k) (bit_at-lt o k) (all k under))
 
-pub words_cover : (inner outer : List ℕ) → ((w : ℕ) → w < 8 → HasBits inner outer w) → each_below 512 (covers inner outer) ≡ true
-words_cover inner outer all = each_below_from 512 (covers inner outer) (λ place under. bit_has _ _ (place % 64) (all (place / 64) (omega arith)))
+pub words_cover : (inner outer : List ℕ) → ((w : ℕ) → w < 8 → HasBits inner outer w) →
+    each_below 512 (covers inner outer) ≡ true
+words_cover inner outer all = each_below_from 512 (covers inner outer)
+    (λ place under. bit_has _ _ (place % 64) (all (place / 64) (omega arith)))
 
 pub place_word : (w k : ℕ) → k < 64 → (64 * w + k) / 64 ≡ w
 place_word w k under = omega arith
@@ -51,7 +55,8 @@ place_word w k under = omega arith
 pub place_bit : (w k : ℕ) → k < 64 → (64 * w + k) % 64 ≡ k
 place_bit w k under = omega arith
 
-pub word_covers : (inner outer : List ℕ) (w : ℕ) → w < 8 → slice_index outer w < 2 ^ 64 → each_below 512 (covers inner outer) ≡ true → HasBits inner outer w
+pub word_covers : (inner outer : List ℕ) (w : ℕ) → w < 8 → slice_index outer w < 2 ^ 64 →
+    each_below 512 (covers inner outer) ≡ true → HasBits inner outer w
 word_covers inner outer w under fits each = bits_cover (slice_index inner w) (slice_index outer w) fits (λ k low.
     let here = each_below_at 512 (covers inner outer) each (64 * w + k) (omega arith) in
     rw (place_word w k low, place_bit w k low) at here)

@@ -8,7 +8,8 @@ pub each_below_none : (test : ℕ → Bool) → each_below 0 test ≡ true
 unfolding each_below
 each_below_none test = refl
 
-pub each_below_more : (n : ℕ) (test : ℕ → Bool) → each_below n test ≡ true → test n ≡ true → each_below (n + 1) test ≡ true
+pub each_below_more : (n : ℕ) (test : ℕ → Bool) → each_below n test ≡ true → test n ≡ true →
+    each_below (n + 1) test ≡ true
 unfolding each_below
 each_below_more n test below here = rw add-one (and_from (each_below n test) (test n) below here)
 

@@ -1,6 +1,6 @@
 ghost use Rattle.std.specs.Prelude.{◌≡◌, pos, true};
 ghost use Rattle.verifier_spec.specs.States.{is_proper};
-ghost use Rattle.verifier_spec.specs.Joins.{joined_numbers, joined_kind, pairwise, joined};
+ghost use Rattle.verifier_spec.specs.Joins.{joined_numbers, joined_kind, pairwise, joined_state};
 ghost use Rattle.verifier_spec.specs.Ranges.{joined_range};
 
 use crate::{kinds, order};
@@ -73,7 +73,7 @@ fn joined_range(a: Range, b: Range) -> Range
 /// The join of two states.
 #[tactic(auto, using(verifier_spec::proofs::Joins::joined_proper))]
 pub fn joined(a: &Abstract, b: &Abstract) -> Abstract
-    ensures state { result ≡ joined a.now b.now }
+    ensures state { result ≡ joined_state a.now b.now }
     ensures proper { is_proper a.now ≡ true → is_proper b.now ≡ true → is_proper result ≡ true }
 {
     Abstract {

@@ -1,11 +1,13 @@
 -- Shifts by groups of seven bits.
-use Rattle.std.proofs.Common.{◌≡◌, ℕ, zero, suc, ◌+◌, ◌-◌, ◌*◌, ◌/◌, ◌%◌, ◌^◌, ◌<◌, ◌≤◌, ◌⊎◌, inl, inr, List, [], ◌∷◌, ◌++◌, length, get_or, set, take, refl, sym, subst, ap, ◌∙◌, append_assoc, arith}
+use Rattle.std.proofs.Common.{◌≡◌, ℕ, zero, suc, ◌+◌, ◌-◌, ◌*◌, ◌/◌, ◌%◌, ◌^◌, ◌<◌, ◌≤◌, ◌⊎◌, inl, inr, List, [], ◌∷◌}
+use Rattle.std.proofs.Common.{◌++◌, length, get_or, set, take, refl, sym, subst, ap, ◌∙◌, append_assoc, arith}
 use Rattle.std.proofs.lemmas.Bool.{cases_lt, lt-ltb, le-ltb}
 use Rattle.std.proofs.lemmas.List.{take_more_set}
 use Rattle.std.specs.Prelude.{ℤ, FitsSigned}
 use Rattle.std.specs.Int.{w32, w64, cast_signed, cast_unsigned}
 use Rattle.std.proofs.lemmas.Int.{to_z-of_z}
-use Rattle.wire_spec.proofs.Varints.{zigzag-fits_32, groups_is, IsBase128-groups, worth, worth-128, worth-mono, Adds, adds, nine_groups}
+use Rattle.wire_spec.proofs.Varints.{zigzag-fits_32, groups_is, IsBase128-groups, worth, worth-128, worth-mono, Adds}
+use Rattle.wire_spec.proofs.Varints.{adds, nine_groups}
 use Rattle.wire_spec.specs.Varint.{groups_value, groups, zigzag}
 
 -- a group of seven bits in its place
@@ -31,37 +33,43 @@ pub record Sum (bytes : List ℕ) (at number digit : ℕ) : Type 0 where
   pub adds : Adds bytes at (number + (digit * 2 ^ (7 * at)) % 2 ^ 64)
   pub fits : number + (digit * 2 ^ (7 * at)) % 2 ^ 64 < 2 ^ 63
 
-pub sum_at : (bytes : List ℕ) (at number digit : ℕ) → at ≤ 8 → at < length bytes → number ≡ groups_value (take at bytes) → number < worth at 1 → digit < 128 → digit ≡ get_or bytes at 0 % 128 → Sum bytes at number digit
+pub sum_at : (bytes : List ℕ) (at number digit : ℕ) → at ≤ 8 → at < length bytes →
+    number ≡ groups_value (take at bytes) → number < worth at 1 → digit < 128 → digit ≡ get_or bytes at 0 % 128 →
+    Sum bytes at number digit
 sum_at bytes at number digit few lt is below small e =
     let shift : (digit * 2 ^ (7 * at)) % 2 ^ 64 ≡ worth at digit = shifted at digit few small in
     let more : Adds bytes at (number + worth at digit) = adds bytes at number digit lt is below e in
     record {
       adds = subst (λ (x : ℕ). Adds bytes at (number + x)) (sym shift) more;
-      fits = subst (λ (x : ℕ). number + x < 2 ^ 63) (sym shift) (nine_groups (at + 1) (number + worth at digit) (omega arith) more.below);
+      fits = subst (λ (x : ℕ). number + x < 2 ^ 63) (sym shift)
+          (nine_groups (at + 1) (number + worth at digit) (omega arith) more.below);
     }
 
 -- what a number of 32 bits is after casts
 pub cast_64 : (z : ℤ) → FitsSigned w32 z → cast_signed w64 (cast_unsigned w64 z) ≡ z
 cast_64 z h = to_z-of_z w64 z (record { sfits = omega (arith, h.sfits) })
 
-pub cast_32 : (z : ℤ) → FitsSigned w32 z → cast_signed w32 (cast_unsigned w32 (cast_signed w64 (cast_unsigned w64 z))) ≡ z
+pub cast_32 : (z : ℤ) → FitsSigned w32 z →
+    cast_signed w32 (cast_unsigned w32 (cast_signed w64 (cast_unsigned w64 z))) ≡ z
 cast_32 z h = ap (λ (x : ℤ). cast_signed w32 (cast_unsigned w32 x)) (cast_64 z h) ∙ to_z-of_z w32 z h
 
 -- ---- Writing
 
 -- one group more was written
-pub put_more : (bytes : List ℕ) (at rest number : ℕ) → at < 9 → length bytes ≡ 10 → 128 ≤ rest → take at bytes ++ groups (10 - at) rest ≡ groups 10 number
-    → take (at + 1) (set bytes at (128 + rest % 128)) ++ groups (10 - (at + 1)) (rest / 128) ≡ groups 10 number
+pub put_more : (bytes : List ℕ) (at rest number : ℕ) → at < 9 → length bytes ≡ 10 → 128 ≤ rest →
+    take at bytes ++ groups (10 - at) rest ≡ groups 10 number →
+    take (at + 1) (set bytes at (128 + rest % 128)) ++ groups (10 - (at + 1)) (rest / 128) ≡ groups 10 number
 unfolding groups
 put_more bytes at rest number lt size more is =
     let left : 10 - at ≡ suc (10 - (at + 1)) = omega arith in
     let within : at < length bytes = omega arith in
-    let before : take at bytes ++ (128 + rest % 128) ∷ groups (10 - (at + 1)) (rest / 128) ≡ groups 10 number = rw (left, le-ltb rest 128 more) at is in
+    let before : take at bytes ++ (128 + rest % 128) ∷ groups (10 - (at + 1)) (rest / 128) ≡ groups 10 number =
+    rw (left, le-ltb rest 128 more) at is in
     rw (take_more_set bytes at (128 + rest % 128) within, append_assoc) before
 
 -- the last group was written
-pub put_last : (bytes : List ℕ) (at rest number : ℕ) → at < 10 → length bytes ≡ 10 → rest < 128 → take at bytes ++ groups (10 - at) rest ≡ groups 10 number
-    → take (at + 1) (set bytes at rest) ≡ groups 10 number
+pub put_last : (bytes : List ℕ) (at rest number : ℕ) → at < 10 → length bytes ≡ 10 → rest < 128 →
+    take at bytes ++ groups (10 - at) rest ≡ groups 10 number → take (at + 1) (set bytes at rest) ≡ groups 10 number
 unfolding groups
 put_last bytes at rest number lt size few is =
     let left : 10 - at ≡ suc (10 - (at + 1)) = omega arith in
@@ -72,7 +80,8 @@ put_last bytes at rest number lt size few is =
 pub rest_below : (at rest : ℕ) → worth at rest < 2 ^ 64 → worth (at + 1) (rest / 128) < 2 ^ 64
 rest_below at rest lt =
     let plus : suc at ≡ at + 1 = omega arith in
-    subst (λ (k : ℕ). worth k (rest / 128) < 2 ^ 64) plus (omega (arith, worth-128 at (rest / 128), worth-mono at (128 * (rest / 128)) rest (omega arith)))
+    subst (λ (k : ℕ). worth k (rest / 128) < 2 ^ 64) plus
+    (omega (arith, worth-128 at (rest / 128), worth-mono at (128 * (rest / 128)) rest (omega arith)))
 
 pub rest_last : (at rest : ℕ) → 9 ≤ at → at ≤ 9 → worth at rest < 2 ^ 64 → rest < 2
 rest_last at rest low high lt =
@@ -82,21 +91,26 @@ rest_last at rest low high lt =
 
 -- a number of 32 bits has no more than five groups
 pub groups_5 : (z : ℤ) → FitsSigned w32 z → groups 10 (zigzag z) ≡ groups 5 (zigzag z)
-groups_5 z h = groups_is 5 (groups 10 (zigzag z)) (zigzag z) (omega (arith, zigzag-fits_32 z h)) (omega arith) (IsBase128-groups 10 (zigzag z) (omega (arith, zigzag-fits_32 z h)) (omega arith))
+groups_5 z h = groups_is 5 (groups 10 (zigzag z)) (zigzag z) (omega (arith, zigzag-fits_32 z h)) (omega arith)
+    (IsBase128-groups 10 (zigzag z) (omega (arith, zigzag-fits_32 z h)) (omega arith))
 
-pub cast_from_32 : (z : ℤ) → FitsSigned w32 z → cast_signed w64 (cast_unsigned w64 (cast_signed w32 (cast_unsigned w32 z))) ≡ z
+pub cast_from_32 : (z : ℤ) → FitsSigned w32 z →
+    cast_signed w64 (cast_unsigned w64 (cast_signed w32 (cast_unsigned w32 z))) ≡ z
 cast_from_32 z h = ap (λ (x : ℤ). cast_signed w64 (cast_unsigned w64 x)) (to_z-of_z w32 z h) ∙ cast_64 z h
 
 -- ---- Lengths
 
-pub len_more : (len rest total : ℕ) → len < 10 → 128 ≤ rest → len + length (groups (11 - len) rest) ≡ total → (len + 1) + length (groups (11 - (len + 1)) (rest / 128)) ≡ total
+pub len_more : (len rest total : ℕ) → len < 10 → 128 ≤ rest → len + length (groups (11 - len) rest) ≡ total →
+    (len + 1) + length (groups (11 - (len + 1)) (rest / 128)) ≡ total
 unfolding groups
 len_more len rest total lt more is =
     let left : 11 - len ≡ suc (11 - (len + 1)) = omega arith in
-    let before : len + suc (length (groups (11 - (len + 1)) (rest / 128))) ≡ total = rw (left, le-ltb rest 128 more) at is in
+    let before : len + suc (length (groups (11 - (len + 1)) (rest / 128))) ≡ total =
+    rw (left, le-ltb rest 128 more) at is in
     omega arith
 
-pub len_last : (len rest total : ℕ) → len < 10 → rest < 128 → len + length (groups (11 - len) rest) ≡ 1 + total → len ≡ total
+pub len_last : (len rest total : ℕ) → len < 10 → rest < 128 → len + length (groups (11 - len) rest) ≡ 1 + total →
+    len ≡ total
 unfolding groups
 len_last len rest total lt few is =
     let left : 11 - len ≡ suc (11 - (len + 1)) = omega arith in
@@ -105,10 +119,16 @@ len_last len rest total lt few is =
 
 one_group : (rest : ℕ) → length (groups 1 rest) ≡ 1
 unfolding groups
-one_group rest = elim (cases_lt rest 128) [ inl few ↦ rw (lt-ltb rest 128 few) refl | inr more ↦ rw (le-ltb rest 128 more) refl ]
+one_group rest = elim (cases_lt rest 128) [
+  | inl few ↦ rw (lt-ltb rest 128 few) refl
+  | inr more ↦
+      rw (le-ltb rest 128 more) refl
+]
 
-pub len_end : (len rest total : ℕ) → 10 ≤ len → len ≤ 10 → len + length (groups (11 - len) rest) ≡ 1 + total → 10 ≡ total
+pub len_end : (len rest total : ℕ) → 10 ≤ len → len ≤ 10 → len + length (groups (11 - len) rest) ≡ 1 + total →
+    10 ≡ total
 len_end len rest total low high is =
     let ten : len ≡ 10 = omega arith in
-    let there : 10 + length (groups (11 - 10) rest) ≡ 1 + total = subst (λ (k : ℕ). k + length (groups (11 - k) rest) ≡ 1 + total) ten is in
+    let there : 10 + length (groups (11 - 10) rest) ≡ 1 + total =
+    subst (λ (k : ℕ). k + length (groups (11 - k) rest) ≡ 1 + total) ten is in
     omega (arith, one_group rest, there)

@@ -1,14 +1,18 @@
 -- What a conditional jump by a constant leaves of an interval has every number that goes along the edge, is in the
 -- interval, and keeps the order of intervals.
-use Rattle.std.proofs.Common.{◌≡◌, ℕ, zero, suc, ◌+◌, ◌-◌, ◌<◌, ◌≤◌, min, max, Bool, true, false, ◌==◌, nat_le, if◌then◌else◌, Option, Some, None, refl, arith}
-use Rattle.std.proofs.lemmas.Bool.{cond_both, cond-true, eqb-true, eqb-false, ltb-true, ltb-false, leb-true, leb-false, le-leb, not-true, not-false}
-use Rattle.machine_spec.specs.declared.operation.Width.{Width}
+use Rattle.std.proofs.Common.{◌≡◌, ℕ, zero, suc, ◌+◌, ◌-◌, ◌<◌, ◌≤◌, min, max, Bool, true, false, ◌==◌, nat_le}
+use Rattle.std.proofs.Common.{if◌then◌else◌, Option, Some, None, refl, arith}
+use Rattle.std.proofs.lemmas.Bool.{cond_both, cond-true, eqb-true, eqb-false, ltb-true, ltb-false, leb-true, leb-false}
+use Rattle.std.proofs.lemmas.Bool.{le-leb, not-true, not-false}
+use Rattle.machine_spec.specs.declared.{operation.Width.Width, operation.Test.Test}
 use Rattle.machine_spec.specs.declared.operation.Width.TheVariants.{Bits32, Bits64}
-use Rattle.machine_spec.specs.declared.operation.Test.{Test}
-use Rattle.machine_spec.specs.declared.operation.Test.TheVariants.{Equal, NotEqual, Greater, GreaterOrEqual, Less, LessOrEqual, AnyBit, SignedGreater, SignedGreaterOrEqual, SignedLess, SignedLessOrEqual}
+use Rattle.machine_spec.specs.declared.operation.Test.TheVariants.{Equal, NotEqual, Greater, GreaterOrEqual, Less}
+use Rattle.machine_spec.specs.declared.operation.Test.TheVariants.{LessOrEqual, AnyBit, SignedGreater}
+use Rattle.machine_spec.specs.declared.operation.Test.TheVariants.{SignedGreaterOrEqual, SignedLess, SignedLessOrEqual}
 use Rattle.machine_spec.specs.Arithmetic.{compares, holds}
 use Rattle.verifier_spec.specs.declared.interval.Interval.{Interval}
-use Rattle.verifier_spec.specs.Intervals.{from_to, IsIn, IsPartOf, if_any, equal_to, different_from, above, at_least, at_most, below, passing_part, opposite, narrowed}
+use Rattle.verifier_spec.specs.Intervals.{from_to, IsIn, IsPartOf, if_any, equal_to, different_from, above, at_least}
+use Rattle.verifier_spec.specs.Intervals.{at_most, below, passing_part, opposite, narrowed_interval}
 
 -- ---- a part with a number in it
 
@@ -38,10 +42,13 @@ module _ (x : Interval) (n : ℕ) (has : IsIn n x) where
 
   different_part : (c : ℕ) → (n ≡ c → ⊥) → IsPartWith n x (different_from x c)
   different_part c d =
-      cond_both (x.low == c) (if_any (x.low + 1) x.high) (if x.high == c then if_any x.low (x.high - 1) else Some x) (IsPartWith n x)
-      (λ e. let is = eqb-true x.low c e in any_part (x.low + 1) x.high (omega arith) has.high (omega arith) (omega arith))
+      cond_both (x.low == c) (if_any (x.low + 1) x.high) (if x.high == c then if_any x.low (x.high - 1) else Some x)
+      (IsPartWith n x)
+      (λ e. let is = eqb-true x.low c e in
+      any_part (x.low + 1) x.high (omega arith) has.high (omega arith) (omega arith))
       (λ e. cond_both (x.high == c) (if_any x.low (x.high - 1)) (Some x) (IsPartWith n x)
-      (λ f. let is = eqb-true x.high c f in any_part x.low (x.high - 1) has.low (omega arith) (omega arith) (omega arith))
+      (λ f. let is = eqb-true x.high c f in
+      any_part x.low (x.high - 1) has.low (omega arith) (omega arith) (omega arith))
       (λ f. whole_part))
 
   above_part : (c : ℕ) → c < n → IsPartWith n x (above x c)
@@ -70,7 +77,8 @@ module _ (x : Interval) (n : ℕ) (has : IsIn n x) where
   passing_has SignedLess c h = whole_part
   passing_has SignedLessOrEqual c h = whole_part
 
-  failing_has : (test : Test) (c : ℕ) → compares Bits64 test n c ≡ false → IsPartWith n x (passing_part (opposite test) x c)
+  failing_has : (test : Test) (c : ℕ) → compares Bits64 test n c ≡ false →
+      IsPartWith n x (passing_part (opposite test) x c)
   failing_has Equal c h = different_part c (eqb-false n c h)
   failing_has NotEqual c h = equal_part c (eqb-true n c (not-false (n == c) h))
   failing_has Greater c h = at_most_part c (ltb-false c n h)
@@ -84,7 +92,8 @@ module _ (x : Interval) (n : ℕ) (has : IsIn n x) where
   failing_has SignedLessOrEqual c h = whole_part
 
   -- A number is in what its edge leaves: where the test holds, that of the jump, else that of the next instruction.
-  pub narrowed_part : (width : Width) (test : Test) (taken : Bool) (c : ℕ) → holds width test n c ≡ taken → IsPartWith n x (narrowed width test taken x c)
+  pub narrowed_part : (width : Width) (test : Test) (taken : Bool) (c : ℕ) → holds width test n c ≡ taken →
+      IsPartWith n x (narrowed_interval width test taken x c)
   narrowed_part Bits32 test taken c h = whole_part
   narrowed_part Bits64 test true c h = passing_has test c h
   narrowed_part Bits64 test false c h = failing_has test c h
@@ -97,9 +106,11 @@ IsEdgeWithin None outer = Unit {0}
 IsEdgeWithin (Some inner) None = ⊥
 IsEdgeWithin (Some inner) (Some outer) = IsPartOf inner outer
 
-any_within : (inner_low inner_high low high : ℕ) → (inner_low ≤ inner_high → (low ≤ inner_low) × (inner_high ≤ high)) → IsEdgeWithin (if_any inner_low inner_high) (if_any low high)
+any_within : (inner_low inner_high low high : ℕ) → (inner_low ≤ inner_high → (low ≤ inner_low) × (inner_high ≤ high)) →
+    IsEdgeWithin (if_any inner_low inner_high) (if_any low high)
 any_within inner_low inner_high low high h =
-    cond_both (nat_le inner_low inner_high) (Some (from_to inner_low inner_high)) None (λ edge. IsEdgeWithin edge (if_any low high))
+    cond_both (nat_le inner_low inner_high) (Some (from_to inner_low inner_high)) None
+    (λ edge. IsEdgeWithin edge (if_any low high))
     (λ e. let order = leb-true inner_low inner_high e in
     let parts = h order in
     let some : nat_le low high ≡ true = le-leb low high (omega arith) in
@@ -109,7 +120,8 @@ any_within inner_low inner_high low high h =
 
 module _ (x a : Interval) (inside : IsPartOf x a) (order : x.low ≤ x.high) where
   equal_within : (c : ℕ) → IsEdgeWithin (equal_to x c) (equal_to a c)
-  equal_within c = any_within (max x.low c) (min x.high c) (max a.low c) (min a.high c) (λ h. (omega arith, omega arith))
+  equal_within c = any_within (max x.low c) (min x.high c) (max a.low c) (min a.high c)
+      (λ h. (omega arith, omega arith))
 
   above_within : (c : ℕ) → IsEdgeWithin (above x c) (above a c)
   above_within c = any_within (max x.low (c + 1)) x.high (max a.low (c + 1)) a.high (λ h. (omega arith, omega arith))
@@ -131,28 +143,39 @@ module _ (x a : Interval) (inside : IsPartOf x a) (order : x.low ≤ x.high) whe
       rw same (record { low = p; high = q })
 
   -- the three forms of an interval without c
-  different_cases : (c : ℕ) (outer : Option Interval) → (x.low ≡ c → IsEdgeWithin (if_any (x.low + 1) x.high) outer) → ((x.low ≡ c → ⊥) → x.high ≡ c → IsEdgeWithin (if_any x.low (x.high - 1)) outer)
-      → ((x.low ≡ c → ⊥) → (x.high ≡ c → ⊥) → IsEdgeWithin (Some x) outer) → IsEdgeWithin (different_from x c) outer
+  different_cases : (c : ℕ) (outer : Option Interval) → (x.low ≡ c → IsEdgeWithin (if_any (x.low + 1) x.high) outer) →
+      ((x.low ≡ c → ⊥) → x.high ≡ c → IsEdgeWithin (if_any x.low (x.high - 1)) outer) →
+      ((x.low ≡ c → ⊥) → (x.high ≡ c → ⊥) → IsEdgeWithin (Some x) outer) → IsEdgeWithin (different_from x c) outer
   different_cases c outer at_low at_high at_none =
-      cond_both (x.low == c) (if_any (x.low + 1) x.high) (if x.high == c then if_any x.low (x.high - 1) else Some x) (λ edge. IsEdgeWithin edge outer)
+      cond_both (x.low == c) (if_any (x.low + 1) x.high) (if x.high == c then if_any x.low (x.high - 1) else Some x)
+      (λ edge. IsEdgeWithin edge outer)
       (λ e. at_low (eqb-true x.low c e))
-      (λ e. cond_both (x.high == c) (if_any x.low (x.high - 1)) (Some x) (λ edge. IsEdgeWithin edge outer) (λ f. at_high (eqb-false x.low c e) (eqb-true x.high c f))
+      (λ e. cond_both (x.high == c) (if_any x.low (x.high - 1)) (Some x) (λ edge. IsEdgeWithin edge outer)
+      (λ f. at_high (eqb-false x.low c e) (eqb-true x.high c f))
       (λ f. at_none (eqb-false x.low c e) (eqb-false x.high c f)))
 
   different_within : (c : ℕ) → IsEdgeWithin (different_from x c) (different_from a c)
   different_within c =
-      cond_both (a.low == c) (if_any (a.low + 1) a.high) (if a.high == c then if_any a.low (a.high - 1) else Some a) (λ edge. IsEdgeWithin (different_from x c) edge)
+      cond_both (a.low == c) (if_any (a.low + 1) a.high) (if a.high == c then if_any a.low (a.high - 1) else Some a)
+      (λ edge. IsEdgeWithin (different_from x c) edge)
       (λ e. let first = eqb-true a.low c e in
-      different_cases c (if_any (a.low + 1) a.high) (λ p. any_within (x.low + 1) x.high (a.low + 1) a.high (λ h. (omega arith, omega arith)))
-      (λ p q. any_within x.low (x.high - 1) (a.low + 1) a.high (λ h. (omega arith, omega arith))) (λ p q. all_within (a.low + 1) a.high (omega arith) inside.high))
-      (λ e. cond_both (a.high == c) (if_any a.low (a.high - 1)) (Some a) (λ edge. IsEdgeWithin (different_from x c) edge)
+      different_cases c (if_any (a.low + 1) a.high) (λ p. any_within (x.low + 1) x.high (a.low + 1) a.high
+      (λ h. (omega arith, omega arith)))
+      (λ p q. any_within x.low (x.high - 1) (a.low + 1) a.high (λ h. (omega arith, omega arith)))
+      (λ p q. all_within (a.low + 1) a.high (omega arith) inside.high))
+      (λ e. cond_both (a.high == c) (if_any a.low (a.high - 1)) (Some a)
+      (λ edge. IsEdgeWithin (different_from x c) edge)
       (λ f. let last = eqb-true a.high c f in
-      different_cases c (if_any a.low (a.high - 1)) (λ p. any_within (x.low + 1) x.high a.low (a.high - 1) (λ h. (omega arith, omega arith)))
-      (λ p q. any_within x.low (x.high - 1) a.low (a.high - 1) (λ h. (omega arith, omega arith))) (λ p q. all_within a.low (a.high - 1) inside.low (omega arith)))
-      (λ f. different_cases c (Some a) (λ p. part_within (x.low + 1) x.high (omega arith) (omega arith)) (λ p q. part_within x.low (x.high - 1) (omega arith) (omega arith)) (λ p q. inside)))
+      different_cases c (if_any a.low (a.high - 1)) (λ p. any_within (x.low + 1) x.high a.low (a.high - 1)
+      (λ h. (omega arith, omega arith)))
+      (λ p q. any_within x.low (x.high - 1) a.low (a.high - 1) (λ h. (omega arith, omega arith)))
+      (λ p q. all_within a.low (a.high - 1) inside.low (omega arith)))
+      (λ f. different_cases c (Some a) (λ p. part_within (x.low + 1) x.high (omega arith) (omega arith))
+      (λ p q. part_within x.low (x.high - 1) (omega arith) (omega arith)) (λ p q. inside)))
     where
       part_within : (low high : ℕ) → a.low ≤ low → high ≤ a.high → IsEdgeWithin (if_any low high) (Some a)
-      part_within low high p q = cond_both (nat_le low high) (Some (from_to low high)) None (λ edge. IsEdgeWithin edge (Some a)) (λ e. record { low = p; high = q }) (λ e. tt)
+      part_within low high p q = cond_both (nat_le low high) (Some (from_to low high)) None
+          (λ edge. IsEdgeWithin edge (Some a)) (λ e. record { low = p; high = q }) (λ e. tt)
 
   passing_within : (test : Test) (c : ℕ) → IsEdgeWithin (passing_part test x c) (passing_part test a c)
   passing_within Equal c = equal_within c
@@ -168,7 +191,8 @@ module _ (x a : Interval) (inside : IsPartOf x a) (order : x.low ≤ x.high) whe
   passing_within SignedLessOrEqual c = inside
 
   -- An edge of an interval within another leaves what is within what that edge leaves of the other, or nothing.
-  pub narrowed_within : (width : Width) (test : Test) (taken : Bool) (c : ℕ) → IsEdgeWithin (narrowed width test taken x c) (narrowed width test taken a c)
+  pub narrowed_within : (width : Width) (test : Test) (taken : Bool) (c : ℕ) →
+      IsEdgeWithin (narrowed_interval width test taken x c) (narrowed_interval width test taken a c)
   narrowed_within Bits32 test taken c = inside
   narrowed_within Bits64 test true c = passing_within test c
   narrowed_within Bits64 test false c = passing_within (opposite test) c
@@ -182,15 +206,18 @@ IsEdgeOf x (Some part) = (part.low ≤ part.high) × IsPartOf part x
 module _ (x : Interval) (order : x.low ≤ x.high) where
   any_edge : (low high : ℕ) → x.low ≤ low → high ≤ x.high → IsEdgeOf x (if_any low high)
   any_edge low high p q =
-      cond_both (nat_le low high) (Some (from_to low high)) None (IsEdgeOf x) (λ e. (leb-true low high e, record { low = p; high = q })) (λ e. tt)
+      cond_both (nat_le low high) (Some (from_to low high)) None (IsEdgeOf x)
+      (λ e. (leb-true low high e, record { low = p; high = q })) (λ e. tt)
 
   whole_edge : IsEdgeOf x (Some x)
   whole_edge = (order, record { low = omega arith; high = omega arith })
 
   different_edge : (c : ℕ) → IsEdgeOf x (different_from x c)
   different_edge c =
-      cond_both (x.low == c) (if_any (x.low + 1) x.high) (if x.high == c then if_any x.low (x.high - 1) else Some x) (IsEdgeOf x) (λ e. any_edge (x.low + 1) x.high (omega arith) (omega arith))
-      (λ e. cond_both (x.high == c) (if_any x.low (x.high - 1)) (Some x) (IsEdgeOf x) (λ f. any_edge x.low (x.high - 1) (omega arith) (omega arith)) (λ f. whole_edge))
+      cond_both (x.low == c) (if_any (x.low + 1) x.high) (if x.high == c then if_any x.low (x.high - 1) else Some x)
+      (IsEdgeOf x) (λ e. any_edge (x.low + 1) x.high (omega arith) (omega arith))
+      (λ e. cond_both (x.high == c) (if_any x.low (x.high - 1)) (Some x) (IsEdgeOf x)
+      (λ f. any_edge x.low (x.high - 1) (omega arith) (omega arith)) (λ f. whole_edge))
 
   at_most_edge : (c : ℕ) → IsEdgeOf x (at_most x c)
   at_most_edge c = any_edge x.low (min x.high c) (omega arith) (omega arith)
@@ -212,7 +239,8 @@ module _ (x : Interval) (order : x.low ≤ x.high) where
   passing_edge SignedLess c = whole_edge
   passing_edge SignedLessOrEqual c = whole_edge
 
-  pub narrowed_proper : (width : Width) (test : Test) (taken : Bool) (c : ℕ) → IsEdgeOf x (narrowed width test taken x c)
+  pub narrowed_proper : (width : Width) (test : Test) (taken : Bool) (c : ℕ) →
+      IsEdgeOf x (narrowed_interval width test taken x c)
   narrowed_proper Bits32 test taken c = whole_edge
   narrowed_proper Bits64 test true c = passing_edge test c
   narrowed_proper Bits64 test false c = passing_edge (opposite test) c

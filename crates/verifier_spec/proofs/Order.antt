@@ -1,13 +1,13 @@
 -- The order of abstract states, part by part: a wider state holds of whatever a narrower one does.
-use Rattle.std.proofs.Common.{◌≡◌, ℕ, zero, suc, ◌<◌, Bool, true, false, ◌||◌, not, refl, sym, ◌∙◌, subst, ⊎_elim, arith}
+use Rattle.std.proofs.Common.{◌≡◌, ℕ, zero, suc, ◌<◌, Bool, true, false, ◌||◌, not, refl, sym, ◌∙◌, subst, ⊎_elim}
+use Rattle.std.proofs.Common.{arith}
 use Rattle.std.proofs.lemmas.Bool.{and_parts, and_from, false≢true, cases_lt, cases_eq}
 use Rattle.machine_spec.specs.declared.instruction.Region.{Region}
 use Rattle.machine_spec.specs.declared.instruction.Region.TheVariants as region
 use Rattle.machine_spec.specs.Values.{Value, Nothing, Number, Address}
 use Rattle.machine_spec.specs.Machine.{Input, State, length_of}
-use Rattle.verifier_spec.specs.declared.state.Abs.{Abs}
+use Rattle.verifier_spec.specs.declared.{state.Abs.Abs, state.Abstract.Abstract}
 use Rattle.verifier_spec.specs.declared.state.Abs.TheVariants as abs
-use Rattle.verifier_spec.specs.declared.state.Abstract.{Abstract}
 use Rattle.verifier_spec.specs.Intervals.{IsIn}
 use Rattle.verifier_spec.specs.StackSets.{is_set}
 use Rattle.verifier_spec.specs.Ranges.{lengths_from_to, interval_of, is_range_within}
@@ -66,7 +66,8 @@ within_parts a b h =
     record {
       kinds = each_below_at 11 (λ k. is_kind_within a (kind_at a k) (kind_at b k)) p.0;
       lengths = narrower_from a b q.0 r.0;
-      set = λ place low e. set_if (is_set b.set place) (is_set a.set place) (each_below_at 512 (λ place. not (is_set b.set place) || is_set a.set place) r.1 place low) e;
+      set = λ place low e. set_if (is_set b.set place) (is_set a.set place)
+          (each_below_at 512 (λ place. not (is_set b.set place) || is_set a.set place) r.1 place low) e;
     }
 
 pub within_from : (a b : Abstract) → IsWithin a b → is_within a b ≡ true
@@ -74,7 +75,8 @@ unfolding is_within
 within_from a b w =
     and_from _ _ (each_below_from 11 (λ k. is_kind_within a (kind_at a k) (kind_at b k)) w.kinds)
     (and_from _ _ (w.lengths region.Key) (and_from _ _ (w.lengths region.Value)
-    (each_below_from 512 (λ place. not (is_set b.set place) || is_set a.set place) (λ place low. set_from (is_set b.set place) (is_set a.set place) (w.set place low)))))
+    (each_below_from 512 (λ place. not (is_set b.set place) || is_set a.set place)
+    (λ place low. set_from (is_set b.set place) (is_set a.set place) (w.set place low)))))
 
 -- ---- one kind within another
 
@@ -89,7 +91,8 @@ region_is region.Key region.Value h = absurd (false≢true h)
 region_is region.Value region.Stack h = absurd (false≢true h)
 region_is region.Value region.Key h = absurd (false≢true h)
 
-pub kind_holds : (input : Input) (a : Abstract) (j k : Abs) (word : Value) → HasLengths input a → is_kind_within a j k ≡ true → HasKind input j word → HasKind input k word
+pub kind_holds : (input : Input) (a : Abstract) (j k : Abs) (word : Value) → HasLengths input a →
+    is_kind_within a j k ≡ true → HasKind input j word → HasKind input k word
 kind_holds input a j abs.None word l w h = tt
 kind_holds input a abs.None (abs.Num lo hi) word l w h = absurd (false≢true w)
 kind_holds input a abs.None (abs.Len r) word l w h = absurd (false≢true w)
@@ -102,7 +105,8 @@ kind_holds input a (abs.Num l m) (abs.Num lo hi) (Address r x) ls w h = absurd h
 kind_holds input a (abs.Num l m) (abs.Len r) word ls w h = absurd (false≢true w)
 kind_holds input a (abs.Num l m) (abs.Addr r lo hi) word ls w h = absurd (false≢true w)
 kind_holds input a (abs.Len r) (abs.Num lo hi) (Number n) l w h =
-    let has = in_wider n (length_range a r) (lengths_from_to lo hi) w (subst (λ m. IsIn m (interval_of (length_range a r))) (sym h) (l r)) in
+    let has = in_wider n (length_range a r) (lengths_from_to lo hi) w
+    (subst (λ m. IsIn m (interval_of (length_range a r))) (sym h) (l r)) in
     (has.low, has.high)
 kind_holds input a (abs.Len r) (abs.Num lo hi) Nothing l w h = absurd h
 kind_holds input a (abs.Len r) (abs.Num lo hi) (Address q x) l w h = absurd h
@@ -112,14 +116,19 @@ kind_holds input a (abs.Addr r lo hi) (abs.Num l m) word ls w h = absurd (false�
 kind_holds input a (abs.Addr r lo hi) (abs.Len q) word ls w h = absurd (false≢true w)
 kind_holds input a (abs.Addr r lo hi) (abs.Addr q low high) (Address at x) ls w h =
     let p = and_parts _ _ w in
-    let t = and_parts _ _ p.1 in
-    (sym (region_is r q p.0) ∙ h.0, le_trans_z low lo x (le_z-true _ _ t.0) h.1, le_trans_z x hi high h.2 (le_z-true _ _ t.1))
+    let t = and_parts _ _ p.1 in (
+      sym (region_is r q p.0) ∙ h.0,
+      le_trans_z low lo x (le_z-true _ _ t.0) h.1,
+      le_trans_z x hi high h.2
+          (le_z-true _ _ t.1),
+    )
 kind_holds input a (abs.Addr r lo hi) (abs.Addr q low high) Nothing ls w h = absurd h
 kind_holds input a (abs.Addr r lo hi) (abs.Addr q low high) (Number n) ls w h = absurd h
 
 -- ---- one state within another
 
-module _ (input : Input) (a b : Abstract) (s : State) (w : IsWithin a b) (p : is_proper b ≡ true) (h : StandsFor input a s) where
+module _ (input : Input) (a b : Abstract) (s : State) (w : IsWithin a b) (p : is_proper b ≡ true)
+    (h : StandsFor input a s) where
   register_stands : (r : ℕ) → HasKind input (kind_at b r) (s.registers r)
   register_stands r =
       ⊎_elim

@@ -1,21 +1,20 @@
 -- The ranges of abstract states, part by part, and what keeps them.
-use Rattle.std.proofs.Common.{◌≡◌, ℕ, zero, suc, ◌^◌, ◌<◌, ◌≤◌, ℤ, ◌≤ℤ◌, true, List, [], ◌∷◌, length, get_or, set, Some, IfSome, refl, sym, subst, ◌∙◌, arith, length-set}
+use Rattle.std.proofs.Common.{◌≡◌, ℕ, zero, suc, ◌^◌, ◌<◌, ◌≤◌, ℤ, ◌≤ℤ◌, true, List, [], ◌∷◌, length, get_or, set, Some}
+use Rattle.std.proofs.Common.{IfSome, refl, sym, subst, ◌∙◌, arith, length-set}
 use Rattle.std.specs.List.{list_all}
-use Rattle.std.proofs.lemmas.Bool.{and_parts, and_from, leb-true, le-leb, ltb-true, lt-ltb, eqb-true, eq-eqb, false≢true}
+use Rattle.std.proofs.lemmas.Bool.{and_parts, and_from, leb-true, le-leb, ltb-true, lt-ltb, eqb-true, eq-eqb}
+use Rattle.std.proofs.lemmas.Bool.{false≢true}
 use Rattle.std.proofs.lemmas.Option.{same_Some, none-some}
 use Rattle.std.proofs.lemmas.List.{get_or_past}
-use Rattle.wire_spec.specs.declared.limits.TheConstants.{MAX_KEY, MAX_VALUE}
-use Rattle.machine_spec.specs.declared.operation.Width.{Width}
+use Rattle.wire_spec.specs.declared.{limits.TheConstants.MAX_KEY, limits.TheConstants.MAX_VALUE}
+use Rattle.machine_spec.specs.declared.{operation.Width.Width, instruction.Source.Source, instruction.Region.Region}
 use Rattle.machine_spec.specs.declared.operation.Width.TheVariants.{Bits32, Bits64}
-use Rattle.machine_spec.specs.declared.instruction.Source.{Source}
 use Rattle.machine_spec.specs.declared.instruction.Source.TheVariants.{Register, Immediate}
-use Rattle.machine_spec.specs.declared.instruction.Region.{Region}
 use Rattle.machine_spec.specs.declared.instruction.Region.TheVariants as region
 use Rattle.machine_spec.specs.Values.{immediate}
-use Rattle.verifier_spec.specs.declared.interval.Interval.{Interval}
-use Rattle.verifier_spec.specs.declared.state.Abs.{Abs}
+use Rattle.verifier_spec.specs.declared.{interval.Interval.Interval, state.Abs.Abs, state.Range.Range}
+use Rattle.verifier_spec.specs.declared.{state.StackSet.StackSet, state.Abstract.Abstract}
 use Rattle.verifier_spec.specs.declared.state.Abs.TheVariants as abs
-use Rattle.verifier_spec.specs.declared.state.{Range.Range, StackSet.StackSet, Abstract.Abstract}
 use Rattle.verifier_spec.specs.Intervals.{from_to, IsRangeOf}
 use Rattle.verifier_spec.specs.Checks.{source_kind}
 use Rattle.verifier_spec.specs.Ranges.{interval_of, is_proper_range}
@@ -45,7 +44,8 @@ proper_from a p = and_from _ _ (eq-eqb _ _ p.eleven) (and_from _ _ p.kinds (and_
 
 -- ---- each kind
 
-pub kind_from : (kinds : List Abs) (r : ℕ) → list_all is_proper_kind kinds ≡ true → is_proper_kind (get_or kinds r abs.None) ≡ true
+pub kind_from : (kinds : List Abs) (r : ℕ) → list_all is_proper_kind kinds ≡ true →
+    is_proper_kind (get_or kinds r abs.None) ≡ true
 kind_from [] r h = refl
 kind_from (kind ∷ kinds) zero h = (and_parts _ _ h).0
 kind_from (kind ∷ kinds) (suc r) h = kind_from kinds r (and_parts _ _ h).1
@@ -53,12 +53,14 @@ kind_from (kind ∷ kinds) (suc r) h = kind_from kinds r (and_parts _ _ h).1
 pub kind_at_proper : (a : Abstract) (r : ℕ) → is_proper a ≡ true → is_proper_kind (kind_at a r) ≡ true
 kind_at_proper a r h = kind_from a.registers r (proper_parts a h).kinds
 
-all_set : (kinds : List Abs) (r : ℕ) (kind : Abs) → list_all is_proper_kind kinds ≡ true → is_proper_kind kind ≡ true → list_all is_proper_kind (set kinds r kind) ≡ true
+all_set : (kinds : List Abs) (r : ℕ) (kind : Abs) → list_all is_proper_kind kinds ≡ true → is_proper_kind kind ≡ true →
+    list_all is_proper_kind (set kinds r kind) ≡ true
 all_set [] r kind h k = refl
 all_set (first ∷ kinds) zero kind h k = and_from _ _ k (and_parts _ _ h).1
 all_set (first ∷ kinds) (suc r) kind h k = and_from _ _ (and_parts _ _ h).0 (all_set kinds r kind (and_parts _ _ h).1 k)
 
-pub with_kind_proper : (a : Abstract) (r : ℕ) (kind : Abs) → is_proper a ≡ true → is_proper_kind kind ≡ true → is_proper (with_kind a r kind) ≡ true
+pub with_kind_proper : (a : Abstract) (r : ℕ) (kind : Abs) → is_proper a ≡ true → is_proper_kind kind ≡ true →
+    is_proper (with_kind a r kind) ≡ true
 with_kind_proper a r kind h k =
     let p = proper_parts a h in
     proper_from (with_kind a r kind) (record {
@@ -103,23 +105,35 @@ length_range_proper a region.Key h =
     record { order = key.order; limited = omega (arith, key.limited) }
 length_range_proper a region.Value h = proper_ends MAX_VALUE a.value (proper_parts a h).value
 
-pub length_range_order : (a : Abstract) (at : Region) → is_proper a ≡ true → (length_range a at).min ≤ (length_range a at).max
+pub length_range_order : (a : Abstract) (at : Region) → is_proper a ≡ true →
+    (length_range a at).min ≤ (length_range a at).max
 length_range_order a at h = (length_range_proper a at h).order
 
 pub length_range_limit : (a : Abstract) (at : Region) → is_proper a ≡ true → (length_range a at).max ≤ 65536
 length_range_limit a at h = (length_range_proper a at h).limited
 
 -- a range in the limits that is no longer than the old one
-pub with_lengths_proper : (a : Abstract) (at : Region) (range : Range) → is_proper a ≡ true → range.min ≤ range.max → range.max ≤ (length_range a at).max → is_proper (with_lengths a at range) ≡ true
+pub with_lengths_proper : (a : Abstract) (at : Region) (range : Range) → is_proper a ≡ true → range.min ≤ range.max →
+    range.max ≤ (length_range a at).max → is_proper (with_lengths a at range) ≡ true
 with_lengths_proper a region.Stack range h order inside = h
 with_lengths_proper a region.Key range h order inside =
     let p = proper_parts a h in
     let key = proper_ends MAX_KEY a.key p.key in
-    proper_from _ (record { eleven = p.eleven; kinds = p.kinds; key = proper_from_ends MAX_KEY range order (omega (arith, key.limited)); value = p.value })
+    proper_from _ (record {
+      eleven = p.eleven;
+      kinds = p.kinds;
+      key = proper_from_ends MAX_KEY range order (omega (arith, key.limited));
+      value = p.value;
+    })
 with_lengths_proper a region.Value range h order inside =
     let p = proper_parts a h in
     let value = proper_ends MAX_VALUE a.value p.value in
-    proper_from _ (record { eleven = p.eleven; kinds = p.kinds; key = p.key; value = proper_from_ends MAX_VALUE range order (omega (arith, value.limited)) })
+    proper_from _ (record {
+      eleven = p.eleven;
+      kinds = p.kinds;
+      key = p.key;
+      value = proper_from_ends MAX_VALUE range order (omega (arith, value.limited));
+    })
 
 -- ---- the numbers of a kind
 
@@ -129,26 +143,39 @@ pub record HasRange (a : Abstract) (kind : Abs) : Type 0 where
   pub is : range_of a kind ≡ Some range
   pub proper : IsRangeOf Bits64 range
 
-pub range_at : (a : Abstract) (kind : Abs) → is_proper a ≡ true → is_proper_kind kind ≡ true → is_number_kind kind ≡ true → HasRange a kind
+pub range_at : (a : Abstract) (kind : Abs) → is_proper a ≡ true → is_proper_kind kind ≡ true →
+    is_number_kind kind ≡ true → HasRange a kind
 range_at a abs.None p q k = absurd (false≢true k)
-range_at a (abs.Num lo hi) p q k = record { range = from_to lo hi; is = refl; proper = record { order = num_order lo hi q; limited = num_limit lo hi q } }
+range_at a (abs.Num lo hi) p q k =
+    record {
+      range = from_to lo hi;
+      is = refl;
+      proper = record { order = num_order lo hi q; limited = num_limit lo hi q };
+    }
 range_at a (abs.Len r) p q k =
     let limit = length_range_limit a r p in
-    record { range = interval_of (length_range a r); is = refl; proper = record { order = length_range_order a r p; limited = omega arith } }
+    record {
+      range = interval_of (length_range a r);
+      is = refl;
+      proper = record { order = length_range_order a r p; limited = omega arith };
+    }
 range_at a (abs.Addr r lo hi) p q k = absurd (false≢true k)
 
-number_if_ranged : (a : Abstract) (kind : Abs) (range : Interval) → range_of a kind ≡ Some range → is_number_kind kind ≡ true
+number_if_ranged : (a : Abstract) (kind : Abs) (range : Interval) → range_of a kind ≡ Some range →
+    is_number_kind kind ≡ true
 number_if_ranged a abs.None range e = absurd (none-some range e)
 number_if_ranged a (abs.Num lo hi) range e = refl
 number_if_ranged a (abs.Len r) range e = refl
 number_if_ranged a (abs.Addr r lo hi) range e = absurd (none-some range e)
 
-pub proper_range : (a : Abstract) (kind : Abs) (range : Interval) → is_proper a ≡ true → is_proper_kind kind ≡ true → range_of a kind ≡ Some range → IsRangeOf Bits64 range
+pub proper_range : (a : Abstract) (kind : Abs) (range : Interval) → is_proper a ≡ true → is_proper_kind kind ≡ true →
+    range_of a kind ≡ Some range → IsRangeOf Bits64 range
 proper_range a kind range p q e =
     let r = range_at a kind p q (number_if_ranged a kind range e) in
     subst (IsRangeOf Bits64) (same_Some r.range range (sym r.is ∙ e)) r.proper
 
-pub range_ordered : (a : Abstract) (kind : Abs) → is_proper a ≡ true → is_proper_kind kind ≡ true → IfSome (range_of a kind) (λ r. r.low ≤ r.high)
+pub range_ordered : (a : Abstract) (kind : Abs) → is_proper a ≡ true → is_proper_kind kind ≡ true →
+    IfSome (range_of a kind) (λ r. r.low ≤ r.high)
 range_ordered a abs.None p q = tt
 range_ordered a (abs.Num lo hi) p q = num_order lo hi q
 range_ordered a (abs.Len r) p q = length_range_order a r p
@@ -159,7 +186,8 @@ immediate_limited : (width : Width) (imm : ℤ) → immediate width imm < 2 ^ 64
 immediate_limited Bits32 imm = omega arith
 immediate_limited Bits64 imm = omega arith
 
-pub source_proper : (a : Abstract) (width : Width) (source : Source) → is_proper a ≡ true → is_proper_kind (source_kind a width source) ≡ true
+pub source_proper : (a : Abstract) (width : Width) (source : Source) → is_proper a ≡ true →
+    is_proper_kind (source_kind a width source) ≡ true
 source_proper a width (Register r) p = kind_at_proper a r p
 source_proper a width (Immediate imm) p =
     let c = immediate width imm in

@@ -16,15 +16,19 @@ proper_ends limit range h =
     let p = and_parts _ _ h in
     record { order = leb-true range.min range.max p.0; limited = leb-true range.max limit p.1 }
 
-pub proper_from_ends : (limit : ℕ) (range : Range) → range.min ≤ range.max → range.max ≤ limit → is_proper_range limit range ≡ true
-proper_from_ends limit range order limited = and_from _ _ (le-leb range.min range.max order) (le-leb range.max limit limited)
+pub proper_from_ends : (limit : ℕ) (range : Range) → range.min ≤ range.max → range.max ≤ limit →
+    is_proper_range limit range ≡ true
+proper_from_ends limit range order limited =
+    and_from _ _ (le-leb range.min range.max order) (le-leb range.max limit limited)
 
-pub range_part : (inner outer : Range) → is_range_within inner outer ≡ true → IsPartOf (interval_of inner) (interval_of outer)
+pub range_part : (inner outer : Range) → is_range_within inner outer ≡ true →
+    IsPartOf (interval_of inner) (interval_of outer)
 range_part inner outer h =
     let p = and_parts _ _ h in
     record { low = leb-true outer.min inner.min p.0; high = leb-true inner.max outer.max p.1 }
 
-pub range_from_part : (inner outer : Range) → outer.min ≤ inner.min → inner.max ≤ outer.max → is_range_within inner outer ≡ true
+pub range_from_part : (inner outer : Range) → outer.min ≤ inner.min → inner.max ≤ outer.max →
+    is_range_within inner outer ≡ true
 range_from_part inner outer low high = and_from _ _ (le-leb outer.min inner.min low) (le-leb inner.max outer.max high)
 
 -- ---- their order
@@ -52,13 +56,15 @@ range_left a b = range_from_part a (joined_range a b) (omega arith) (omega arith
 pub range_right : (a b : Range) → is_range_within b (joined_range a b) ≡ true
 range_right a b = range_from_part b (joined_range a b) (omega arith) (omega arith)
 
-pub range_least : (a b c : Range) → is_range_within a c ≡ true → is_range_within b c ≡ true → is_range_within (joined_range a b) c ≡ true
+pub range_least : (a b c : Range) → is_range_within a c ≡ true → is_range_within b c ≡ true →
+    is_range_within (joined_range a b) c ≡ true
 range_least a b c h g =
     let p = range_part a c h in
     let q = range_part b c g in
     range_from_part (joined_range a b) c (omega (arith, p.low, q.low)) (omega (arith, p.high, q.high))
 
-pub joined_range_proper : (limit : ℕ) (a b : Range) → is_proper_range limit a ≡ true → is_proper_range limit b ≡ true → is_proper_range limit (joined_range a b) ≡ true
+pub joined_range_proper : (limit : ℕ) (a b : Range) → is_proper_range limit a ≡ true → is_proper_range limit b ≡ true →
+    is_proper_range limit (joined_range a b) ≡ true
 joined_range_proper limit a b h g =
     let p = proper_ends limit a h in
     let q = proper_ends limit b g in

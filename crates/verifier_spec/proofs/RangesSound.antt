@@ -1,24 +1,29 @@
 -- What an operation or a change makes of numbers is in what it makes of their intervals.
-use Rattle.std.proofs.Common.{◌≡◌, ℕ, ◌+◌, ◌-◌, ◌*◌, ◌/◌, ◌%◌, ◌^◌, ◌<◌, ◌≤◌, min, max, true, ◌&&◌, nat_lt, nat_le, if◌then◌else◌, pos, arith, zero-le, le_trans, pow_pos, mod-eq_of_lt, mod-lt}
+use Rattle.std.proofs.Common.{◌≡◌, ℕ, ◌+◌, ◌-◌, ◌*◌, ◌/◌, ◌%◌, ◌^◌, ◌<◌, ◌≤◌, min, max, true, ◌&&◌, nat_lt, nat_le}
+use Rattle.std.proofs.Common.{if◌then◌else◌, pos, arith, zero-le, le_trans, pow_pos, mod-eq_of_lt, mod-lt}
 use Rattle.std.specs.Prelude.{bit_or, bit_xor}
 use Rattle.std.specs.Int.{w8, w16, w32}
 use Rattle.std.proofs.lemmas.Int.{to_z_pos}
 use Rattle.std.proofs.Math.Nat.{div-le_self, mod-le, add-mod_right}
 use Rattle.std.proofs.lemmas.Bool.{cond_both, ltb-true, leb-true, eqb-true, and_parts}
 use Rattle.std.proofs.lemmas.Nat.{and_le_l, and_le_r, or_lt, xor_lt, mul-le}
-use Rattle.machine_spec.specs.declared.operation.Width.{Width}
+use Rattle.machine_spec.specs.declared.{operation.Width.Width, operation.Operation.Operation}
+use Rattle.machine_spec.specs.declared.{operation.ExtendedWidth.ExtendedWidth, operation.Change.Change}
 use Rattle.machine_spec.specs.declared.operation.Width.TheVariants.{Bits64}
-use Rattle.machine_spec.specs.declared.operation.Operation.{Operation}
-use Rattle.machine_spec.specs.declared.operation.Operation.TheVariants.{Add, Sub, Mul, Div, SignedDiv, Or, And, LeftShift, RightShift, Mod, SignedMod, Xor, ArithmeticRightShift}
-use Rattle.machine_spec.specs.declared.operation.ExtendedWidth.{ExtendedWidth}
+use Rattle.machine_spec.specs.declared.operation.Operation.TheVariants.{Add, Sub, Mul, Div, SignedDiv, Or, And}
+use Rattle.machine_spec.specs.declared.operation.Operation.TheVariants.{LeftShift, RightShift, Mod, SignedMod, Xor}
+use Rattle.machine_spec.specs.declared.operation.Operation.TheVariants.{ArithmeticRightShift}
 use Rattle.machine_spec.specs.declared.operation.ExtendedWidth.TheVariants as extended
-use Rattle.machine_spec.specs.declared.operation.Change.{Change}
 use Rattle.machine_spec.specs.declared.operation.Change.TheVariants.{Negate, Order, SignExtend}
-use Rattle.machine_spec.specs.Arithmetic.{changed_number, signed_part, extended_bits, bit_count, limit, low_bits, computed, number_of}
+use Rattle.machine_spec.specs.Arithmetic.{changed_number, signed_part, extended_bits, bit_count, limit, low_bits}
+use Rattle.machine_spec.specs.Arithmetic.{operation_result, number_of}
 use Rattle.machine_spec.proofs.Results.{limit_pos, limit_le, computed-lt, changed_number-lt}
 use Rattle.verifier_spec.specs.declared.interval.Interval.{Interval}
-use Rattle.verifier_spec.specs.Intervals.{from_to, IsIn, IsRangeOf, whole, cut, is_single, half, is_non_negative, bit_length, of_same_bits, quotients, remainders, shifted_left, shifted_right, computed_range, result_range, changed_range}
-use Rattle.verifier_spec.proofs.Intervals.{div_mono, signed_pos, bit_length-lt, in_whole, in_unless_wrapping, cut_has, cut_range}
+use Rattle.verifier_spec.specs.Intervals.{from_to, IsIn, IsRangeOf, whole, cut_to_width, is_single, half}
+use Rattle.verifier_spec.specs.Intervals.{is_non_negative, bit_length, of_same_bits, quotients, remainders}
+use Rattle.verifier_spec.specs.Intervals.{shifted_left, shifted_right, computed_range, result_range, changed_range}
+use Rattle.verifier_spec.proofs.Intervals.{div_mono, signed_pos, bit_length-lt, in_whole, in_unless_wrapping, cut_has}
+use Rattle.verifier_spec.proofs.Intervals.{cut_range}
 
 -- a difference that does not wrap
 difference : (limit a b : ℕ) → a < limit → b ≤ a → (a + (limit - b)) % limit ≡ a - b
@@ -28,43 +33,52 @@ difference limit a b h le =
 
 -- numbers that are not negative are divided and shifted alike when they are read as signed
 module _ (width : Width) (n m : ℕ) (n_small : n < half width) where
-  signed_quotient : m < half width → computed width SignedDiv n m ≡ n / m
+  signed_quotient : m < half width → operation_result width SignedDiv n m ≡ n / m
   signed_quotient m_small = rw (signed_pos width n n_small, signed_pos width m m_small)
 
-  signed_remainder : m < half width → computed width SignedMod n m ≡ n % m
+  signed_remainder : m < half width → operation_result width SignedMod n m ≡ n % m
   signed_remainder m_small = rw (signed_pos width n n_small, signed_pos width m m_small)
 
-  signed_shift : computed width ArithmeticRightShift n m ≡ computed width RightShift n m
+  signed_shift : operation_result width ArithmeticRightShift n m ≡ operation_result width RightShift n m
   signed_shift = rw (signed_pos width n n_small)
 
-module _ (width : Width) (x y : Interval) (n m : ℕ) (in_x : IsIn n x) (in_y : IsIn m y) (x_limited : x.high < limit width) (y_limited : y.high < limit width) where
+module _ (width : Width) (x y : Interval) (n m : ℕ) (in_x : IsIn n x) (in_y : IsIn m y)
+    (x_limited : x.high < limit width) (y_limited : y.high < limit width) where
   -- every result is a number of the width
-  any_result : (operation : Operation) → IsIn (computed width operation n m) (whole width)
-  any_result operation = in_whole width (computed width operation n m) (computed-lt width operation n m (omega arith) (omega arith))
+  any_result : (operation : Operation) → IsIn (operation_result width operation n m) (whole width)
+  any_result operation = in_whole width (operation_result width operation n m)
+      (computed-lt width operation n m (omega arith) (omega arith))
 
   -- the second number is the only one of its interval
   only : is_single y ≡ true → m ≡ y.low
   only e = let one = eqb-true y.low y.high e in omega arith
 
-  sum_in : IsIn (computed width Add n m) (computed_range width Add x y)
-  sum_in = in_unless_wrapping width (x.low + y.low) (x.high + y.high) (n + m) (limit_pos width) (omega arith) (omega arith)
+  sum_in : IsIn (operation_result width Add n m) (computed_range width Add x y)
+  sum_in = in_unless_wrapping width (x.low + y.low) (x.high + y.high) (n + m) (limit_pos width) (omega arith)
+      (omega arith)
 
-  difference_in : IsIn (computed width Sub n m) (computed_range width Sub x y)
+  difference_in : IsIn (operation_result width Sub n m) (computed_range width Sub x y)
   difference_in =
-      cond_both (nat_le y.high x.low) (from_to (x.low - y.high) (x.high - y.low)) (whole width) (IsIn (computed width Sub n m))
+      cond_both (nat_le y.high x.low) (from_to (x.low - y.high) (x.high - y.low)) (whole width)
+      (IsIn (operation_result width Sub n m))
       (λ e. let le = leb-true y.high x.low e in
       rw (difference (limit width) n m (omega arith) (omega arith)) (record { low = omega arith; high = omega arith }))
       (λ e. any_result Sub)
 
-  product_in : IsIn (computed width Mul n m) (computed_range width Mul x y)
-  product_in = in_unless_wrapping width (x.low * y.low) (x.high * y.high) (n * m) (limit_pos width) (mul-le x.low y.low n m in_x.low in_y.low) (mul-le n m x.high y.high in_x.high in_y.high)
+  product_in : IsIn (operation_result width Mul n m) (computed_range width Mul x y)
+  product_in = in_unless_wrapping width (x.low * y.low) (x.high * y.high) (n * m) (limit_pos width)
+      (mul-le x.low y.low n m in_x.low in_y.low) (mul-le n m x.high y.high in_x.high in_y.high)
 
   quotient_in : IsIn (n / m) (quotients x y)
   quotient_in =
-      cond_both (is_single y && nat_lt 0 y.low) (from_to (x.low / y.low) (x.high / y.low)) (from_to 0 x.high) (IsIn (n / m))
+      cond_both (is_single y && nat_lt 0 y.low) (from_to (x.low / y.low) (x.high / y.low)) (from_to 0 x.high)
+      (IsIn (n / m))
       (λ e. let p = and_parts _ _ e in
       let positive = ltb-true 0 y.low p.1 in
-      rw (only p.0) (record { low = div_mono x.low n y.low positive in_x.low; high = div_mono n x.high y.low positive in_x.high }))
+      rw (only p.0) (record {
+        low = div_mono x.low n y.low positive in_x.low;
+        high = div_mono n x.high y.low positive in_x.high;
+      }))
       (λ e. record { low = zero-le; high = le_trans (div-le_self n m) in_x.high })
 
   remainder_in : IsIn (n % m) (remainders x y)
@@ -78,10 +92,13 @@ module _ (width : Width) (x y : Interval) (n m : ℕ) (in_x : IsIn n x) (in_y : 
       (λ e. record { low = zero-le; high = le_trans (mod-le n m) in_x.high })
 
   -- what a signed operation gives of numbers that are not negative is in the interval of the unsigned one
-  signed_in : (operation : Operation) (result : ℕ) (range : Interval) → (n < half width → m < half width → computed width operation n m ≡ result) → IsIn result range
-      → IsIn (computed width operation n m) (if is_non_negative width x && is_non_negative width y then range else whole width)
+  signed_in : (operation : Operation) (result : ℕ) (range : Interval) →
+      (n < half width → m < half width → operation_result width operation n m ≡ result) → IsIn result range →
+      IsIn (operation_result width operation n m) (if is_non_negative width x
+      && is_non_negative width y then range else whole width)
   signed_in operation result range same h =
-      cond_both (is_non_negative width x && is_non_negative width y) range (whole width) (IsIn (computed width operation n m))
+      cond_both (is_non_negative width x && is_non_negative width y) range (whole width)
+      (IsIn (operation_result width operation n m))
       (λ e. let p = and_parts _ _ e in
       let x_small = ltb-true x.high (half width) p.0 in
       let y_small = ltb-true y.high (half width) p.1 in
@@ -92,38 +109,48 @@ module _ (width : Width) (x y : Interval) (n m : ℕ) (in_x : IsIn n x) (in_y : 
   bits_in : (result : ℕ) → ((k : ℕ) → n < 2 ^ k → m < 2 ^ k → result < 2 ^ k) → IsIn result (of_same_bits x y)
   bits_in result smaller =
       let le = limit_le width in
-      let most : max x.high y.high < 2 ^ bit_length (max x.high y.high) = bit_length-lt (max x.high y.high) (omega arith) in
+      let most : max x.high y.high < 2 ^ bit_length (max x.high y.high) =
+      bit_length-lt (max x.high y.high) (omega arith) in
       let small = smaller (bit_length (max x.high y.high)) (omega arith) (omega arith) in
       record { low = zero-le; high = omega arith }
 
-  left_in : IsIn (computed width LeftShift n m) (computed_range width LeftShift x y)
+  left_in : IsIn (operation_result width LeftShift n m) (computed_range width LeftShift x y)
   left_in =
-      cond_both (is_single y) (shifted_left width x y.low) (whole width) (IsIn (computed width LeftShift n m))
-      (λ e. rw (only e) (in_unless_wrapping width (x.low * 2 ^ (y.low % bit_count width)) (x.high * 2 ^ (y.low % bit_count width)) (n * 2 ^ (y.low % bit_count width)) (limit_pos width)
-      (mul-le x.low (2 ^ (y.low % bit_count width)) n (2 ^ (y.low % bit_count width)) in_x.low (omega arith)) (mul-le n (2 ^ (y.low % bit_count width)) x.high (2 ^ (y.low % bit_count width)) in_x.high (omega arith))))
+      cond_both (is_single y) (shifted_left width x y.low) (whole width) (IsIn (operation_result width LeftShift n m))
+      (λ e. rw (only e) (in_unless_wrapping width (x.low * 2 ^ (y.low % bit_count width))
+      (x.high * 2 ^ (y.low % bit_count width)) (n * 2 ^ (y.low % bit_count width)) (limit_pos width)
+      (mul-le x.low (2 ^ (y.low % bit_count width)) n (2 ^ (y.low % bit_count width)) in_x.low (omega arith))
+      (mul-le n (2 ^ (y.low % bit_count width)) x.high (2 ^ (y.low % bit_count width)) in_x.high
+      (omega arith))))
       (λ e. any_result LeftShift)
 
   -- shifted by the only count
-  shift_in : is_single y ≡ true → IsIn (computed width RightShift n m) (shifted_right width x y.low)
+  shift_in : is_single y ≡ true → IsIn (operation_result width RightShift n m) (shifted_right width x y.low)
   shift_in e =
       let positive = pow_pos (y.low % bit_count width) in
-      rw (only e) (record { low = div_mono x.low n (2 ^ (y.low % bit_count width)) positive in_x.low; high = div_mono n x.high (2 ^ (y.low % bit_count width)) positive in_x.high })
+      rw (only e) (record {
+        low = div_mono x.low n (2 ^ (y.low % bit_count width)) positive in_x.low;
+        high = div_mono n x.high (2 ^ (y.low % bit_count width)) positive in_x.high;
+      })
 
-  right_in : IsIn (computed width RightShift n m) (computed_range width RightShift x y)
+  right_in : IsIn (operation_result width RightShift n m) (computed_range width RightShift x y)
   right_in =
-      cond_both (is_single y) (shifted_right width x y.low) (from_to 0 x.high) (IsIn (computed width RightShift n m))
+      cond_both (is_single y) (shifted_right width x y.low) (from_to 0 x.high)
+      (IsIn (operation_result width RightShift n m))
       shift_in
       (λ e. record { low = zero-le; high = le_trans (div-le_self n (2 ^ (m % bit_count width))) in_x.high })
 
-  arithmetic_in : IsIn (computed width ArithmeticRightShift n m) (computed_range width ArithmeticRightShift x y)
+  arithmetic_in : IsIn (operation_result width ArithmeticRightShift n m) (computed_range width ArithmeticRightShift x y)
   arithmetic_in =
-      cond_both (is_single y && is_non_negative width x) (shifted_right width x y.low) (whole width) (IsIn (computed width ArithmeticRightShift n m))
+      cond_both (is_single y && is_non_negative width x) (shifted_right width x y.low) (whole width)
+      (IsIn (operation_result width ArithmeticRightShift n m))
       (λ e. let p = and_parts (is_single y) (is_non_negative width x) e in
       let x_small = ltb-true x.high (half width) p.1 in
       rw (signed_shift width n m (omega arith)) (shift_in p.0))
       (λ e. any_result ArithmeticRightShift)
 
-  pub computed_in : (operation : Operation) → IsIn (computed width operation n m) (computed_range width operation x y)
+  pub computed_in : (operation : Operation) →
+      IsIn (operation_result width operation n m) (computed_range width operation x y)
   computed_in Add = sum_in
   computed_in Sub = difference_in
   computed_in Mul = product_in
@@ -139,10 +166,11 @@ module _ (width : Width) (x y : Interval) (n m : ℕ) (in_x : IsIn n x) (in_y : 
   computed_in ArithmeticRightShift = arithmetic_in
 
 -- An operation on a number of each interval gives one of the result's.
-pub result_in : (width : Width) (operation : Operation) (x y : Interval) (n m : ℕ) → IsRangeOf Bits64 x → IsRangeOf Bits64 y → IsIn n x → IsIn m y
-    → IsIn (number_of width operation n m) (result_range width operation x y)
+pub result_in : (width : Width) (operation : Operation) (x y : Interval) (n m : ℕ) → IsRangeOf Bits64 x →
+    IsRangeOf Bits64 y → IsIn n x → IsIn m y → IsIn (number_of width operation n m) (result_range width operation x y)
 result_in width operation x y n m p q in_x in_y =
-    computed_in width (cut width x) (cut width y) (low_bits width n) (low_bits width m) (cut_has width x n in_x) (cut_has width y m in_y) (cut_range width x p).limited
+    computed_in width (cut_to_width width x) (cut_to_width width y) (low_bits width n) (low_bits width m)
+    (cut_has width x n in_x) (cut_has width y m in_y) (cut_range width x p).limited
     (cut_range width y q).limited operation
 
 -- ---- changes of one number
@@ -154,10 +182,15 @@ part_pos extended.Bits16 n h = rw (mod-eq_of_lt {n = n} {m = 2 ^ 16} (omega arit
 part_pos extended.Bits32 n h = rw (mod-eq_of_lt {n = n} {m = 2 ^ 32} (omega arith)) (to_z_pos w32 n h)
 
 -- A change of a number of an interval gives one of the result's.
-pub changed_in : (change : Change) (x : Interval) (n : ℕ) → IsRangeOf Bits64 x → IsIn n x → IsIn (changed_number change n) (changed_range change x)
-changed_in (Negate width) x n p h = in_whole width (changed_number (Negate width) n) (changed_number-lt (Negate width) n (omega arith))
-changed_in (Order order width) x n p h = let small = changed_number-lt (Order order width) n (omega arith) in record { low = zero-le; high = omega arith }
+pub changed_in : (change : Change) (x : Interval) (n : ℕ) → IsRangeOf Bits64 x → IsIn n x →
+    IsIn (changed_number change n) (changed_range change x)
+changed_in (Negate width) x n p h =
+    in_whole width (changed_number (Negate width) n) (changed_number-lt (Negate width) n (omega arith))
+changed_in (Order order width) x n p h = let small = changed_number-lt (Order order width) n (omega arith) in
+    record { low = zero-le; high = omega arith }
 changed_in (SignExtend width part) x n p h =
-    cond_both (nat_lt x.high (2 ^ (extended_bits part - 1))) x (whole width) (IsIn (changed_number (SignExtend width part) n))
+    cond_both (nat_lt x.high (2 ^ (extended_bits part - 1))) x (whole width)
+    (IsIn (changed_number (SignExtend width part) n))
     (λ e. let small = ltb-true x.high (2 ^ (extended_bits part - 1)) e in rw (part_pos part n (omega arith)) h)
-    (λ e. in_whole width (changed_number (SignExtend width part) n) (changed_number-lt (SignExtend width part) n (omega arith)))
+    (λ e. in_whole width (changed_number (SignExtend width part) n)
+    (changed_number-lt (SignExtend width part) n (omega arith)))

@@ -1,26 +1,25 @@
 -- Operations on words against operations on kinds.
-use Rattle.std.proofs.Common.{◌≡◌, ℕ, ◌^◌, ◌<◌, ◌≤◌, ℤ, pos, ◌+ℤ◌, neg_ℤ, ◌≤ℤ◌, Bool, true, false, if◌then◌else◌, refl, ⊎_elim, arith}
+use Rattle.std.proofs.Common.{◌≡◌, ℕ, ◌^◌, ◌<◌, ◌≤◌, ℤ, pos, ◌+ℤ◌, neg_ℤ, ◌≤ℤ◌, Bool, true, false, if◌then◌else◌, refl}
+use Rattle.std.proofs.Common.{⊎_elim, arith}
 use Rattle.std.proofs.lemmas.Bool.{ltb-true, leb-true, le-leb, lt-ltb, and_parts, and_from, or_cases, false≢true}
 use Rattle.std.proofs.lemmas.Int.{ints}
 use Rattle.std.specs.Prelude.{Some}
-use Rattle.machine_spec.specs.declared.operation.Width.{Width}
+use Rattle.machine_spec.specs.declared.{operation.Width.Width, operation.Operation.Operation, operation.Change.Change}
+use Rattle.machine_spec.specs.declared.{instruction.Region.Region}
 use Rattle.machine_spec.specs.declared.operation.Width.TheVariants.{Bits32, Bits64}
-use Rattle.machine_spec.specs.declared.operation.Operation.{Operation}
 use Rattle.machine_spec.specs.declared.operation.SwappedWidth.TheVariants as swapped
-use Rattle.machine_spec.specs.declared.operation.Change.{Change}
 use Rattle.machine_spec.specs.declared.operation.Change.TheVariants.{Negate, Order, SignExtend}
-use Rattle.machine_spec.specs.declared.instruction.Region.{Region}
 use Rattle.machine_spec.specs.Arithmetic.{limit, signed, changed_bits}
-use Rattle.machine_spec.specs.Values.{Value, Nothing, Number, Address, moves_address, is_subtraction, displacement, moved, result_of, changed}
+use Rattle.machine_spec.specs.Values.{Value, Nothing, Number, Address, moves_address, is_subtraction, displacement}
+use Rattle.machine_spec.specs.Values.{moved_value, result_of, changed_value}
 use Rattle.machine_spec.specs.Machine.{Input}
-use Rattle.verifier_spec.specs.declared.interval.Interval.{Interval}
-use Rattle.verifier_spec.specs.declared.state.Abs.{Abs}
+use Rattle.verifier_spec.specs.declared.{interval.Interval.Interval, state.Abs.Abs, state.Abstract.Abstract}
 use Rattle.verifier_spec.specs.declared.state.Abs.TheVariants as abs
-use Rattle.verifier_spec.specs.declared.state.Abstract.{Abstract}
-use Rattle.verifier_spec.specs.Intervals.{from_to, IsIn, IsPartOf, IsRangeOf, cut, result_range, changed_range}
+use Rattle.verifier_spec.specs.Intervals.{from_to, IsIn, IsPartOf, IsRangeOf, cut_to_width, result_range, changed_range}
 use Rattle.verifier_spec.specs.Kinds.{range_of, furthest, is_number_kind, is_proper_kind}
 use Rattle.verifier_spec.specs.States.{is_proper}
-use Rattle.verifier_spec.specs.Checks.{is_one_sign, least_displacement, greatest_displacement, can_move, can_compute_kinds}
+use Rattle.verifier_spec.specs.Checks.{is_one_sign, least_displacement, greatest_displacement, can_move}
+use Rattle.verifier_spec.specs.Checks.{can_compute_kinds}
 use Rattle.verifier_spec.specs.Transfer.{numbers, on_ranges, moved_address, moved_kind, computed_kind, changed_kind}
 use Rattle.verifier_spec.specs.StandsFor.{HasKind, HasLengths}
 use Rattle.verifier_spec.proofs.Intervals.{cut_has, cut_range}
@@ -39,7 +38,8 @@ signed_le_low m n le low = omega (arith, ints)
 signed_le_high : (m n : ℕ) → m ≤ n → 2 ^ 63 ≤ m → signed Bits64 m ≤ℤ signed Bits64 n
 signed_le_high m n le high = grind (arith, ints)
 
-one_sign_le : (range : Interval) (m n : ℕ) → is_one_sign range ≡ true → range.low ≤ m → m ≤ n → n ≤ range.high → signed Bits64 m ≤ℤ signed Bits64 n
+one_sign_le : (range : Interval) (m n : ℕ) → is_one_sign range ≡ true → range.low ≤ m → m ≤ n → n ≤ range.high →
+    signed Bits64 m ≤ℤ signed Bits64 n
 one_sign_le range m n h low m_n high =
     ⊎_elim
     (λ e. let below = ltb-true range.high (2 ^ 63) e in signed_le_low m n m_n (omega arith))
@@ -50,7 +50,8 @@ neg_le : (x y : ℤ) → x ≤ℤ y → neg_ℤ y ≤ℤ neg_ℤ x
 neg_le x y h = omega (arith, ints)
 
 -- of a part of numbers of one sign, the least displacement is not smaller, and the greatest not greater
-module _ (operation : Operation) (x range : Interval) (sign : is_one_sign range ≡ true) (order : x.low ≤ x.high) (part : IsPartOf x range) where
+module _ (operation : Operation) (x range : Interval) (sign : is_one_sign range ≡ true) (order : x.low ≤ x.high)
+    (part : IsPartOf x range) where
   low_le : signed Bits64 range.low ≤ℤ signed Bits64 x.low
   low_le = one_sign_le range range.low x.low sign (omega arith) part.low (omega (arith, part.high))
 
@@ -60,14 +61,16 @@ module _ (operation : Operation) (x range : Interval) (sign : is_one_sign range 
   pub least_part : least_displacement operation range ≤ℤ least_displacement operation x
   least_part = from (is_subtraction operation)
     where
-      from : (b : Bool) → (if b then neg_ℤ (signed Bits64 range.high) else signed Bits64 range.low) ≤ℤ (if b then neg_ℤ (signed Bits64 x.high) else signed Bits64 x.low)
+      from : (b : Bool) → (if b then neg_ℤ (signed Bits64 range.high) else signed Bits64 range.low) ≤ℤ
+          (if b then neg_ℤ (signed Bits64 x.high) else signed Bits64 x.low)
       from true = neg_le (signed Bits64 x.high) (signed Bits64 range.high) high_le
       from false = low_le
 
   pub greatest_part : greatest_displacement operation x ≤ℤ greatest_displacement operation range
   greatest_part = from (is_subtraction operation)
     where
-      from : (b : Bool) → (if b then neg_ℤ (signed Bits64 x.low) else signed Bits64 x.high) ≤ℤ (if b then neg_ℤ (signed Bits64 range.low) else signed Bits64 range.high)
+      from : (b : Bool) → (if b then neg_ℤ (signed Bits64 x.low) else signed Bits64 x.high) ≤ℤ
+          (if b then neg_ℤ (signed Bits64 range.low) else signed Bits64 range.high)
       from true = neg_le (signed Bits64 range.low) (signed Bits64 x.low) low_le
       from false = high_le
 
@@ -82,10 +85,12 @@ module _ (operation : Operation) (range : Interval) (n : ℕ) (sign : is_one_sig
   pub displacement_high : displacement operation n ≤ℤ greatest_displacement operation range
   displacement_high = greatest_part operation (from_to n n) range sign (omega arith) only
 
-displacements_order : (operation : Operation) (range : Interval) → is_one_sign range ≡ true → range.low ≤ range.high → least_displacement operation range ≤ℤ greatest_displacement operation range
+displacements_order : (operation : Operation) (range : Interval) → is_one_sign range ≡ true → range.low ≤ range.high →
+    least_displacement operation range ≤ℤ greatest_displacement operation range
 displacements_order operation range sign order =
     let has : IsIn range.low range = record { low = omega arith; high = order } in
-    le_trans_z _ _ _ (displacement_low operation range range.low sign has) (displacement_high operation range range.low sign has)
+    le_trans_z _ _ _ (displacement_low operation range range.low sign has)
+    (displacement_high operation range range.low sign has)
 
 -- what an address moved by a number keeps
 pub record Moved (operation : Operation) (low high : ℤ) (range : Interval) : Type 0 where
@@ -93,25 +98,34 @@ pub record Moved (operation : Operation) (low high : ℤ) (range : Interval) : T
   pub from : neg_ℤ (pos furthest) ≤ℤ (low +ℤ least_displacement operation range)
   pub to : (high +ℤ greatest_displacement operation range) ≤ℤ pos furthest
 
-pub moved_parts : (operation : Operation) (low high : ℤ) (range : Interval) → can_move operation low high (Some range) ≡ true → Moved operation low high range
+pub moved_parts : (operation : Operation) (low high : ℤ) (range : Interval) →
+    can_move operation low high (Some range) ≡ true → Moved operation low high range
 moved_parts operation low high range h =
     let p = and_parts _ _ h in
     let q = and_parts _ _ p.1 in
     record { sign = p.0; from = le_z-true _ _ q.0; to = le_z-true _ _ q.1 }
 
-moved_in : (input : Input) (operation : Operation) (at : Region) (low high offset : ℤ) (range : Interval) (n : ℕ) → can_move operation low high (Some range) ≡ true → low ≤ℤ offset → offset ≤ℤ high → IsIn n range
-    → HasKind input (moved_address operation at low high (Some range)) (Address at (offset +ℤ displacement operation n))
+moved_in : (input : Input) (operation : Operation) (at : Region) (low high offset : ℤ) (range : Interval) (n : ℕ) →
+    can_move operation low high (Some range) ≡ true → low ≤ℤ offset → offset ≤ℤ high → IsIn n range →
+    HasKind input (moved_address operation at low high (Some range)) (Address at (offset +ℤ displacement operation n))
 moved_in input operation at low high offset range n can low_le le_high has =
-    let m = moved_parts operation low high range can in
-    (refl, add_le low offset _ _ low_le (displacement_low operation range n m.sign has), add_le offset high _ _ le_high (displacement_high operation range n m.sign has))
+    let m = moved_parts operation low high range can in (
+      refl,
+      add_le low offset _ _ low_le (displacement_low operation range n m.sign has),
+      add_le offset high _ _ le_high
+          (displacement_high operation range n m.sign has),
+    )
 
-pub moved_proper : (operation : Operation) (at : Region) (low high : ℤ) (range : Interval) → can_move operation low high (Some range) ≡ true → low ≤ℤ high → range.low ≤ range.high
-    → is_proper_kind (moved_address operation at low high (Some range)) ≡ true
+pub moved_proper : (operation : Operation) (at : Region) (low high : ℤ) (range : Interval) →
+    can_move operation low high (Some range) ≡ true → low ≤ℤ high → range.low ≤ range.high →
+    is_proper_kind (moved_address operation at low high (Some range)) ≡ true
 moved_proper operation at low high range can le order =
     let m = moved_parts operation low high range can in
-    and_from _ _ (le-le_z _ _ m.from) (and_from _ _ (le-le_z _ _ (add_le low high _ _ le (displacements_order operation range m.sign order))) (le-le_z _ _ m.to))
+    and_from _ _ (le-le_z _ _ m.from) (and_from _ _ (le-le_z _ _
+    (add_le low high _ _ le (displacements_order operation range m.sign order))) (le-le_z _ _ m.to))
 
-pub number_if_moves : (a : Abstract) (operation : Operation) (low high : ℤ) (k : Abs) → can_move operation low high (range_of a k) ≡ true → is_number_kind k ≡ true
+pub number_if_moves : (a : Abstract) (operation : Operation) (low high : ℤ) (k : Abs) →
+    can_move operation low high (range_of a k) ≡ true → is_number_kind k ≡ true
 number_if_moves a operation low high abs.None h = h
 number_if_moves a operation low high (abs.Num lo hi) h = refl
 number_if_moves a operation low high (abs.Len r) h = refl
@@ -136,16 +150,19 @@ changed_le (Order order swapped.Bits64) = omega arith
 changed_le (SignExtend Bits32 part) = omega arith
 changed_le (SignExtend Bits64 part) = omega arith
 
-pub changed_64 : (change : Change) (range : Interval) → IsRangeOf Bits64 range → IsRangeOf Bits64 (changed_range change range)
+pub changed_64 : (change : Change) (range : Interval) → IsRangeOf Bits64 range →
+    IsRangeOf Bits64 (changed_range change range)
 changed_64 change range h =
     let c = changed_proper change range h in
     record { order = c.order; limited = omega (arith, c.limited, changed_le change) }
 
-pub result_64 : (width : Width) (operation : Operation) (x y : Interval) → IsRangeOf Bits64 x → IsRangeOf Bits64 y → IsRangeOf Bits64 (result_range width operation x y)
-result_64 width operation x y p q = range_64 width (result_range width operation x y) (result_proper width operation x y p q)
+pub result_64 : (width : Width) (operation : Operation) (x y : Interval) → IsRangeOf Bits64 x → IsRangeOf Bits64 y →
+    IsRangeOf Bits64 (result_range width operation x y)
+result_64 width operation x y p q =
+    range_64 width (result_range width operation x y) (result_proper width operation x y p q)
 
-pub cut_64 : (x : Interval) → IsRangeOf Bits64 x → IsRangeOf Bits64 (cut Bits32 x)
-cut_64 x p = range_64 Bits32 (cut Bits32 x) (cut_range Bits32 x p)
+pub cut_64 : (x : Interval) → IsRangeOf Bits64 x → IsRangeOf Bits64 (cut_to_width Bits32 x)
+cut_64 x p = range_64 Bits32 (cut_to_width Bits32 x) (cut_range Bits32 x p)
 
 numbers_proper : (range : Interval) → IsRangeOf Bits64 range → is_proper_kind (numbers range) ≡ true
 numbers_proper range h = and_from _ _ (le-leb range.low range.high h.order) (lt-ltb range.high (2 ^ 64) h.limited)
@@ -156,15 +173,19 @@ numbers_hold input range n h = (h.low, h.high)
 -- ---- any operation that a kind allows
 
 module _ (input : Input) (a : Abstract) (l : HasLengths input a) (p : is_proper a ≡ true) where
-  two_numbers : (width : Width) (operation : Operation) (j k : Abs) (x y : Value) → is_proper_kind j ≡ true → is_proper_kind k ≡ true → IsNumber a j x → IsNumber a k y
-      → HasKind input (on_ranges width operation (range_of a j) (range_of a k)) (result_of width operation x y)
+  two_numbers : (width : Width) (operation : Operation) (j k : Abs) (x y : Value) → is_proper_kind j ≡ true →
+      is_proper_kind k ≡ true → IsNumber a j x → IsNumber a k y →
+      HasKind input (on_ranges width operation (range_of a j) (range_of a k)) (result_of width operation x y)
   two_numbers width operation j k x y pj pk m n =
       rw (m.is, n.is, m.ranged, n.ranged)
       (numbers_hold input (result_range width operation m.range n.range) _
-      (result_in width operation m.range n.range m.n n.n (proper_range a j m.range p pj m.ranged) (proper_range a k n.range p pk n.ranged) m.has n.has))
+      (result_in width operation m.range n.range m.n n.n (proper_range a j m.range p pj m.ranged)
+      (proper_range a k n.range p pk n.ranged) m.has n.has))
 
-  address_and_number : (width : Width) (operation : Operation) (at : Region) (low high : ℤ) (k : Abs) (x y : Value) → moves_address width operation ≡ true → can_move operation low high (range_of a k) ≡ true
-      → HasKind input (abs.Addr at low high) x → IsNumber a k y → HasKind input (moved_address operation at low high (range_of a k)) (result_of width operation x y)
+  address_and_number : (width : Width) (operation : Operation) (at : Region) (low high : ℤ) (k : Abs) (x y : Value) →
+      moves_address width operation ≡ true → can_move operation low high (range_of a k) ≡ true →
+      HasKind input (abs.Addr at low high) x → IsNumber a k y →
+      HasKind input (moved_address operation at low high (range_of a k)) (result_of width operation x y)
   address_and_number width operation at low high k Nothing y moves can h n = absurd h
   address_and_number width operation at low high k (Number m) y moves can h n = absurd h
   address_and_number width operation at low high k (Address r offset) y moves can h n =
@@ -172,37 +193,48 @@ module _ (input : Input) (a : Abstract) (l : HasLengths input a) (p : is_proper 
       rw (n.is, n.ranged, ← h.0, moves) (moved_in input operation at low high offset n.range n.n can' h.1 h.2 n.has)
 
   -- what an operation makes of words is of the kind that it makes of their kinds
-  pub compute_holds : (width : Width) (operation : Operation) (j k : Abs) (x y : Value) → is_proper_kind j ≡ true → is_proper_kind k ≡ true → can_compute_kinds a width operation j k ≡ true
-      → HasKind input j x → HasKind input k y → HasKind input (computed_kind a width operation j k) (result_of width operation x y)
+  pub compute_holds : (width : Width) (operation : Operation) (j k : Abs) (x y : Value) → is_proper_kind j ≡ true →
+      is_proper_kind k ≡ true → can_compute_kinds a width operation j k ≡ true → HasKind input j x → HasKind input k y →
+      HasKind input (computed_kind a width operation j k) (result_of width operation x y)
   compute_holds width operation abs.None k x y pj pk can hx hy = absurd (false≢true can)
   compute_holds width operation (abs.Num lo hi) k x y pj pk can hx hy =
-      two_numbers width operation (abs.Num lo hi) k x y pj pk (at_number input a (abs.Num lo hi) x l refl hx) (at_number input a k y l can hy)
+      two_numbers width operation (abs.Num lo hi) k x y pj pk (at_number input a (abs.Num lo hi) x l refl hx)
+      (at_number input a k y l can hy)
   compute_holds width operation (abs.Len r) k x y pj pk can hx hy =
-      two_numbers width operation (abs.Len r) k x y pj pk (at_number input a (abs.Len r) x l refl hx) (at_number input a k y l can hy)
+      two_numbers width operation (abs.Len r) k x y pj pk (at_number input a (abs.Len r) x l refl hx)
+      (at_number input a k y l can hy)
   compute_holds width operation (abs.Addr r lo hi) k x y pj pk can hx hy =
       let c = and_parts (moves_address width operation) (can_move operation lo hi (range_of a k)) can in
-      address_and_number width operation r lo hi k x y c.0 c.1 hx (at_number input a k y l (number_if_moves a operation lo hi k c.1) hy)
+      address_and_number width operation r lo hi k x y c.0 c.1 hx
+      (at_number input a k y l (number_if_moves a operation lo hi k c.1) hy)
 
   -- so is a move of the low half of a number
-  pub move_holds : (k : Abs) (x : Value) → is_number_kind k ≡ true → HasKind input k x → HasKind input (moved_kind a Bits32 k) (moved Bits32 x)
+  pub move_holds : (k : Abs) (x : Value) → is_number_kind k ≡ true → HasKind input k x →
+      HasKind input (moved_kind a Bits32 k) (moved_value Bits32 x)
   move_holds k x number h =
       let n = at_number input a k x l number h in
-      rw (n.is, n.ranged) (numbers_hold input (cut Bits32 n.range) _ (cut_has Bits32 n.range n.n n.has))
+      rw (n.is, n.ranged) (numbers_hold input (cut_to_width Bits32 n.range) _ (cut_has Bits32 n.range n.n n.has))
 
   -- and a change
-  pub change_holds : (change : Change) (k : Abs) (x : Value) → is_proper_kind k ≡ true → is_number_kind k ≡ true → HasKind input k x → HasKind input (changed_kind a change k) (changed change x)
+  pub change_holds : (change : Change) (k : Abs) (x : Value) → is_proper_kind k ≡ true → is_number_kind k ≡ true →
+      HasKind input k x → HasKind input (changed_kind a change k) (changed_value change x)
   change_holds change k x pk number h =
       let n = at_number input a k x l number h in
-      rw (n.is, n.ranged) (numbers_hold input (changed_range change n.range) _ (changed_in change n.range n.n (proper_range a k n.range p pk n.ranged) n.has))
+      rw (n.is, n.ranged) (numbers_hold input (changed_range change n.range) _
+      (changed_in change n.range n.n (proper_range a k n.range p pk n.ranged) n.has))
 
 -- ---- the ranges of what an operation makes
 
 module _ (a : Abstract) (p : is_proper a ≡ true) where
-  ranges_proper : (width : Width) (operation : Operation) (j k : Abs) → HasRange a j → HasRange a k → is_proper_kind (on_ranges width operation (range_of a j) (range_of a k)) ≡ true
-  ranges_proper width operation j k m n = rw (m.is, n.is) (numbers_proper (result_range width operation m.range n.range) (result_64 width operation m.range n.range m.proper n.proper))
+  ranges_proper : (width : Width) (operation : Operation) (j k : Abs) → HasRange a j → HasRange a k →
+      is_proper_kind (on_ranges width operation (range_of a j) (range_of a k)) ≡ true
+  ranges_proper width operation j k m n =
+      rw (m.is, n.is) (numbers_proper (result_range width operation m.range n.range)
+      (result_64 width operation m.range n.range m.proper n.proper))
 
-  pub compute_proper : (width : Width) (operation : Operation) (j k : Abs) → is_proper_kind j ≡ true → is_proper_kind k ≡ true
-      → can_compute_kinds a width operation j k ≡ true → is_proper_kind (computed_kind a width operation j k) ≡ true
+  pub compute_proper : (width : Width) (operation : Operation) (j k : Abs) → is_proper_kind j ≡ true →
+      is_proper_kind k ≡ true → can_compute_kinds a width operation j k ≡ true →
+      is_proper_kind (computed_kind a width operation j k) ≡ true
   compute_proper width operation abs.None k pj pk can = absurd (false≢true can)
   compute_proper width operation (abs.Num lo hi) k pj pk can =
       ranges_proper width operation (abs.Num lo hi) k (range_at a (abs.Num lo hi) p pj refl) (range_at a k p pk can)
@@ -214,8 +246,12 @@ module _ (a : Abstract) (p : is_proper a ≡ true) where
       let can' : can_move operation lo hi (Some n.range) ≡ true = rw n.is at c.1 in
       rw n.is (moved_proper operation r lo hi n.range can' (addr_order r lo hi pj) n.proper.order)
 
-  pub move_proper : (k : Abs) → is_proper_kind k ≡ true → is_number_kind k ≡ true → is_proper_kind (moved_kind a Bits32 k) ≡ true
-  move_proper k pk number = let n = range_at a k p pk number in rw n.is (numbers_proper (cut Bits32 n.range) (cut_64 n.range n.proper))
+  pub move_proper : (k : Abs) → is_proper_kind k ≡ true → is_number_kind k ≡ true →
+      is_proper_kind (moved_kind a Bits32 k) ≡ true
+  move_proper k pk number = let n = range_at a k p pk number in
+      rw n.is (numbers_proper (cut_to_width Bits32 n.range) (cut_64 n.range n.proper))
 
-  pub change_proper : (change : Change) (k : Abs) → is_proper_kind k ≡ true → is_number_kind k ≡ true → is_proper_kind (changed_kind a change k) ≡ true
-  change_proper change k pk number = let n = range_at a k p pk number in rw n.is (numbers_proper (changed_range change n.range) (changed_64 change n.range n.proper))
+  pub change_proper : (change : Change) (k : Abs) → is_proper_kind k ≡ true → is_number_kind k ≡ true →
+      is_proper_kind (changed_kind a change k) ≡ true
+  change_proper change k pk number = let n = range_at a k p pk number in
+      rw n.is (numbers_proper (changed_range change n.range) (changed_64 change n.range n.proper))

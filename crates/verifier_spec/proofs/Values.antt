@@ -4,10 +4,8 @@ use Rattle.std.proofs.lemmas.Bool.{false≢true}
 use Rattle.machine_spec.specs.declared.instruction.Region.{Region}
 use Rattle.machine_spec.specs.Values.{Value, Nothing, Number, Address}
 use Rattle.machine_spec.specs.Machine.{Input}
-use Rattle.verifier_spec.specs.declared.interval.Interval.{Interval}
-use Rattle.verifier_spec.specs.declared.state.Abs.{Abs}
+use Rattle.verifier_spec.specs.declared.{interval.Interval.Interval, state.Abs.Abs, state.Abstract.Abstract}
 use Rattle.verifier_spec.specs.declared.state.Abs.TheVariants as abs
-use Rattle.verifier_spec.specs.declared.state.Abstract.{Abstract}
 use Rattle.verifier_spec.specs.Intervals.{from_to, IsIn}
 use Rattle.verifier_spec.specs.Ranges.{interval_of}
 use Rattle.verifier_spec.specs.Kinds.{length_range, range_of, is_number_kind, is_address_kind}
@@ -32,9 +30,11 @@ pub record IsAddress (kind : Abs) (word : Value) : Type 0 where
   pub low : lo ≤ℤ offset
   pub high : offset ≤ℤ hi
 
-pub at_number : (input : Input) (a : Abstract) (kind : Abs) (word : Value) → HasLengths input a → is_number_kind kind ≡ true → HasKind input kind word → IsNumber a kind word
+pub at_number : (input : Input) (a : Abstract) (kind : Abs) (word : Value) → HasLengths input a →
+    is_number_kind kind ≡ true → HasKind input kind word → IsNumber a kind word
 at_number input a abs.None word l k h = absurd (false≢true k)
-at_number input a (abs.Num lo hi) (Number n) l k h = record { n = n; range = from_to lo hi; is = refl; ranged = refl; has = record { low = h.0; high = h.1 } }
+at_number input a (abs.Num lo hi) (Number n) l k h =
+    record { n = n; range = from_to lo hi; is = refl; ranged = refl; has = record { low = h.0; high = h.1 } }
 at_number input a (abs.Num lo hi) Nothing l k h = absurd h
 at_number input a (abs.Num lo hi) (Address at offset) l k h = absurd h
 at_number input a (abs.Len r) (Number n) l k h =
@@ -44,11 +44,21 @@ at_number input a (abs.Len r) Nothing l k h = absurd h
 at_number input a (abs.Len r) (Address at offset) l k h = absurd h
 at_number input a (abs.Addr r lo hi) word l k h = absurd (false≢true k)
 
-pub at_address : (input : Input) (kind : Abs) (word : Value) → is_address_kind kind ≡ true → HasKind input kind word → IsAddress kind word
+pub at_address : (input : Input) (kind : Abs) (word : Value) → is_address_kind kind ≡ true → HasKind input kind word →
+    IsAddress kind word
 at_address input abs.None word k h = absurd (false≢true k)
 at_address input (abs.Num lo hi) word k h = absurd (false≢true k)
 at_address input (abs.Len r) word k h = absurd (false≢true k)
 at_address input (abs.Addr r lo hi) (Address at offset) k h =
-    record { at = at; offset = offset; lo = lo; hi = hi; is = refl; kind_is = ap (λ x. abs.Addr x lo hi) h.0; low = h.1; high = h.2 }
+    record {
+      at = at;
+      offset = offset;
+      lo = lo;
+      hi = hi;
+      is = refl;
+      kind_is = ap (λ x. abs.Addr x lo hi) h.0;
+      low = h.1;
+      high = h.2;
+    }
 at_address input (abs.Addr r lo hi) Nothing k h = absurd h
 at_address input (abs.Addr r lo hi) (Number n) k h = absurd h

@@ -1,5 +1,6 @@
 -- Whole numbers: their order and its tests.
-use Rattle.std.proofs.Common.{◌≡◌, ℕ, zero, suc, ◌-◌, ◌≤◌, ℤ, pos, negsuc, ◌+ℤ◌, neg_ℤ, ◌≤ℤ◌, true, false, int_le, int_lt, unsigned_abs, arith}
+use Rattle.std.proofs.Common.{◌≡◌, ℕ, zero, suc, ◌-◌, ◌≤◌, ℤ, pos, negsuc, ◌+ℤ◌, neg_ℤ, ◌≤ℤ◌, true, false, int_le}
+use Rattle.std.proofs.Common.{int_lt, unsigned_abs, arith}
 use Rattle.std.proofs.lemmas.Int.{ints}
 
 pub le_z-true : (a b : ℤ) → int_le a b ≡ true → a ≤ℤ b

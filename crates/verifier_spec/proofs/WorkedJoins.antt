@@ -5,7 +5,7 @@ use Rattle.verifier_spec.specs.declared.state.Abs.TheVariants as abs
 use Rattle.verifier_spec.specs.declared.state.Abstract.{Abstract}
 use Rattle.verifier_spec.specs.Ranges.{lengths_from_to}
 use Rattle.verifier_spec.specs.States.{entry_state}
-use Rattle.verifier_spec.specs.Joins.{joined_kind, joined}
+use Rattle.verifier_spec.specs.Joins.{joined_kind, joined_state}
 
 -- the value has five to nine bytes
 abbrev five_to_nine : Abstract
@@ -33,18 +33,22 @@ two_lengths = refl
 same_length : joined_kind five_to_nine entry_state (abs.Len region.Value) (abs.Len region.Value) ≡ abs.Len region.Value
 same_length = refl
 
-two_addresses : joined_kind entry_state entry_state (abs.Addr region.Value (pos 0) (pos 0)) (abs.Addr region.Value (pos 4) (pos 4)) ≡ abs.Addr region.Value (pos 0) (pos 4)
+two_addresses : joined_kind entry_state entry_state (abs.Addr region.Value (pos 0) (pos 0))
+    (abs.Addr region.Value (pos 4) (pos 4)) ≡ abs.Addr region.Value (pos 0) (pos 4)
 two_addresses = refl
 
-two_regions : joined_kind entry_state entry_state (abs.Addr region.Value (pos 0) (pos 0)) (abs.Addr region.Key (pos 0) (pos 0)) ≡ abs.None
+two_regions : joined_kind entry_state entry_state (abs.Addr region.Value (pos 0) (pos 0))
+    (abs.Addr region.Key (pos 0) (pos 0)) ≡ abs.None
 two_regions = refl
 
-number_and_address : joined_kind entry_state entry_state (abs.Num 0 0) (abs.Addr region.Value (pos 0) (pos 0)) ≡ abs.None
+number_and_address : joined_kind entry_state entry_state (abs.Num 0 0) (abs.Addr region.Value (pos 0) (pos 0))
+    ≡ abs.None
 number_and_address = refl
 
-address_and_length : joined_kind entry_state entry_state (abs.Addr region.Value (pos 0) (pos 0)) (abs.Len region.Value) ≡ abs.None
+address_and_length : joined_kind entry_state entry_state (abs.Addr region.Value (pos 0) (pos 0)) (abs.Len region.Value)
+    ≡ abs.None
 address_and_length = refl
 
 -- the lengths of a join contain those of both states
-joined_lengths : joined entry_state five_to_nine ≡ entry_state
+joined_lengths : joined_state entry_state five_to_nine ≡ entry_state
 joined_lengths = refl

@@ -1,5 +1,6 @@
 -- Annotations: lists of abstract states that are closed under a program's edges and pass its checks.
-use Rattle.std.specs.Prelude.{◌≡◌, ℕ, zero, suc, ◌+◌, Bool, true, false, ◌==◌, ◌&&◌, not, if◌then◌else◌, List, [], ◌∷◌, ◌++◌, length, slice_get, Option, Some, None}
+use Rattle.std.specs.Prelude.{◌≡◌, ℕ, zero, suc, ◌+◌, Bool, true, false, ◌==◌, ◌&&◌, not, if◌then◌else◌, List, [], ◌∷◌}
+use Rattle.std.specs.Prelude.{◌++◌, length, slice_get, Option, Some, None}
 use Rattle.machine_spec.specs.declared.{helper.Helper.Helper, instruction.Placed.Placed}
 use Rattle.machine_spec.specs.Summaries.{summary_of}
 use Rattle.machine_spec.specs.Image.{target_of}
@@ -38,7 +39,8 @@ claim_of claims None = None
 abbrev pub are_edges_covered : List Placed → Claims → ℕ → Placed → Abstract → Bool
 are_edges_covered code claims k placed s =
     is_edge_covered (falls_to placed.instruction s) (claim_at claims (k + 1))
-    && is_edge_covered (jumps_to placed.instruction s) (claim_of claims (target_of code placed.slot (jump_of placed.instruction)))
+    && is_edge_covered (jumps_to placed.instruction s)
+    (claim_of claims (target_of code placed.slot (jump_of placed.instruction)))
 
 -- A list of abstract states is an annotation of a code that may call the helpers of a table.
 pub record IsAnnotation (helpers : List Helper) (code : List Placed) (claims : Claims) : Type 0 where
@@ -49,9 +51,11 @@ pub record IsAnnotation (helpers : List Helper) (code : List Placed) (claims : C
   -- jumps lead forward to instructions, and the last instruction is an EXIT or a jump without a condition
   pub shape : (k : ℕ) (placed : Placed) → slice_get code k ≡ Some placed → first_of (shape_checks code k placed) ≡ None
   -- each reached instruction passes its checks
-  pub checked : (k : ℕ) (placed : Placed) (s : Abstract) → slice_get code k ≡ Some placed → claim_at claims k ≡ Some s → failed_check helpers placed.instruction s ≡ None
+  pub checked : (k : ℕ) (placed : Placed) (s : Abstract) → slice_get code k ≡ Some placed → claim_at claims k ≡ Some s →
+      failed_check helpers placed.instruction s ≡ None
   -- what each of its edges propagates is within the state where it leads
-  pub closed : (k : ℕ) (placed : Placed) (s : Abstract) → slice_get code k ≡ Some placed → claim_at claims k ≡ Some s → are_edges_covered code claims k placed s ≡ true
+  pub closed : (k : ℕ) (placed : Placed) (s : Abstract) → slice_get code k ≡ Some placed → claim_at claims k ≡ Some s →
+      are_edges_covered code claims k placed s ≡ true
   -- each state is in its ranges
   pub proper : (k : ℕ) (s : Abstract) → claim_at claims k ≡ Some s → is_proper s ≡ true
 
@@ -60,11 +64,13 @@ pub record IsAnnotation (helpers : List Helper) (code : List Placed) (claims : C
 -- of a reached instruction, after the checks of its shape: its checks, then its edges
 abbrev pub reached_checks : List Helper → List Placed → Claims → ℕ → Placed → Option Abstract → List (Bool × Check)
 reached_checks helpers code claims k placed None = []
-reached_checks helpers code claims k placed (Some s) = checks helpers (summary_of placed.instruction) s ++ (not (are_edges_covered code claims k placed s), Check.Notes) ∷ []
+reached_checks helpers code claims k placed (Some s) = checks helpers (summary_of placed.instruction) s
+    ++ (not (are_edges_covered code claims k placed s), Check.Notes) ∷ []
 
 -- the first check that instruction number k fails
 unfoldable pub failed_at : List Helper → List Placed → Claims → ℕ → Placed → Option Check
-failed_at helpers code claims k placed = first_of (shape_checks code k placed ++ reached_checks helpers code claims k placed (claim_at claims k))
+failed_at helpers code claims k placed =
+    first_of (shape_checks code k placed ++ reached_checks helpers code claims k placed (claim_at claims k))
 
 -- the refusal at instruction number k if it fails a check, else a later one
 abbrev pub fault_or : ℕ → Option Check → Option VerifyFault → Option VerifyFault
@@ -74,7 +80,8 @@ fault_or k None later = later
 -- the refusal of the lowest instruction from number k on that fails a check
 abbrev pub fault_from : List Helper → List Placed → Claims → ℕ → List Placed → Option VerifyFault
 fault_from helpers code claims k [] = None
-fault_from helpers code claims k (placed ∷ rest) = fault_or k (failed_at helpers code claims k placed) (fault_from helpers code claims (k + 1) rest)
+fault_from helpers code claims k (placed ∷ rest) =
+    fault_or k (failed_at helpers code claims k placed) (fault_from helpers code claims (k + 1) rest)
 
 -- The refusal that is reported for a list: at 0, that it has another length than the code or that the entry is not
 -- within its first state; else the first failed check of the lowest instruction that fails one.

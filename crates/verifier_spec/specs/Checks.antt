@@ -1,17 +1,28 @@
 -- The checks of an instruction, in the order in which they are reported.
-use Rattle.std.specs.Prelude.{ℕ, zero, suc, ◌+◌, ◌^◌, ℤ, pos, ◌+ℤ◌, neg_ℤ, Bool, true, false, ◌==◌, ◌&&◌, ◌||◌, not, nat_lt, nat_le, int_lt, int_le, if◌then◌else◌, List, [], ◌∷◌, length, Option, Some, None, is_some, is_none, unsigned_abs}
+use Rattle.std.specs.Prelude.{ℕ, zero, suc, ◌+◌, ◌^◌, ℤ, pos, ◌+ℤ◌, neg_ℤ, Bool, true, false, ◌==◌, ◌&&◌, ◌||◌, not}
+use Rattle.std.specs.Prelude.{nat_lt, nat_le, int_lt, int_le, if◌then◌else◌, List, [], ◌∷◌, length, Option, Some, None}
+use Rattle.std.specs.Prelude.{is_some, is_none, unsigned_abs}
 use Rattle.std.specs.{List.list_any, Ordering.int_eq}
-use Rattle.machine_spec.specs.declared.{limits.TheConstants.STACK_SIZE, helper.Helper.Helper, helper.Argument.Argument, operation.Width.Width, operation.Width.TheVariants.Bits64, operation.Operation.Operation}
-use Rattle.machine_spec.specs.declared.instruction.{Region.Region, Size.Size, Source.Source, Source.TheVariants.Register, Source.TheVariants.Immediate, Instruction.Instruction, Placed.Placed}
-use Rattle.machine_spec.specs.declared.summary.{Operands.Operands, Direction.Direction, MemoryOperand.MemoryOperand, Condition.Condition, Summary.Summary}
+use Rattle.machine_spec.specs.declared.{limits.TheConstants.STACK_SIZE, helper.Helper.Helper, helper.Argument.Argument}
+use Rattle.machine_spec.specs.declared.{operation.Width.Width, operation.Operation.Operation, instruction.Region.Region}
+use Rattle.machine_spec.specs.declared.{instruction.Size.Size, instruction.Source.Source}
+use Rattle.machine_spec.specs.declared.{instruction.Instruction.Instruction, instruction.Placed.Placed}
+use Rattle.machine_spec.specs.declared.{summary.Operands.Operands, summary.Direction.Direction}
+use Rattle.machine_spec.specs.declared.{summary.MemoryOperand.MemoryOperand, summary.Condition.Condition}
+use Rattle.machine_spec.specs.declared.{summary.Summary.Summary}
+use Rattle.machine_spec.specs.declared.operation.Width.TheVariants.{Bits64}
+use Rattle.machine_spec.specs.declared.instruction.Source.TheVariants.{Register, Immediate}
 use Rattle.machine_spec.specs.Summaries.{summary_of}
 use Rattle.machine_spec.specs.Image.{target_of}
 use Rattle.machine_spec.specs.Arithmetic.{signed}
 use Rattle.machine_spec.specs.Values.{immediate, moves_address, is_subtraction, byte_count}
-use Rattle.machine_spec.specs.Traps.{writes_frame, calls_no_helper, helper_called, arguments_of, read_registers, is_read, is_stack, first_of}
-use Rattle.verifier_spec.specs.declared.{interval.Interval.Interval, state.Abs.Abs, state.StackSet.StackSet, state.Abstract.Abstract, fault.Check.Check}
+use Rattle.machine_spec.specs.Traps.{writes_frame, calls_no_helper, helper_called, arguments_of, read_registers}
+use Rattle.machine_spec.specs.Traps.{is_read, is_stack, first_of}
+use Rattle.verifier_spec.specs.declared.{interval.Interval.Interval, state.Abs.Abs, state.StackSet.StackSet}
+use Rattle.verifier_spec.specs.declared.{state.Abstract.Abstract, fault.Check.Check}
 use Rattle.verifier_spec.specs.StackSets.{is_set}
-use Rattle.verifier_spec.specs.Kinds.{kind_at, length_range, range_of, is_unknown, is_number_kind, is_address_kind, furthest, same_region}
+use Rattle.verifier_spec.specs.Kinds.{kind_at, length_range, range_of, is_unknown, is_number_kind, is_address_kind}
+use Rattle.verifier_spec.specs.Kinds.{furthest, same_region}
 
 -- the kind of a second operand: a register's, or the one number that an immediate is
 abbrev pub source_kind : Abstract → Width → Source → Abs
@@ -30,16 +41,19 @@ is_one_sign range = nat_lt range.high (2 ^ 63) || nat_le (2 ^ 63) range.low
 
 -- the least and the greatest of the displacements that an operation makes of numbers of one sign
 abbrev pub least_displacement : Operation → Interval → ℤ
-least_displacement operation range = if is_subtraction operation then neg_ℤ (signed Bits64 range.high) else signed Bits64 range.low
+least_displacement operation range =
+    if is_subtraction operation then neg_ℤ (signed Bits64 range.high) else signed Bits64 range.low
 
 abbrev pub greatest_displacement : Operation → Interval → ℤ
-greatest_displacement operation range = if is_subtraction operation then neg_ℤ (signed Bits64 range.low) else signed Bits64 range.high
+greatest_displacement operation range =
+    if is_subtraction operation then neg_ℤ (signed Bits64 range.low) else signed Bits64 range.high
 
 -- an address from low to high, moved by any of the numbers, stays in its range
 abbrev pub can_move : Operation → ℤ → ℤ → Option Interval → Bool
 can_move operation low high (Some range) =
     is_one_sign range
-    && (int_le (neg_ℤ (pos furthest)) (low +ℤ least_displacement operation range) && int_le (high +ℤ greatest_displacement operation range) (pos furthest))
+    && (int_le (neg_ℤ (pos furthest)) (low +ℤ least_displacement operation range)
+    && int_le (high +ℤ greatest_displacement operation range) (pos furthest))
 can_move operation low high None = false
 
 -- what an operation takes: numbers, or an address and a number that moves it and can't take it out of its range
@@ -47,13 +61,15 @@ abbrev pub can_compute_kinds : Abstract → Width → Operation → Abs → Abs 
 can_compute_kinds s width operation Abs.None b = false
 can_compute_kinds s width operation (Abs.Num _ _) b = is_number_kind b
 can_compute_kinds s width operation (Abs.Len _) b = is_number_kind b
-can_compute_kinds s width operation (Abs.Addr _ low high) b = moves_address width operation && can_move operation low high (range_of s b)
+can_compute_kinds s width operation (Abs.Addr _ low high) b = moves_address width operation
+    && can_move operation low high (range_of s b)
 
 -- an instruction may not take the kinds of its operands, or of what its condition compares, and the base of its load or
 -- store may be no address
 abbrev pub has_wrong_kinds : Operands → Abstract → Bool
 has_wrong_kinds (Operands.Number width source) s = not (is_number_kind (source_kind s width source))
-has_wrong_kinds (Operands.Computed width operation dst source) s = not (can_compute_kinds s width operation (kind_at s dst) (source_kind s width source))
+has_wrong_kinds (Operands.Computed width operation dst source) s =
+    not (can_compute_kinds s width operation (kind_at s dst) (source_kind s width source))
 has_wrong_kinds _ s = false
 
 abbrev pub has_wrong_base_kind : Option MemoryOperand → Abstract → Bool
@@ -61,7 +77,8 @@ has_wrong_base_kind (Some m) s = not (is_address_kind (kind_at s m.base))
 has_wrong_base_kind None s = false
 
 abbrev pub has_wrong_condition_kind : Option Condition → Abstract → Bool
-has_wrong_condition_kind (Some c) s = not (is_number_kind (kind_at s c.dst) && is_number_kind (source_kind s c.width c.source))
+has_wrong_condition_kind (Some c) s =
+    not (is_number_kind (kind_at s c.dst) && is_number_kind (source_kind s c.width c.source))
 has_wrong_condition_kind None s = false
 
 -- ---- memory
@@ -76,7 +93,14 @@ pub record Reach : Type 0 where
 
 -- those of an access at an offset from a base of a kind; of a base that is no address, none
 abbrev pub reach_at : Direction → Abs → ℤ → Size → Option Reach
-reach_at direction (Abs.Addr region lo hi) offset size = Some (record { direction = direction; region = region; low = lo +ℤ offset; high = hi +ℤ offset; size = byte_count size })
+reach_at direction (Abs.Addr region lo hi) offset size =
+    Some (record {
+      direction = direction;
+      region = region;
+      low = lo +ℤ offset;
+      high = hi +ℤ offset;
+      size = byte_count size;
+    })
 reach_at direction _ offset size = None
 
 -- those of an instruction's load or store in a state
@@ -95,7 +119,8 @@ may_write_record None = false
 
 -- they may lie outside the key or the value, by its least length
 abbrev pub may_leave_record : Abstract → Option Reach → Bool
-may_leave_record s (Some reach) = if is_stack reach.region then false else not (is_reach_within reach (length_range s reach.region).min)
+may_leave_record s (Some reach) =
+    if is_stack reach.region then false else not (is_reach_within reach (length_range s reach.region).min)
 may_leave_record s None = false
 
 -- they may lie outside the stack
@@ -114,19 +139,22 @@ reach_length reach = unsigned_abs (reach.high +ℤ neg_ℤ reach.low) + reach.si
 
 -- they are read, and on the stack, where one may not be set
 abbrev pub may_read_unset : Abstract → Option Reach → Bool
-may_read_unset s (Some reach) = if is_read reach.direction && is_stack reach.region then not (are_set s.set (unsigned_abs reach.low) (reach_length reach)) else false
+may_read_unset s (Some reach) = if is_read reach.direction
+    && is_stack reach.region then not (are_set s.set (unsigned_abs reach.low) (reach_length reach)) else false
 may_read_unset s None = false
 
 -- ---- calls and the exit
 
 -- the bytes that an address and a number of these kinds may name
 abbrev pub named_reach : Direction → Abs → Option Interval → Option Reach
-named_reach direction (Abs.Addr region lo hi) (Some range) = Some (record { direction = direction; region = region; low = lo; high = hi; size = range.high })
+named_reach direction (Abs.Addr region lo hi) (Some range) =
+    Some (record { direction = direction; region = region; low = lo; high = hi; size = range.high })
 named_reach direction _ _ = None
 
 -- they may lie outside what is known of their region, or not be set, or not be named at all
 abbrev pub may_name_wrongly : Abstract → Option Reach → Bool
-may_name_wrongly s (Some reach) = (may_leave_record s (Some reach) || may_leave_stack (Some reach)) || may_read_unset s (Some reach)
+may_name_wrongly s (Some reach) =
+    (may_leave_record s (Some reach) || may_leave_stack (Some reach)) || may_read_unset s (Some reach)
 may_name_wrongly s None = true
 
 -- an address and a number name exactly the key or the value
@@ -136,7 +164,8 @@ is_whole _ _ = false
 
 -- room may be no byte at all, not be on the stack or pass its end
 abbrev pub may_be_wrong_room : Option Reach → Option Interval → Bool
-may_be_wrong_room (Some reach) (Some range) = range.low == 0 || (may_write_record (Some reach) || may_leave_stack (Some reach))
+may_be_wrong_room (Some reach) (Some range) =
+    range.low == 0 || (may_write_record (Some reach) || may_leave_stack (Some reach))
 may_be_wrong_room _ _ = true
 
 -- an argument may not be what it must be
@@ -144,9 +173,11 @@ abbrev pub is_wrong_argument_kind : Abstract → Argument → Bool
 is_wrong_argument_kind s Argument.Nothing = false
 is_wrong_argument_kind s (Argument.Number r) = not (is_number_kind (kind_at s r))
 is_wrong_argument_kind s (Argument.Bytes address count) =
-    not (is_whole (kind_at s address) (kind_at s count)) && may_name_wrongly s (named_reach Direction.Read (kind_at s address) (range_of s (kind_at s count)))
+    not (is_whole (kind_at s address) (kind_at s count))
+    && may_name_wrongly s (named_reach Direction.Read (kind_at s address) (range_of s (kind_at s count)))
 is_wrong_argument_kind s (Argument.Room address count) =
-    may_be_wrong_room (named_reach Direction.Write (kind_at s address) (range_of s (kind_at s count))) (range_of s (kind_at s count))
+    may_be_wrong_room (named_reach Direction.Write (kind_at s address) (range_of s (kind_at s count)))
+    (range_of s (kind_at s count))
 
 -- one of the arguments of the helper that is called may not be
 abbrev pub may_call_wrongly : Option ℤ → Abstract → Bool
@@ -188,7 +219,8 @@ jump_of i = (summary_of i).jump
 
 -- a jump forward whose target is outside the image or the second slot of a wide instruction
 abbrev pub leads_nowhere : List Placed → ℕ → Option ℤ → Bool
-leads_nowhere code slot (Some offset) = if int_lt offset (pos 0) then false else is_none (target_of code slot (Some offset))
+leads_nowhere code slot (Some offset) =
+    if int_lt offset (pos 0) then false else is_none (target_of code slot (Some offset))
 leads_nowhere code slot None = false
 
 -- a jump back

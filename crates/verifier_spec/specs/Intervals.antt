@@ -1,11 +1,17 @@
 -- Intervals of numbers: what an operation or a change makes of them, and what a conditional jump by a constant leaves
 -- of them along its edges.
-use Rattle.std.specs.Prelude.{ℕ, zero, suc, ◌+◌, ◌-◌, ◌*◌, ◌/◌, ◌%◌, ◌^◌, ◌<◌, ◌≤◌, Bool, true, false, ◌==◌, ◌&&◌, nat_lt, nat_le, min, max, if◌then◌else◌, Option, Some, None}
+use Rattle.std.specs.Prelude.{ℕ, zero, suc, ◌+◌, ◌-◌, ◌*◌, ◌/◌, ◌%◌, ◌^◌, ◌<◌, ◌≤◌, Bool, true, false, ◌==◌, ◌&&◌}
+use Rattle.std.specs.Prelude.{nat_lt, nat_le, min, max, if◌then◌else◌, Option, Some, None}
 use Rattle.std.specs.Int.{w64, leading_zeros}
-use Rattle.machine_spec.specs.declared.operation.{Width.Width, Width.TheVariants.Bits32, Width.TheVariants.Bits64, Operation.Operation, Change.Change, Test.Test}
-use Rattle.machine_spec.specs.declared.operation.Operation.TheVariants.{Add, Sub, Mul, Div, SignedDiv, Or, And, LeftShift, RightShift, Mod, SignedMod, Xor, ArithmeticRightShift}
+use Rattle.machine_spec.specs.declared.{operation.Width.Width, operation.Operation.Operation, operation.Change.Change}
+use Rattle.machine_spec.specs.declared.{operation.Test.Test}
+use Rattle.machine_spec.specs.declared.operation.Width.TheVariants.{Bits32, Bits64}
+use Rattle.machine_spec.specs.declared.operation.Operation.TheVariants.{Add, Sub, Mul, Div, SignedDiv, Or, And}
+use Rattle.machine_spec.specs.declared.operation.Operation.TheVariants.{LeftShift, RightShift, Mod, SignedMod, Xor}
+use Rattle.machine_spec.specs.declared.operation.Operation.TheVariants.{ArithmeticRightShift}
 use Rattle.machine_spec.specs.declared.operation.Change.TheVariants.{Negate, Order, SignExtend}
-use Rattle.machine_spec.specs.declared.operation.Test.TheVariants.{Equal, NotEqual, Greater, GreaterOrEqual, Less, LessOrEqual}
+use Rattle.machine_spec.specs.declared.operation.Test.TheVariants.{Equal, NotEqual, Greater, GreaterOrEqual, Less}
+use Rattle.machine_spec.specs.declared.operation.Test.TheVariants.{LessOrEqual}
 use Rattle.machine_spec.specs.Arithmetic.{bit_count, limit, swapped_bits, extended_bits}
 use Rattle.verifier_spec.specs.declared.interval.Interval.{Interval}
 
@@ -35,9 +41,9 @@ abbrev pub whole : Width → Interval
 whole width = from_to 0 (limit width - 1)
 
 -- What an operation of a width takes of an operand's numbers: at 32 bits, where one of them has more, any 32 bits.
-abbrev pub cut : Width → Interval → Interval
-cut Bits32 x = if nat_lt x.high (2 ^ 32) then x else whole Bits32
-cut Bits64 x = x
+abbrev pub cut_to_width : Width → Interval → Interval
+cut_to_width Bits32 x = if nat_lt x.high (2 ^ 32) then x else whole Bits32
+cut_to_width Bits64 x = x
 
 -- every number of the width where the greatest of an interval would wrap
 abbrev pub unless_wrapping : Width → ℕ → ℕ → Interval
@@ -77,7 +83,8 @@ remainders x y = if is_divisor y then from_to 0 (min x.high (y.low - 1)) else fr
 
 -- numbers shifted by a count that is one number
 abbrev pub shifted_left : Width → Interval → ℕ → Interval
-shifted_left width x count = unless_wrapping width (x.low * 2 ^ (count % bit_count width)) (x.high * 2 ^ (count % bit_count width))
+shifted_left width x count = unless_wrapping width (x.low * 2 ^ (count % bit_count width))
+    (x.high * 2 ^ (count % bit_count width))
 
 abbrev pub shifted_right : Width → Interval → ℕ → Interval
 shifted_right width x count = from_to (x.low / 2 ^ (count % bit_count width)) (x.high / 2 ^ (count % bit_count width))
@@ -89,19 +96,22 @@ computed_range width Add x y = unless_wrapping width (x.low + y.low) (x.high + y
 computed_range width Sub x y = if nat_le y.high x.low then from_to (x.low - y.high) (x.high - y.low) else whole width
 computed_range width Mul x y = unless_wrapping width (x.low * y.low) (x.high * y.high)
 computed_range width Div x y = quotients x y
-computed_range width SignedDiv x y = if is_non_negative width x && is_non_negative width y then quotients x y else whole width
+computed_range width SignedDiv x y = if is_non_negative width x
+    && is_non_negative width y then quotients x y else whole width
 computed_range width Or x y = of_same_bits x y
 computed_range width And x y = from_to 0 (min x.high y.high)
 computed_range width LeftShift x y = if is_single y then shifted_left width x y.low else whole width
 computed_range width RightShift x y = if is_single y then shifted_right width x y.low else from_to 0 x.high
 computed_range width Mod x y = remainders x y
-computed_range width SignedMod x y = if is_non_negative width x && is_non_negative width y then remainders x y else whole width
+computed_range width SignedMod x y = if is_non_negative width x
+    && is_non_negative width y then remainders x y else whole width
 computed_range width Xor x y = of_same_bits x y
-computed_range width ArithmeticRightShift x y = if is_single y && is_non_negative width x then shifted_right width x y.low else whole width
+computed_range width ArithmeticRightShift x y = if is_single y
+    && is_non_negative width x then shifted_right width x y.low else whole width
 
 -- the results of an operation on numbers below 2^64
 abbrev pub result_range : Width → Operation → Interval → Interval → Interval
-result_range width operation x y = computed_range width operation (cut width x) (cut width y)
+result_range width operation x y = computed_range width operation (cut_to_width width x) (cut_to_width width y)
 
 -- ---- changes of one number
 
@@ -161,7 +171,7 @@ opposite LessOrEqual = Greater
 opposite test = test
 
 -- What a jump by a constant leaves of an interval where it is taken, and where it is not. One of 32 bits leaves all.
-abbrev pub narrowed : Width → Test → Bool → Interval → ℕ → Option Interval
-narrowed Bits32 test taken x c = Some x
-narrowed Bits64 test true x c = passing_part test x c
-narrowed Bits64 test false x c = passing_part (opposite test) x c
+abbrev pub narrowed_interval : Width → Test → Bool → Interval → ℕ → Option Interval
+narrowed_interval Bits32 test taken x c = Some x
+narrowed_interval Bits64 test true x c = passing_part test x c
+narrowed_interval Bits64 test false x c = passing_part (opposite test) x c

@@ -7,14 +7,14 @@ use Rattle.verifier_spec.specs.declared.{state.Abstract.Abstract, fault.Check.Ch
 use Rattle.verifier_spec.specs.States.{entry_state}
 use Rattle.verifier_spec.specs.Checks.{failed_check, jump_of}
 use Rattle.verifier_spec.specs.Transfer.{falls_to, jumps_to}
-use Rattle.verifier_spec.specs.Joins.{joined}
+use Rattle.verifier_spec.specs.Joins.{joined_state}
 use Rattle.verifier_spec.specs.Annotation.{Claims}
 
 -- the least claim above two; an unreached instruction has the least of all
 abbrev pub joined_claims : Option Abstract → Option Abstract → Option Abstract
 joined_claims None b = b
 joined_claims (Some a) None = Some a
-joined_claims (Some a) (Some b) = Some (joined a b)
+joined_claims (Some a) (Some b) = Some (joined_state a b)
 
 -- the claim of instruction number j after one more edge, which propagates a state to its target
 abbrev pub with_edge : ℕ → Option ℕ → Option Abstract → Option Abstract → Option Abstract
@@ -33,16 +33,19 @@ if_passed (Some _) known more = known
 if_passed None known more = more
 
 -- after instruction number k with its own claim: one that is not reached or fails a check propagates nothing
-abbrev pub with_instruction : List Helper → List Placed → ℕ → ℕ → Option Placed → Option Abstract → Option Abstract → Option Abstract
+abbrev pub with_instruction : List Helper → List Placed → ℕ → ℕ → Option Placed → Option Abstract → Option Abstract →
+    Option Abstract
 with_instruction helpers code j k None own claim = claim
 with_instruction helpers code j k (Some placed) None claim = claim
-with_instruction helpers code j k (Some placed) (Some s) claim = if_passed (failed_check helpers placed.instruction s) claim (with_edges code j k placed s claim)
+with_instruction helpers code j k (Some placed) (Some s) claim =
+    if_passed (failed_check helpers placed.instruction s) claim (with_edges code j k placed s claim)
 
 -- The claim of instruction number j after the edges of the first instructions, of as many as the first number says. At
 -- first the entry state is known and no other.
 unfoldable pub known_after : List Helper → List Placed → ℕ → ℕ → Option Abstract
 known_after helpers code zero j = if j == 0 then Some entry_state else None
-known_after helpers code (suc k) j = with_instruction helpers code j k (slice_get code k) (known_after helpers code k k) (known_after helpers code k j)
+known_after helpers code (suc k) j =
+    with_instruction helpers code j k (slice_get code k) (known_after helpers code k k) (known_after helpers code k j)
 
 -- each instruction's claim after all instructions before it
 abbrev pub states_from : List Helper → List Placed → ℕ → List Placed → Claims

@@ -28,8 +28,8 @@ pairwise f (x ∷ xs) [] = []
 pairwise f (x ∷ xs) (y ∷ ys) = f x y ∷ pairwise f xs ys
 
 -- The join of two states: that of each register's kinds and of each range, and the stack bytes that are set in both.
-abbrev pub joined : Abstract → Abstract → Abstract
-joined a b = record {
+abbrev pub joined_state : Abstract → Abstract → Abstract
+joined_state a b = record {
   registers = pairwise (joined_kind a b) a.registers b.registers;
   key = joined_range a.key b.key;
   value = joined_range a.value b.value;

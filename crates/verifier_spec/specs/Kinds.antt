@@ -1,8 +1,10 @@
 -- Abstract values of registers: their ranges and their order.
-use Rattle.std.specs.Prelude.{ℕ, ◌^◌, pos, neg_ℤ, Bool, true, false, ◌&&◌, not, nat_lt, nat_le, int_le, slice_index_or, Option, Some, None}
+use Rattle.std.specs.Prelude.{ℕ, ◌^◌, pos, neg_ℤ, Bool, true, false, ◌&&◌, not, nat_lt, nat_le, int_le, slice_index_or}
+use Rattle.std.specs.Prelude.{Option, Some, None}
 use Rattle.machine_spec.specs.declared.{limits.TheConstants.STACK_SIZE, instruction.Region.Region}
 use Rattle.machine_spec.specs.Traps.{is_stack}
-use Rattle.verifier_spec.specs.declared.{interval.Interval.Interval, state.Abs.Abs, state.Range.Range, state.Abstract.Abstract}
+use Rattle.verifier_spec.specs.declared.{interval.Interval.Interval, state.Abs.Abs, state.Range.Range}
+use Rattle.verifier_spec.specs.declared.{state.Abstract.Abstract}
 use Rattle.verifier_spec.specs.Intervals.{from_to}
 use Rattle.verifier_spec.specs.Ranges.{lengths_from_to, interval_of}
 
@@ -63,7 +65,8 @@ same_region _ _ = false
 abbrev pub is_kind_within : Abstract → Abs → Abs → Bool
 is_kind_within inner _ Abs.None = true
 is_kind_within inner (Abs.Num lo hi) (Abs.Num low high) = nat_le low lo && nat_le hi high
-is_kind_within inner (Abs.Len a) (Abs.Num low high) = nat_le low (length_range inner a).min && nat_le (length_range inner a).max high
+is_kind_within inner (Abs.Len a) (Abs.Num low high) = nat_le low (length_range inner a).min
+    && nat_le (length_range inner a).max high
 is_kind_within inner (Abs.Len a) (Abs.Len b) = same_region a b
 is_kind_within inner (Abs.Addr a lo hi) (Abs.Addr b low high) = same_region a b && (int_le low lo && int_le hi high)
 is_kind_within inner _ _ = false

@@ -2,7 +2,8 @@
 use Rattle.std.specs.Prelude.{◌≡◌, List, Option, Some, option_map, Result, Ok, Err}
 use Rattle.machine_spec.specs.declared.{helper.Helper.Helper, instruction.IsaFault.IsaFault, instruction.Placed.Placed}
 use Rattle.machine_spec.specs.Image.{Program, read_image}
-use Rattle.verifier_spec.specs.declared.fault.LoadFault.{LoadFault, TheVariants.Isa, TheVariants.Verify}
+use Rattle.verifier_spec.specs.declared.fault.LoadFault.{LoadFault}
+use Rattle.verifier_spec.specs.declared.fault.LoadFault.TheVariants.{Isa, Verify}
 use Rattle.verifier_spec.specs.Annotation.{Claims, IsAnnotation, fault_of}
 use Rattle.verifier_spec.specs.JoinedStates.{joined_states}
 

@@ -26,8 +26,9 @@ edge_of false i a = falls_to i a
 -- Transfer is sound at an instruction: where an abstract state holds of the machine's before a step, the edge of that
 -- step propagates an abstract state, which is in its ranges and holds of the machine's after the step.
 pub record IsSoundAt (i : Instruction) (a : Abstract) : Type 0 where
-  pub edge : (program : Program) (input : Input) (before next : State) → StandsFor input a before → form_at program.image before.slot ≡ Some i → Step program input before next
-      → (b : Abstract) × (edge_of (takes_jump i before) i a ≡ Some b) × StandsFor input b next × (is_proper b ≡ true)
+  pub edge : (program : Program) (input : Input) (before next : State) → StandsFor input a before →
+      form_at program.image before.slot ≡ Some i → Step program input before next →
+      (b : Abstract) × (edge_of (takes_jump i before) i a ≡ Some b) × StandsFor input b next × (is_proper b ≡ true)
 
 -- The order of two abstract states is kept at an instruction: the inner one passes the checks, and each edge propagates
 -- from it a state within the one that it propagates from the outer one, or none.

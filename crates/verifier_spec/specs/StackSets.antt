@@ -1,5 +1,6 @@
 -- Sets of stack places by their eight words: place k is bit k % 64 of word k / 64.
-use Rattle.std.specs.Prelude.{ℕ, zero, suc, ◌+◌, ◌/◌, ◌%◌, ◌^◌, Bool, ◌==◌, bit_and, bit_or, if◌then◌else◌, [], ◌∷◌, map, slice_index}
+use Rattle.std.specs.Prelude.{ℕ, zero, suc, ◌+◌, ◌/◌, ◌%◌, ◌^◌, Bool, ◌==◌, bit_and, bit_or, if◌then◌else◌, [], ◌∷◌}
+use Rattle.std.specs.Prelude.{map, slice_index}
 use Rattle.std.specs.Int.{bit_at}
 use Rattle.verifier_spec.specs.declared.state.StackSet.{StackSet}
 
@@ -25,7 +26,8 @@ intersection a b = set_of (λ number. bit_and (word_of a number) (word_of b numb
 
 -- a place added to a set
 abbrev pub with_place : StackSet → ℕ → StackSet
-with_place set place = set_of (λ number. bit_or (word_of set number) (if number == place / 64 then 2 ^ (place % 64) else 0))
+with_place set place = set_of (λ number. bit_or (word_of set number)
+    (if number == place / 64 then 2 ^ (place % 64) else 0))
 
 -- `count` places from one on added to a set
 abbrev pub with_places : StackSet → ℕ → ℕ → StackSet

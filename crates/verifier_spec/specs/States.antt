@@ -1,9 +1,9 @@
 -- Abstract states: their ranges, their order, and the one that every run begins in.
 use Rattle.std.specs.Prelude.{ℕ, zero, suc, pos, Bool, true, ◌==◌, ◌&&◌, ◌||◌, not, [], ◌∷◌, length}
 use Rattle.std.specs.List.{list_all}
-use Rattle.wire_spec.specs.declared.limits.TheConstants.{MAX_KEY, MAX_VALUE}
+use Rattle.wire_spec.specs.declared.{limits.TheConstants.MAX_KEY, limits.TheConstants.MAX_VALUE}
 use Rattle.machine_spec.specs.declared.{limits.TheConstants.STACK_SIZE, instruction.Region.Region}
-use Rattle.verifier_spec.specs.declared.state.{Abs.Abs, Abstract.Abstract}
+use Rattle.verifier_spec.specs.declared.{state.Abs.Abs, state.Abstract.Abstract}
 use Rattle.verifier_spec.specs.StackSets.{is_set, no_places}
 use Rattle.verifier_spec.specs.Ranges.{lengths_from_to, is_proper_range, is_range_within}
 use Rattle.verifier_spec.specs.Kinds.{kind_at, is_proper_kind, is_kind_within}
@@ -31,8 +31,10 @@ is_within inner outer =
 abbrev pub entry_state : Abstract
 entry_state = record {
   registers =
-      Abs.None ∷ Abs.Addr Region.Value (pos 0) (pos 0) ∷ Abs.Len Region.Value ∷ Abs.Addr Region.Key (pos 0) (pos 0) ∷ Abs.Len Region.Key
-      ∷ Abs.Num 0 3 ∷ Abs.None ∷ Abs.None ∷ Abs.None ∷ Abs.None ∷ Abs.Addr Region.Stack (pos STACK_SIZE) (pos STACK_SIZE) ∷ [];
+      Abs.None ∷ Abs.Addr Region.Value (pos 0) (pos 0) ∷ Abs.Len Region.Value ∷ Abs.Addr Region.Key (pos 0) (pos 0)
+      ∷ Abs.Len Region.Key
+      ∷ Abs.Num 0 3 ∷ Abs.None ∷ Abs.None ∷ Abs.None ∷ Abs.None
+      ∷ Abs.Addr Region.Stack (pos STACK_SIZE) (pos STACK_SIZE) ∷ [];
   key = lengths_from_to 0 MAX_KEY;
   value = lengths_from_to 0 MAX_VALUE;
   set = no_places;

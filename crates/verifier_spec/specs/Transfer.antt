@@ -1,16 +1,25 @@
 -- What an instruction makes of an abstract state, along each of its edges.
-use Rattle.std.specs.Prelude.{ℕ, ◌-◌, ◌*◌, ◌^◌, ℤ, ◌+ℤ◌, Bool, true, false, ◌&&◌, if◌then◌else◌, List, ◌∷◌, slice_set, Option, Some, None, unsigned_abs}
+use Rattle.std.specs.Prelude.{ℕ, ◌-◌, ◌*◌, ◌^◌, ℤ, ◌+ℤ◌, Bool, true, false, ◌&&◌, if◌then◌else◌, List, ◌∷◌, slice_set}
+use Rattle.std.specs.Prelude.{Option, Some, None, unsigned_abs}
 use Rattle.std.specs.{Ordering.int_eq, List.fold}
-use Rattle.machine_spec.specs.declared.operation.{Width.Width, Width.TheVariants.Bits32, Width.TheVariants.Bits64, Operation.Operation, Change.Change, Test.Test}
-use Rattle.machine_spec.specs.declared.instruction.{Region.Region, Size.Size, Extension.Extension, Extension.TheVariants.Zero, Extension.TheVariants.Sign, Source.Source, Source.TheVariants.Register, Source.TheVariants.Immediate, Instruction.Instruction}
-use Rattle.machine_spec.specs.declared.instruction.Instruction.TheVariants.{Move, Compute, Load, Unary, Store, JumpIf, Jump, Wide, Call, Exit}
-use Rattle.machine_spec.specs.declared.{helper.Helper.Helper, helper.Argument.Argument, summary.Direction.TheVariants.Write, summary.Condition.Condition}
+use Rattle.machine_spec.specs.declared.{operation.Width.Width, operation.Operation.Operation, operation.Change.Change}
+use Rattle.machine_spec.specs.declared.{operation.Test.Test, instruction.Region.Region, instruction.Size.Size}
+use Rattle.machine_spec.specs.declared.{instruction.Extension.Extension, instruction.Source.Source}
+use Rattle.machine_spec.specs.declared.{instruction.Instruction.Instruction, helper.Helper.Helper}
+use Rattle.machine_spec.specs.declared.{helper.Argument.Argument, summary.Condition.Condition}
+use Rattle.machine_spec.specs.declared.operation.Width.TheVariants.{Bits32, Bits64}
+use Rattle.machine_spec.specs.declared.instruction.Extension.TheVariants.{Zero, Sign}
+use Rattle.machine_spec.specs.declared.instruction.Source.TheVariants.{Register, Immediate}
+use Rattle.machine_spec.specs.declared.instruction.Instruction.TheVariants.{Move, Compute, Load, Unary, Store, JumpIf}
+use Rattle.machine_spec.specs.declared.instruction.Instruction.TheVariants.{Jump, Wide, Call, Exit}
+use Rattle.machine_spec.specs.declared.summary.Direction.TheVariants.{Write}
 use Rattle.machine_spec.specs.Summaries.{summary_of}
 use Rattle.machine_spec.specs.Values.{immediate, byte_count}
 use Rattle.machine_spec.specs.Machine.{signature_of, helper_of}
 use Rattle.machine_spec.specs.Traps.{is_stack}
-use Rattle.verifier_spec.specs.declared.{interval.Interval.Interval, state.Abs.Abs, state.Range.Range, state.StackSet.StackSet, state.Abstract.Abstract}
-use Rattle.verifier_spec.specs.Intervals.{from_to, cut, result_range, changed_range, narrowed}
+use Rattle.verifier_spec.specs.declared.{interval.Interval.Interval, state.Abs.Abs, state.Range.Range}
+use Rattle.verifier_spec.specs.declared.{state.StackSet.StackSet, state.Abstract.Abstract}
+use Rattle.verifier_spec.specs.Intervals.{from_to, cut_to_width, result_range, changed_range, narrowed_interval}
 use Rattle.verifier_spec.specs.StackSets.{with_places}
 use Rattle.verifier_spec.specs.Ranges.{lengths_from_to}
 use Rattle.verifier_spec.specs.Kinds.{kind_at, range_of}
@@ -38,19 +47,22 @@ on_ranges width operation _ _ = Abs.None
 
 -- an address moved by a number that is read as signed
 abbrev pub moved_address : Operation → Region → ℤ → ℤ → Option Interval → Abs
-moved_address operation region low high (Some range) = Abs.Addr region (low +ℤ least_displacement operation range) (high +ℤ greatest_displacement operation range)
+moved_address operation region low high (Some range) =
+    Abs.Addr region (low +ℤ least_displacement operation range) (high +ℤ greatest_displacement operation range)
 moved_address operation region low high None = Abs.None
 
 -- a move of 64 bits moves any value, and one of 32 bits the low half of a number
 abbrev pub moved_kind : Abstract → Width → Abs → Abs
 moved_kind s Bits64 kind = kind
-moved_kind s Bits32 kind = on_range (cut Bits32) (range_of s kind)
+moved_kind s Bits32 kind = on_range (cut_to_width Bits32) (range_of s kind)
 
 -- an operation on two kinds that it takes; what it makes of lengths or numbers is a number
 abbrev pub computed_kind : Abstract → Width → Operation → Abs → Abs → Abs
 computed_kind s width operation Abs.None b = Abs.None
-computed_kind s width operation (Abs.Num lo hi) b = on_ranges width operation (range_of s (Abs.Num lo hi)) (range_of s b)
-computed_kind s width operation (Abs.Len region) b = on_ranges width operation (range_of s (Abs.Len region)) (range_of s b)
+computed_kind s width operation (Abs.Num lo hi) b =
+    on_ranges width operation (range_of s (Abs.Num lo hi)) (range_of s b)
+computed_kind s width operation (Abs.Len region) b =
+    on_ranges width operation (range_of s (Abs.Len region)) (range_of s b)
 computed_kind s width operation (Abs.Addr region low high) b = moved_address operation region low high (range_of s b)
 
 -- a change of a number or a length is a number
@@ -66,7 +78,8 @@ loaded_kind size Sign = Abs.Num 0 (2 ^ 64 - 1)
 
 -- a store at one known place of the stack sets its bytes; any other changes nothing that is known
 abbrev pub with_stored : StackSet → Option Reach → StackSet
-with_stored set (Some reach) = if is_stack reach.region && int_eq reach.low reach.high then with_places set (unsigned_abs reach.low) reach.size else set
+with_stored set (Some reach) = if is_stack reach.region
+    && int_eq reach.low reach.high then with_places set (unsigned_abs reach.low) reach.size else set
 with_stored set None = set
 
 -- ---- conditional jumps by a constant
@@ -77,8 +90,8 @@ with_lengths s Region.Stack range = s
 with_lengths s Region.Key range = record s { key = range }
 with_lengths s Region.Value range = record s { value = range }
 
--- The state along an edge, by what it leaves of a register's numbers, or none: a number takes the new interval; a length
--- stays one, and its region's range has the new ends.
+-- The state along an edge, by what it leaves of a register's numbers, or none: a number takes the new interval; a
+-- length stays one, and its region's range has the new ends.
 abbrev pub with_range : Abstract → ℕ → Abs → Option Interval → Option Abstract
 with_range s r kind None = None
 with_range s r (Abs.Num _ _) (Some range) = Some (with_kind s r (numbers range))
@@ -87,18 +100,19 @@ with_range s r _ (Some range) = Some s
 
 -- what a jump by a constant leaves of a kind's numbers
 abbrev pub narrowed_range : Width → Test → Bool → Option Interval → ℕ → Option Interval
-narrowed_range width test taken (Some range) c = narrowed width test taken range c
+narrowed_range width test taken (Some range) c = narrowed_interval width test taken range c
 narrowed_range width test taken None c = Some (from_to 0 0)
 
 -- the state along an edge of a conditional jump; a test against a register says nothing
-abbrev pub tested : Abstract → Width → Test → Bool → ℕ → Source → Option Abstract
-tested s width test taken dst (Register _) = Some s
-tested s width test taken dst (Immediate imm) =
-    with_range s dst (kind_at s dst) (narrowed_range width test taken (range_of s (kind_at s dst)) (immediate width imm))
+abbrev pub state_after_test : Abstract → Width → Test → Bool → ℕ → Source → Option Abstract
+state_after_test s width test taken dst (Register _) = Some s
+state_after_test s width test taken dst (Immediate imm) =
+    with_range s dst (kind_at s dst) (narrowed_range width test taken (range_of s (kind_at s dst))
+    (immediate width imm))
 
 -- the state along the edge of a jump whose condition is met
 abbrev pub met_edge : Option Condition → Abstract → Option Abstract
-met_edge (Some c) s = tested s c.width c.test true c.dst c.source
+met_edge (Some c) s = state_after_test s c.width c.test true c.dst c.source
 met_edge None s = Some s
 
 -- ---- calls
@@ -109,13 +123,15 @@ answer_kind helper = Abs.Num 0 (signature_of helper).greatest
 
 -- the registers after a call: r0 has the answer, and nothing is known of r1 to r5
 abbrev pub after_call_kinds : List Abs → Abs → List Abs
-after_call_kinds (_ ∷ _ ∷ _ ∷ _ ∷ _ ∷ _ ∷ kinds) answer = answer ∷ Abs.None ∷ Abs.None ∷ Abs.None ∷ Abs.None ∷ Abs.None ∷ kinds
+after_call_kinds (_ ∷ _ ∷ _ ∷ _ ∷ _ ∷ _ ∷ kinds) answer = answer ∷ Abs.None ∷ Abs.None ∷ Abs.None ∷ Abs.None ∷ Abs.None
+    ∷ kinds
 after_call_kinds kinds answer = kinds
 
 -- The set of stack bytes after a helper wrote room, and after what it did to an argument: of room at one known place of
 -- the stack, as many bytes as it has at least become set.
 abbrev pub with_room : StackSet → Abs → Option Interval → StackSet
-with_room set (Abs.Addr region lo hi) (Some range) = if is_stack region && int_eq lo hi then with_places set (unsigned_abs lo) range.low else set
+with_room set (Abs.Addr region lo hi) (Some range) = if is_stack region
+    && int_eq lo hi then with_places set (unsigned_abs lo) range.low else set
 with_room set _ _ = set
 
 abbrev pub with_argument : Abstract → StackSet → Argument → StackSet
@@ -124,7 +140,11 @@ with_argument s set _ = set
 
 -- the state after a call of a helper
 abbrev pub called_kinds : Option Helper → Abstract → Option Abstract
-called_kinds (Some helper) s = Some (record s { registers = after_call_kinds s.registers (answer_kind helper); set = fold (with_argument s) s.set (signature_of helper).arguments })
+called_kinds (Some helper) s =
+    Some (record s {
+      registers = after_call_kinds s.registers (answer_kind helper);
+      set = fold (with_argument s) s.set (signature_of helper).arguments;
+    })
 called_kinds None s = None
 
 -- ---- the two edges
@@ -132,11 +152,13 @@ called_kinds None s = None
 -- Of an instruction whose checks pass: the state at the next instruction, or none where it can't come there.
 unfoldable pub falls_to : Instruction → Abstract → Option Abstract
 falls_to (Move width dst source) s = Some (with_kind s dst (moved_kind s width (source_kind s width source)))
-falls_to (Compute width operation dst source) s = Some (with_kind s dst (computed_kind s width operation (kind_at s dst) (source_kind s width source)))
+falls_to (Compute width operation dst source) s =
+    Some (with_kind s dst (computed_kind s width operation (kind_at s dst) (source_kind s width source)))
 falls_to (Unary change dst src) s = Some (with_kind s dst (changed_kind s change (kind_at s src)))
 falls_to (Load size extension dst base offset) s = Some (with_kind s dst (loaded_kind size extension))
-falls_to (Store size base offset source) s = Some (record s { set = with_stored s.set (reach_at Write (kind_at s base) offset size) })
-falls_to (JumpIf width test dst source offset) s = tested s width test false dst source
+falls_to (Store size base offset source) s =
+    Some (record s { set = with_stored s.set (reach_at Write (kind_at s base) offset size) })
+falls_to (JumpIf width test dst source offset) s = state_after_test s width test false dst source
 falls_to (Jump distance) s = None
 falls_to (Wide dst number) s = Some (with_kind s dst (Abs.Num number number))
 falls_to (Call number) s = called_kinds (helper_of number) s

@@ -1,6 +1,8 @@
 -- The laws of batches: what is read is spelled so, what is spelled so is read, and no spelling begins
 -- another.
-use Rattle.std.proofs.Common.{◌≡◌, ℕ, zero, suc, ◌+◌, ◌-◌, ◌*◌, ◌^◌, ◌<◌, ◌≤◌, Bool, true, false, cond, ltb, eqb, ◌||◌, ◌&&◌, not, List, [], ◌∷◌, ◌++◌, length, get_or, take, drop, Result, Ok, Err, refl, sym, ap, subst, ◌∙◌, append_assoc, drop-cons, inl, inr, arith}
+use Rattle.std.proofs.Common.{◌≡◌, ℕ, zero, suc, ◌+◌, ◌-◌, ◌*◌, ◌^◌, ◌<◌, ◌≤◌, Bool, true, false, cond, ltb, eqb, ◌||◌}
+use Rattle.std.proofs.Common.{◌&&◌, not, List, [], ◌∷◌, ◌++◌, length, get_or, take, drop, Result, Ok, Err, refl, sym}
+use Rattle.std.proofs.Common.{ap, subst, ◌∙◌, append_assoc, drop-cons, inl, inr, arith}
 use Rattle.std.specs.Prelude.{ℤ, pos, negsuc, ◌≤ℤ◌, ◌<ℤ◌, fold, Option, Some, None, FitsSigned, int_lt, int_le}
 use Rattle.std.specs.Int.{Width, w16, w32, w64, from_be_bytes, to_be_bytes, cast_signed, cast_unsigned, int_max}
 use Rattle.std.specs.List.{AllByRecursion, list_all}
@@ -10,18 +12,24 @@ use Rattle.std.proofs.lemmas.Bool.{cond_both, cases_lt, ltb-false, le-ltb, eqb-t
 use Rattle.std.proofs.lemmas.Bool.Decides.{Decides-int_eq}
 use Rattle.std.proofs.lemmas.Int.{ints, to_z_pos, to_z-of_z, of_z-to_z}
 use Rattle.std.proofs.Math.Facts.{sfits_to_z}
-use Rattle.std.proofs.lemmas.List.{append-nil, take-append-drop, drop-drop, length-append, length-take, length-drop, take_at, drop_at, get_or-take, get_or-drop}
-use Rattle.std.proofs.lemmas.Nat.{be_bytes_2, be_bytes_4, be_bytes_8, from_be_bytes-to_be_bytes_2, from_be_bytes-to_be_bytes_4, from_be_bytes-to_be_bytes_8}
+use Rattle.std.proofs.lemmas.List.{append-nil, take-append-drop, drop-drop, length-append, length-take, length-drop}
+use Rattle.std.proofs.lemmas.List.{take_at, drop_at, get_or-take, get_or-drop}
+use Rattle.std.proofs.lemmas.Nat.{be_bytes_2, be_bytes_4, be_bytes_8, from_be_bytes-to_be_bytes_2}
+use Rattle.std.proofs.lemmas.Nat.{from_be_bytes-to_be_bytes_4, from_be_bytes-to_be_bytes_8}
 use Rattle.std.proofs.lemmas.Simd.{Each1-from_get_or}
-use Rattle.wire_spec.specs.declared.fault.BatchFault.{BatchFault}
+use Rattle.wire_spec.specs.declared.{fault.BatchFault.BatchFault, record.Record.Record, record.Batch.Batch}
 use Rattle.wire_spec.specs.declared.fault.BatchFault.TheVariants as faults
-use Rattle.wire_spec.specs.declared.record.Record.{Record}
-use Rattle.wire_spec.specs.declared.record.Batch.{Batch}
 use Rattle.wire_spec.specs.Checksum.{checksum}
 use Rattle.wire_spec.specs.RecordSpelling.{RecordFits, record_spelling}
 use Rattle.wire_spec.specs.RecordReading.{record_at}
-use Rattle.wire_spec.specs.BatchSpelling.{max_batch, max_records, timestamps, greatest, IsTimestamp, signed, records_spelling, covered, enclosed, batch_spelling, BatchFits}
-use Rattle.wire_spec.specs.BatchReading.{◌>>=◌, number_at, signed_at, base_offset, batch_length, leader_epoch, magic, crc, attributes, last_offset_delta, base_timestamp, max_timestamp, producer_id, producer_epoch, base_sequence, record_count, with_front, batch_size, is_miscounted, is_timestamp, is_mistimed, record_or, records_at, count_at, timed_at, whole_at, size_at, batch_at}
+use Rattle.wire_spec.specs.BatchSpelling.{max_batch, max_records, timestamps, greatest, IsTimestamp, signed}
+use Rattle.wire_spec.specs.BatchSpelling.{records_spelling, checksummed_bytes, bytes_from_epoch, batch_spelling}
+use Rattle.wire_spec.specs.BatchSpelling.{BatchFits}
+use Rattle.wire_spec.specs.BatchReading.{◌>>=◌, number_at, signed_at, base_offset, batch_length, leader_epoch, magic}
+use Rattle.wire_spec.specs.BatchReading.{crc, attributes, last_offset_delta, base_timestamp, max_timestamp, producer_id}
+use Rattle.wire_spec.specs.BatchReading.{producer_epoch, base_sequence, record_count, with_front, batch_size}
+use Rattle.wire_spec.specs.BatchReading.{is_miscounted, is_timestamp, is_mistimed, record_or, records_at, count_at}
+use Rattle.wire_spec.specs.BatchReading.{timed_at, whole_at, size_at, batch_at}
 use Rattle.wire_spec.proofs.Varints.{IsBytes, IsBytes-drop, IsBytes-take}
 use Rattle.wire_spec.proofs.Checksums.{checksum-lt}
 use Rattle.wire_spec.proofs.RecordLaws.{record_takes, record_again, one_record}
@@ -29,23 +37,36 @@ use Rattle.wire_spec.proofs.RecordLaws.{record_takes, record_again, one_record}
 -- ---- Batches by their fields
 
 of_fields : ℤ → ℤ → ℤ → ℤ → ℤ → ℤ → List Record → Batch
-of_fields a b c d e f rs = record { base_offset = a; leader_epoch = b; base_timestamp = c; producer_id = d; producer_epoch = e; base_sequence = f; records = rs }
+of_fields a b c d e f rs = record {
+  base_offset = a;
+  leader_epoch = b;
+  base_timestamp = c;
+  producer_id = d;
+  producer_epoch = e;
+  base_sequence = f;
+  records = rs;
+}
 
-pub same_batch : (b c : Batch) → b.base_offset ≡ c.base_offset → b.leader_epoch ≡ c.leader_epoch → b.base_timestamp ≡ c.base_timestamp → b.producer_id ≡ c.producer_id
-    → b.producer_epoch ≡ c.producer_epoch → b.base_sequence ≡ c.base_sequence → b.records ≡ c.records → b ≡ c
+pub same_batch : (b c : Batch) → b.base_offset ≡ c.base_offset → b.leader_epoch ≡ c.leader_epoch →
+    b.base_timestamp ≡ c.base_timestamp → b.producer_id ≡ c.producer_id → b.producer_epoch ≡ c.producer_epoch →
+    b.base_sequence ≡ c.base_sequence → b.records ≡ c.records → b ≡ c
 unfolding of_fields
 same_batch b c e1 e2 e3 e4 e5 e6 e7 =
-    let same : of_fields b.base_offset b.leader_epoch b.base_timestamp b.producer_id b.producer_epoch b.base_sequence b.records ≡ of_fields c.base_offset c.leader_epoch c.base_timestamp c.producer_id c.producer_epoch c.base_sequence c.records = rw (e1, e2, e3, e4, e5, e6, e7) refl in
+    let same : of_fields b.base_offset b.leader_epoch b.base_timestamp b.producer_id b.producer_epoch b.base_sequence
+    b.records ≡ of_fields c.base_offset c.leader_epoch c.base_timestamp c.producer_id c.producer_epoch
+    c.base_sequence c.records = rw (e1, e2, e3, e4, e5, e6, e7) refl in
     same
 
 -- ---- Steps that may fail
 
-pub bind_ok : {A B : Type 0} (r : Result A BatchFault) (f : A → Result B BatchFault) (y : B) → (r >>= f) ≡ Ok y → (x : A) × (r ≡ Ok x) × (f x ≡ Ok y)
+pub bind_ok : {A B : Type 0} (r : Result A BatchFault) (f : A → Result B BatchFault) (y : B) → (r >>= f) ≡ Ok y →
+    (x : A) × (r ≡ Ok x) × (f x ≡ Ok y)
 bind_ok (Ok x) f y e = (x, refl, e)
 bind_ok (Err d) f y e = absurd cc
 
 -- a test that let a value pass
-pub guard_ok : {A : Type 0} (b : Bool) (d : BatchFault) (r : Result A BatchFault) (y : A) → cond b (Err d) r ≡ Ok y → (b ≡ false) × (r ≡ Ok y)
+pub guard_ok : {A : Type 0} (b : Bool) (d : BatchFault) (r : Result A BatchFault) (y : A) → cond b (Err d) r ≡ Ok y →
+    (b ≡ false) × (r ≡ Ok y)
 guard_ok true d r y e = absurd cc
 guard_ok false d r y e = (refl, e)
 
@@ -73,11 +94,30 @@ front_2 : (bytes : List ℕ) → from_be_bytes w16 (take 2 bytes) ≡ from_be_by
 front_2 bytes = omega (arith, get_or-take 2 bytes 0 0 (omega arith), get_or-take 2 bytes 1 0 (omega arith))
 
 front_4 : (bytes : List ℕ) → from_be_bytes w32 (take 4 bytes) ≡ from_be_bytes w32 bytes
-front_4 bytes = omega (arith, get_or-take 4 bytes 0 0 (omega arith), get_or-take 4 bytes 1 0 (omega arith), get_or-take 4 bytes 2 0 (omega arith), get_or-take 4 bytes 3 0 (omega arith))
+front_4 bytes = omega (
+  arith,
+  get_or-take 4 bytes 0 0 (omega arith),
+  get_or-take 4 bytes 1 0 (omega arith),
+  get_or-take
+      4 bytes 2 0 (omega arith),
+  get_or-take 4 bytes 3 0 (omega arith),
+)
 
 front_8 : (bytes : List ℕ) → from_be_bytes w64 (take 8 bytes) ≡ from_be_bytes w64 bytes
 front_8 bytes =
-    omega (arith, get_or-take 8 bytes 0 0 (omega arith), get_or-take 8 bytes 1 0 (omega arith), get_or-take 8 bytes 2 0 (omega arith), get_or-take 8 bytes 3 0 (omega arith), get_or-take 8 bytes 4 0 (omega arith), get_or-take 8 bytes 5 0 (omega arith), get_or-take 8 bytes 6 0 (omega arith), get_or-take 8 bytes 7 0 (omega arith))
+    omega (
+      arith,
+      get_or-take 8 bytes 0 0 (omega arith),
+      get_or-take 8 bytes 1 0 (omega arith),
+      get_or-take 8 bytes 2 0
+          (omega arith),
+      get_or-take 8 bytes 3 0 (omega arith),
+      get_or-take 8 bytes 4 0 (omega arith),
+      get_or-take 8
+          bytes 5 0 (omega arith),
+      get_or-take 8 bytes 6 0 (omega arith),
+      get_or-take 8 bytes 7 0 (omega arith),
+    )
 
 unsigned_16 : (z : ℤ) → FitsSigned w16 z → cast_unsigned w16 z < 2 ^ 16
 unsigned_16 (pos n) h = omega (arith, h.sfits)
@@ -135,26 +175,32 @@ wide64 = record {
 }
 
 -- a field is the bytes at its place, and the next field follows it
-number_field : (w : Width) (len limit : ℕ) → IsWide w len limit → (at next : ℕ) (bytes : List ℕ) → IsBytes bytes → next ≡ at + len → next ≤ length bytes
-    → drop at bytes ≡ to_be_bytes w (number_at w at bytes) ++ drop next bytes
+number_field : (w : Width) (len limit : ℕ) → IsWide w len limit → (at next : ℕ) (bytes : List ℕ) → IsBytes bytes →
+    next ≡ at + len → next ≤ length bytes → drop at bytes ≡ to_be_bytes w (number_at w at bytes) ++ drop next bytes
 number_field w len limit wide at next bytes fits e le =
     let here = drop at bytes in
     let long : len ≤ length here = omega (arith, length-drop at bytes) in
     let size : length (take len here) ≡ len = omega (arith, length-take len here) in
-    let back : to_be_bytes w (from_be_bytes w (take len here)) ≡ take len here = wide.back (take len here) size (IsBytes-take len here (IsBytes-drop at bytes fits)) in
-    let front : to_be_bytes w (number_at w at bytes) ≡ take len here = sym (ap (to_be_bytes w) (wide.front here)) ∙ back in
+    let back : to_be_bytes w (from_be_bytes w (take len here)) ≡ take len here =
+    wide.back (take len here) size (IsBytes-take len here (IsBytes-drop at bytes fits)) in
+    let front : to_be_bytes w (number_at w at bytes) ≡ take len here = sym (ap (to_be_bytes w) (wide.front here))
+    ∙ back in
     let rest : drop len here ≡ drop next bytes = drop-drop len at bytes ∙ ap (λ (n : ℕ). drop n bytes) (sym e) in
-    sym (take-append-drop len here) ∙ ap (λ (f : List ℕ). f ++ drop len here) (sym front) ∙ ap (λ (r : List ℕ). to_be_bytes w (number_at w at bytes) ++ r) rest
+    sym (take-append-drop len here) ∙ ap (λ (f : List ℕ). f ++ drop len here) (sym front)
+    ∙ ap (λ (r : List ℕ). to_be_bytes w (number_at w at bytes) ++ r) rest
 
-signed_field : (w : Width) (len limit : ℕ) → IsWide w len limit → (at next : ℕ) (bytes : List ℕ) → IsBytes bytes → next ≡ at + len → next ≤ length bytes
-    → drop at bytes ≡ signed w (signed_at w at bytes) ++ drop next bytes
+signed_field : (w : Width) (len limit : ℕ) → IsWide w len limit → (at next : ℕ) (bytes : List ℕ) → IsBytes bytes →
+    next ≡ at + len → next ≤ length bytes → drop at bytes ≡ signed w (signed_at w at bytes) ++ drop next bytes
 signed_field w len limit wide at next bytes fits e le =
     let n = number_at w at bytes in
     let low : n < limit = wide.below (drop at bytes) (IsBytes-drop at bytes fits) in
-    number_field w len limit wide at next bytes fits e le ∙ ap (λ (m : ℕ). to_be_bytes w m ++ drop next bytes) (sym (wide.cast n low))
+    number_field w len limit wide at next bytes fits e le
+    ∙ ap (λ (m : ℕ). to_be_bytes w m ++ drop next bytes) (sym (wide.cast n low))
 
-signed_fits : (w : Width) (len limit : ℕ) → IsWide w len limit → (at : ℕ) (bytes : List ℕ) → IsBytes bytes → FitsSigned w (signed_at w at bytes)
-signed_fits w len limit wide at bytes fits = wide.signed (number_at w at bytes) (wide.below (drop at bytes) (IsBytes-drop at bytes fits))
+signed_fits : (w : Width) (len limit : ℕ) → IsWide w len limit → (at : ℕ) (bytes : List ℕ) → IsBytes bytes →
+    FitsSigned w (signed_at w at bytes)
+signed_fits w len limit wide at bytes fits =
+    wide.signed (number_at w at bytes) (wide.below (drop at bytes) (IsBytes-drop at bytes fits))
 
 -- ---- The bytes of a header that was read
 
@@ -166,21 +212,32 @@ covered_fields : (bytes : List ℕ) → IsBytes bytes → 61 ≤ length bytes �
     ++ (to_be_bytes w32 (record_count bytes) ++ drop 61 bytes)))))))
 covered_fields bytes fits le =
     number_field w16 2 (2 ^ 16) wide16 21 23 bytes fits refl (omega arith)
-    ∙ ap (λ (r : List ℕ). to_be_bytes w16 (attributes bytes) ++ r) (number_field w32 4 (2 ^ 32) wide32 23 27 bytes fits refl (omega arith)
-    ∙ ap (λ (r : List ℕ). to_be_bytes w32 (last_offset_delta bytes) ++ r) (signed_field w64 8 (2 ^ 64) wide64 27 35 bytes fits refl (omega arith)
-    ∙ ap (λ (r : List ℕ). signed w64 (base_timestamp bytes) ++ r) (signed_field w64 8 (2 ^ 64) wide64 35 43 bytes fits refl (omega arith)
-    ∙ ap (λ (r : List ℕ). signed w64 (max_timestamp bytes) ++ r) (signed_field w64 8 (2 ^ 64) wide64 43 51 bytes fits refl (omega arith)
-    ∙ ap (λ (r : List ℕ). signed w64 (producer_id bytes) ++ r) (signed_field w16 2 (2 ^ 16) wide16 51 53 bytes fits refl (omega arith)
-    ∙ ap (λ (r : List ℕ). signed w16 (producer_epoch bytes) ++ r) (signed_field w32 4 (2 ^ 32) wide32 53 57 bytes fits refl (omega arith)
-    ∙ ap (λ (r : List ℕ). signed w32 (base_sequence bytes) ++ r) (number_field w32 4 (2 ^ 32) wide32 57 61 bytes fits refl (omega arith))))))))
+    ∙ ap (λ (r : List ℕ). to_be_bytes w16 (attributes bytes) ++ r)
+    (number_field w32 4 (2 ^ 32) wide32 23 27 bytes fits refl (omega arith)
+    ∙ ap (λ (r : List ℕ). to_be_bytes w32 (last_offset_delta bytes) ++ r)
+    (signed_field w64 8 (2 ^ 64) wide64 27 35 bytes fits refl (omega arith)
+    ∙ ap (λ (r : List ℕ). signed w64 (base_timestamp bytes) ++ r)
+    (signed_field w64 8 (2 ^ 64) wide64 35 43 bytes fits refl (omega arith)
+    ∙ ap (λ (r : List ℕ). signed w64 (max_timestamp bytes) ++ r)
+    (signed_field w64 8 (2 ^ 64) wide64 43 51 bytes fits refl (omega arith)
+    ∙ ap (λ (r : List ℕ). signed w64 (producer_id bytes) ++ r)
+    (signed_field w16 2 (2 ^ 16) wide16 51 53 bytes fits refl (omega arith)
+    ∙ ap (λ (r : List ℕ). signed w16 (producer_epoch bytes) ++ r)
+    (signed_field w32 4 (2 ^ 32) wide32 53 57 bytes fits refl (omega arith)
+    ∙ ap (λ (r : List ℕ). signed w32 (base_sequence bytes) ++ r)
+    (number_field w32 4 (2 ^ 32) wide32 57 61 bytes fits refl (omega arith))))))))
 
 -- what is before that, and it
-enclosed_fields : (bytes : List ℕ) → IsBytes bytes → 61 ≤ length bytes → bytes
-    ≡ signed w64 (base_offset bytes) ++ (to_be_bytes w32 (number_at w32 8 bytes) ++ (signed w32 (leader_epoch bytes) ++ (magic bytes ∷ (to_be_bytes w32 (crc bytes) ++ drop 21 bytes))))
+enclosed_fields : (bytes : List ℕ) → IsBytes bytes → 61 ≤ length bytes →
+    bytes ≡ signed w64 (base_offset bytes)
+    ++ (to_be_bytes w32 (number_at w32 8 bytes)
+    ++ (signed w32 (leader_epoch bytes) ++ (magic bytes ∷ (to_be_bytes w32 (crc bytes) ++ drop 21 bytes))))
 enclosed_fields bytes fits le =
     signed_field w64 8 (2 ^ 64) wide64 0 8 bytes fits refl (omega arith)
-    ∙ ap (λ (r : List ℕ). signed w64 (base_offset bytes) ++ r) (number_field w32 4 (2 ^ 32) wide32 8 12 bytes fits refl (omega arith)
-    ∙ ap (λ (r : List ℕ). to_be_bytes w32 (number_at w32 8 bytes) ++ r) (signed_field w32 4 (2 ^ 32) wide32 12 16 bytes fits refl (omega arith)
+    ∙ ap (λ (r : List ℕ). signed w64 (base_offset bytes) ++ r)
+    (number_field w32 4 (2 ^ 32) wide32 8 12 bytes fits refl (omega arith)
+    ∙ ap (λ (r : List ℕ). to_be_bytes w32 (number_at w32 8 bytes) ++ r)
+    (signed_field w32 4 (2 ^ 32) wide32 12 16 bytes fits refl (omega arith)
     ∙ ap (λ (r : List ℕ). signed w32 (leader_epoch bytes) ++ r) (drop-cons bytes 16 0 (omega arith)
     ∙ ap (λ (r : List ℕ). magic bytes ∷ r) (number_field w32 4 (2 ^ 32) wide32 17 21 bytes fits refl (omega arith)))))
 
@@ -193,36 +250,49 @@ is_some : (place : ℕ) (o : Option (Record × List ℕ)) (x : Record × List �
 is_some place (Some y) x e = ap (λ (z : Record × List ℕ). found z) (ok_is y x e)
 is_some place None x e = absurd cc
 
-records_take : (n place : ℕ) (bytes : List ℕ) (rs : List Record) → IsBytes bytes → records_at n place bytes ≡ Ok rs → (bytes ≡ records_spelling place rs) × (length rs ≡ n) × AllByRecursion RecordFits rs
+records_take : (n place : ℕ) (bytes : List ℕ) (rs : List Record) → IsBytes bytes → records_at n place bytes ≡ Ok rs →
+    (bytes ≡ records_spelling place rs) × (length rs ≡ n) × AllByRecursion RecordFits rs
 unfolding records_at
 records_take zero place [] rs fits e =
-    subst (λ (v : List Record). ([] ≡ records_spelling place v) × (length v ≡ 0) × AllByRecursion RecordFits v) (ok_is [] rs e) (refl, refl, tt)
+    subst (λ (v : List Record). ([] ≡ records_spelling place v) × (length v ≡ 0) × AllByRecursion RecordFits v)
+    (ok_is [] rs e) (refl, refl, tt)
 records_take zero place (b ∷ bytes) rs fits e = absurd cc
 records_take (suc n) place bytes rs fits e =
-    let a = bind_ok (record_or place (record_at (pos place) bytes)) (λ first. records_at n (suc place) first.1 >>= λ others. Ok (first.0 ∷ others)) rs e in
+    let a = bind_ok (record_or place (record_at (pos place) bytes))
+    (λ first. records_at n (suc place) first.1 >>= λ others. Ok (first.0 ∷ others)) rs e in
     let b = bind_ok (records_at n (suc place) a.0.1) (λ others. Ok (a.0.0 ∷ others)) rs a.2 in
     let first = record_takes (pos place) bytes a.0 fits (is_some place (record_at (pos place) bytes) a.0 a.1) in
     let second = records_take n (suc place) a.0.1 b.0 first.0.rest_fits b.1 in
-    let whole : bytes ≡ records_spelling place (a.0.0 ∷ b.0) = first.0.parts ∙ ap (λ (r : List ℕ). record_spelling (pos place) a.0.0 ++ r) second.0 in
-    subst (λ (v : List Record). (bytes ≡ records_spelling place v) × (length v ≡ suc n) × AllByRecursion RecordFits v) (ok_is (a.0.0 ∷ b.0) rs b.2) (whole, ap suc second.1, (first.1, second.2))
+    let whole : bytes ≡ records_spelling place (a.0.0 ∷ b.0) = first.0.parts
+    ∙ ap (λ (r : List ℕ). record_spelling (pos place) a.0.0 ++ r) second.0 in
+    subst (λ (v : List Record). (bytes ≡ records_spelling place v) × (length v ≡ suc n) × AllByRecursion RecordFits v)
+    (ok_is (a.0.0 ∷ b.0) rs b.2) (whole, ap suc second.1, (first.1, second.2))
 
-records_again : (place : ℕ) (rs : List Record) → place + length rs < 2 ^ 31 → AllByRecursion RecordFits rs → records_at (length rs) place (records_spelling place rs) ≡ Ok rs
+records_again : (place : ℕ) (rs : List Record) → place + length rs < 2 ^ 31 → AllByRecursion RecordFits rs →
+    records_at (length rs) place (records_spelling place rs) ≡ Ok rs
 unfolding records_at
 records_again place [] small fits = refl
 records_again place (r ∷ rs) small fits =
     let place_fits : FitsSigned w32 (pos place) = record { sfits = omega arith } in
-    rw (record_again (pos place) r (records_spelling (suc place) rs) place_fits fits.0, records_again (suc place) rs (omega arith) fits.1) refl
+    rw (
+      record_again (pos place) r (records_spelling (suc place) rs) place_fits fits.0,
+      records_again (suc place) rs
+          (omega arith) fits.1,
+    ) refl
 
 -- as many records begin both
-records_one : (place : ℕ) (rs ss : List Record) (x y : List ℕ) → place + length rs < 2 ^ 31 → length rs ≡ length ss → AllByRecursion RecordFits rs → AllByRecursion RecordFits ss
-    → records_spelling place rs ++ x ≡ records_spelling place ss ++ y → (rs ≡ ss) × (x ≡ y)
+records_one : (place : ℕ) (rs ss : List Record) (x y : List ℕ) → place + length rs < 2 ^ 31 → length rs ≡ length ss →
+    AllByRecursion RecordFits rs → AllByRecursion RecordFits ss →
+    records_spelling place rs ++ x ≡ records_spelling place ss ++ y → (rs ≡ ss) × (x ≡ y)
 records_one place [] [] x y small len fits also e = (refl, e)
 records_one place [] (s ∷ ss) x y small len fits also e = absurd (omega arith)
 records_one place (r ∷ rs) [] x y small len fits also e = absurd (omega arith)
 records_one place (r ∷ rs) (s ∷ ss) x y small len fits also e =
     let place_fits : FitsSigned w32 (pos place) = record { sfits = omega arith } in
-    let row = sym (append_assoc (record_spelling (pos place) r) (records_spelling (suc place) rs) x) ∙ e ∙ append_assoc (record_spelling (pos place) s) (records_spelling (suc place) ss) y in
-    let first = one_record r s (pos place) (pos place) (records_spelling (suc place) rs ++ x) (records_spelling (suc place) ss ++ y) place_fits place_fits fits.0 also.0 row in
+    let row = sym (append_assoc (record_spelling (pos place) r) (records_spelling (suc place) rs) x) ∙ e
+    ∙ append_assoc (record_spelling (pos place) s) (records_spelling (suc place) ss) y in
+    let first = one_record r s (pos place) (pos place) (records_spelling (suc place) rs ++ x)
+    (records_spelling (suc place) ss ++ y) place_fits place_fits fits.0 also.0 row in
     let others = records_one (suc place) rs ss x y (omega arith) (omega arith) fits.1 also.1 first.2 in
     (rw (first.0, others.0) refl, others.1)
 
@@ -271,12 +341,15 @@ count_taken bytes n e =
     let c = guard_ok (not (eqb (crc bytes) (checksum (drop 21 bytes)))) faults.Crc _ n m.1 in
     let a = guard_ok (not (eqb (attributes bytes) 0)) faults.Attributes _ n c.1 in
     let k = guard_ok (is_miscounted bytes) faults.Count (done (record_count bytes)) n a.1 in
-    let none = from_or (eqb (record_count bytes) 0) (ltb max_records (record_count bytes) || not (eqb (last_offset_delta bytes + 1) (record_count bytes))) k.0 in
-    let many = from_or (ltb max_records (record_count bytes)) (not (eqb (last_offset_delta bytes + 1) (record_count bytes))) none.1 in
+    let none = from_or (eqb (record_count bytes) 0) (ltb max_records (record_count bytes) || not
+    (eqb (last_offset_delta bytes + 1) (record_count bytes))) k.0 in
+    let many = from_or (ltb max_records (record_count bytes))
+    (not (eqb (last_offset_delta bytes + 1) (record_count bytes))) none.1 in
     let same : record_count bytes ≡ n = ok_is (record_count bytes) n k.1 in
     let least : 0 < record_count bytes = not_zero (record_count bytes) none.0 in
     let most : record_count bytes ≤ max_records = ltb-false max_records (record_count bytes) many.0 in
-    let last : last_offset_delta bytes + 1 ≡ record_count bytes = eqb-true (last_offset_delta bytes + 1) (record_count bytes) (from_not _ many.1) in
+    let last : last_offset_delta bytes + 1 ≡ record_count bytes =
+    eqb-true (last_offset_delta bytes + 1) (record_count bytes) (from_not _ many.1) in
     record {
       magic = eqb-true (magic bytes) 2 (from_not _ m.0);
       crc = eqb-true (crc bytes) (checksum (drop 21 bytes)) (from_not _ c.0);
@@ -287,14 +360,21 @@ count_taken bytes n e =
       count = same;
     }
 
-counted_ok : (n last : ℕ) → 0 < n → n ≤ max_records → last + 1 ≡ n → (eqb n 0 || (ltb max_records n || not (eqb (last + 1) n))) ≡ false
+counted_ok : (n last : ℕ) → 0 < n → n ≤ max_records → last + 1 ≡ n →
+    (eqb n 0 || (ltb max_records n || not (eqb (last + 1) n))) ≡ false
 counted_ok n last some few e = rw (not_none n some, le-ltb max_records n few, eq-eqb (last + 1) n e) refl
 
 count_again : (bytes : List ℕ) (n : ℕ) → Counted bytes n → count_at bytes ≡ Ok n
 unfolding count_at
 count_again bytes n h =
     let few : is_miscounted bytes ≡ false = rw h.count (counted_ok n (last_offset_delta bytes) h.some h.few h.last) in
-    rw (eq-eqb (magic bytes) 2 h.magic, eq-eqb (crc bytes) (checksum (drop 21 bytes)) h.crc, eq-eqb (attributes bytes) 0 h.attributes, few) (ap done h.count)
+    rw (
+      eq-eqb (magic bytes) 2 h.magic,
+      eq-eqb (crc bytes) (checksum (drop 21 bytes)) h.crc,
+      eq-eqb (attributes bytes) 0
+          h.attributes,
+      few,
+    ) (ap done h.count)
 
 pub record Sized (bytes : List ℕ) (n : ℕ) : Type 0 where
   pub size : number_at w32 8 bytes + 12 ≡ n
@@ -339,7 +419,8 @@ size_taken bytes n e =
       there = subst (λ (k : ℕ). k ≤ length bytes) same there;
     }
 
-sized_by : (bytes : List ℕ) (n m : ℕ) → number_at w32 8 bytes ≡ m → m + 12 ≡ n → 61 ≤ n → n ≤ max_batch → n ≤ length bytes → size_at bytes ≡ Ok n
+sized_by : (bytes : List ℕ) (n m : ℕ) → number_at w32 8 bytes ≡ m → m + 12 ≡ n → 61 ≤ n → n ≤ max_batch →
+    n ≤ length bytes → size_at bytes ≡ Ok n
 unfolding size_at
 sized_by bytes n m number size least most there =
     let low : m < 2 ^ 31 = omega arith in
@@ -358,34 +439,45 @@ size_again bytes n h = sized_by bytes n (number_at w32 8 bytes) refl h.size h.le
 -- the bytes that the checksum covers, by their fields, and all bytes by those
 shape : ℕ → ℕ → ℤ → ℤ → ℤ → ℤ → ℤ → ℕ → List ℕ → List ℕ
 shape a l base top id epoch first n rest =
-    to_be_bytes w16 a ++ (to_be_bytes w32 l ++ (signed w64 base ++ (signed w64 top ++ (signed w64 id ++ (signed w16 epoch ++ (signed w32 first ++ (to_be_bytes w32 n ++ rest)))))))
+    to_be_bytes w16 a ++ (to_be_bytes w32 l
+    ++ (signed w64 base ++ (signed w64 top
+    ++ (signed w64 id ++ (signed w16 epoch ++ (signed w32 first ++ (to_be_bytes w32 n ++ rest)))))))
 
 outline : ℤ → ℕ → ℤ → ℕ → ℕ → List ℕ → List ℕ
 outline offset len epoch m c rest =
     signed w64 offset ++ (to_be_bytes w32 len ++ (signed w32 epoch ++ (m ∷ (to_be_bytes w32 c ++ rest))))
 
-covered_bytes : (bytes : List ℕ) → IsBytes bytes → 61 ≤ length bytes → drop 21 bytes
-    ≡ shape (attributes bytes) (last_offset_delta bytes) (base_timestamp bytes) (max_timestamp bytes) (producer_id bytes) (producer_epoch bytes) (base_sequence bytes) (record_count bytes) (drop 61 bytes)
+covered_bytes : (bytes : List ℕ) → IsBytes bytes → 61 ≤ length bytes →
+    drop 21 bytes ≡ shape (attributes bytes) (last_offset_delta bytes) (base_timestamp bytes) (max_timestamp bytes)
+    (producer_id bytes) (producer_epoch bytes) (base_sequence bytes) (record_count bytes) (drop 61 bytes)
 unfolding shape
 covered_bytes bytes fits le = covered_fields bytes fits le
 
-enclosed_bytes : (bytes : List ℕ) → IsBytes bytes → 61 ≤ length bytes → bytes ≡ outline (base_offset bytes) (number_at w32 8 bytes) (leader_epoch bytes) (magic bytes) (crc bytes) (drop 21 bytes)
+enclosed_bytes : (bytes : List ℕ) → IsBytes bytes → 61 ≤ length bytes →
+    bytes ≡ outline (base_offset bytes) (number_at w32 8 bytes) (leader_epoch bytes) (magic bytes) (crc bytes)
+    (drop 21 bytes)
 unfolding outline
 enclosed_bytes bytes fits le = enclosed_fields bytes fits le
 
-covered_shape : (b : Batch) → covered b ≡ shape 0 (length b.records - 1) b.base_timestamp (greatest (timestamps b.base_timestamp b.records)) b.producer_id b.producer_epoch b.base_sequence (length b.records) (records_spelling 0 b.records)
+covered_shape : (b : Batch) → checksummed_bytes b
+    ≡ shape 0 (length b.records - 1) b.base_timestamp (greatest (timestamps b.base_timestamp b.records)) b.producer_id
+    b.producer_epoch b.base_sequence (length b.records) (records_spelling 0 b.records)
 unfolding shape
 covered_shape b = refl
 
-spelled_outline : (b : Batch) → batch_spelling b ≡ outline b.base_offset (9 + length (covered b)) b.leader_epoch 2 (checksum (covered b)) (covered b)
+spelled_outline : (b : Batch) → batch_spelling b
+    ≡ outline b.base_offset (9 + length (checksummed_bytes b)) b.leader_epoch 2 (checksum (checksummed_bytes b))
+    (checksummed_bytes b)
 unfolding outline batch_spelling
 spelled_outline b = refl
 
-same_shape : (a l n : ℕ) (base top id epoch first : ℤ) (rest : List ℕ) (a' l' n' : ℕ) (top' : ℤ) (rest' : List ℕ) → a ≡ a' → l ≡ l' → top ≡ top' → n ≡ n' → rest ≡ rest'
-    → shape a l base top id epoch first n rest ≡ shape a' l' base top' id epoch first n' rest'
+same_shape : (a l n : ℕ) (base top id epoch first : ℤ) (rest : List ℕ) (a' l' n' : ℕ) (top' : ℤ) (rest' : List ℕ) →
+    a ≡ a' → l ≡ l' → top ≡ top' → n ≡ n' → rest ≡ rest' →
+    shape a l base top id epoch first n rest ≡ shape a' l' base top' id epoch first n' rest'
 same_shape a l n base top id epoch first rest a' l' n' top' rest' e1 e2 e3 e4 e5 = cc
 
-same_outline : (offset epoch : ℤ) (len m c : ℕ) (rest : List ℕ) (len' m' c' : ℕ) (rest' : List ℕ) → len ≡ len' → m ≡ m' → c ≡ c' → rest ≡ rest' → outline offset len epoch m c rest ≡ outline offset len' epoch m' c' rest'
+same_outline : (offset epoch : ℤ) (len m c : ℕ) (rest : List ℕ) (len' m' c' : ℕ) (rest' : List ℕ) → len ≡ len' →
+    m ≡ m' → c ≡ c' → rest ≡ rest' → outline offset len epoch m c rest ≡ outline offset len' epoch m' c' rest'
 same_outline offset epoch len m c rest len' m' c' rest' e1 e2 e3 e4 = cc
 
 -- the batch of the header of these bytes and these records
@@ -400,21 +492,28 @@ made_of bytes rs = record {
   records = rs;
 }
 
-made_spelled : (bytes : List ℕ) (rs : List Record) → IsBytes bytes → 61 ≤ length bytes → Counted bytes (length rs) → number_at w32 8 bytes + 12 ≡ length bytes → drop 61 bytes ≡ records_spelling 0 rs
-    → max_timestamp bytes ≡ greatest (timestamps (base_timestamp bytes) rs) → bytes ≡ batch_spelling (made_of bytes rs)
+made_spelled : (bytes : List ℕ) (rs : List Record) → IsBytes bytes → 61 ≤ length bytes → Counted bytes (length rs) →
+    number_at w32 8 bytes + 12 ≡ length bytes → drop 61 bytes ≡ records_spelling 0 rs →
+    max_timestamp bytes ≡ greatest (timestamps (base_timestamp bytes) rs) → bytes ≡ batch_spelling (made_of bytes rs)
 unfolding made_of
 made_spelled bytes rs fits long counted size records top =
     let b = made_of bytes rs in
     let n = length rs in
     let last : last_offset_delta bytes ≡ n - 1 = omega (arith, counted.last) in
-    let inner : drop 21 bytes ≡ covered b =
+    let inner : drop 21 bytes ≡ checksummed_bytes b =
     covered_bytes bytes fits long
-    ∙ same_shape (attributes bytes) (last_offset_delta bytes) (record_count bytes) (base_timestamp bytes) (max_timestamp bytes) (producer_id bytes) (producer_epoch bytes) (base_sequence bytes) (drop 61 bytes) 0 (n - 1) n (greatest (timestamps (base_timestamp bytes) rs)) (records_spelling 0 rs) counted.attributes last top counted.count records
+    ∙ same_shape (attributes bytes) (last_offset_delta bytes) (record_count bytes) (base_timestamp bytes)
+    (max_timestamp bytes) (producer_id bytes) (producer_epoch bytes) (base_sequence bytes) (drop 61 bytes) 0
+    (n - 1) n (greatest (timestamps (base_timestamp bytes) rs)) (records_spelling 0 rs) counted.attributes last
+    top counted.count records
     ∙ sym (covered_shape b) in
-    let len : number_at w32 8 bytes ≡ 9 + length (covered b) = omega (arith, size, long, length-drop 21 bytes, ap length inner) in
-    let crc_is : crc bytes ≡ checksum (covered b) = counted.crc ∙ ap checksum inner in
+    let len : number_at w32 8 bytes ≡ 9 + length (checksummed_bytes b) =
+    omega (arith, size, long, length-drop 21 bytes, ap length inner) in
+    let crc_is : crc bytes ≡ checksum (checksummed_bytes b) = counted.crc ∙ ap checksum inner in
     enclosed_bytes bytes fits long
-    ∙ same_outline (base_offset bytes) (leader_epoch bytes) (number_at w32 8 bytes) (magic bytes) (crc bytes) (drop 21 bytes) (9 + length (covered b)) 2 (checksum (covered b)) (covered b) len counted.magic crc_is inner
+    ∙ same_outline (base_offset bytes) (leader_epoch bytes) (number_at w32 8 bytes) (magic bytes) (crc bytes)
+    (drop 21 bytes) (9 + length (checksummed_bytes b)) 2 (checksum (checksummed_bytes b)) (checksummed_bytes b)
+    len counted.magic crc_is inner
     ∙ sym (spelled_outline b)
 
 record Timed (bytes : List ℕ) (rs : List Record) : Type 0 where
@@ -422,17 +521,28 @@ record Timed (bytes : List ℕ) (rs : List Record) : Type 0 where
   pub each : list_all is_timestamp (timestamps (base_timestamp bytes) rs) ≡ true
   pub top : max_timestamp bytes ≡ greatest (timestamps (base_timestamp bytes) rs)
 
-timed_taken : (bytes : List ℕ) (rs : List Record) (b : Batch) → timed_at bytes rs ≡ Ok b → Timed bytes rs × (made_of bytes rs ≡ b)
+timed_taken : (bytes : List ℕ) (rs : List Record) (b : Batch) → timed_at bytes rs ≡ Ok b →
+    Timed bytes rs × (made_of bytes rs ≡ b)
 unfolding timed_at made_of
 timed_taken bytes rs b e =
     let ts = timestamps (base_timestamp bytes) rs in
     let t = guard_ok (is_mistimed bytes rs) faults.Timestamp (done (made_of bytes rs)) b e in
-    let base = from_or (not (is_timestamp (base_timestamp bytes))) (not (list_all is_timestamp ts) || not (int_eq (max_timestamp bytes) (greatest ts))) t.0 in
+    let base = from_or (not (is_timestamp (base_timestamp bytes)))
+    (not (list_all is_timestamp ts) || not (int_eq (max_timestamp bytes) (greatest ts))) t.0 in
     let each = from_or (not (list_all is_timestamp ts)) (not (int_eq (max_timestamp bytes) (greatest ts))) base.1 in
-    let top : int_eq (max_timestamp bytes) (greatest ts) ≡ true = from_not (int_eq (max_timestamp bytes) (greatest ts)) each.1 in
-    (record { base = from_not (is_timestamp (base_timestamp bytes)) base.0; each = from_not (list_all is_timestamp ts) each.0; top = (Decides-int_eq (max_timestamp bytes) (greatest ts)).0 top }, ok_is (made_of bytes rs) b t.1)
+    let top : int_eq (max_timestamp bytes) (greatest ts) ≡ true =
+    from_not (int_eq (max_timestamp bytes) (greatest ts)) each.1 in (
+      record {
+        base = from_not (is_timestamp (base_timestamp bytes)) base.0;
+        each = from_not (list_all is_timestamp ts) each.0;
+        top = (Decides-int_eq (max_timestamp bytes) (greatest ts)).0 top;
+      },
+      ok_is (made_of bytes rs) b t.1,
+    )
 
-made_fits : (bytes : List ℕ) (rs : List Record) → IsBytes bytes → length bytes ≤ max_batch → Counted bytes (length rs) → Timed bytes rs → AllByRecursion RecordFits rs → bytes ≡ batch_spelling (made_of bytes rs) → BatchFits (made_of bytes rs)
+made_fits : (bytes : List ℕ) (rs : List Record) → IsBytes bytes → length bytes ≤ max_batch → Counted bytes (length rs) →
+    Timed bytes rs → AllByRecursion RecordFits rs → bytes ≡ batch_spelling (made_of bytes rs) →
+    BatchFits (made_of bytes rs)
 unfolding made_of
 made_fits bytes rs fits small counted timed records spelled = record {
   base_offset = signed_fits w64 8 (2 ^ 64) wide64 0 bytes fits;
@@ -448,27 +558,32 @@ made_fits bytes rs fits small counted timed records spelled = record {
   few_bytes = subst (λ (s : List ℕ). length s ≤ max_batch) spelled small;
 }
 
-pub whole_takes : (bytes : List ℕ) (b : Batch) → IsBytes bytes → 61 ≤ length bytes → length bytes ≤ max_batch → number_at w32 8 bytes + 12 ≡ length bytes → whole_at bytes ≡ Ok b → BatchFits b × (bytes ≡ batch_spelling b)
+pub whole_takes : (bytes : List ℕ) (b : Batch) → IsBytes bytes → 61 ≤ length bytes → length bytes ≤ max_batch →
+    number_at w32 8 bytes + 12 ≡ length bytes → whole_at bytes ≡ Ok b → BatchFits b × (bytes ≡ batch_spelling b)
 unfolding whole_at
 whole_takes bytes b fits long small size e =
     let c = bind_ok (count_at bytes) (λ count. records_at count 0 (drop 61 bytes) >>= λ rs. timed_at bytes rs) b e in
     let r = bind_ok (records_at c.0 0 (drop 61 bytes)) (λ rs. timed_at bytes rs) b c.2 in
     let recs = records_take c.0 0 (drop 61 bytes) r.0 (IsBytes-drop 61 bytes fits) r.1 in
-    let counted : Counted bytes (length r.0) = subst (λ (n : ℕ). Counted bytes n) (sym recs.1) (count_taken bytes c.0 c.1) in
+    let counted : Counted bytes (length r.0) =
+    subst (λ (n : ℕ). Counted bytes n) (sym recs.1) (count_taken bytes c.0 c.1) in
     let timed = timed_taken bytes r.0 b r.2 in
     let spelled = made_spelled bytes r.0 fits long counted size recs.0 timed.0.top in
     let made = made_fits bytes r.0 fits small counted timed.0 recs.2 spelled in
     subst (λ (v : Batch). BatchFits v × (bytes ≡ batch_spelling v)) timed.1 (made, spelled)
 
-same_4 : (xs ys : List ℕ) → ((i : ℕ) → i < 4 → get_or xs i 0 ≡ get_or ys i 0) → from_be_bytes w32 xs ≡ from_be_bytes w32 ys
+same_4 : (xs ys : List ℕ) → ((i : ℕ) → i < 4 → get_or xs i 0 ≡ get_or ys i 0) →
+    from_be_bytes w32 xs ≡ from_be_bytes w32 ys
 same_4 xs ys h = omega (arith, h 0 (omega arith), h 1 (omega arith), h 2 (omega arith), h 3 (omega arith))
 
 -- batchLength is the same where the batch is alone
 pub length_alone : (n : ℕ) (bytes : List ℕ) → 12 ≤ n → number_at w32 8 (take n bytes) ≡ number_at w32 8 bytes
 length_alone n bytes le =
-    same_4 (drop 8 (take n bytes)) (drop 8 bytes) (λ i lt. get_or-drop 8 (take n bytes) i 0 ∙ get_or-take n bytes (8 + i) 0 (omega arith) ∙ sym (get_or-drop 8 bytes i 0))
+    same_4 (drop 8 (take n bytes)) (drop 8 bytes) (λ i lt. get_or-drop 8 (take n bytes) i 0
+    ∙ get_or-take n bytes (8 + i) 0 (omega arith) ∙ sym (get_or-drop 8 bytes i 0))
 
-pub batch_takes : (bytes : List ℕ) (x : Batch × ℕ) → IsBytes bytes → batch_at bytes ≡ Ok x → BatchFits x.0 × (x.1 ≤ length bytes) × (take x.1 bytes ≡ batch_spelling x.0)
+pub batch_takes : (bytes : List ℕ) (x : Batch × ℕ) → IsBytes bytes → batch_at bytes ≡ Ok x →
+    BatchFits x.0 × (x.1 ≤ length bytes) × (take x.1 bytes ≡ batch_spelling x.0)
 unfolding batch_at
 batch_takes bytes x fits e =
     let a = bind_ok (size_at bytes) (λ size. whole_at (take size bytes) >>= λ b. Ok (b, size)) x e in
@@ -476,16 +591,19 @@ batch_takes bytes x fits e =
     let sized = size_taken bytes a.0 a.1 in
     let alone = take a.0 bytes in
     let len : length alone ≡ a.0 = omega (arith, length-take a.0 bytes, sized.there) in
-    let size : number_at w32 8 alone + 12 ≡ length alone = omega (arith, length_alone a.0 bytes (omega (arith, sized.least)), sized.size) in
-    let whole = whole_takes alone w.0 (IsBytes-take a.0 bytes fits) (omega (arith, sized.least)) (omega (arith, sized.most)) size w.1 in
-    subst (λ (y : Batch × ℕ). BatchFits y.0 × (y.1 ≤ length bytes) × (take y.1 bytes ≡ batch_spelling y.0)) (ok_is (w.0, a.0) x w.2) (whole.0, sized.there, whole.1)
+    let size : number_at w32 8 alone + 12 ≡ length alone =
+    omega (arith, length_alone a.0 bytes (omega (arith, sized.least)), sized.size) in
+    let whole = whole_takes alone w.0 (IsBytes-take a.0 bytes fits) (omega (arith, sized.least))
+    (omega (arith, sized.most)) size w.1 in
+    subst (λ (y : Batch × ℕ). BatchFits y.0 × (y.1 ≤ length bytes) × (take y.1 bytes ≡ batch_spelling y.0))
+    (ok_is (w.0, a.0) x w.2) (whole.0, sized.there, whole.1)
 
 -- ---- What is spelled so is read
 
 -- the fields that are in these bytes
 record HasFields (b : Batch) (bytes : List ℕ) : Type 0 where
   pub base_offset : base_offset bytes ≡ b.base_offset
-  pub size : number_at w32 8 bytes ≡ 9 + length (covered b)
+  pub size : number_at w32 8 bytes ≡ 9 + length (checksummed_bytes b)
   pub leader_epoch : leader_epoch bytes ≡ b.leader_epoch
   pub magic : magic bytes ≡ 2
   pub attributes : attributes bytes ≡ 0
@@ -497,8 +615,10 @@ record HasFields (b : Batch) (bytes : List ℕ) : Type 0 where
   pub base_sequence : base_sequence bytes ≡ b.base_sequence
   pub count : record_count bytes ≡ length b.records
 
-read_signed : (w : Width) (len limit : ℕ) → IsWide w len limit → (z : ℤ) → cast_signed w (cast_unsigned w z) ≡ z → FitsSigned w z → cast_signed w (from_be_bytes w (signed w z)) ≡ z
-read_signed w len limit wide z back fits = ap (cast_signed w) (wide.again (cast_unsigned w z) (wide.unsigned z fits)) ∙ back
+read_signed : (w : Width) (len limit : ℕ) → IsWide w len limit → (z : ℤ) → cast_signed w (cast_unsigned w z) ≡ z →
+    FitsSigned w z → cast_signed w (from_be_bytes w (signed w z)) ≡ z
+read_signed w len limit wide z back fits = ap (cast_signed w) (wide.again (cast_unsigned w z) (wide.unsigned z fits))
+    ∙ back
 
 back_16 : (z : ℤ) → FitsSigned w16 z → cast_signed w16 (from_be_bytes w16 (signed w16 z)) ≡ z
 back_16 z fits = read_signed w16 2 (2 ^ 16) wide16 z (to_z-of_z w16 z fits) fits
@@ -514,26 +634,29 @@ pub timestamp_fits : (t : ℤ) → IsTimestamp t → FitsSigned w64 t
 timestamp_fits (pos n) h = record { sfits = omega (arith, ints, h.1) }
 timestamp_fits (negsuc n) h = absurd (omega (arith, ints, h.0))
 
-max_timestamp_is : (ts : List ℤ) (a : ℤ) → IsTimestamp a → AllByRecursion IsTimestamp ts → IsTimestamp (fold int_max a ts)
+max_timestamp_is : (ts : List ℤ) (a : ℤ) → IsTimestamp a → AllByRecursion IsTimestamp ts →
+    IsTimestamp (fold int_max a ts)
 max_timestamp_is [] a h all = h
-max_timestamp_is (t ∷ ts) a h all = max_timestamp_is ts (int_max a t) (cond_both (int_lt t a) a t IsTimestamp (λ e. h) (λ e. all.0)) all.1
+max_timestamp_is (t ∷ ts) a h all =
+    max_timestamp_is ts (int_max a t) (cond_both (int_lt t a) a t IsTimestamp (λ e. h) (λ e. all.0)) all.1
 
-pub length-covered : (b : Batch) → length (batch_spelling b) ≡ 21 + length (covered b)
+pub length-covered : (b : Batch) → length (batch_spelling b) ≡ 21 + length (checksummed_bytes b)
 unfolding batch_spelling
 length-covered b = omega arith
 
-pub records_length : (b : Batch) → length (covered b) ≡ 40 + length (records_spelling 0 b.records)
+pub records_length : (b : Batch) → length (checksummed_bytes b) ≡ 40 + length (records_spelling 0 b.records)
 records_length b = omega arith
 
 has_fields : (b : Batch) (rest : List ℕ) → BatchFits b → HasFields b (batch_spelling b ++ rest)
 unfolding batch_spelling
 has_fields b rest fits =
     let zero_is : IsTimestamp (pos 0) = (omega (arith, ints), omega (arith, ints)) in
-    let top = timestamp_fits (greatest (timestamps b.base_timestamp b.records)) (max_timestamp_is (timestamps b.base_timestamp b.records) (pos 0) zero_is fits.each_timestamp) in
+    let top = timestamp_fits (greatest (timestamps b.base_timestamp b.records))
+    (max_timestamp_is (timestamps b.base_timestamp b.records) (pos 0) zero_is fits.each_timestamp) in
     let whole = length-covered b in
     record {
       base_offset = back_64 b.base_offset fits.base_offset;
-      size = from_be_bytes-to_be_bytes_4 (9 + length (covered b)) (omega (arith, fits.few_bytes));
+      size = from_be_bytes-to_be_bytes_4 (9 + length (checksummed_bytes b)) (omega (arith, fits.few_bytes));
       leader_epoch = back_32 b.leader_epoch fits.leader_epoch;
       magic = refl;
       attributes = from_be_bytes-to_be_bytes_2 0 (omega arith);
@@ -546,11 +669,13 @@ has_fields b rest fits =
       count = from_be_bytes-to_be_bytes_4 (length b.records) (omega (arith, fits.few_records));
     }
 
-crc_there : (b : Batch) (rest : List ℕ) → IsBytes (covered b) → crc (batch_spelling b ++ rest) ≡ checksum (covered b)
+crc_there : (b : Batch) (rest : List ℕ) → IsBytes (checksummed_bytes b) →
+    crc (batch_spelling b ++ rest) ≡ checksum (checksummed_bytes b)
 unfolding batch_spelling
-crc_there b rest bytes = from_be_bytes-to_be_bytes_4 (checksum (covered b)) (checksum-lt (covered b) (Each1-from_get_or (λ x. x < 256) (covered b) 0 (λ i lt. bytes i)))
+crc_there b rest bytes = from_be_bytes-to_be_bytes_4 (checksum (checksummed_bytes b))
+    (checksum-lt (checksummed_bytes b) (Each1-from_get_or (λ x. x < 256) (checksummed_bytes b) 0 (λ i lt. bytes i)))
 
-covered_there : (b : Batch) (rest : List ℕ) → drop 21 (batch_spelling b ++ rest) ≡ covered b ++ rest
+covered_there : (b : Batch) (rest : List ℕ) → drop 21 (batch_spelling b ++ rest) ≡ checksummed_bytes b ++ rest
 unfolding batch_spelling
 covered_there b rest = refl
 
@@ -561,7 +686,8 @@ records_there b rest = refl
 alone_is : (b : Batch) (P : List ℕ → Type 0) → P (batch_spelling b ++ []) → P (batch_spelling b)
 alone_is b P h = subst P (append-nil (batch_spelling b)) h
 
-whole_by : (bytes : List ℕ) (n : ℕ) (rs : List Record) (b : Batch) → count_at bytes ≡ Ok n → records_at n 0 (drop 61 bytes) ≡ Ok rs → timed_at bytes rs ≡ Ok b → whole_at bytes ≡ Ok b
+whole_by : (bytes : List ℕ) (n : ℕ) (rs : List Record) (b : Batch) → count_at bytes ≡ Ok n →
+    records_at n 0 (drop 61 bytes) ≡ Ok rs → timed_at bytes rs ≡ Ok b → whole_at bytes ≡ Ok b
 unfolding whole_at
 whole_by bytes n rs b e1 e2 e3 = rw (e1, e2, e3) refl
 
@@ -569,31 +695,64 @@ timed_again : (b : Batch) (bytes : List ℕ) → BatchFits b → HasFields b byt
 unfolding timed_at
 timed_again b bytes fits s =
     let ts = timestamps b.base_timestamp b.records in
-    let base : is_timestamp (base_timestamp bytes) ≡ true = ap is_timestamp s.base_timestamp ∙ is_timestamp-from b.base_timestamp fits.base_timestamp in
-    let each : list_all is_timestamp (timestamps (base_timestamp bytes) b.records) ≡ true = ap (λ (t : ℤ). list_all is_timestamp (timestamps t b.records)) s.base_timestamp ∙ list_all-from ts fits.each_timestamp in
-    let same : max_timestamp bytes ≡ greatest (timestamps (base_timestamp bytes) b.records) = s.max_timestamp ∙ ap (λ (t : ℤ). greatest (timestamps t b.records)) (sym s.base_timestamp) in
-    let top : int_eq (max_timestamp bytes) (greatest (timestamps (base_timestamp bytes) b.records)) ≡ true = (Decides-int_eq (max_timestamp bytes) (greatest (timestamps (base_timestamp bytes) b.records))).1 same in
-    let made : Batch = record { base_offset = base_offset bytes; leader_epoch = leader_epoch bytes; base_timestamp = base_timestamp bytes; producer_id = producer_id bytes; producer_epoch = producer_epoch bytes; base_sequence = base_sequence bytes; records = b.records } in
-    rw (base, each, top) (ap done (same_batch made b s.base_offset s.leader_epoch s.base_timestamp s.producer_id s.producer_epoch s.base_sequence refl))
+    let base : is_timestamp (base_timestamp bytes) ≡ true = ap is_timestamp s.base_timestamp
+    ∙ is_timestamp-from b.base_timestamp fits.base_timestamp in
+    let each : list_all is_timestamp (timestamps (base_timestamp bytes) b.records) ≡ true =
+    ap (λ (t : ℤ). list_all is_timestamp (timestamps t b.records)) s.base_timestamp
+    ∙ list_all-from ts fits.each_timestamp in
+    let same : max_timestamp bytes ≡ greatest (timestamps (base_timestamp bytes) b.records) = s.max_timestamp
+    ∙ ap (λ (t : ℤ). greatest (timestamps t b.records)) (sym s.base_timestamp) in
+    let top : int_eq (max_timestamp bytes) (greatest (timestamps (base_timestamp bytes) b.records)) ≡ true =
+    (Decides-int_eq (max_timestamp bytes) (greatest (timestamps (base_timestamp bytes) b.records))).1 same in
+    let made : Batch = record {
+      base_offset = base_offset bytes;
+      leader_epoch = leader_epoch bytes;
+      base_timestamp = base_timestamp bytes;
+      producer_id = producer_id bytes;
+      producer_epoch = producer_epoch bytes;
+      base_sequence = base_sequence bytes;
+      records = b.records;
+    } in
+    rw (base, each, top) (ap done (same_batch made b s.base_offset s.leader_epoch s.base_timestamp s.producer_id
+    s.producer_epoch s.base_sequence refl))
 
 whole_again : (b : Batch) → BatchFits b → IsBytes (batch_spelling b) → whole_at (batch_spelling b) ≡ Ok b
 whole_again b fits bytes =
     let text = batch_spelling b in
     let s : HasFields b text = alone_is b (HasFields b) (has_fields b [] fits) in
-    let inner : drop 21 text ≡ covered b = alone_is b (λ (t : List ℕ). drop 21 t ≡ covered b) (covered_there b [] ∙ append-nil (covered b)) in
-    let inner_bytes : IsBytes (covered b) = subst IsBytes inner (IsBytes-drop 21 text bytes) in
-    let sum : crc text ≡ checksum (drop 21 text) = alone_is b (λ (t : List ℕ). crc t ≡ checksum (covered b)) (crc_there b [] inner_bytes) ∙ ap checksum (sym inner) in
-    let behind : drop 61 text ≡ records_spelling 0 b.records = alone_is b (λ (t : List ℕ). drop 61 t ≡ records_spelling 0 b.records) (records_there b [] ∙ append-nil (records_spelling 0 b.records)) in
+    let inner : drop 21 text ≡ checksummed_bytes b =
+    alone_is b (λ (t : List ℕ). drop 21 t ≡ checksummed_bytes b)
+    (covered_there b [] ∙ append-nil (checksummed_bytes b)) in
+    let inner_bytes : IsBytes (checksummed_bytes b) = subst IsBytes inner (IsBytes-drop 21 text bytes) in
+    let sum : crc text ≡ checksum (drop 21 text) =
+    alone_is b (λ (t : List ℕ). crc t ≡ checksum (checksummed_bytes b)) (crc_there b [] inner_bytes)
+    ∙ ap checksum (sym inner) in
+    let behind : drop 61 text ≡ records_spelling 0 b.records =
+    alone_is b (λ (t : List ℕ). drop 61 t ≡ records_spelling 0 b.records)
+    (records_there b [] ∙ append-nil (records_spelling 0 b.records)) in
     let last : last_offset_delta text + 1 ≡ length b.records = omega (arith, s.last, fits.some_records) in
-    let counted : Counted text (length b.records) = record { magic = s.magic; crc = sum; attributes = s.attributes; some = fits.some_records; few = fits.few_records; last = last; count = s.count } in
+    let counted : Counted text (length b.records) =
+    record {
+      magic = s.magic;
+      crc = sum;
+      attributes = s.attributes;
+      some = fits.some_records;
+      few = fits.few_records;
+      last = last;
+      count = s.count;
+    } in
     let small : 0 + length b.records < 2 ^ 31 = omega (arith, fits.few_records) in
-    whole_by text (length b.records) b.records b (count_again text (length b.records) counted) (ap (records_at (length b.records) 0) behind ∙ records_again 0 b.records small fits.records) (timed_again b text fits s)
+    whole_by text (length b.records) b.records b (count_again text (length b.records) counted)
+    (ap (records_at (length b.records) 0) behind ∙ records_again 0 b.records small fits.records)
+    (timed_again b text fits s)
 
-batch_by : (bytes : List ℕ) (n : ℕ) (b : Batch) → size_at bytes ≡ Ok n → whole_at (take n bytes) ≡ Ok b → batch_at bytes ≡ Ok (b, n)
+batch_by : (bytes : List ℕ) (n : ℕ) (b : Batch) → size_at bytes ≡ Ok n → whole_at (take n bytes) ≡ Ok b →
+    batch_at bytes ≡ Ok (b, n)
 unfolding batch_at
 batch_by bytes n b e1 e2 = rw (e1, e2) refl
 
-pub batch_again : (b : Batch) (rest : List ℕ) → BatchFits b → IsBytes (batch_spelling b ++ rest) → batch_at (batch_spelling b ++ rest) ≡ Ok (b, length (batch_spelling b))
+pub batch_again : (b : Batch) (rest : List ℕ) → BatchFits b → IsBytes (batch_spelling b ++ rest) →
+    batch_at (batch_spelling b ++ rest) ≡ Ok (b, length (batch_spelling b))
 batch_again b rest fits bytes =
     let text = batch_spelling b in
     let n = length text in
@@ -603,16 +762,28 @@ batch_again b rest fits bytes =
     let inner = records_length b in
     let alone : take n all ≡ text = take_at text rest n refl in
     let text_bytes : IsBytes text = subst IsBytes alone (IsBytes-take n all bytes) in
-    let sized : Sized all n = record { size = omega (arith, s.size, whole); least = omega (arith, whole, inner); most = fits.few_bytes; there = omega (arith, length-append text rest) } in
+    let sized : Sized all n = record {
+      size = omega (arith, s.size, whole);
+      least = omega (arith, whole, inner);
+      most = fits.few_bytes;
+      there = omega (arith, length-append text rest);
+    } in
     batch_by all n b (size_again all n sized) (ap whole_at alone ∙ whole_again b fits text_bytes)
 
 -- no spelling of a batch begins another
-pub one_batch : (b c : Batch) (x y : List ℕ) → BatchFits b → BatchFits c → batch_spelling b ++ x ≡ batch_spelling c ++ y → (b ≡ c) × (x ≡ y)
+pub one_batch : (b c : Batch) (x y : List ℕ) → BatchFits b → BatchFits c →
+    batch_spelling b ++ x ≡ batch_spelling c ++ y → (b ≡ c) × (x ≡ y)
 one_batch b c x y fits also e =
     let all = batch_spelling b ++ x in
     let s = has_fields b x fits in
     let t : HasFields c all = subst (HasFields c) (sym e) (has_fields c y also) in
     let count : length b.records ≡ length c.records = sym s.count ∙ t.count in
-    let row : records_spelling 0 b.records ++ x ≡ records_spelling 0 c.records ++ y = sym (records_there b x) ∙ ap (drop 61) e ∙ records_there c y in
-    let both = records_one 0 b.records c.records x y (omega (arith, fits.few_records)) count fits.records also.records row in
-    (same_batch b c (sym s.base_offset ∙ t.base_offset) (sym s.leader_epoch ∙ t.leader_epoch) (sym s.base_timestamp ∙ t.base_timestamp) (sym s.producer_id ∙ t.producer_id) (sym s.producer_epoch ∙ t.producer_epoch) (sym s.base_sequence ∙ t.base_sequence) both.0, both.1)
+    let row : records_spelling 0 b.records ++ x ≡ records_spelling 0 c.records ++ y = sym (records_there b x)
+    ∙ ap (drop 61) e ∙ records_there c y in
+    let both = records_one 0 b.records c.records x y (omega (arith, fits.few_records)) count fits.records also.records
+    row in (
+      same_batch b c (sym s.base_offset ∙ t.base_offset) (sym s.leader_epoch ∙ t.leader_epoch)
+          (sym s.base_timestamp ∙ t.base_timestamp) (sym s.producer_id ∙ t.producer_id)
+          (sym s.producer_epoch ∙ t.producer_epoch) (sym s.base_sequence ∙ t.base_sequence) both.0,
+      both.1,
+    )

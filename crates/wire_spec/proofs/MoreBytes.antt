@@ -1,5 +1,6 @@
 -- What bytes begin with, whatever follows them.
-use Rattle.std.proofs.Common.{◌≡◌, ℕ, zero, suc, ◌<◌, ◌≤◌, ◌==◌, Bool, true, false, cond, ltb, not, List, [], ◌∷◌, ◌++◌, length, take, drop, Result, Ok, Err, refl, sym, ap, ◌∙◌, inl, inr, arith}
+use Rattle.std.proofs.Common.{◌≡◌, ℕ, zero, suc, ◌<◌, ◌≤◌, ◌==◌, Bool, true, false, cond, ltb, not, List, [], ◌∷◌, ◌++◌}
+use Rattle.std.proofs.Common.{length, take, drop, Result, Ok, Err, refl, sym, ap, ◌∙◌, inl, inr, arith}
 use Rattle.std.specs.Prelude.{ℤ, pos, Option, Some, None, int_lt}
 use Rattle.std.specs.Int.{w32, cast_signed}
 use Rattle.std.proofs.lemmas.Bool.{cases_lt, ltb-false, le-ltb, lt-ltb}
@@ -9,7 +10,9 @@ use Rattle.wire_spec.specs.declared.fault.BatchFault.TheVariants as faults
 use Rattle.wire_spec.specs.Checksum.{checksum}
 use Rattle.wire_spec.specs.RecordReading.{record_at}
 use Rattle.wire_spec.specs.BatchSpelling.{max_batch}
-use Rattle.wire_spec.specs.BatchReading.{◌>>=◌, number_at, batch_length, magic, crc, attributes, with_front, batch_size, is_miscounted, is_mistimed, record_or, records_at, count_at, timed_at, whole_at, size_at, IsPart, batch_at}
+use Rattle.wire_spec.specs.BatchReading.{◌>>=◌, number_at, batch_length, magic, crc, attributes, with_front, batch_size}
+use Rattle.wire_spec.specs.BatchReading.{is_miscounted, is_mistimed, record_or, records_at, count_at, timed_at}
+use Rattle.wire_spec.specs.BatchReading.{whole_at, size_at, IsPart, batch_at}
 use Rattle.wire_spec.proofs.BatchLaws.{Sized, size_taken, length_alone}
 
 -- ---- How many bytes a batch takes
@@ -17,10 +20,12 @@ use Rattle.wire_spec.proofs.BatchLaws.{Sized, size_taken, length_alone}
 -- the first of four tests that holds names the refusal; else the size is given
 size_by : Bool → Bool → Bool → Bool → ℕ → Result ℕ BatchFault
 size_by few low high part size =
-    cond few (Err faults.Short) (cond low (Err faults.Length) (cond high (Err faults.TooLarge) (cond part (Err faults.Short) (Ok size))))
+    cond few (Err faults.Short) (cond low (Err faults.Length)
+    (cond high (Err faults.TooLarge) (cond part (Err faults.Short) (Ok size))))
 
-same_size : (few few' low high part part' : Bool) (size : ℕ) → (few ≡ false → few' ≡ false) → (part ≡ false → part' ≡ false)
-    → (size_by few low high part size ≡ Err faults.Short → ⊥) → size_by few' low high part' size ≡ size_by few low high part size
+same_size : (few few' low high part part' : Bool) (size : ℕ) → (few ≡ false → few' ≡ false) →
+    (part ≡ false → part' ≡ false) → (size_by few low high part size ≡ Err faults.Short → ⊥) →
+    size_by few' low high part' size ≡ size_by few low high part size
 unfolding size_by
 same_size true few' low high part part' size f g h = absurd (h refl)
 same_size false few' true high part part' size f g h = rw (f refl) refl
@@ -43,10 +48,13 @@ size_of_long bytes more long whole =
     let front : number_at w32 8 all ≡ number_at w32 8 bytes =
     sym (length_alone (length bytes) all long) ∙ ap (number_at w32 8) (take_at bytes more (length bytes) refl) in
     let same : batch_length all ≡ batch_length bytes = ap (cast_signed w32) front in
-    ap (λ (l : ℤ). size_by (ltb (length all) 12) (int_lt l (pos 49)) (ltb max_batch (with_front l)) (ltb (length all) (with_front l)) (with_front l)) same
-    ∙ same_size (ltb (length bytes) 12) (ltb (length all) 12) (int_lt (batch_length bytes) (pos 49)) (ltb max_batch (batch_size bytes))
+    ap (λ (l : ℤ). size_by (ltb (length all) 12) (int_lt l (pos 49)) (ltb max_batch (with_front l))
+    (ltb (length all) (with_front l)) (with_front l)) same
+    ∙ same_size (ltb (length bytes) 12) (ltb (length all) 12) (int_lt (batch_length bytes) (pos 49))
+    (ltb max_batch (batch_size bytes))
     (ltb (length bytes) (batch_size bytes)) (ltb (length all) (batch_size bytes)) (batch_size bytes)
-    (still_no_less (length bytes) (length all) 12 longer) (still_no_less (length bytes) (length all) (batch_size bytes) longer) whole
+    (still_no_less (length bytes) (length all) 12 longer)
+    (still_no_less (length bytes) (length all) (batch_size bytes) longer) whole
 
 -- a size, or the refusal of a length, is that of the bytes with more behind them too
 pub size_at-append : (bytes more : List ℕ) → (IsPart bytes → ⊥) → size_at (bytes ++ more) ≡ size_at bytes
@@ -68,10 +76,12 @@ whole_of bytes size = whole_at (take size bytes) >>= λ b. Ok (b, size)
 size_within : (bytes : List ℕ) (n : ℕ) → size_at bytes ≡ Ok n → n ≤ length bytes
 size_within bytes n e = (size_taken bytes n e).there
 
-same_whole : (bytes more : List ℕ) (size : Result ℕ BatchFault) → ((n : ℕ) → size ≡ Ok n → n ≤ length bytes) → (size >>= whole_of (bytes ++ more)) ≡ (size >>= whole_of bytes)
+same_whole : (bytes more : List ℕ) (size : Result ℕ BatchFault) → ((n : ℕ) → size ≡ Ok n → n ≤ length bytes) →
+    (size >>= whole_of (bytes ++ more)) ≡ (size >>= whole_of bytes)
 unfolding whole_of
 same_whole bytes more (Err f) within = refl
-same_whole bytes more (Ok n) within = ap (λ (front : List ℕ). whole_at front >>= λ b. Ok (b, n)) (take-append-le n bytes more (within n refl))
+same_whole bytes more (Ok n) within =
+    ap (λ (front : List ℕ). whole_at front >>= λ b. Ok (b, n)) (take-append-le n bytes more (within n refl))
 
 -- bytes that are no part of a batch begin with the same batch, or none for the same reason, whatever follows them
 pub batch_at-append : (bytes more : List ℕ) → (IsPart bytes → ⊥) → batch_at (bytes ++ more) ≡ batch_at bytes
@@ -85,11 +95,13 @@ batch_at-append bytes more whole =
 abbrev NotShort : {A : Type 0} → Result A BatchFault → Type 0
 NotShort r = r ≡ Err faults.Short → ⊥
 
-not_short-cond : {A : Type 0} (test : Bool) (one other : Result A BatchFault) → NotShort one → NotShort other → NotShort (cond test one other)
+not_short-cond : {A : Type 0} (test : Bool) (one other : Result A BatchFault) → NotShort one → NotShort other →
+    NotShort (cond test one other)
 not_short-cond true one other h k = h
 not_short-cond false one other h k = k
 
-not_short-bind : {A B : Type 0} (r : Result A BatchFault) (f : A → Result B BatchFault) → NotShort r → ((x : A) → NotShort (f x)) → NotShort (r >>= f)
+not_short-bind : {A B : Type 0} (r : Result A BatchFault) (f : A → Result B BatchFault) → NotShort r →
+    ((x : A) → NotShort (f x)) → NotShort (r >>= f)
 not_short-bind (Ok x) f h k = k x
 not_short-bind (Err fault) f h k = λ e. let same : fault ≡ faults.Short = cc in h (ap (λ (g : BatchFault). Err g) same)
 
@@ -110,8 +122,10 @@ unfolding records_at
 not_short-records zero place [] = λ e. absurd cc
 not_short-records zero place (b ∷ bytes) = λ e. absurd cc
 not_short-records (suc n) place bytes =
-    not_short-bind (record_or place (record_at (pos place) bytes)) _ (not_short-record place (record_at (pos place) bytes))
-    (λ first. not_short-bind (records_at n (suc place) first.1) _ (not_short-records n (suc place) first.1) (λ others. λ e. absurd cc))
+    not_short-bind (record_or place (record_at (pos place) bytes)) _
+    (not_short-record place (record_at (pos place) bytes))
+    (λ first. not_short-bind (records_at n (suc place) first.1) _ (not_short-records n (suc place) first.1)
+    (λ others. λ e. absurd cc))
 
 not_short-timed : (bytes : List ℕ) (records : List Record) → NotShort (timed_at bytes records)
 unfolding timed_at
@@ -121,10 +135,12 @@ not_short-whole : (bytes : List ℕ) → NotShort (whole_at bytes)
 unfolding whole_at
 not_short-whole bytes =
     not_short-bind (count_at bytes) _ (not_short-count bytes)
-    (λ count. not_short-bind (records_at count 0 (drop 61 bytes)) _ (not_short-records count 0 (drop 61 bytes)) (λ records. not_short-timed bytes records))
+    (λ count. not_short-bind (records_at count 0 (drop 61 bytes)) _ (not_short-records count 0 (drop 61 bytes))
+    (λ records. not_short-timed bytes records))
 
 -- bytes that are no part of a batch are not refused as short
 pub batch_at-not_short : (bytes : List ℕ) → (IsPart bytes → ⊥) → NotShort (batch_at bytes)
 unfolding batch_at
 batch_at-not_short bytes whole =
-    not_short-bind (size_at bytes) _ whole (λ size. not_short-bind (whole_at (take size bytes)) _ (not_short-whole (take size bytes)) (λ b. λ e. absurd cc))
+    not_short-bind (size_at bytes) _ whole (λ size. not_short-bind (whole_at (take size bytes)) _
+    (not_short-whole (take size bytes)) (λ b. λ e. absurd cc))

@@ -1,8 +1,12 @@
 -- The laws of varints: a number has one spelling, no spelling begins another, what is read is spelled so
 -- and what is spelled so is read.
-use Rattle.std.proofs.Common.{◌≡◌, ℕ, zero, suc, ◌+◌, ◌-◌, ◌*◌, ◌/◌, ◌%◌, ◌^◌, ◌<◌, ◌≤◌, ◌⊎◌, ℤ, pos, negsuc, Bool, true, false, cond, ◌&&◌, ltb, eqb, List, [], ◌∷◌, ◌++◌, length, get_or, take, drop, Option, Some, None, Result, Ok, Err, refl, sym, ap, subst, ◌∙◌, arith, inl, inr}
-use Rattle.std.proofs.lemmas.Bool.{cases_lt, cases_eq, eq-eqb, eqb-true, eqb-false, ne_eqb, ltb-false, ltb-true, le-ltb, lt-ltb}
-use Rattle.std.proofs.lemmas.List.{length-append, length-take, get_or-drop, get_or-take, get_or_past, get_or_append_left, take_at}
+use Rattle.std.proofs.Common.{◌≡◌, ℕ, zero, suc, ◌+◌, ◌-◌, ◌*◌, ◌/◌, ◌%◌, ◌^◌, ◌<◌, ◌≤◌, ◌⊎◌, ℤ, pos, negsuc, Bool}
+use Rattle.std.proofs.Common.{true, false, cond, ◌&&◌, ltb, eqb, List, [], ◌∷◌, ◌++◌, length, get_or, take, drop}
+use Rattle.std.proofs.Common.{Option, Some, None, Result, Ok, Err, refl, sym, ap, subst, ◌∙◌, arith, inl, inr}
+use Rattle.std.proofs.lemmas.Bool.{cases_lt, cases_eq, eq-eqb, eqb-true, eqb-false, ne_eqb, ltb-false, ltb-true, le-ltb}
+use Rattle.std.proofs.lemmas.Bool.{lt-ltb}
+use Rattle.std.proofs.lemmas.List.{length-append, length-take, get_or-drop, get_or-take, get_or_past}
+use Rattle.std.proofs.lemmas.List.{get_or_append_left, take_at}
 use Rattle.std.proofs.lemmas.List.Sums.{position_or_len_is}
 use Rattle.std.proofs.lemmas.List.Quantifiers.{position-Some}
 use Rattle.std.proofs.lemmas.Bool.Decides.{nat_tests}
@@ -10,7 +14,9 @@ use Rattle.std.specs.Prelude.{IfOk, FitsSigned}
 use Rattle.std.specs.Int.{w32, w64}
 use Rattle.wire_spec.specs.declared.fault.VarintFault.{VarintFault}
 use Rattle.wire_spec.specs.declared.fault.VarintFault.TheVariants.{Short, Long, NotShortest}
-use Rattle.wire_spec.specs.Varint.{zigzag, unzigzag, IsBase128, IsVarint, IsVarlong, groups, varint, varlong, groups_value, last_place, read_to, read_base128, read_signed, read_varint, read_varlong}
+use Rattle.wire_spec.specs.Varint.{zigzag, unzigzag, IsBase128, IsVarint, IsVarlong, groups, varint, varlong}
+use Rattle.wire_spec.specs.Varint.{groups_value, last_place, read_to, read_base128, read_signed, read_varint}
+use Rattle.wire_spec.specs.Varint.{read_varlong}
 
 -- ---- The zigzag number
 
@@ -40,10 +46,18 @@ zigzag-fits_64 (pos n) h = omega (arith, h.sfits)
 zigzag-fits_64 (negsuc n) h = omega (arith, h.sfits)
 
 pub unzigzag-fits_32 : (n : ℕ) → n < 2 ^ 32 → FitsSigned w32 (unzigzag n)
-unzigzag-fits_32 n h = elim (even_or_odd n) [ inl e ↦ rw e.0 (record { sfits = omega (arith, e.1) }) | inr e ↦ rw e.0 (record { sfits = omega (arith, e.1) }) ]
+unzigzag-fits_32 n h = elim (even_or_odd n) [
+  | inl e ↦ rw e.0 (record { sfits = omega (arith, e.1) })
+  | inr e ↦
+      rw e.0 (record { sfits = omega (arith, e.1) })
+]
 
 pub unzigzag-fits_64 : (n : ℕ) → n < 2 ^ 64 → FitsSigned w64 (unzigzag n)
-unzigzag-fits_64 n h = elim (even_or_odd n) [ inl e ↦ rw e.0 (record { sfits = omega (arith, e.1) }) | inr e ↦ rw e.0 (record { sfits = omega (arith, e.1) }) ]
+unzigzag-fits_64 n h = elim (even_or_odd n) [
+  | inl e ↦ rw e.0 (record { sfits = omega (arith, e.1) })
+  | inr e ↦
+      rw e.0 (record { sfits = omega (arith, e.1) })
+]
 
 -- ---- The forms of a number
 
@@ -97,7 +111,11 @@ Parts-of (b ∷ c ∷ bs) n h =
       suc last,
       record {
         size = ap suc p.size;
-        ends = record { within = omega (arith, p.ends.within); before = first_or (λ k. 128 ≤ get_or (b ∷ c ∷ bs) k 0) last h.0 p.ends.before; ends = p.ends.ends };
+        ends = record {
+          within = omega (arith, p.ends.within);
+          before = first_or (λ k. 128 ≤ get_or (b ∷ c ∷ bs) k 0) last h.0 p.ends.before;
+          ends = p.ends.ends;
+        };
         number = omega (arith, number, h.0, h.1, h.4);
         low = omega arith;
         high = omega arith;
@@ -107,7 +125,8 @@ Parts-of (b ∷ c ∷ bs) n h =
     )
 
 -- a byte from 128 on before the form of what is left
-pub IsBase128-more : (b : ℕ) (form : List ℕ) (n high : ℕ) → 128 ≤ b → b < 256 → 0 < high → n + 128 ≡ b + 128 * high → IsBase128 form high → IsBase128 (b ∷ form) n
+pub IsBase128-more : (b : ℕ) (form : List ℕ) (n high : ℕ) → 128 ≤ b → b < 256 → 0 < high → n + 128 ≡ b + 128 * high →
+    IsBase128 form high → IsBase128 (b ∷ form) n
 IsBase128-more b [] n high low top some e h = absurd h
 IsBase128-more b (c ∷ bs) n high low top some e h = (low, top, high, some, e, h)
 
@@ -157,7 +176,9 @@ IsBase128-groups (suc zero) n lt some = rw (lt-ltb n 128 (omega arith)) (omega a
 IsBase128-groups (suc (suc k)) n lt some =
     elim (cases_lt n 128) [
       | inl below ↦ rw (lt-ltb n 128 below) (below, refl)
-      | inr above ↦ rw (le-ltb n 128 above) (IsBase128-more (128 + n % 128) (groups (suc k) (n / 128)) n (n / 128) (omega arith) (omega arith) (omega arith) (omega arith) (IsBase128-groups (suc k) (n / 128) (omega arith) (omega arith)))
+      | inr above ↦ rw (le-ltb n 128 above) (IsBase128-more (128 + n % 128) (groups (suc k) (n / 128)) n (n / 128)
+          (omega arith) (omega arith) (omega arith) (omega arith)
+          (IsBase128-groups (suc k) (n / 128) (omega arith) (omega arith)))
     ]
 
 pub groups_is : (k : ℕ) (form : List ℕ) (n : ℕ) → n < worth k 1 → 0 < k → IsBase128 form n → form ≡ groups k n
@@ -205,14 +226,20 @@ worth-mono (suc j) x y h = omega (arith, worth-mono j x y h)
 
 -- the bytes after the first
 EndsAt-tail : (b : ℕ) (bs : List ℕ) (last : ℕ) → EndsAt (b ∷ bs) (suc last) → EndsAt bs last
-EndsAt-tail b bs last e = record { within = omega (arith, e.within); before = λ k lt. e.before (suc k) (omega arith); ends = e.ends }
+EndsAt-tail b bs last e = record {
+  within = omega (arith, e.within);
+  before = λ k lt. e.before (suc k) (omega arith);
+  ends = e.ends;
+}
 
-groups_value-pos : (last : ℕ) (bytes : List ℕ) → EndsAt bytes last → 0 < get_or bytes last 0 → 0 < groups_value (take (suc last) bytes)
+groups_value-pos : (last : ℕ) (bytes : List ℕ) → EndsAt bytes last → 0 < get_or bytes last 0 →
+    0 < groups_value (take (suc last) bytes)
 groups_value-pos last [] e h = absurd (omega (arith, e.within))
 groups_value-pos zero (b ∷ bs) e h = let below : b < 128 = e.ends in omega arith
 groups_value-pos (suc last) (b ∷ bs) e h = omega (arith, groups_value-pos last bs (EndsAt-tail b bs last e) h)
 
-pub IsBase128-from_ends : (last : ℕ) (bytes : List ℕ) → IsBytes bytes → EndsAt bytes last → (0 < last → 0 < get_or bytes last 0) → IsBase128 (take (suc last) bytes) (groups_value (take (suc last) bytes))
+pub IsBase128-from_ends : (last : ℕ) (bytes : List ℕ) → IsBytes bytes → EndsAt bytes last →
+    (0 < last → 0 < get_or bytes last 0) → IsBase128 (take (suc last) bytes) (groups_value (take (suc last) bytes))
 IsBase128-from_ends last [] fits e some = absurd (omega (arith, e.within))
 IsBase128-from_ends zero (b ∷ bs) fits e some = let below : b < 128 = e.ends in (below, omega arith)
 IsBase128-from_ends (suc last) (b ∷ bs) fits e some =
@@ -220,14 +247,17 @@ IsBase128-from_ends (suc last) (b ∷ bs) fits e some =
     let positive : 0 < get_or bs last 0 = some (omega arith) in
     let first : 128 ≤ b = e.before 0 (omega arith) in
     let byte : b < 256 = fits 0 in
-    IsBase128-more b (take (suc last) bs) (groups_value (take (suc (suc last)) (b ∷ bs))) (groups_value (take (suc last) bs)) first byte (groups_value-pos last bs inner positive) (omega arith) (IsBase128-from_ends last bs (IsBytes-rest b bs fits) inner (λ q. positive))
+    IsBase128-more b (take (suc last) bs) (groups_value (take (suc (suc last)) (b ∷ bs)))
+    (groups_value (take (suc last) bs)) first byte (groups_value-pos last bs inner positive) (omega arith)
+    (IsBase128-from_ends last bs (IsBytes-rest b bs fits) inner (λ q. positive))
 
 -- ---- The place of the last byte
 
 abbrev below_128 : ℕ → Bool
 below_128 b = ltb b 128
 
-pub last_place_is : (most : ℕ) (bytes : List ℕ) (last : ℕ) → EndsAt bytes last → last < most → last_place most bytes ≡ Some last
+pub last_place_is : (most : ℕ) (bytes : List ℕ) (last : ℕ) → EndsAt bytes last → last < most →
+    last_place most bytes ≡ Some last
 last_place_is most bytes last e lt =
     let len : last < length (take most bytes) = omega (arith, length-take most bytes, e.within) in
     let place = position_or_len_is below_128 (take most bytes) last 0 (omega arith)
@@ -235,21 +265,26 @@ last_place_is most bytes last e lt =
     (λ h. let g = get_or-take most bytes last 0 lt in rw g (lt-ltb (get_or bytes last 0) 128 e.ends)) in
     rw (place, lt-ltb last (length (take most bytes)) len) refl
 
-pub last_place_none : (most : ℕ) (bytes : List ℕ) → ((k : ℕ) → k < most → k < length bytes → 128 ≤ get_or bytes k 0) → last_place most bytes ≡ None
+pub last_place_none : (most : ℕ) (bytes : List ℕ) → ((k : ℕ) → k < most → k < length bytes → 128 ≤ get_or bytes k 0) →
+    last_place most bytes ≡ None
 last_place_none most bytes h =
     let place = position_or_len_is below_128 (take most bytes) (length (take most bytes)) 0 (omega arith)
-    (λ k lt. let g = get_or-take most bytes k 0 (omega (arith, length-take most bytes)) in rw g (le-ltb (get_or bytes k 0) 128 (h k (omega (arith, length-take most bytes)) (omega (arith, length-take most bytes)))))
+    (λ k lt. let g = get_or-take most bytes k 0 (omega (arith, length-take most bytes)) in
+    rw g (le-ltb (get_or bytes k 0) 128 (h k (omega (arith, length-take most bytes))
+    (omega (arith, length-take most bytes)))))
     (λ h. absurd (omega arith)) in
     rw (place, le-ltb (length (take most bytes)) (length (take most bytes)) (omega arith)) refl
 
-pub EndsAt-from : (most : ℕ) (bytes : List ℕ) (last : ℕ) → last_place most bytes ≡ Some last → EndsAt bytes last × (last < most)
+pub EndsAt-from : (most : ℕ) (bytes : List ℕ) (last : ℕ) → last_place most bytes ≡ Some last →
+    EndsAt bytes last × (last < most)
 EndsAt-from most bytes last e =
     let p = position-Some below_128 (take most bytes) last 0 e in
     let len : last < length bytes = omega (arith, p.0, length-take most bytes) in
     let lt : last < most = omega (arith, p.0, length-take most bytes) in (
       record {
         within = len;
-        before = λ k h. let g = get_or-take most bytes k 0 (omega arith) in ltb-false (get_or bytes k 0) 128 (rw g at (p.2 k h));
+        before = λ k h. let g = get_or-take most bytes k 0 (omega arith) in
+            ltb-false (get_or bytes k 0) 128 (rw g at (p.2 k h));
         ends = let g = get_or-take most bytes last 0 lt in ltb-true (get_or bytes last 0) 128 (rw g at (p.1));
       },
       lt,
@@ -265,15 +300,21 @@ from_and_no : (a b : Bool) → (a && b) ≡ false → a ≡ true → b ≡ false
 from_and_no true b h e = h
 from_and_no false b h e = absurd cc
 
-pub guard_ok : {A E : Type 0} (b : Bool) (d : E) (r : Result A E) (y : A) → cond b (Err d) r ≡ Ok y → (b ≡ false) × (r ≡ Ok y)
+pub guard_ok : {A E : Type 0} (b : Bool) (d : E) (r : Result A E) (y : A) → cond b (Err d) r ≡ Ok y →
+    (b ≡ false) × (r ≡ Ok y)
 guard_ok true d r y e = absurd cc
 guard_ok false d r y e = (refl, e)
 
-pub read_to_ok : (most top : ℕ) (bytes : List ℕ) (last : ℕ) → (last ≡ most - 1 → get_or bytes last 0 ≤ top) → (0 < last → 0 < get_or bytes last 0)
-    → read_to most top bytes (Some last) ≡ Ok (groups_value (take (last + 1) bytes), last + 1)
+pub read_to_ok : (most top : ℕ) (bytes : List ℕ) (last : ℕ) → (last ≡ most - 1 → get_or bytes last 0 ≤ top) →
+    (0 < last → 0 < get_or bytes last 0) → read_to most top bytes (Some last)
+    ≡ Ok (groups_value (take (last + 1) bytes), last + 1)
 read_to_ok most top bytes last narrow some =
-    let first : (eqb last (most - 1) && ltb top (get_or bytes last 0)) ≡ false = and_no (eqb last (most - 1)) (ltb top (get_or bytes last 0)) (λ e. le-ltb top (get_or bytes last 0) (narrow (eqb-true last (most - 1) e))) in
-    let second : (ltb 0 last && eqb (get_or bytes last 0) 0) ≡ false = and_no (ltb 0 last) (eqb (get_or bytes last 0) 0) (λ e. ne_eqb (get_or bytes last 0) 0 (λ z. absurd (omega (arith, z, some (ltb-true 0 last e))))) in
+    let first : (eqb last (most - 1) && ltb top (get_or bytes last 0)) ≡ false =
+    and_no (eqb last (most - 1)) (ltb top (get_or bytes last 0))
+    (λ e. le-ltb top (get_or bytes last 0) (narrow (eqb-true last (most - 1) e))) in
+    let second : (ltb 0 last && eqb (get_or bytes last 0) 0) ≡ false =
+    and_no (ltb 0 last) (eqb (get_or bytes last 0) 0) (λ e. ne_eqb (get_or bytes last 0) 0
+    (λ z. absurd (omega (arith, z, some (ltb-true 0 last e))))) in
     rw (first, second) refl
 
 -- what a read of bytes up to a place says
@@ -283,22 +324,32 @@ pub record ReadTo (most top : ℕ) (bytes : List ℕ) (last n used : ℕ) : Type
   pub number : groups_value (take (last + 1) bytes) ≡ n
   pub size : last + 1 ≡ used
 
-ReadTo-from : (most top : ℕ) (bytes : List ℕ) (last n used : ℕ) → read_to most top bytes (Some last) ≡ Ok (n, used) → ReadTo most top bytes last n used
+ReadTo-from : (most top : ℕ) (bytes : List ℕ) (last n used : ℕ) → read_to most top bytes (Some last) ≡ Ok (n, used) →
+    ReadTo most top bytes last n used
 ReadTo-from most top bytes last n used e =
-    let a = guard_ok (eqb last (most - 1) && ltb top (get_or bytes last 0)) Long (cond (ltb 0 last && eqb (get_or bytes last 0) 0) (Err NotShortest) (Ok (groups_value (take (last + 1) bytes), last + 1))) (n, used) e in
-    let b = guard_ok (ltb 0 last && eqb (get_or bytes last 0) 0) NotShortest (Ok (groups_value (take (last + 1) bytes), last + 1)) (n, used) a.1 in
+    let a = guard_ok (eqb last (most - 1) && ltb top (get_or bytes last 0)) Long
+    (cond (ltb 0 last && eqb (get_or bytes last 0) 0) (Err NotShortest)
+    (Ok (groups_value (take (last + 1) bytes), last + 1))) (n, used) e in
+    let b = guard_ok (ltb 0 last && eqb (get_or bytes last 0) 0) NotShortest
+    (Ok (groups_value (take (last + 1) bytes), last + 1)) (n, used) a.1 in
     let same : ◌≡◌ {A = ℕ × ℕ} (groups_value (take (last + 1) bytes), last + 1) (n, used) = cc (b.1) in
     record {
-      narrow = λ h. ltb-false top (get_or bytes last 0) (from_and_no (eqb last (most - 1)) (ltb top (get_or bytes last 0)) a.0 (eq-eqb last (most - 1) h));
-      some = λ h. let ne : get_or bytes last 0 ≡ 0 → ⊥ = eqb-false (get_or bytes last 0) 0 (from_and_no (ltb 0 last) (eqb (get_or bytes last 0) 0) b.0 (lt-ltb 0 last h)) in elim (cases_lt 0 (get_or bytes last 0)) [ inl lt ↦ lt | inr le ↦ absurd (ne (omega arith)) ];
+      narrow = λ h. ltb-false top (get_or bytes last 0) (from_and_no (eqb last (most - 1))
+          (ltb top (get_or bytes last 0)) a.0 (eq-eqb last (most - 1) h));
+      some = λ h. let ne : get_or bytes last 0 ≡ 0 →
+          ⊥ = eqb-false (get_or bytes last 0) 0 (from_and_no (ltb 0 last) (eqb (get_or bytes last 0) 0) b.0
+          (lt-ltb 0 last h)) in elim (cases_lt 0 (get_or bytes last 0))
+          [ inl lt ↦ lt | inr le ↦ absurd (ne (omega arith)) ];
       number = ap (λ (p : ℕ × ℕ). p.0) same;
       size = ap (λ (p : ℕ × ℕ). p.1) same;
     }
 
 -- A width: of at most that many groups, the last one at most top, are the numbers below the limit.
 pub record IsWide (most top limit : ℕ) : Type 0 where
-  pub below : (last byte : ℕ) → last < most → byte < 128 → (last ≡ most - 1 → byte ≤ top) → worth last (byte + 1) ≤ limit
-  pub within : (last byte n : ℕ) → worth last byte ≤ n → n < limit → (0 < last → 0 < byte) → (last < most) × (last ≡ most - 1 → byte ≤ top)
+  pub below : (last byte : ℕ) → last < most → byte < 128 → (last ≡ most - 1 → byte ≤ top) →
+      worth last (byte + 1) ≤ limit
+  pub within : (last byte n : ℕ) → worth last byte ≤ n → n < limit → (0 < last → 0 < byte) →
+      (last < most) × (last ≡ most - 1 → byte ≤ top)
   pub groups : limit ≤ worth most 1
   pub some : 0 < most
 
@@ -310,7 +361,8 @@ below_32 (suc (suc (suc zero))) byte lt b h = omega arith
 below_32 (suc (suc (suc (suc zero)))) byte lt b h = omega (arith, h refl)
 below_32 (suc (suc (suc (suc (suc last))))) byte lt b h = absurd (omega arith)
 
-within_32 : (last byte n : ℕ) → worth last byte ≤ n → n < 2 ^ 32 → (0 < last → 0 < byte) → (last < 5) × (last ≡ 4 → byte ≤ 15)
+within_32 : (last byte n : ℕ) → worth last byte ≤ n → n < 2 ^ 32 → (0 < last → 0 < byte) →
+    (last < 5) × (last ≡ 4 → byte ≤ 15)
 within_32 last byte n low lt some =
     elim (cases_lt last 5) [
       | inl few ↦ (few, λ e. let at : worth 4 byte ≤ n = subst (λ (k : ℕ). worth k byte ≤ n) e low in omega arith)
@@ -333,7 +385,8 @@ below_64 (suc (suc (suc (suc (suc (suc (suc (suc zero)))))))) byte lt b h = omeg
 below_64 (suc (suc (suc (suc (suc (suc (suc (suc (suc zero))))))))) byte lt b h = omega (arith, h refl)
 below_64 (suc (suc (suc (suc (suc (suc (suc (suc (suc (suc last)))))))))) byte lt b h = absurd (omega arith)
 
-within_64 : (last byte n : ℕ) → worth last byte ≤ n → n < 2 ^ 64 → (0 < last → 0 < byte) → (last < 10) × (last ≡ 9 → byte ≤ 1)
+within_64 : (last byte n : ℕ) → worth last byte ≤ n → n < 2 ^ 64 → (0 < last → 0 < byte) →
+    (last < 10) × (last ≡ 9 → byte ≤ 1)
 within_64 last byte n low lt some =
     elim (cases_lt last 10) [
       | inl few ↦ (few, λ e. let at : worth 9 byte ≤ n = subst (λ (k : ℕ). worth k byte ≤ n) e low in omega arith)
@@ -353,36 +406,49 @@ none_read : (b : Bool) (x : ℕ × ℕ) → cond {A = Result (ℕ × ℕ) Varint
 none_read true x h = cc
 none_read false x h = cc
 
-form_below : (most top limit : ℕ) → IsWide most top limit → (bytes : List ℕ) (last n : ℕ) → EndsAt bytes last → last < most → (last ≡ most - 1 → get_or bytes last 0 ≤ top) → IsBase128 (take (suc last) bytes) n → n < limit
+form_below : (most top limit : ℕ) → IsWide most top limit → (bytes : List ℕ) (last n : ℕ) → EndsAt bytes last →
+    last < most → (last ≡ most - 1 → get_or bytes last 0 ≤ top) → IsBase128 (take (suc last) bytes) n → n < limit
 form_below most top limit wide bytes last n ends lt narrow form =
     let parts = Parts-of (take (suc last) bytes) n form in
     let p = parts.1 in
     let same : parts.0 ≡ last = omega (arith, p.size, length-take (suc last) bytes, ends.within) in
-    let high : n < worth last (get_or (take (suc last) bytes) last 0 + 1) = subst (λ (k : ℕ). n < worth k (get_or (take (suc last) bytes) k 0 + 1)) same p.high in
-    let byte : get_or (take (suc last) bytes) last 0 ≡ get_or bytes last 0 = get_or-take (suc last) bytes last 0 (omega arith) in
+    let high : n < worth last (get_or (take (suc last) bytes) last 0 + 1) =
+    subst (λ (k : ℕ). n < worth k (get_or (take (suc last) bytes) k 0 + 1)) same p.high in
+    let byte : get_or (take (suc last) bytes) last 0 ≡ get_or bytes last 0 =
+    get_or-take (suc last) bytes last 0 (omega arith) in
     let high' : n < worth last (get_or bytes last 0 + 1) = rw byte at high in
     omega (arith, high', wide.below last (get_or bytes last 0) lt ends.ends narrow)
 
-Taken-from : (most top limit : ℕ) → IsWide most top limit → (bytes : List ℕ) (n used : ℕ) (place : Option ℕ) → IsBytes bytes → last_place most bytes ≡ place → read_to most top bytes place ≡ Ok (n, used) → Taken bytes limit n used
+Taken-from : (most top limit : ℕ) → IsWide most top limit → (bytes : List ℕ) (n used : ℕ) (place : Option ℕ) →
+    IsBytes bytes → last_place most bytes ≡ place → read_to most top bytes place ≡ Ok (n, used) →
+    Taken bytes limit n used
 Taken-from most top limit wide bytes n used None fits place e = absurd (none_read (ltb (length bytes) most) (n, used) e)
 Taken-from most top limit wide bytes n used (Some last) fits place e =
     let ends = EndsAt-from most bytes last place in
     let r = ReadTo-from most top bytes last n used e in
-    let form : IsBase128 (take (suc last) bytes) (groups_value (take (suc last) bytes)) = IsBase128-from_ends last bytes fits ends.0 r.some in
+    let form : IsBase128 (take (suc last) bytes) (groups_value (take (suc last) bytes)) =
+    IsBase128-from_ends last bytes fits ends.0 r.some in
     let size : suc last ≡ used = omega (arith, r.size) in
     let plus : last + 1 ≡ suc last = omega arith in
-    let number : groups_value (take (suc last) bytes) ≡ n = subst (λ (k : ℕ). groups_value (take k bytes) ≡ n) plus r.number in
-    let formed : IsBase128 (take used bytes) n = subst (λ (m : ℕ). IsBase128 (take used bytes) m) number (subst (λ (k : ℕ). IsBase128 (take k bytes) (groups_value (take (suc last) bytes))) size form) in
+    let number : groups_value (take (suc last) bytes) ≡ n =
+    subst (λ (k : ℕ). groups_value (take k bytes) ≡ n) plus r.number in
+    let formed : IsBase128 (take used bytes) n =
+    subst (λ (m : ℕ). IsBase128 (take used bytes) m) number
+    (subst (λ (k : ℕ). IsBase128 (take k bytes) (groups_value (take (suc last) bytes))) size form) in
     record {
       within = omega (arith, ends.0.within);
       form = formed;
-      below = form_below most top limit wide bytes last n ends.0 ends.1 r.narrow (subst (λ (m : ℕ). IsBase128 (take (suc last) bytes) m) number form);
+      below = form_below most top limit wide bytes last n ends.0 ends.1 r.narrow
+          (subst (λ (m : ℕ). IsBase128 (take (suc last) bytes) m) number form);
     }
 
-pub read_taken : (most top limit : ℕ) → IsWide most top limit → (bytes : List ℕ) (n used : ℕ) → IsBytes bytes → read_base128 most top bytes ≡ Ok (n, used) → Taken bytes limit n used
-read_taken most top limit wide bytes n used fits e = Taken-from most top limit wide bytes n used (last_place most bytes) fits refl e
+pub read_taken : (most top limit : ℕ) → IsWide most top limit → (bytes : List ℕ) (n used : ℕ) → IsBytes bytes →
+    read_base128 most top bytes ≡ Ok (n, used) → Taken bytes limit n used
+read_taken most top limit wide bytes n used fits e =
+    Taken-from most top limit wide bytes n used (last_place most bytes) fits refl e
 
-pub read_form : (most top limit : ℕ) → IsWide most top limit → (form rest : List ℕ) (n : ℕ) → n < limit → IsBase128 form n → read_base128 most top (form ++ rest) ≡ Ok (n, length form)
+pub read_form : (most top limit : ℕ) → IsWide most top limit → (form rest : List ℕ) (n : ℕ) → n < limit →
+    IsBase128 form n → read_base128 most top (form ++ rest) ≡ Ok (n, length form)
 read_form most top limit wide form rest n lt h =
     let parts = Parts-of form n h in
     let last = parts.0 in
@@ -397,7 +463,8 @@ read_form most top limit wide form rest n lt h =
     let taken : take (last + 1) (form ++ rest) ≡ form = take_at form rest (last + 1) (omega (arith, p.size)) in
     let size : last + 1 ≡ length form = omega (arith, p.size) in
     let read = read_to_ok most top (form ++ rest) last (λ e. rw same (w.1 e)) (λ q. rw same (p.some q)) in
-    ap (read_to most top (form ++ rest)) (last_place_is most (form ++ rest) last ends w.0) ∙ read ∙ rw (taken, size, p.number) refl
+    ap (read_to most top (form ++ rest)) (last_place_is most (form ++ rest) last ends w.0) ∙ read
+    ∙ rw (taken, size, p.number) refl
 
 -- ---- Varints and varlongs
 
@@ -405,7 +472,8 @@ abbrev signed_ok : ℤ × ℕ → Result (ℤ × ℕ) VarintFault
 signed_ok x = Ok x
 
 -- the unsigned number behind a signed one that was read
-read_signed-ok : (r : Result (ℕ × ℕ) VarintFault) (z : ℤ) (used : ℕ) → read_signed r ≡ Ok (z, used) → (n : ℕ) × (r ≡ Ok (n, used)) × (unzigzag n ≡ z)
+read_signed-ok : (r : Result (ℕ × ℕ) VarintFault) (z : ℤ) (used : ℕ) → read_signed r ≡ Ok (z, used) →
+    (n : ℕ) × (r ≡ Ok (n, used)) × (unzigzag n ≡ z)
 read_signed-ok (Ok x) z used e =
     let same : signed_ok (unzigzag x.0, x.1) ≡ signed_ok (z, used) = e in
     let pair : ◌≡◌ {A = ℤ × ℕ} (unzigzag x.0, x.1) (z, used) = cc in
@@ -421,7 +489,8 @@ pub record VarlongTaken (bytes : List ℕ) (z : ℤ) (used : ℕ) : Type 0 where
   pub within : used ≤ length bytes
   pub form : IsVarlong (take used bytes) z
 
-pub read_varint-taken : (bytes : List ℕ) (z : ℤ) (used : ℕ) → IsBytes bytes → read_varint bytes ≡ Ok (z, used) → VarintTaken bytes z used
+pub read_varint-taken : (bytes : List ℕ) (z : ℤ) (used : ℕ) → IsBytes bytes → read_varint bytes ≡ Ok (z, used) →
+    VarintTaken bytes z used
 unfolding read_varint
 read_varint-taken bytes z used fits e =
     let s = read_signed-ok (read_base128 5 15 bytes) z used e in
@@ -429,10 +498,14 @@ read_varint-taken bytes z used fits e =
     let zig : s.0 ≡ zigzag z = sym (zigzag-unzigzag s.0) ∙ ap zigzag s.2 in
     record {
       within = t.within;
-      form = record { fits = subst (λ (w : ℤ). FitsSigned w32 w) s.2 (unzigzag-fits_32 s.0 t.below); spelled = subst (λ (n : ℕ). IsBase128 (take used bytes) n) zig t.form };
+      form = record {
+        fits = subst (λ (w : ℤ). FitsSigned w32 w) s.2 (unzigzag-fits_32 s.0 t.below);
+        spelled = subst (λ (n : ℕ). IsBase128 (take used bytes) n) zig t.form;
+      };
     }
 
-pub read_varlong-taken : (bytes : List ℕ) (z : ℤ) (used : ℕ) → IsBytes bytes → read_varlong bytes ≡ Ok (z, used) → VarlongTaken bytes z used
+pub read_varlong-taken : (bytes : List ℕ) (z : ℤ) (used : ℕ) → IsBytes bytes → read_varlong bytes ≡ Ok (z, used) →
+    VarlongTaken bytes z used
 unfolding read_varlong
 read_varlong-taken bytes z used fits e =
     let s = read_signed-ok (read_base128 10 1 bytes) z used e in
@@ -440,26 +513,38 @@ read_varlong-taken bytes z used fits e =
     let zig : s.0 ≡ zigzag z = sym (zigzag-unzigzag s.0) ∙ ap zigzag s.2 in
     record {
       within = t.within;
-      form = record { fits = subst (λ (w : ℤ). FitsSigned w64 w) s.2 (unzigzag-fits_64 s.0 t.below); spelled = subst (λ (n : ℕ). IsBase128 (take used bytes) n) zig t.form };
+      form = record {
+        fits = subst (λ (w : ℤ). FitsSigned w64 w) s.2 (unzigzag-fits_64 s.0 t.below);
+        spelled = subst (λ (n : ℕ). IsBase128 (take used bytes) n) zig t.form;
+      };
     }
 
 pub read_varint-form : (form rest : List ℕ) (z : ℤ) → IsVarint form z → read_varint (form ++ rest) ≡ Ok (z, length form)
 unfolding read_varint
 read_varint-form form rest z h =
-    ap read_signed (read_form 5 15 (2 ^ 32) wide_32 form rest (zigzag z) (zigzag-fits_32 z h.fits) h.spelled) ∙ rw (unzigzag-zigzag z) refl
+    ap read_signed (read_form 5 15 (2 ^ 32) wide_32 form rest (zigzag z) (zigzag-fits_32 z h.fits) h.spelled)
+    ∙ rw (unzigzag-zigzag z) refl
 
-pub read_varlong-form : (form rest : List ℕ) (z : ℤ) → IsVarlong form z → read_varlong (form ++ rest) ≡ Ok (z, length form)
+pub read_varlong-form : (form rest : List ℕ) (z : ℤ) → IsVarlong form z →
+    read_varlong (form ++ rest) ≡ Ok (z, length form)
 unfolding read_varlong
 read_varlong-form form rest z h =
-    ap read_signed (read_form 10 1 (2 ^ 64) wide_64 form rest (zigzag z) (zigzag-fits_64 z h.fits) h.spelled) ∙ rw (unzigzag-zigzag z) refl
+    ap read_signed (read_form 10 1 (2 ^ 64) wide_64 form rest (zigzag z) (zigzag-fits_64 z h.fits) h.spelled)
+    ∙ rw (unzigzag-zigzag z) refl
 
 pub IsVarint-varint : (z : ℤ) → FitsSigned w32 z → IsVarint (varint z) z
 unfolding varint
-IsVarint-varint z h = record { fits = h; spelled = IsBase128-groups 5 (zigzag z) (omega (arith, zigzag-fits_32 z h)) (omega arith) }
+IsVarint-varint z h = record {
+  fits = h;
+  spelled = IsBase128-groups 5 (zigzag z) (omega (arith, zigzag-fits_32 z h)) (omega arith);
+}
 
 pub IsVarlong-varlong : (z : ℤ) → FitsSigned w64 z → IsVarlong (varlong z) z
 unfolding varlong
-IsVarlong-varlong z h = record { fits = h; spelled = IsBase128-groups 10 (zigzag z) (omega (arith, zigzag-fits_64 z h)) (omega arith) }
+IsVarlong-varlong z h = record {
+  fits = h;
+  spelled = IsBase128-groups 10 (zigzag z) (omega (arith, zigzag-fits_64 z h)) (omega arith);
+}
 
 pub varint_is : (form : List ℕ) (z : ℤ) → IsVarint form z → form ≡ varint z
 varint_is form z h = one_form_of form (varint z) (zigzag z) h.spelled (IsVarint-varint z h.fits).spelled
@@ -487,7 +572,8 @@ pub worth-128 : (j x : ℕ) → worth j (128 * x) ≡ 128 * worth j x
 worth-128 zero x = refl
 worth-128 (suc j) x = omega (arith, worth-128 j x)
 
-pub groups_value-take : (at : ℕ) (bytes : List ℕ) → at < length bytes → groups_value (take (suc at) bytes) ≡ groups_value (take at bytes) + worth at (get_or bytes at 0 % 128)
+pub groups_value-take : (at : ℕ) (bytes : List ℕ) → at < length bytes →
+    groups_value (take (suc at) bytes) ≡ groups_value (take at bytes) + worth at (get_or bytes at 0 % 128)
 groups_value-take at [] lt = absurd (omega arith)
 groups_value-take zero (b ∷ bs) lt = omega arith
 groups_value-take (suc at) (b ∷ bs) lt = omega (arith, groups_value-take at bs (omega arith))
@@ -497,11 +583,14 @@ pub record Adds (bytes : List ℕ) (at number : ℕ) : Type 0 where
   pub number_is : number ≡ groups_value (take (at + 1) bytes)
   pub below : number < worth (at + 1) 1
 
-pub adds : (bytes : List ℕ) (at number digit : ℕ) → at < length bytes → number ≡ groups_value (take at bytes) → number < worth at 1 → digit ≡ get_or bytes at 0 % 128 → Adds bytes at (number + worth at digit)
+pub adds : (bytes : List ℕ) (at number digit : ℕ) → at < length bytes → number ≡ groups_value (take at bytes) →
+    number < worth at 1 → digit ≡ get_or bytes at 0 % 128 → Adds bytes at (number + worth at digit)
 adds bytes at number digit lt is below e =
     let plus : suc at ≡ at + 1 = omega arith in
-    let more : number + worth at digit ≡ groups_value (take (suc at) bytes) = rw e (omega (arith, groups_value-take at bytes lt)) in
-    let top : worth at digit + worth at 1 ≤ 128 * worth at 1 = omega (arith, worth-mono at (digit + 1) 128 (omega arith), worth-128 at 1, worth-add at digit 1) in
+    let more : number + worth at digit ≡ groups_value (take (suc at) bytes) =
+    rw e (omega (arith, groups_value-take at bytes lt)) in
+    let top : worth at digit + worth at 1 ≤ 128 * worth at 1 =
+    omega (arith, worth-mono at (digit + 1) 128 (omega arith), worth-128 at 1, worth-add at digit 1) in
     let small : number + worth at digit < worth (suc at) 1 = omega arith in
     record {
       number_is = subst (λ (k : ℕ). number + worth at digit ≡ groups_value (take k bytes)) plus more;
@@ -512,22 +601,30 @@ adds bytes at number digit lt is below e =
 pub nine_groups : (k n : ℕ) → k ≤ 9 → n < worth k 1 → n < 2 ^ 63
 nine_groups k n le lt = omega (arith, worth-le k 9 1 le (omega arith))
 
-pub reads_at : (most top : ℕ) (bytes : List ℕ) (at number : ℕ) → EndsAt bytes at → at < most → (at ≡ most - 1 → get_or bytes at 0 ≤ top) → (0 < at → 0 < get_or bytes at 0)
-    → number ≡ groups_value (take (at + 1) bytes) → Ok (number, at + 1) ≡ read_base128 most top bytes
+pub reads_at : (most top : ℕ) (bytes : List ℕ) (at number : ℕ) → EndsAt bytes at → at < most →
+    (at ≡ most - 1 → get_or bytes at 0 ≤ top) → (0 < at → 0 < get_or bytes at 0) →
+    number ≡ groups_value (take (at + 1) bytes) → Ok (number, at + 1) ≡ read_base128 most top bytes
 reads_at most top bytes at number ends lt narrow some is =
-    sym (ap (read_to most top bytes) (last_place_is most bytes at ends lt) ∙ read_to_ok most top bytes at narrow some ∙ rw (← is) refl)
+    sym (ap (read_to most top bytes) (last_place_is most bytes at ends lt) ∙ read_to_ok most top bytes at narrow some
+    ∙ rw (← is) refl)
 
-pub refuses_zero : (most top : ℕ) (bytes : List ℕ) (at : ℕ) → EndsAt bytes at → at < most → 0 < at → get_or bytes at 0 ≡ 0 → Err NotShortest ≡ read_base128 most top bytes
+pub refuses_zero : (most top : ℕ) (bytes : List ℕ) (at : ℕ) → EndsAt bytes at → at < most → 0 < at →
+    get_or bytes at 0 ≡ 0 → Err NotShortest ≡ read_base128 most top bytes
 refuses_zero most top bytes at ends lt some zero_there =
-    let first : (eqb at (most - 1) && ltb top (get_or bytes at 0)) ≡ false = and_no (eqb at (most - 1)) (ltb top (get_or bytes at 0)) (λ e. le-ltb top (get_or bytes at 0) (omega (arith, zero_there))) in
-    sym (ap (read_to most top bytes) (last_place_is most bytes at ends lt) ∙ rw (first, lt-ltb 0 at some, eq-eqb (get_or bytes at 0) 0 zero_there) refl)
+    let first : (eqb at (most - 1) && ltb top (get_or bytes at 0)) ≡ false =
+    and_no (eqb at (most - 1)) (ltb top (get_or bytes at 0))
+    (λ e. le-ltb top (get_or bytes at 0) (omega (arith, zero_there))) in
+    sym (ap (read_to most top bytes) (last_place_is most bytes at ends lt)
+    ∙ rw (first, lt-ltb 0 at some, eq-eqb (get_or bytes at 0) 0 zero_there) refl)
 
 -- what is read is spelled so, of an answer
-pub varint_found : (bytes : List ℕ) (r : Result (ℤ × ℕ) VarintFault) → IsBytes bytes → r ≡ read_varint bytes → IfOk r (λ x. (x.1 ≤ length bytes) × IsVarint (take x.1 bytes) x.0)
+pub varint_found : (bytes : List ℕ) (r : Result (ℤ × ℕ) VarintFault) → IsBytes bytes → r ≡ read_varint bytes →
+    IfOk r (λ x. (x.1 ≤ length bytes) × IsVarint (take x.1 bytes) x.0)
 varint_found bytes (Ok x) fits e = let t = read_varint-taken bytes x.0 x.1 fits (sym e) in (t.within, t.form)
 varint_found bytes (Err f) fits e = tt
 
-pub varlong_found : (bytes : List ℕ) (r : Result (ℤ × ℕ) VarintFault) → IsBytes bytes → r ≡ read_varlong bytes → IfOk r (λ x. (x.1 ≤ length bytes) × IsVarlong (take x.1 bytes) x.0)
+pub varlong_found : (bytes : List ℕ) (r : Result (ℤ × ℕ) VarintFault) → IsBytes bytes → r ≡ read_varlong bytes →
+    IfOk r (λ x. (x.1 ≤ length bytes) × IsVarlong (take x.1 bytes) x.0)
 varlong_found bytes (Ok x) fits e = let t = read_varlong-taken bytes x.0 x.1 fits (sym e) in (t.within, t.form)
 varlong_found bytes (Err f) fits e = tt
 

@@ -1,10 +1,12 @@
 -- Reading a record batch (Apache Kafka documentation, "Message Format": "Record Batch"): the batch at the front of the
 -- bytes, and how many of them it takes, or the first refusal. Numbers are big-endian.
-use Rattle.std.specs.Prelude.{◌≡◌, ℕ, zero, suc, ◌+◌, ◌^◌, ℤ, pos, negsuc, int_lt, int_le, List, [], ◌∷◌, length, take, drop, slice_index, Option, Some, None, Result, Ok, Err, Bool, nat_lt, ◌==◌, ◌&&◌, ◌||◌, not, if◌then◌else◌}
-use Rattle.std.specs.{List.list_all, Int.Width, Int.w16, Int.w32, Int.w64, Int.from_be_bytes, Int.cast_signed, Ordering.int_eq}
-use Rattle.wire_spec.specs.declared.limits.TheConstants.{TIMESTAMP_END}
-use Rattle.wire_spec.specs.declared.fault.BatchFault.{BatchFault}
-use Rattle.wire_spec.specs.declared.record.{Record.Record, Batch.Batch}
+use Rattle.std.specs.Prelude.{◌≡◌, ℕ, zero, suc, ◌+◌, ◌^◌, ℤ, pos, negsuc, int_lt, int_le, List, [], ◌∷◌, length, take}
+use Rattle.std.specs.Prelude.{drop, slice_index, Option, Some, None, Result, Ok, Err, Bool, nat_lt, ◌==◌, ◌&&◌, ◌||◌}
+use Rattle.std.specs.Prelude.{not, if◌then◌else◌}
+use Rattle.std.specs.{List.list_all, Int.Width, Int.w16, Int.w32, Int.w64, Int.from_be_bytes, Int.cast_signed}
+use Rattle.std.specs.{Ordering.int_eq}
+use Rattle.wire_spec.specs.declared.{limits.TheConstants.TIMESTAMP_END, fault.BatchFault.BatchFault}
+use Rattle.wire_spec.specs.declared.{record.Record.Record, record.Batch.Batch}
 use Rattle.wire_spec.specs.Checksum.{checksum}
 use Rattle.wire_spec.specs.RecordReading.{record_at}
 use Rattle.wire_spec.specs.BatchSpelling.{max_batch, max_records, timestamps, greatest}
@@ -87,7 +89,8 @@ batch_size bytes = with_front (batch_length bytes)
 -- 10,000)
 abbrev pub is_miscounted : List ℕ → Bool
 is_miscounted bytes =
-    record_count bytes == 0 || (nat_lt max_records (record_count bytes) || not (last_offset_delta bytes + 1 == record_count bytes))
+    record_count bytes == 0 || (nat_lt max_records (record_count bytes) || not
+    (last_offset_delta bytes + 1 == record_count bytes))
 
 -- a whole number of milliseconds from 0 to 2^62 - 1
 abbrev pub is_timestamp : ℤ → Bool

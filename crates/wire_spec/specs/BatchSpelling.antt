@@ -1,9 +1,10 @@
 -- The one spelling of a record batch (Apache Kafka documentation, "Message Format": "Record Batch",
 -- magic 2, without compression, transactions or control records).
-use Rattle.std.specs.Prelude.{ℕ, suc, ◌+◌, ◌-◌, ◌^◌, ◌<◌, ◌≤◌, ℤ, pos, ◌+ℤ◌, ◌≤ℤ◌, ◌<ℤ◌, List, [], ◌∷◌, ◌++◌, length, map, fold, FitsSigned}
-use Rattle.std.specs.{List.AllByRecursion, Int.Width, Int.w16, Int.w32, Int.w64, Int.to_be_bytes, Int.cast_unsigned, Int.int_max}
-use Rattle.wire_spec.specs.declared.limits.TheConstants.{TIMESTAMP_END}
-use Rattle.wire_spec.specs.declared.record.{Record.Record, Batch.Batch}
+use Rattle.std.specs.Prelude.{ℕ, suc, ◌+◌, ◌-◌, ◌^◌, ◌<◌, ◌≤◌, ℤ, pos, ◌+ℤ◌, ◌≤ℤ◌, ◌<ℤ◌, List, [], ◌∷◌, ◌++◌, length}
+use Rattle.std.specs.Prelude.{map, fold, FitsSigned}
+use Rattle.std.specs.{List.AllByRecursion, Int.Width, Int.w16, Int.w32, Int.w64, Int.to_be_bytes, Int.cast_unsigned}
+use Rattle.std.specs.{Int.int_max}
+use Rattle.wire_spec.specs.declared.{limits.TheConstants.TIMESTAMP_END, record.Record.Record, record.Batch.Batch}
 use Rattle.wire_spec.specs.Checksum.{checksum}
 use Rattle.wire_spec.specs.RecordSpelling.{RecordFits, record_spelling}
 
@@ -43,8 +44,8 @@ records_spelling delta (r ∷ rs) = record_spelling (pos delta) r ++ records_spe
 -- what the checksum covers: attributes, lastOffsetDelta, baseTimestamp, maxTimestamp, producerId, producerEpoch,
 -- baseSequence, the number of records, and the records. (A batch that fits has a record, so lastOffsetDelta is at least
 -- 0.)
-abbrev pub covered : Batch → List ℕ
-covered b =
+abbrev pub checksummed_bytes : Batch → List ℕ
+checksummed_bytes b =
     to_be_bytes w16 0 ++ (to_be_bytes w32 (length b.records - 1)
     ++ (signed w64 b.base_timestamp ++ (signed w64 (greatest (timestamps b.base_timestamp b.records))
     ++ (signed w64 b.producer_id ++ (signed w16 b.producer_epoch ++ (signed w32 b.base_sequence
@@ -52,13 +53,14 @@ covered b =
 
 -- those bytes and what is before them: baseOffset, batchLength (how many bytes follow it), partitionLeaderEpoch, magic
 -- and crc
-abbrev pub enclosed : Batch → List ℕ → List ℕ
-enclosed b rest =
-    signed w64 b.base_offset ++ (to_be_bytes w32 (9 + length rest) ++ (signed w32 b.leader_epoch ++ (2 ∷ (to_be_bytes w32 (checksum rest) ++ rest))))
+abbrev pub bytes_from_epoch : Batch → List ℕ → List ℕ
+bytes_from_epoch b rest =
+    signed w64 b.base_offset ++ (to_be_bytes w32 (9 + length rest)
+    ++ (signed w32 b.leader_epoch ++ (2 ∷ (to_be_bytes w32 (checksum rest) ++ rest))))
 
 -- the bytes of a batch
 unfoldable pub batch_spelling : Batch → List ℕ
-batch_spelling b = enclosed b (covered b)
+batch_spelling b = bytes_from_epoch b (checksummed_bytes b)
 
 -- A batch that has a spelling: its fields are in their widths, it has 1 to 10,000 records, each of which has a
 -- spelling, its timestamps are in range, and it has at most 1 MiB.

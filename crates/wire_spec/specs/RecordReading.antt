@@ -1,11 +1,12 @@
 -- Reading a record from left to right (Apache Kafka documentation, "Message Format": "Record"). What can't be read
 -- gives `None`; else a value comes with the bytes after it.
-use Rattle.std.specs.Prelude.{ℕ, zero, suc, ◌-◌, ℤ, pos, negsuc, List, [], ◌∷◌, length, take, drop, Option, Some, None, Result, Ok, Err, nat_lt, ◌||◌, if◌then◌else◌}
+use Rattle.std.specs.Prelude.{ℕ, zero, suc, ◌-◌, ℤ, pos, negsuc, List, [], ◌∷◌, length, take, drop, Option, Some, None}
+use Rattle.std.specs.Prelude.{Result, Ok, Err, nat_lt, ◌||◌, if◌then◌else◌}
 use Rattle.std.specs.{Ordering.int_eq, Str.is_utf8}
-use Rattle.wire_spec.specs.declared.fault.VarintFault.{VarintFault}
-use Rattle.wire_spec.specs.declared.record.{Header.Header, Record.Record}
+use Rattle.wire_spec.specs.declared.{fault.VarintFault.VarintFault, record.Header.Header, record.Record.Record}
 use Rattle.wire_spec.specs.Varint.{read_varint, read_varlong}
-use Rattle.wire_spec.specs.declared.limits.TheConstants.{MAX_KEY, MAX_VALUE, MAX_HEADERS, MAX_HEADER_KEY, MAX_HEADER_VALUE}
+use Rattle.wire_spec.specs.declared.limits.TheConstants.{MAX_KEY, MAX_VALUE, MAX_HEADERS, MAX_HEADER_KEY}
+use Rattle.wire_spec.specs.declared.limits.TheConstants.{MAX_HEADER_VALUE}
 
 -- a reading, and the next one with its result; where one gives none, there is none of both
 infixl 10 ◌>>=◌
@@ -28,7 +29,8 @@ varlong_at bytes = with_rest bytes (read_varlong bytes)
 
 -- this number of bytes, if there are as many and they are no more than the limit; a negative number is refused
 abbrev pub bytes_at : ℕ → ℤ → List ℕ → Option (List ℕ × List ℕ)
-bytes_at limit (pos n) bytes = if nat_lt limit n || nat_lt (length bytes) n then None else Some (take n bytes, drop n bytes)
+bytes_at limit (pos n) bytes =
+    if nat_lt limit n || nat_lt (length bytes) n then None else Some (take n bytes, drop n bytes)
 bytes_at limit (negsuc n) bytes = None
 
 -- the same, or null for the length -1

@@ -1,8 +1,10 @@
 -- The one spelling of a record (Apache Kafka documentation, "Message Format": "Record" and "Record Header").
-use Rattle.std.specs.Prelude.{ℕ, ◌≤◌, ℤ, pos, negsuc, List, ◌∷◌, ◌++◌, length, Option, Some, None, IfSome, FitsSigned, IsUtf8}
+use Rattle.std.specs.Prelude.{ℕ, ◌≤◌, ℤ, pos, negsuc, List, ◌∷◌, ◌++◌, length, Option, Some, None, IfSome, FitsSigned}
+use Rattle.std.specs.Prelude.{IsUtf8}
 use Rattle.std.specs.{List.flat_map, List.AllByRecursion, Int.w64}
-use Rattle.wire_spec.specs.declared.limits.TheConstants.{MAX_KEY, MAX_VALUE, MAX_HEADERS, MAX_HEADER_KEY, MAX_HEADER_VALUE}
-use Rattle.wire_spec.specs.declared.record.{Header.Header, Record.Record}
+use Rattle.wire_spec.specs.declared.limits.TheConstants.{MAX_KEY, MAX_VALUE, MAX_HEADERS, MAX_HEADER_KEY}
+use Rattle.wire_spec.specs.declared.limits.TheConstants.{MAX_HEADER_VALUE}
+use Rattle.wire_spec.specs.declared.{record.Header.Header, record.Record.Record}
 use Rattle.wire_spec.specs.Varint.{varint, varlong}
 
 -- a header that has a spelling: its key is UTF-8 of at most 255 bytes, its value null or of at most 4,096
@@ -38,7 +40,9 @@ header h = string h.key ++ nullable h.value
 -- number
 abbrev pub record_body : ℤ → Record → List ℕ
 record_body delta r =
-    0 ∷ (varlong r.timestamp_delta ++ (varint delta ++ (nullable r.key ++ (nullable r.value ++ (varint (pos (length r.headers)) ++ flat_map header r.headers)))))
+    0 ∷ (varlong r.timestamp_delta
+    ++ (varint delta ++ (nullable r.key
+    ++ (nullable r.value ++ (varint (pos (length r.headers)) ++ flat_map header r.headers)))))
 
 -- a record with this offset delta
 abbrev pub record_spelling : ℤ → Record → List ℕ

@@ -1,6 +1,8 @@
 -- Varints and varlongs, as a Kafka record has them: a signed number as its zigzag number, in groups of
 -- seven bits, the lowest group first (Protocol Buffers, "Encoding": "Base 128 Varints" and "ZigZag").
-use Rattle.std.specs.Prelude.{◌≡◌, ℕ, zero, suc, ◌+◌, ◌-◌, ◌*◌, ◌/◌, ◌%◌, ◌<◌, ◌≤◌, ℤ, pos, negsuc, List, [], ◌∷◌, length, take, position, slice_index, Option, Some, None, Result, Ok, Err, nat_lt, ◌==◌, ◌&&◌, if◌then◌else◌, FitsSigned}
+use Rattle.std.specs.Prelude.{◌≡◌, ℕ, zero, suc, ◌+◌, ◌-◌, ◌*◌, ◌/◌, ◌%◌, ◌<◌, ◌≤◌, ℤ, pos, negsuc, List, [], ◌∷◌}
+use Rattle.std.specs.Prelude.{length, take, position, slice_index, Option, Some, None, Result, Ok, Err, nat_lt, ◌==◌}
+use Rattle.std.specs.Prelude.{◌&&◌, if◌then◌else◌, FitsSigned}
 use Rattle.std.specs.Int.{w32, w64}
 use Rattle.wire_spec.specs.declared.fault.VarintFault.{VarintFault}
 use Rattle.wire_spec.specs.declared.fault.VarintFault.TheVariants.{Short, Long, NotShortest}
@@ -21,7 +23,8 @@ unzigzag n = if n % 2 == 0 then pos (n / 2) else negsuc (n / 2)
 abbrev pub IsBase128 : List ℕ → ℕ → Type 0
 IsBase128 [] n = ⊥
 IsBase128 (b ∷ []) n = (b < 128) × (n ≡ b)
-IsBase128 (b ∷ c ∷ bs) n = (128 ≤ b) × (b < 256) × (high : ℕ) × (0 < high) × (n + 128 ≡ b + 128 * high) × IsBase128 (c ∷ bs) high
+IsBase128 (b ∷ c ∷ bs) n = (128 ≤ b) × (b < 256) × (high : ℕ) × (0 < high) × (n + 128 ≡ b + 128 * high)
+    × IsBase128 (c ∷ bs) high
 
 -- the bytes are the varint of a signed number of 32 bits
 pub record IsVarint (bytes : List ℕ) (z : ℤ) : Type 0 where

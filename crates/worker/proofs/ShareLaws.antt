@@ -1,5 +1,6 @@
 -- The rows of an item, taken for one output after the other.
-use Rattle.std.proofs.Common.{◌≡◌, ℕ, zero, suc, ◌+◌, ◌<◌, ◌≤◌, List, [], ◌∷◌, ◌++◌, length, All, Some, slice_get, slice_set, refl, sym, ap, subst, ◌∙◌, arith}
+use Rattle.std.proofs.Common.{◌≡◌, ℕ, zero, suc, ◌+◌, ◌<◌, ◌≤◌, List, [], ◌∷◌, ◌++◌, length, All, Some, slice_get}
+use Rattle.std.proofs.Common.{slice_set, refl, sym, ap, subst, ◌∙◌, arith}
 use Rattle.std.proofs.lemmas.Option.{same_Some, get_or_from_slice_get}
 use Rattle.std.proofs.lemmas.List.{length-append, get_or-set_other}
 use Rattle.log_spec.specs.declared.row.Row.{Row}
@@ -14,7 +15,8 @@ pub record AreTaken (walk : Log) (all left : List (List Row)) (n : ℕ) (shares 
   pub count : length shares ≡ n
   pub kept : length left ≡ length all
   pub left_are : (output : ℕ) → n ≤ output → rows_in left output ≡ rows_in all output
-  pub each : (output : ℕ) (share : OutputShare) → slice_get shares output ≡ Some share → share ≡ output_share walk output (rows_in all output)
+  pub each : (output : ℕ) (share : OutputShare) → slice_get shares output ≡ Some share →
+      share ≡ output_share walk output (rows_in all output)
 
 pub none_taken : (walk : Log) (all : List (List Row)) → AreTaken walk all all 0 []
 none_taken walk all = record {
@@ -25,21 +27,25 @@ none_taken walk all = record {
 }
 
 -- the last element of a list, or one before it
-pushed : {A : Type 0} (P : ℕ → A → Type 0) (xs : List A) (n : ℕ) (x : A) → ((k : ℕ) (y : A) → slice_get xs k ≡ Some y → P (n + k) y) → P (n + length xs) x
-    → (k : ℕ) (y : A) → slice_get (xs ++ x ∷ []) k ≡ Some y → P (n + k) y
+pushed : {A : Type 0} (P : ℕ → A → Type 0) (xs : List A) (n : ℕ) (x : A) →
+    ((k : ℕ) (y : A) → slice_get xs k ≡ Some y → P (n + k) y) → P (n + length xs) x → (k : ℕ) (y : A) →
+    slice_get (xs ++ x ∷ []) k ≡ Some y → P (n + k) y
 pushed P [] n x all at zero y e = subst (P (n + 0)) (same_Some x y e) at
 pushed P [] n x all at (suc k) y e = absurd cc
 pushed P (z ∷ xs) n x all at zero y e = all zero y e
 pushed P (z ∷ xs) n x all at (suc k) y e =
     let move : (j : ℕ) → n + suc j ≡ (n + 1) + j = λ j. omega arith in
-    subst (λ m. P m y) (sym (move k)) (pushed P xs (n + 1) x (λ j w h. subst (λ m. P m w) (move j) (all (suc j) w h)) (subst (λ m. P m x) (move (length xs)) at) k y e)
+    subst (λ m. P m y) (sym (move k)) (pushed P xs (n + 1) x (λ j w h. subst (λ m. P m w) (move j) (all (suc j) w h))
+    (subst (λ m. P m x) (move (length xs)) at) k y e)
 
-pub one_more : (walk : Log) (all left after : List (List Row)) (n : ℕ) (shares : List OutputShare) (rows : List Row) (share : OutputShare)
-    → AreTaken walk all left n shares → slice_get left n ≡ Some rows → after ≡ slice_set left n [] → length after ≡ length left → share ≡ output_share walk n rows
-    → AreTaken walk all after (n + 1) (shares ++ share ∷ [])
+pub one_more : (walk : Log) (all left after : List (List Row)) (n : ℕ) (shares : List OutputShare) (rows : List Row)
+    (share : OutputShare) → AreTaken walk all left n shares → slice_get left n ≡ Some rows →
+    after ≡ slice_set left n [] → length after ≡ length left → share ≡ output_share walk n rows →
+    AreTaken walk all after (n + 1) (shares ++ share ∷ [])
 one_more walk all left after n shares rows share taken at set long is =
     let here : rows ≡ rows_in all n = sym (get_or_from_slice_get left n rows [] at) ∙ taken.left_are n (omega arith) in
-    let whole : share ≡ output_share walk n (rows_in all n) = is ∙ ap (λ (rs : List Row). output_share walk n rs) here in
+    let whole : share ≡ output_share walk n (rows_in all n) = is
+    ∙ ap (λ (rs : List Row). output_share walk n rs) here in
     let end : 0 + length shares ≡ n = omega (arith, taken.count) in
     let start : (k : ℕ) → 0 + k ≡ k = λ k. omega arith in
     record {
@@ -51,23 +57,27 @@ one_more walk all left after n shares rows share taken at set long is =
       each = λ output s e.
           subst (λ k. s ≡ output_share walk k (rows_in all k)) (start output)
           (pushed (λ k t. t ≡ output_share walk k (rows_in all k)) shares 0 share
-          (λ k t h. subst (λ m. t ≡ output_share walk m (rows_in all m)) (sym (start k)) (taken.each k t h)) (subst (λ k. share ≡ output_share walk k (rows_in all k)) (sym end) whole) output s e);
+          (λ k t h. subst (λ m. t ≡ output_share walk m (rows_in all m)) (sym (start k)) (taken.each k t h))
+          (subst (λ k. share ≡ output_share walk k (rows_in all k)) (sym end) whole) output s e);
     }
 
-pub all_taken : (walk : Log) (all left : List (List Row)) (n : ℕ) (shares : List OutputShare) → AreTaken walk all left n shares → n ≡ length all → AreInTurn walk all shares
+pub all_taken : (walk : Log) (all left : List (List Row)) (n : ℕ) (shares : List OutputShare) →
+    AreTaken walk all left n shares → n ≡ length all → AreInTurn walk all shares
 all_taken walk all left n shares taken whole = record {
   count = taken.count ∙ whole;
   each = taken.each;
 }
 
 -- the rows of one output are those of the last item
-pub is_of_last : (outputs : ℕ) (walk : Log) (all left : List (List Row)) (n : ℕ) (shares : List OutputShare) (rows : List Row)
-    → AreRowsOfLast outputs walk all → AreTaken walk all left n shares → slice_get left n ≡ Some rows → n < length all → IsOfLast outputs (output_share walk n rows)
+pub is_of_last : (outputs : ℕ) (walk : Log) (all left : List (List Row)) (n : ℕ) (shares : List OutputShare)
+    (rows : List Row) → AreRowsOfLast outputs walk all → AreTaken walk all left n shares →
+    slice_get left n ≡ Some rows → n < length all → IsOfLast outputs (output_share walk n rows)
 is_of_last outputs walk all left n shares rows are taken at within =
     let lt : n < outputs = omega (arith, are.count) in
     let here : rows ≡ rows_in all n = sym (get_or_from_slice_get left n rows [] at) ∙ taken.left_are n (omega arith) in
     record {
       output = lt;
-      rows_are = subst (λ (rs : List Row). IsRowsAt walk.partition n outputs walk.items (last walk.items) rs) (sym here) (are.each n lt);
+      rows_are = subst (λ (rs : List Row). IsRowsAt walk.partition n outputs walk.items (last walk.items) rs) (sym here)
+          (are.each n lt);
       fit = subst (λ (rs : List Row). All RowFits rs) (sym here) (are.fit n lt);
     }

@@ -12,8 +12,8 @@ pub record Processed : Type 0 where
   pub rows : List (List Row)
 
 -- an item that was processed, of these parts
-abbrev pub processed : Log → List (List Row) → Processed
-processed walk rows = record { walk = walk; rows = rows }
+abbrev pub processed_log : Log → List (List Row) → Processed
+processed_log walk rows = record { walk = walk; rows = rows }
 
 -- the items up to the one that was processed, and its rows for one output
 pub record OutputShare : Type 0 where
@@ -34,4 +34,5 @@ pub record IsOfLast (outputs : ℕ) (share : OutputShare) : Type 0 where
 -- one share for each output in turn, with its rows
 pub record AreInTurn (walk : Log) (all : List (List Row)) (shares : List OutputShare) : Type 0 where
   pub count : length shares ≡ length all
-  pub each : (output : ℕ) (share : OutputShare) → slice_get shares output ≡ Some share → share ≡ output_share walk output (rows_in all output)
+  pub each : (output : ℕ) (share : OutputShare) → slice_get shares output ≡ Some share →
+      share ≡ output_share walk output (rows_in all output)

@@ -2,7 +2,7 @@ ghost use Rattle.std.specs.Prelude.{◌≡◌, ◌<◌, ◌≤◌, All, IfOk, le
 ghost use Rattle.item_rows.specs.ItemRows.{rows_in};
 ghost use Rattle.log_spec.specs.Logs.{IsRowsAt, RowFits};
 ghost use Rattle.worker.specs.Walks.{last, AreRowsOfLast};
-ghost use Rattle.worker.specs.Processed.{processed, AreInTurn};
+ghost use Rattle.worker.specs.Processed.{processed_log, AreInTurn};
 
 use crate::delivery::Delivery;
 use item_rows::ItemRows;
@@ -21,11 +21,11 @@ pub struct Results<Id: Names> {
 
 impl<Id: Names> Model for Results<Id> {
     ghost use Rattle.worker.specs.Walks.{AreRowsOfLast};
-    ghost use Rattle.worker.specs.Processed.{Processed, processed};
+    ghost use Rattle.worker.specs.Processed.{Processed, processed_log};
 
     ghost Value = { Processed };
 
-    ghost view = { λ r. processed r.trail r.rows };
+    ghost view = { λ r. processed_log r.trail r.rows };
 
     ghost invariant = { λ r. AreRowsOfLast Id.outputs r.trail r.rows };
 }
@@ -34,7 +34,7 @@ impl<Id: Names> Results<Id> {
     /// The rows of the last item of a trail.
     pub(crate) fn new(trail: Trail<Id>, rows: ItemRows) -> Results<Id>
         requires { AreRowsOfLast Id.outputs trail rows }
-        ensures { result ≡ processed trail rows }
+        ensures { result ≡ processed_log trail rows }
     {
         Results { trail, rows }
     }

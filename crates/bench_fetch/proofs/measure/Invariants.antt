@@ -3,4 +3,8 @@ use Rattle.bench_fetch.proofs.measure.Given as goal
 
 -- the names of the cells that were just made
 abbrev pub ghosts-compare : goal.ghosts-compare
-ghosts-compare g a = record { cells = λ input. get_or a.parts.cells input []; inputs = length a.parts.cells; outputs = a.parts.outputs }
+ghosts-compare g a = record {
+  cells = λ input. get_or a.parts.cells input [];
+  inputs = length a.parts.cells;
+  outputs = a.parts.outputs;
+}

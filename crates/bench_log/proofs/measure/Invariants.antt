@@ -3,4 +3,8 @@ use Rattle.bench_log.proofs.measure.Given as goal
 
 -- the names of the cells that were just made
 abbrev pub ghosts-turn : goal.ghosts-turn
-ghosts-turn g a = record { cells = λ input. get_or a.parts.cells input []; inputs = length a.parts.cells; outputs = a.parts.outputs }
+ghosts-turn g a = record {
+  cells = λ input. get_or a.parts.cells input [];
+  inputs = length a.parts.cells;
+  outputs = a.parts.outputs;
+}

@@ -6,5 +6,6 @@ use Rattle.crc32c.proofs.after_byte.Goals as goal
 
 pub returns : goal.returns
 returns c =
-    ap (bit_xor (c.args.r / 256)) (c.entry.ensures ∙ ap (λ b. remainder 8 (bit_and (bit_xor c.args.r b) 255)) c.from.ensures)
+    ap (bit_xor (c.args.r / 256)) (c.entry.ensures
+    ∙ ap (λ b. remainder 8 (bit_and (bit_xor c.args.r b) 255)) c.from.ensures)
     ∙ from_entry c.args.r c.args.byte (omega arith)

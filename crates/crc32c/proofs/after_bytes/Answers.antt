@@ -1,11 +1,11 @@
 use Rattle.std.proofs.Common.{refl, sym, ◌∙◌, ap, bit_xor, get_or}
-use Rattle.crc32c.specs.Register.{after}
+use Rattle.crc32c.specs.Register.{register_after}
 use Rattle.wire_spec.specs.Checksum.{remainder}
 use Rattle.crc32c.proofs.Steps.{after-take_more}
 use Rattle.crc32c.proofs.after_bytes.Goals as goal
 
 pub loop-byte-init : goal.loop-byte-init
-unfolding after
+unfolding register_after
 loop-byte-init c = refl
 
 pub loop-byte-preserved : goal.loop-byte-preserved

@@ -1,6 +1,6 @@
 use Rattle.std.proofs.Common.{◌≡◌, ap, arith, ◌∙◌, bit_xor, length, ◌/◌}
 use Rattle.std.specs.List.{concat}
-use Rattle.crc32c.specs.Register.{after}
+use Rattle.crc32c.specs.Register.{register_after}
 use Rattle.crc32c.proofs.Folding.{after_window-none}
 use Rattle.crc32c.proofs.Steps.{checksum_is, each_below}
 use Rattle.crc32c.proofs.Blocks.{after-blocks, blocks-are}
@@ -12,14 +12,16 @@ returns c =
     let bytes = c.args.bytes.now in
     let blocks = c.as_chunks.result.0.now in
     let rest = c.as_chunks.result.1.now in
-    let are = blocks-are (length bytes / 16) bytes blocks c.as_chunks.ensures.front (omega arith) (each_below bytes (λ i. omega (arith, c.type_inv.bytes i))) in
-    let r-is : c.if-blocks-lt-MANY.r ≡ after 0xFFFF_FFFF (concat blocks) =
+    let are = blocks-are (length bytes / 16) bytes blocks c.as_chunks.ensures.front (omega arith)
+    (each_below bytes (λ i. omega (arith, c.type_inv.bytes i))) in
+    let r-is : c.if-blocks-lt-MANY.r ≡ register_after 0xFFFF_FFFF (concat blocks) =
     elim c.if-blocks-lt-MANY.branch [
       | then-blocks-lt-MANY w ↦ w.r-is ∙ w.after_blocks-r.ensures
       | else-blocks-lt-MANY w ↦ w.r-is ∙ w.after_many-r.ensures ∙ after_window-none 0xFFFF_FFFF blocks are.0 are.1
     ] in
     ap (λ r. bit_xor r 0xFFFF_FFFF)
     (c.after_bytes.ensures
-    ∙ ap (λ r. after r rest) r-is
-    ∙ after-blocks 0xFFFF_FFFF 16 (length bytes / 16) bytes rest blocks c.as_chunks.ensures.front c.as_chunks.ensures.back)
+    ∙ ap (λ r. register_after r rest) r-is
+    ∙ after-blocks 0xFFFF_FFFF 16 (length bytes / 16) bytes rest blocks c.as_chunks.ensures.front
+    c.as_chunks.ensures.back)
     ∙ checksum_is bytes (λ i. omega (arith, c.type_inv.bytes i))

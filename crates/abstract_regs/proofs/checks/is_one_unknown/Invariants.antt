@@ -8,4 +8,5 @@ use Rattle.abstract_regs.proofs.checks.is_one_unknown.Given as goal
 abbrev pub invariant-loop-argument : goal.invariant-loop-argument
 invariant-loop-argument l =
     list_any (λ (a : Argument). list_any (λ r. is_unknown (kind_at l.state r)) (argument_registers a)) l.arguments
-    ≡ list_any (λ (a : Argument). list_any (λ r. is_unknown (kind_at l.state r)) (argument_registers a)) (drop l.argument-index l.arguments)
+    ≡ list_any (λ (a : Argument). list_any (λ r. is_unknown (kind_at l.state r)) (argument_registers a))
+    (drop l.argument-index l.arguments)

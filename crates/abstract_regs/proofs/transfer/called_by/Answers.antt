@@ -4,8 +4,8 @@ use Rattle.std.proofs.lemmas.Int.{to_z-of_z}
 use Rattle.abstract_regs.proofs.Passes.{arguments_right}
 use Rattle.abstract_regs.proofs.transfer.called_by.Goals as goal
 
-pub called-requires-clause-right : goal.called-requires-clause-right
-called-requires-clause-right c =
+pub state_after_call-requires-clause-right : goal.state_after_call-requires-clause-right
+state_after_call-requires-clause-right c =
     let fits : FitsSigned w32 c.args.number = search rules in
     let is = rw (to_z-of_z w32 c.args.number fits) at c.in-Some.ensures in
     arguments_right c.args.state.now c.args.number c.in-Some.helper c.requires.passes (sym is)

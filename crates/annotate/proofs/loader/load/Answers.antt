@@ -15,14 +15,16 @@ returns-in-Err-clause-answer c = isa_refused c.args.image.now c.in-Err.fault c.i
 pub returns-in-Err-check-clause-answer : goal.returns-in-Err-check-clause-answer
 returns-in-Err-check-clause-answer c = λ ne.
     let joined = c.in-Ok-joined_states.ensures in
-    claimed_refused c.args.image.now c.in-Ok.code c.in-Ok.ensures.is_code c.in-Ok-joined_states.states.items c.in-Err-check.fault c.in-Ok.ensures.exact
+    claimed_refused c.args.image.now c.in-Ok.code c.in-Ok.ensures.is_code c.in-Ok-joined_states.states.items
+    c.in-Err-check.fault c.in-Ok.ensures.exact
     joined.states joined.proper (c.in-Err-check.ensures.reported ne)
 
 pub returns-in-Err-check-clause-other : goal.returns-in-Err-check-clause-other
 returns-in-Err-check-clause-other c = λ is.
     let other : check.Notes ≢ check.Memory = λ e. cc in
     let fault = c.in-Err-check.ensures.reported (λ memory. other (sym is ∙ memory)) in
-    no_claims_fault c.args.image.now c.in-Ok.code c.in-Ok.ensures.is_code c.in-Ok-joined_states.states.items c.in-Err-check.fault c.in-Ok-joined_states.ensures.states fault is
+    no_claims_fault c.args.image.now c.in-Ok.code c.in-Ok.ensures.is_code c.in-Ok-joined_states.states.items
+    c.in-Err-check.fault c.in-Ok-joined_states.ensures.states fault is
 
 pub returns-in-Ok-check-clause-answer : goal.returns-in-Ok-check-clause-answer
 returns-in-Ok-check-clause-answer c =

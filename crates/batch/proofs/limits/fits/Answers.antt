@@ -17,9 +17,11 @@ returns c =
     let f4 : FitsSigned w16 b.producer_epoch = search rules in
     let f5 : FitsSigned w32 b.base_sequence = search rules in
     let f6 : FitsSigned w64 c.base_of-base.result = search rules in
-    let base : to_z w64 (of_z w64 c.base_of-base.result) ≡ b.base_timestamp = to_z-of_z w64 c.base_of-base.result f6 ∙ c.base_of-base.ensures in
+    let base : to_z w64 (of_z w64 c.base_of-base.result) ≡ b.base_timestamp = to_z-of_z w64 c.base_of-base.result f6
+    ∙ c.base_of-base.ensures in
     let some : 0 < length rs = search rules in
     let few : length rs ≤ 10000 = omega arith in
     let times = c.if-not-in_time.ensures.0 refl in
     let times' = subst (λ (t : ℤ). IsTimestamp t × AllByRecursion IsTimestamp (timestamps t rs)) base times in
-    fits_iff b rs c.records_len.result same f1 f2 f3 f4 f5 some few (c.if-not-records_fit.ensures.0 refl) times' c.records_len.ensures.size
+    fits_iff b rs c.records_len.result same f1 f2 f3 f4 f5 some few (c.if-not-records_fit.ensures.0 refl) times'
+    c.records_len.ensures.size

@@ -10,7 +10,8 @@ pub returns-in-Some : goal.returns-in-Some
 returns-in-Some c =
     let base = to_z-of_z w64 c.args.base c.ranges.base in
     let test : true ≡ timestamp_test c.args.base = c.if-not-is_timestamp.ensures ∙ ap timestamp_test base in
-    let found : Some c.in-Some.field-0 ≡ latest_of c.args.base c.args.records.now = c.in-Some.ensures ∙ ap (λ (b : ℤ). latest_of b c.args.records.now) base in
+    let found : Some c.in-Some.field-0 ≡ latest_of c.args.base c.args.records.now = c.in-Some.ensures
+    ∙ ap (λ (b : ℤ). latest_of b c.args.records.now) base in
     (λ t. all_in_time c.args.base c.args.records.now c.in-Some.field-0 test found, λ h. refl)
 
 no : IsTrue false → ⊥
@@ -19,5 +20,6 @@ no t = absurd cc
 pub returns-in-None : goal.returns-in-None
 returns-in-None c =
     let base = to_z-of_z w64 c.args.base c.ranges.base in
-    let found : None ≡ latest_of c.args.base c.args.records.now = c.in-None.ensures ∙ ap (λ (b : ℤ). latest_of b c.args.records.now) base in
+    let found : None ≡ latest_of c.args.base c.args.records.now = c.in-None.ensures
+    ∙ ap (λ (b : ℤ). latest_of b c.args.records.now) base in
     (λ t. absurd (no t), λ h. absurd (not_in_time c.args.base c.args.records.now found h.1))

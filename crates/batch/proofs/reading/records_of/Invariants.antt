@@ -6,5 +6,6 @@ use Rattle.batch.proofs.reading.records_of.Given as goal
 abbrev pub invariant-loop-place : goal.invariant-loop-place
 invariant-loop-place l = record {
   within : l.at ≤ length l.bytes;
-  read : with_front l.list.items (records_at (l.count - l.place) l.place (drop l.at l.bytes)) ≡ records_at l.count 0 (drop 61 l.bytes);
+  read : with_front l.list.items (records_at (l.count - l.place) l.place (drop l.at l.bytes))
+      ≡ records_at l.count 0 (drop 61 l.bytes);
 }

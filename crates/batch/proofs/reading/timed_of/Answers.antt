@@ -8,7 +8,8 @@ use Rattle.batch.proofs.reading.timed_of.Goals as goal
 pub returns : goal.returns
 returns c =
     let same : c.deref.result.now ≡ c.args.records = search rules in
-    let timely : is_mistimed c.args.bytes.now c.args.records ≡ false = ap (is_mistimed c.args.bytes.now) (sym same) ∙ sym c.mistimed.ensures ∙ c.if-mistimed.false in
+    let timely : is_mistimed c.args.bytes.now c.args.records ≡ false = ap (is_mistimed c.args.bytes.now) (sym same)
+    ∙ sym c.mistimed.ensures ∙ c.if-mistimed.false in
     let a : FitsSigned w64 c.i64_at.result = search rules in
     let b : FitsSigned w32 c.i32_at.result = search rules in
     let d : FitsSigned w64 c.i64_at-2.result = search rules in

@@ -8,11 +8,15 @@ use Rattle.batch.proofs.writing.greatest_of.Goals as goal
 
 pub unwrap-requires : goal.unwrap-requires
 unwrap-requires c =
-    let e = c.latest.ensures ∙ ap (λ (b : ℤ). latest_of b c.args.records.now) (to_z-of_z w64 c.args.base c.ranges.base) ∙ latest_some c.args.base c.args.records.now c.requires in
+    let e = c.latest.ensures ∙ ap (λ (b : ℤ). latest_of b c.args.records.now) (to_z-of_z w64 c.args.base c.ranges.base)
+    ∙ latest_some c.args.base c.args.records.now c.requires in
     rw e refl
 
 pub returns : goal.returns
 returns c =
-    let e = c.latest.ensures ∙ ap (λ (b : ℤ). latest_of b c.args.records.now) (to_z-of_z w64 c.args.base c.ranges.base) ∙ latest_some c.args.base c.args.records.now c.requires in
+    let e = c.latest.ensures ∙ ap (λ (b : ℤ). latest_of b c.args.records.now) (to_z-of_z w64 c.args.base c.ranges.base)
+    ∙ latest_some c.args.base c.args.records.now c.requires in
     let fits : FitsSigned w64 c.unwrap.result = search rules in
-    to_z-of_z w64 c.unwrap.result fits ∙ some_same c.latest.result c.unwrap.result (greatest (timestamps c.args.base c.args.records.now)) c.unwrap.ensures e
+    to_z-of_z w64 c.unwrap.result fits
+    ∙ some_same c.latest.result c.unwrap.result (greatest (timestamps c.args.base c.args.records.now))
+    c.unwrap.ensures e

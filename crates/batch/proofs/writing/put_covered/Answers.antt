@@ -12,7 +12,10 @@ returns c =
     let g = c.greatest_of-greatest.result in
     let same : rs ≡ b.records = search rules in
     let base_fits : FitsSigned w64 c.base_of-base.result = search rules in
-    let base : to_z w64 (of_z w64 c.base_of-base.result) ≡ b.base_timestamp = to_z-of_z w64 c.base_of-base.result base_fits ∙ c.base_of-base.ensures in
+    let base : to_z w64 (of_z w64 c.base_of-base.result) ≡ b.base_timestamp =
+    to_z-of_z w64 c.base_of-base.result base_fits ∙ c.base_of-base.ensures in
     let top_fits : FitsSigned w64 g = search rules in
-    let top : to_z w64 (of_z w64 g) ≡ greatest (timestamps b.base_timestamp rs) = to_z-of_z w64 g top_fits ∙ c.greatest_of-greatest.ensures ∙ ap (λ (t : ℤ). greatest (timestamps t rs)) base in
-    covered_is b rs (to_z w64 (of_z w64 g)) (length rs) c.args.out.now.items c.put_header.new.out.items c.put_records.new.out.items same top refl c.in_ok-put_header.ensures c.in_ok-put_records.ensures
+    let top : to_z w64 (of_z w64 g) ≡ greatest (timestamps b.base_timestamp rs) = to_z-of_z w64 g top_fits
+    ∙ c.greatest_of-greatest.ensures ∙ ap (λ (t : ℤ). greatest (timestamps t rs)) base in
+    covered_is b rs (to_z w64 (of_z w64 g)) (length rs) c.args.out.now.items c.put_header.new.out.items
+    c.put_records.new.out.items same top refl c.in_ok-put_header.ensures c.in_ok-put_records.ensures

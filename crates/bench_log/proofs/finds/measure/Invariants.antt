@@ -3,4 +3,8 @@ use Rattle.bench_log.proofs.finds.measure.Given as goal
 
 -- the names of the cells that were just made
 abbrev pub ghosts-run : goal.ghosts-run
-ghosts-run g a = record { cells = λ input. get_or a.parts.cells input []; inputs = length a.parts.cells; outputs = a.parts.outputs }
+ghosts-run g a = record {
+  cells = λ input. get_or a.parts.cells input [];
+  inputs = length a.parts.cells;
+  outputs = a.parts.outputs;
+}

@@ -3,4 +3,8 @@ use Rattle.bench_worker.proofs.steps.least.Given as goal
 
 -- the names of the cells that were just made
 abbrev pub ghosts-after : goal.ghosts-after
-ghosts-after g a = record { cells = λ input. get_or a.parts.cells input []; inputs = length a.parts.cells; outputs = a.parts.outputs }
+ghosts-after g a = record {
+  cells = λ input. get_or a.parts.cells input [];
+  inputs = length a.parts.cells;
+  outputs = a.parts.outputs;
+}

@@ -13,14 +13,17 @@ loop-start-preserved c =
     let end = c.place_of-end.result in
     let within : start ≤ length text = omega arith in
     let rest : take (length text - start) (drop start text) ≡ drop start text = take_rest text start in
-    let place : end ≡ position_or_len is_line_feed (drop start text) = c.place_of-end.ensures.is ∙ ap (position_or_len is_line_feed) rest in
+    let place : end ≡ position_or_len is_line_feed (drop start text) = c.place_of-end.ensures.is
+    ∙ ap (position_or_len is_line_feed) rest in
     let line = take end (take (length text - start) (drop start text)) in
-    let size : length (take (length text - start) (drop start text)) ≡ length text - start = ap length rest ∙ length-drop start text in
+    let size : length (take (length text - start) (drop start text)) ≡ length text - start = ap length rest
+    ∙ length-drop start text in
     let end_within : end ≤ length (take (length text - start) (drop start text)) = c.place_of-end.ensures.is_within in
     record {
       within = omega (arith, size, end_within);
       counted = omega (arith, c.loop-start.invariant.counted);
-      read = read_more text line c.loop-start.image.items c.add_line.new.image.items c.loop-start.number start end within place (ap (take end) rest) c.in_ok-add_line.ensures.ok c.loop-start.invariant.read;
+      read = read_more text line c.loop-start.image.items c.add_line.new.image.items c.loop-start.number start end
+          within place (ap (take end) rest) c.in_ok-add_line.ensures.ok c.loop-start.invariant.read;
     }
 
 pub returns-in_err-add_line-clause-err : goal.returns-in_err-add_line-clause-err
@@ -30,7 +33,10 @@ returns-in_err-add_line-clause-err c =
     let end = c.place_of-end.result in
     let within : start ≤ length text = omega arith in
     let rest : take (length text - start) (drop start text) ≡ drop start text = take_rest text start in
-    let place : end ≡ position_or_len is_line_feed (drop start text) = c.place_of-end.ensures.is ∙ ap (position_or_len is_line_feed) rest in
+    let place : end ≡ position_or_len is_line_feed (drop start text) = c.place_of-end.ensures.is
+    ∙ ap (position_or_len is_line_feed) rest in
     let line = take end (take (length text - start) (drop start text)) in
     let p = err_from_is_err_and c.from_residual.result c.from_residual.ensures.1 in
-    rw (p.1, p.2) (λ other. read_refused text line c.loop-start.image.items c.loop-start.number start end c.in_err-add_line.field-0.0 within place (ap (take end) rest) (c.in_err-add_line.ensures.err other) c.loop-start.invariant.read)
+    rw (p.1, p.2) (λ other. read_refused text line c.loop-start.image.items c.loop-start.number start end
+    c.in_err-add_line.field-0.0 within place (ap (take end) rest) (c.in_err-add_line.ensures.err other)
+    c.loop-start.invariant.read)

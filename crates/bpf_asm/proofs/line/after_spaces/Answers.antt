@@ -13,10 +13,12 @@ loop-place-preserved c =
 pub returns-then-text-place-ne32 : goal.returns-then-text-place-ne32
 returns-then-text-place-ne32 c =
     let within : c.loop-place.place < length c.args.text.now = omega arith in
-    let end = spaces_end c.args.text.now c.loop-place.place within (ne_eqb (get_or c.args.text.now c.loop-place.place 0) 32 (λ e. omega (arith, e))) c.loop-place.invariant in
+    let end = spaces_end c.args.text.now c.loop-place.place within
+    (ne_eqb (get_or c.args.text.now c.loop-place.place 0) 32 (λ e. omega (arith, e))) c.loop-place.invariant in
     take_rest c.args.text.now c.loop-place.place ∙ sym end
 
 pub returns : goal.returns
 returns c =
-    let none : drop c.loop-place.place c.args.text.now ≡ [] = drop_all c.loop-place.place c.args.text.now (omega arith) in
+    let none : drop c.loop-place.place c.args.text.now ≡ [] =
+    drop_all c.loop-place.place c.args.text.now (omega arith) in
     sym (c.loop-place.invariant ∙ ap after_spaces none)

@@ -11,12 +11,15 @@ loop-end-init c = record { within = omega arith; so_far = ap before_spaces (take
 pub loop-end-preserved : goal.loop-end-preserved
 loop-end-preserved c = record {
   within = omega (arith, c.loop-end.invariant.within);
-  so_far = ends_in_space c.args.text.now c.loop-end.end (omega arith) c.loop-end.invariant.within (omega arith) c.loop-end.invariant.so_far;
+  so_far = ends_in_space c.args.text.now c.loop-end.end (omega arith) c.loop-end.invariant.within (omega arith)
+      c.loop-end.invariant.so_far;
 }
 
 pub returns-then-text-end-ne32 : goal.returns-then-text-end-ne32
 returns-then-text-end-ne32 c =
-    let end = ends_in_other c.args.text.now c.loop-end.end (omega arith) c.loop-end.invariant.within (ne_eqb (get_or c.args.text.now (c.loop-end.end - 1) 0) 32 (λ e. omega (arith, e))) c.loop-end.invariant.so_far in
+    let end = ends_in_other c.args.text.now c.loop-end.end (omega arith) c.loop-end.invariant.within
+    (ne_eqb (get_or c.args.text.now (c.loop-end.end - 1) 0) 32 (λ e. omega (arith, e)))
+    c.loop-end.invariant.so_far in
     end
 
 pub returns : goal.returns

@@ -8,6 +8,8 @@ pub returns-in_default-Some : goal.returns-in_default-Some
 returns-in_default-Some c =
     let operand = c.first.result.0.now in
     single_no operand c.in_default-Some.field-0-1.now
-    ∙ ap (λ (r : Option (Bor (List ℕ))). single (operand ∷ operands_in (option_map (λ (x : Bor (List ℕ)). x.now) r))) (sym c.in_default-Some.is-1)
+    ∙ ap (λ (r : Option (Bor (List ℕ))). single (operand ∷ operands_in (option_map (λ (x : Bor (List ℕ)). x.now) r)))
+    (sym c.in_default-Some.is-1)
     ∙ ap single (sym c.first.ensures)
-    ∙ ap (λ (r : Option (Bor (List ℕ))). single (operands_in (option_map (λ (x : Bor (List ℕ)). x.now) r))) (sym c.in_ok-text.was)
+    ∙ ap (λ (r : Option (Bor (List ℕ))). single (operands_in (option_map (λ (x : Bor (List ℕ)). x.now) r)))
+    (sym c.in_ok-text.was)

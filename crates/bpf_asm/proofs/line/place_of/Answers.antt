@@ -21,5 +21,6 @@ returns-then-text-place-clause-is c =
 
 pub returns-clause-is : goal.returns-clause-is
 returns-clause-is c =
-    let here = passed_all (λ (b : ℕ). b == c.args.byte) c.args.text.now c.loop-place.place (omega arith) c.loop-place.invariant in
+    let here = passed_all (λ (b : ℕ). b == c.args.byte) c.args.text.now c.loop-place.place (omega arith)
+    c.loop-place.invariant in
     omega (arith, here)

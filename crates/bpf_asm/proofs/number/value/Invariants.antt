@@ -5,5 +5,6 @@ use Rattle.bpf_asm.proofs.number.value.Given as goal
 abbrev pub invariant-loop-digit : goal.invariant-loop-digit
 invariant-loop-digit l = record {
   small : l.number ≤ 2 ^ 64;
-  so_far : min (digits_value_after 10 l.number (drop l.digit-index l.digits)) (2 ^ 64) ≡ min (digits_value 10 l.digits) (2 ^ 64);
+  so_far : min (digits_value_after 10 l.number (drop l.digit-index l.digits)) (2 ^ 64)
+      ≡ min (digits_value 10 l.digits) (2 ^ 64);
 }

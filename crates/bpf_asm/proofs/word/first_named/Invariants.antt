@@ -7,4 +7,5 @@ use Rattle.bpf_asm.proofs.word.first_named.Given as goal
 
 abbrev pub invariant-loop-form : goal.invariant-loop-form
 invariant-loop-form l =
-    find (λ (form : Instruction). bytes_eq (word_of form) l.word) l.forms ≡ find (λ (form : Instruction). bytes_eq (word_of form) l.word) (drop l.form-index l.forms)
+    find (λ (form : Instruction). bytes_eq (word_of form) l.word) l.forms
+    ≡ find (λ (form : Instruction). bytes_eq (word_of form) l.word) (drop l.form-index l.forms)

@@ -9,7 +9,8 @@ invariant-loop-slot l = record {
   slots : length l.numbers ≡ l.slot;
   few : length l.placed ≤ l.slot;
   table : IsTable l.placed l.numbers;
-  so_far : with_front l.placed (rest_from l.image (slot_count l.image - length l.placed) l.slot) ≡ read_slots l.image (first_slots l.image);
+  so_far : with_front l.placed (rest_from l.image (slot_count l.image - length l.placed) l.slot)
+      ≡ read_slots l.image (first_slots l.image);
 }
 
 abbrev pub decreases-loop-slot : goal.decreases-loop-slot

@@ -6,7 +6,8 @@ use Rattle.bpf_isa.proofs.encoding.encode.Goals as goal
 pub loop-k-preserved : goal.loop-k-preserved
 loop-k-preserved c =
     let put : c.put.new.out.items ≡ c.loop-k.out.items ++ spelling c.instr.result = search rules in
-    put ∙ ap (λ (t : List ℕ). t ++ spelling c.instr.result) c.loop-k.invariant ∙ spelled_more c.args.code.now c.loop-k.k c.instr.result c.instr.ensures.is_at
+    put ∙ ap (λ (t : List ℕ). t ++ spelling c.instr.result) c.loop-k.invariant
+    ∙ spelled_more c.args.code.now c.loop-k.k c.instr.result c.instr.ensures.is_at
 
 pub returns-clause-is_code : goal.returns-clause-is_code
 returns-clause-is_code c =

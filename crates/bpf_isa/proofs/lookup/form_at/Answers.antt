@@ -11,4 +11,5 @@ named image slot (Some i) e = slot_registers image slot i (form_read image slot 
 named image slot None e = tt
 
 pub returns-clause-has_registers : goal.returns-clause-has_registers
-returns-clause-has_registers c = named c.args.image.now c.args.slot c.if_read.result (c.if_read.ensures ∙ ap if_read c.read.ensures)
+returns-clause-has_registers c =
+    named c.args.image.now c.args.slot c.if_read.result (c.if_read.ensures ∙ ap if_read c.read.ensures)

@@ -15,4 +15,6 @@ loop-steps-preserved c =
     let steps = count - (c.loop-steps._steps + 1) in
     let more : count - c.loop-steps._steps ≡ suc steps = omega arith in
     let within : c.loop-steps.slot < count = omega arith in
-    ap (comes image c.args.target steps) c.slot_after-slot.ensures ∙ sym (comes_later image c.args.target steps (count - c.loop-steps._steps) c.loop-steps.slot more within (λ e. omega arith)) ∙ c.loop-steps.invariant
+    ap (comes image c.args.target steps) c.slot_after-slot.ensures
+    ∙ sym (comes_later image c.args.target steps (count - c.loop-steps._steps) c.loop-steps.slot more within
+    (λ e. omega arith)) ∙ c.loop-steps.invariant

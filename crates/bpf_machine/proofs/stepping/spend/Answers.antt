@@ -11,4 +11,5 @@ returns c =
     let three = c.put-3.ensures ∙ ap (λ (f : Registers). with_register f 2 Nothing) two in
     let four = c.put-4.ensures ∙ ap (λ (f : Registers). with_register f 3 Nothing) three in
     let five = c.put-5.ensures ∙ ap (λ (f : Registers). with_register f 4 Nothing) four in
-    c.put-6.ensures ∙ ap (λ (f : Registers). with_register f 5 Nothing) five ∙ registers-spent (registers_of c.args.registers.now) (value_of c.args.answer)
+    c.put-6.ensures ∙ ap (λ (f : Registers). with_register f 5 Nothing) five
+    ∙ registers-spent (registers_of c.args.registers.now) (value_of c.args.answer)

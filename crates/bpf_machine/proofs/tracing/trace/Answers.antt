@@ -33,14 +33,16 @@ pub steps-smaller : goal.steps-smaller
 steps-smaller c =
     let program : Program = program_of c.args.image.now in
     let input : Input = record { given = c.args.given.now; place = c.args.place.now } in
-    let ahead = step_further program input (state_of c.steps.machine) (state_of c.advance.new.self) (rw c.in-Stepped.is at c.in_ok-advance.ensures) in
+    let ahead = step_further program input (state_of c.steps.machine) (state_of c.advance.new.self)
+    (rw c.in-Stepped.is at c.in_ok-advance.ensures) in
     omega (arith, ahead.0, ahead.1)
 
 pub returns-in-Trapped : goal.returns-in-Trapped
 returns-in-Trapped c =
     let program : Program = program_of c.args.image.now in
     let input : Input = record { given = c.args.given.now; place = c.args.place.now } in
-    ends_trapped program input (state_of c.steps.machine) c.steps.count c.in-Trapped.trap c.steps.invariant (rw c.in-Trapped.is at c.in_ok-advance.ensures)
+    ends_trapped program input (state_of c.steps.machine) c.steps.count c.in-Trapped.trap c.steps.invariant
+    (rw c.in-Trapped.is at c.in_ok-advance.ensures)
 
 pub overflow_add-result : goal.overflow_add-result
 overflow_add-result c =
@@ -55,4 +57,5 @@ returns-in-Ended c =
     let input : Input = record { given = c.args.given.now; place = c.args.place.now } in
     let exit = rw c.in-Ended.is at c.in_ok-advance.ensures in
     ends_out program input (state_of c.steps.machine) c.steps.count c.outcome_of.result c.steps.invariant exit.0
-    (c.outcome_of.ensures ∙ ap (λ (v : Value). outcome_of v c.advance.new.self.emitter) c.get-answer.ensures ∙ ap (λ (u : State). outcome_of (u.registers 0) u.emitted) exit.1)
+    (c.outcome_of.ensures ∙ ap (λ (v : Value). outcome_of v c.advance.new.self.emitter) c.get-answer.ensures
+    ∙ ap (λ (u : State). outcome_of (u.registers 0) u.emitted) exit.1)

@@ -9,5 +9,6 @@ loop-i-preserved c =
     let seen = c.args.list.now in let i = c.loop-i.i in let d = c.index-list-i.result in let name = c.args.name.now in
     let below : i < length seen = omega arith in
     let here : bytes_eq d.name name ≡ false = search rules in
-    let other : bytes_eq (get_or seen i d).name name ≡ false = subst (λ (v : Version). bytes_eq v.name name ≡ false) c.index-list-i.is here in
+    let other : bytes_eq (get_or seen i d).name name ≡ false =
+    subst (λ (v : Version). bytes_eq v.name name ≡ false) c.index-list-i.is here in
     rw add-one (among-next seen i d name below c.loop-i.invariant other)

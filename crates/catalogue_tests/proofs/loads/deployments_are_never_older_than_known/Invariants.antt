@@ -3,4 +3,8 @@ use Rattle.catalogue_tests.proofs.loads.deployments_are_never_older_than_known.G
 
 -- the names of the cells that were just made
 abbrev pub ghosts-chase : goal.ghosts-chase
-ghosts-chase g a = record { cells = λ input. get_or a.parts.cells input []; inputs = length a.parts.cells; outputs = a.parts.outputs }
+ghosts-chase g a = record {
+  cells = λ input. get_or a.parts.cells input [];
+  inputs = length a.parts.cells;
+  outputs = a.parts.outputs;
+}

@@ -10,6 +10,11 @@ pub returns-in-Ok-accepted : goal.returns-in-Ok-accepted
 returns-in-Ok-accepted c =
     let count : c.len.result ≡ length c.in-Ok.verified.code = search rules in
     let answer = c.in-Ok.ensures.answer in (
-      record { code = c.in-Ok.verified.code; read = answer.read; claims = c.in-Ok.verified.claims; annotation = answer.annotation },
+      record {
+        code = c.in-Ok.verified.code;
+        read = answer.read;
+        claims = c.in-Ok.verified.claims;
+        annotation = answer.annotation;
+      },
       c.in-Ok-accepted.ensures ∙ ap accepted_line count,
     )

@@ -3,4 +3,8 @@ use Rattle.commands.proofs.run.run_lines.Given as goal
 
 -- the names of the cells that were just made
 abbrev pub ghosts-run_rest : goal.ghosts-run_rest
-ghosts-run_rest g a = record { cells = λ input. get_or a.parts.cells input []; inputs = length a.parts.cells; outputs = a.parts.outputs }
+ghosts-run_rest g a = record {
+  cells = λ input. get_or a.parts.cells input [];
+  inputs = length a.parts.cells;
+  outputs = a.parts.outputs;
+}

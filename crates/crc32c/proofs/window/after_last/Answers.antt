@@ -1,4 +1,5 @@
-use Rattle.std.proofs.Common.{rules, ◌≡◌, ◌+◌, [], ◌∷◌, length, get_or, set, drop, sym, ◌∙◌, ap, arith, bit_xor, drop_of_length-le}
+use Rattle.std.proofs.Common.{rules, ◌≡◌, ◌+◌, [], ◌∷◌, length, get_or, set, drop, sym, ◌∙◌, ap, arith, bit_xor}
+use Rattle.std.proofs.Common.{drop_of_length-le}
 use Rattle.std.proofs.lemmas.List.{drop_more}
 use Rattle.wire_spec.specs.Checksum.{remainder}
 use Rattle.crc32c.specs.Window.{after_window, window_at, later}
@@ -15,7 +16,8 @@ loop-place-preserved c =
     let x = c.folded.result in
     let others = drop (place + 1) blocks in
     let room : length space ≡ 627 = search rules in
-    let split : drop place blocks ≡ get_or blocks place [] ∷ others = drop_more blocks place [] c.loop-place-test.true in
+    let split : drop place blocks ≡ get_or blocks place [] ∷ others =
+    drop_more blocks place [] c.loop-place-test.true in
     let gone = window_at-emptied place space (omega arith) c.folded.ensures.fit in
     record {
       left =

@@ -7,6 +7,7 @@ pub loop-blocks-init : goal.loop-blocks-init
 loop-blocks-init c =
     let register : c.from.result + 0 ≡ c.args.r = omega (arith, c.from.ensures) in
     record {
-      left = ap (λ w. after_window 0 w c.args.blocks.now) register ∙ after_window-start c.args.r c.args.blocks.now (omega arith);
+      left = ap (λ w. after_window 0 w c.args.blocks.now) register
+          ∙ after_window-start c.args.r c.args.blocks.now (omega arith);
       enough = omega arith;
     }

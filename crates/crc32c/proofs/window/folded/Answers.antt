@@ -12,5 +12,6 @@ returns c =
     let fits = Blocks-from space c.fits-space in
     record {
       fit = fits;
-      next = folded_is c.args.place c.number.result space block (omega arith) fits long (each_below block c.fits-block) c.number.ensures;
+      next = folded_is c.args.place c.number.result space block (omega arith) fits long (each_below block c.fits-block)
+          c.number.ensures;
     }

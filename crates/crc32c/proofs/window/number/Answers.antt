@@ -7,4 +7,5 @@ pub returns : goal.returns
 returns c =
     let block = c.args.block in
     let long : length block ≡ 16 = search rules in
-    halves-are (number_l 256 block) c.from.result c.from-2.result (block-below block long c.requires) c.from.ensures c.from-2.ensures
+    halves-are (number_l 256 block) c.from.result c.from-2.result (block-below block long c.requires) c.from.ensures
+    c.from-2.ensures

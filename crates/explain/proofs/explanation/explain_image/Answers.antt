@@ -5,7 +5,8 @@ use Rattle.explain.proofs.explanation.explain_image.Goals as goal
 
 pub explained-requires : goal.explained-requires
 explained-requires c =
-    within c.args.image.now c.in_ok-code.code c.in_ok-code.ensures.is_code c.in_ok-code.ensures.exact c.in-Ok.ensures.proper
+    within c.args.image.now c.in_ok-code.code c.in_ok-code.ensures.is_code c.in_ok-code.ensures.exact
+    c.in-Ok.ensures.proper
     c.in_ok-fault.fault c.in_ok-fault.ensures
 
 pub returns-in-Ok-explained : goal.returns-in-Ok-explained

@@ -1,10 +1,12 @@
 use Rattle.std.proofs.Common.{subst}
-use Rattle.verifier_spec.specs.declared.fault.LoadFault.{LoadFault, TheVariants.Isa}
+use Rattle.verifier_spec.specs.declared.fault.LoadFault.{LoadFault}
+use Rattle.verifier_spec.specs.declared.fault.LoadFault.TheVariants.{Isa}
 use Rattle.annotate.specs.Loads.{FaultIs}
 use Rattle.explain.proofs.Verdicts.{not_read}
 use Rattle.explain.proofs.explanation.verdict_of.Goals as goal
 
 pub returns-in-Isa : goal.returns-in-Isa
 returns-in-Isa c = λ image is ne.
-    let refused : FaultIs image (Isa c.in-Isa.fault) = subst (λ (fault : LoadFault). FaultIs image fault) c.in-Isa.is is in
+    let refused : FaultIs image (Isa c.in-Isa.fault) =
+    subst (λ (fault : LoadFault). FaultIs image fault) c.in-Isa.is is in
     not_read image c.in-Isa.fault (refused ne).fault_is

@@ -10,5 +10,7 @@ loop-i-init c = none_yet (string_bytes c.args.text.now) (λ i. byte_text (slice_
 pub loop-i-preserved : goal.loop-i-preserved
 loop-i-preserved c =
     let before = string_bytes c.loop-i.text in
-    let pushed : string_bytes c.push_byte.new.text ≡ before ++ byte_text (slice_index c.args.bytes.now c.loop-i.i) = search rules in
-    one_more (string_bytes c.args.text.now) before (string_bytes c.push_byte.new.text) c.loop-i.i (λ i. byte_text (slice_index c.args.bytes.now i)) c.loop-i.invariant pushed
+    let pushed : string_bytes c.push_byte.new.text ≡ before ++ byte_text (slice_index c.args.bytes.now c.loop-i.i) =
+    search rules in
+    one_more (string_bytes c.args.text.now) before (string_bytes c.push_byte.new.text) c.loop-i.i
+    (λ i. byte_text (slice_index c.args.bytes.now i)) c.loop-i.invariant pushed

@@ -3,4 +3,8 @@ use Rattle.fetch_tests.proofs.fetches.a_batch_takes_as_many_rows_as_it_may.Given
 
 -- the names of the cells that were just made
 abbrev pub ghosts-fetch_many : goal.ghosts-fetch_many
-ghosts-fetch_many g a = record { cells = λ input. get_or a.parts.cells input []; inputs = length a.parts.cells; outputs = a.parts.outputs }
+ghosts-fetch_many g a = record {
+  cells = λ input. get_or a.parts.cells input [];
+  inputs = length a.parts.cells;
+  outputs = a.parts.outputs;
+}

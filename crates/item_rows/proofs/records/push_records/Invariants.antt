@@ -6,4 +6,5 @@ use Rattle.item_rows.proofs.records.push_records.Given as goal
 abbrev pub invariant-loop-given : goal.invariant-loop-given
 invariant-loop-given l =
     (l.offset ≡ l.origin.offset + l.given-index)
-    × Adds l.initial.all l.all (λ q here. IsRecordsRows l.origin.input q l.origin.outputs (Some l.program) l.batch l.origin.offset (take l.given-index l.batch.records) here)
+    × Adds l.initial.all l.all (λ q here. IsRecordsRows l.origin.input q l.origin.outputs (Some l.program) l.batch
+    l.origin.offset (take l.given-index l.batch.records) here)

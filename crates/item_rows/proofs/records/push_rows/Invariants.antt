@@ -8,5 +8,6 @@ invariant-loop-emission l =
     (goal.iterator-loop-emission).can_next l.emission-iterator
     × (goal.iterator-loop-emission).is_finite l.emission-iterator
     × (l.number ≡ length l.yielded)
-    × (l.number + goal.iterator-loop-emission.remaining l.emission-iterator ≤ goal.iterator-loop-emission.remaining l.initial.emission-iterator)
+    × (l.number + goal.iterator-loop-emission.remaining l.emission-iterator ≤ goal.iterator-loop-emission.remaining
+    l.initial.emission-iterator)
     × Adds l.initial.all l.all (λ q here. here ≡ rows_to q l.place 0 l.yielded)

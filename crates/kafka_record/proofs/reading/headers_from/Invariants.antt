@@ -7,5 +7,6 @@ abbrev pub invariant-loop : goal.invariant-loop
 invariant-loop l = record {
   after : l.at ≤ l.place;
   within : l.place ≤ length l.bytes;
-  read : with_front l.list.items (headers_at (l.count - l.counter) (drop l.place l.bytes)) ≡ headers_at l.count (drop l.at l.bytes);
+  read : with_front l.list.items (headers_at (l.count - l.counter) (drop l.place l.bytes))
+      ≡ headers_at l.count (drop l.at l.bytes);
 }

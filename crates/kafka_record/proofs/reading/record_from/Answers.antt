@@ -10,15 +10,30 @@ use Rattle.kafka_record.proofs.reading.record_from.Goals as goal
 pub returns-then-not-is_filled-clause-exact : goal.returns-then-not-is_filled-clause-exact
 returns-then-not-is_filled-clause-exact c =
     let fits : FitsSigned w32 c.in_ok-len.len = search rules in
-    let none : record_at c.args.delta (drop c.args.at c.args.bytes.now) ≡ None = record_reads c.args.delta _ c.args.bytes.now c.args.slice.now c.args.at c.in_ok-len.start c.in_ok-record.end c.in_ok-len.len _ c.in_ok-record.record c.is_filled.result (to_z-of_z w32 c.args.delta c.ranges.delta) c.requires.same (to_z-of_z w32 c.in_ok-len.len fits) (read_ok _ _ c.in_ok-len.ensures.gives) (read_ok _ _ c.in_ok-record.ensures.gives) c.in_ok-record.ensures.within.0 c.in_ok-record.ensures.within.1 c.is_filled.ensures
+    let none : record_at c.args.delta (drop c.args.at c.args.bytes.now) ≡ None =
+    record_reads c.args.delta _ c.args.bytes.now c.args.slice.now c.args.at c.in_ok-len.start c.in_ok-record.end
+    c.in_ok-len.len _ c.in_ok-record.record c.is_filled.result (to_z-of_z w32 c.args.delta c.ranges.delta)
+    c.requires.same (to_z-of_z w32 c.in_ok-len.len fits) (read_ok _ _ c.in_ok-len.ensures.gives)
+    (read_ok _ _ c.in_ok-record.ensures.gives) c.in_ok-record.ensures.within.0 c.in_ok-record.ensures.within.1
+    c.is_filled.ensures
     ∙ rw c.if-not-is_filled.true refl in
     λ _. as_answer (record_at c.args.delta (drop c.args.at c.args.bytes.now)) None none
 
 pub returns-clause-exact : goal.returns-clause-exact
 returns-clause-exact c =
     let fits : FitsSigned w32 c.in_ok-len.len = search rules in
-    let end : c.in_ok-record.end ≡ c.args.at + (c.in_ok-record.end - c.args.at) = omega (arith, c.in_ok-len.ensures.within, c.in_ok-record.ensures.within) in
-    let found : Record × List ℕ = (c.in_ok-record.record, drop (c.args.at + (c.in_ok-record.end - c.args.at)) c.args.bytes.now) in
-    let read : record_at c.args.delta (drop c.args.at c.args.bytes.now) ≡ Some found = record_reads c.args.delta _ c.args.bytes.now c.args.slice.now c.args.at c.in_ok-len.start c.in_ok-record.end c.in_ok-len.len _ c.in_ok-record.record c.is_filled.result (to_z-of_z w32 c.args.delta c.ranges.delta) c.requires.same (to_z-of_z w32 c.in_ok-len.len fits) (read_ok _ _ c.in_ok-len.ensures.gives) (read_ok _ _ c.in_ok-record.ensures.gives) c.in_ok-record.ensures.within.0 c.in_ok-record.ensures.within.1 c.is_filled.ensures
+    let end : c.in_ok-record.end ≡ c.args.at + (c.in_ok-record.end - c.args.at) =
+    omega (arith, c.in_ok-len.ensures.within, c.in_ok-record.ensures.within) in
+    let found : Record × List ℕ = (
+      c.in_ok-record.record,
+      drop (c.args.at + (c.in_ok-record.end - c.args.at))
+          c.args.bytes.now,
+    ) in
+    let read : record_at c.args.delta (drop c.args.at c.args.bytes.now) ≡ Some found =
+    record_reads c.args.delta _ c.args.bytes.now c.args.slice.now c.args.at c.in_ok-len.start c.in_ok-record.end
+    c.in_ok-len.len _ c.in_ok-record.record c.is_filled.result (to_z-of_z w32 c.args.delta c.ranges.delta)
+    c.requires.same (to_z-of_z w32 c.in_ok-len.len fits) (read_ok _ _ c.in_ok-len.ensures.gives)
+    (read_ok _ _ c.in_ok-record.ensures.gives) c.in_ok-record.ensures.within.0 c.in_ok-record.ensures.within.1
+    c.is_filled.ensures
     ∙ rw c.if-not-is_filled.false (ap (λ (k : ℕ). Some (c.in_ok-record.record, drop k c.args.bytes.now)) end) in
     as_answer (record_at c.args.delta (drop c.args.at c.args.bytes.now)) (Some found) read

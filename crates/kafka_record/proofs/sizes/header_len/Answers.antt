@@ -4,7 +4,14 @@ use Rattle.wire_spec.proofs.RecordLaws.{length-nullable}
 use Rattle.kafka_record.proofs.sizes.header_len.Goals as goal
 
 small : (c : goal.After-nullable_len) → c.string_len.result + c.nullable_len.result ≤ 4361
-small c = omega (arith, c.requires.key, c.len.ensures.value, c.string_len.ensures.small, c.nullable_len.ensures, length-nullable MAX_HEADER_VALUE c.args.one.now.value c.requires.value)
+small c = omega (
+  arith,
+  c.requires.key,
+  c.len.ensures.value,
+  c.string_len.ensures.small,
+  c.nullable_len.ensures,
+  length-nullable MAX_HEADER_VALUE c.args.one.now.value c.requires.value,
+)
 
 pub overflow_add-result : goal.overflow_add-result
 overflow_add-result c = omega (arith, small c)

@@ -10,8 +10,14 @@ use Rattle.kafka_record.proofs.writing.put_body.Goals as goal
 
 pub put_counted-requires-clause-fit : goal.put_counted-requires-clause-fit
 put_counted-requires-clause-fit c =
-    subst (λ (hs : List Header). All HeaderFits hs) (sym c.slice_of.ensures) (All-from_recursion HeaderFits c.args.record.now.headers c.requires.headers)
+    subst (λ (hs : List Header). All HeaderFits hs) (sym c.slice_of.ensures)
+    (All-from_recursion HeaderFits c.args.record.now.headers c.requires.headers)
 
 pub returns-clause-ok : goal.returns-clause-ok
 returns-clause-ok c =
-    on_ok_weaker c.put_counted.result (λ e. body_is c.args.delta _ _ c.args.record.now c.slice_of.result.now c.args.out.now.items c.put_deltas.new.out.items c.put_nullable.new.out.items c.put_nullable-2.new.out.items c.put_counted.new.out.items (to_z-of_z w32 c.args.delta c.ranges.delta) (to_z-of_z w64 c.args.record.now.timestamp_delta c.requires.timestamp) c.slice_of.ensures c.in_ok-put_deltas.ensures.ok c.in_ok-put_nullable.ensures.ok c.in_ok-put_nullable-2.ensures.ok e) c.put_counted.ensures.ok
+    on_ok_weaker c.put_counted.result (λ e. body_is c.args.delta _ _ c.args.record.now c.slice_of.result.now
+    c.args.out.now.items c.put_deltas.new.out.items c.put_nullable.new.out.items c.put_nullable-2.new.out.items
+    c.put_counted.new.out.items (to_z-of_z w32 c.args.delta c.ranges.delta)
+    (to_z-of_z w64 c.args.record.now.timestamp_delta c.requires.timestamp) c.slice_of.ensures
+    c.in_ok-put_deltas.ensures.ok c.in_ok-put_nullable.ensures.ok c.in_ok-put_nullable-2.ensures.ok e)
+    c.put_counted.ensures.ok

@@ -7,4 +7,5 @@ use Rattle.machine_spec.proofs.helper.find_helper.Given as goal
 
 abbrev pub invariant-loop-helper : goal.invariant-loop-helper
 invariant-loop-helper l =
-    find (λ (h : Helper). int_eq (signature_of h).number l.number) l.helpers ≡ find (λ (h : Helper). int_eq (signature_of h).number l.number) (drop l.helper-index l.helpers)
+    find (λ (h : Helper). int_eq (signature_of h).number l.number) l.helpers
+    ≡ find (λ (h : Helper). int_eq (signature_of h).number l.number) (drop l.helper-index l.helpers)

@@ -5,12 +5,14 @@ use Rattle.notes.proofs.faults.first_fault.Goals as goal
 pub returns-in-Some-clause-fault : goal.returns-in-Some-clause-fault
 returns-in-Some-clause-fault c =
     sym (c.loop-k.invariant.rest
-    ∙ reported_here c.args.code.now c.args.claims.now c.loop-k.k c.get.result c.in-Some.kind c.get.ensures.is_at (sym c.in-Some.ensures.failed))
+    ∙ reported_here c.args.code.now c.args.claims.now c.loop-k.k c.get.result c.in-Some.kind c.get.ensures.is_at
+    (sym c.in-Some.ensures.failed))
 
 pub loop-k-preserved : goal.loop-k-preserved
 loop-k-preserved c = record {
   rest =
       c.loop-k.invariant.rest
-      ∙ passed_here c.args.code.now c.args.claims.now c.loop-k.k c.get.result c.get.ensures.is_at (sym c.in_default.ensures.failed);
+      ∙ passed_here c.args.code.now c.args.claims.now c.loop-k.k c.get.result c.get.ensures.is_at
+      (sym c.in_default.ensures.failed);
   proper = proper_more c.args.claims.now c.loop-k.k c.loop-k.invariant.proper c.in_default.ensures.proper;
 }

@@ -11,4 +11,5 @@ pub returns : goal.returns
 returns c =
     let long = ap length c.requires ∙ length-replicate {A = Option Abstract} (length c.args.code.now) None in
     c.derive.ensures.states
-    ∙ derived_same c.args.code.now (pair_at c.args.pairs.now) (claim_at c.put_all.new.states) (λ k under. c.put_all.ensures.each k (omega (arith, under, c.put_all.ensures.length, long)))
+    ∙ derived_same c.args.code.now (pair_at c.args.pairs.now) (claim_at c.put_all.new.states)
+    (λ k under. c.put_all.ensures.each k (omega (arith, under, c.put_all.ensures.length, long)))

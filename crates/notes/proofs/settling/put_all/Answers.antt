@@ -8,5 +8,6 @@ loop-pair-init c = record { long = refl; each = none_put c.args.states.now c.req
 pub loop-pair-preserved : goal.loop-pair-preserved
 loop-pair-preserved c = record {
   long = c.put.ensures.length ∙ c.loop-pair.invariant.long;
-  each = put_more c.args.pairs.now c.loop-pair.states c.put.new.states c.loop-pair.pair-index c.pair-item.result c.loop-pair-test.true c.pair-item.is c.put.ensures.length c.put.ensures.each c.loop-pair.invariant.each;
+  each = put_more c.args.pairs.now c.loop-pair.states c.put.new.states c.loop-pair.pair-index c.pair-item.result
+      c.loop-pair-test.true c.pair-item.is c.put.ensures.length c.put.ensures.each c.loop-pair.invariant.each;
 }

@@ -11,7 +11,9 @@ returns-clause-states c =
     let old = c.args.states.now in
     let kept = c.keep_marked.new.states in
     c.derive.ensures.states
-    ∙ derived_same code (at_targets code old) (claim_at kept) (marked_given code c.args.targets.now old kept c.requires.targets c.requires.long c.keep_marked.ensures.length c.keep_marked.ensures.each)
+    ∙ derived_same code (at_targets code old) (claim_at kept)
+    (marked_given code c.args.targets.now old kept c.requires.targets c.requires.long
+    c.keep_marked.ensures.length c.keep_marked.ensures.each)
 
 pub returns-clause-proper : goal.returns-clause-proper
 returns-clause-proper c =
@@ -19,4 +21,5 @@ returns-clause-proper c =
     let old = c.args.states.now in
     let kept = c.keep_marked.new.states in
     proper_same code (at_targets code old) (claim_at kept) (length code)
-    (marked_given code c.args.targets.now old kept c.requires.targets c.requires.long c.keep_marked.ensures.length c.keep_marked.ensures.each) c.derive.ensures.proper
+    (marked_given code c.args.targets.now old kept c.requires.targets c.requires.long c.keep_marked.ensures.length
+    c.keep_marked.ensures.each) c.derive.ensures.proper

@@ -4,10 +4,13 @@ use Rattle.report.specs.Snapshots.{AreOutputs, AreTallies}
 use Rattle.report.proofs.gathering.gather.Goals as goal
 
 pub tallies-requires-clause-some : goal.tallies-requires-clause-some
-tallies-requires-clause-some g c = omega (arith, c.in_ok-outputs.ensures.some, ap (λ (hs : List (List Held)). length hs) c.deref.ensures.value)
+tallies-requires-clause-some g c =
+    omega (arith, c.in_ok-outputs.ensures.some, ap (λ (hs : List (List Held)). length hs) c.deref.ensures.value)
 
 pub tallies-requires-clause-outputs : goal.tallies-requires-clause-outputs
-tallies-requires-clause-outputs g c = subst (λ (hs : List (List Held)). AreOutputs g.Id.Names.inputs g.Id.Names.outputs hs) (sym c.deref.ensures.value) c.in_ok-outputs.ensures.ok.1
+tallies-requires-clause-outputs g c =
+    subst (λ (hs : List (List Held)). AreOutputs g.Id.Names.inputs g.Id.Names.outputs hs) (sym c.deref.ensures.value)
+    c.in_ok-outputs.ensures.ok.1
 
 pub new-requires : goal.new-requires
 new-requires g c =
@@ -16,5 +19,6 @@ new-requires g c =
       outputs_count = c.in_ok-outputs.ensures.ok.0;
       inputs_count = counted.0;
       outputs_are = c.in_ok-outputs.ensures.ok.1;
-      inputs_are = subst (λ (hs : List (List Held)). AreTallies g.Id.Names.outputs hs inputs) c.deref.ensures.value counted.1;
+      inputs_are = subst (λ (hs : List (List Held)). AreTallies g.Id.Names.outputs hs inputs) c.deref.ensures.value
+          counted.1;
     }

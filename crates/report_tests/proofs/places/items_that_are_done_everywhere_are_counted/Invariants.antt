@@ -3,4 +3,8 @@ use Rattle.report_tests.proofs.places.items_that_are_done_everywhere_are_counted
 
 -- the names of the cells that were just made
 abbrev pub ghosts-step_apart : goal.ghosts-step_apart
-ghosts-step_apart g a = record { cells = λ input. get_or a.parts.cells input []; inputs = length a.parts.cells; outputs = a.parts.outputs }
+ghosts-step_apart g a = record {
+  cells = λ input. get_or a.parts.cells input [];
+  inputs = length a.parts.cells;
+  outputs = a.parts.outputs;
+}

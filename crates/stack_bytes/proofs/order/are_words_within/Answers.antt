@@ -6,7 +6,8 @@ use Rattle.stack_bytes.proofs.order.are_words_within.Goals as goal
 
 pub returns-then-inner-word : goal.returns-then-inner-word
 returns-then-inner-word c = elim (cases_Bool (each_below 512 (covers c.args.inner.now c.args.outer.now))) [
-  | inl each ↦ absurd (c.if-inner-word.true (word_covers c.args.inner.now c.args.outer.now c.loop-word.word (omega arith) (search rules) each))
+  | inl each ↦ absurd (c.if-inner-word.true (word_covers c.args.inner.now c.args.outer.now c.loop-word.word
+      (omega arith) (search rules) each))
   | inr not_each ↦ sym not_each
 ]
 

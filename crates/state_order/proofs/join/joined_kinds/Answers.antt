@@ -18,5 +18,6 @@ loop-register-preserved c =
 pub returns : goal.returns
 returns c =
     let long = c.loop-register.invariant.0 in
-    pairwise_from (joined_kind c.args.a.now c.args.b.now) abs.None c.args.kinds.now c.args.others.now c.loop-register.joined (omega (arith, long)) (omega (arith, long))
+    pairwise_from (joined_kind c.args.a.now c.args.b.now) abs.None c.args.kinds.now c.args.others.now
+    c.loop-register.joined (omega (arith, long)) (omega (arith, long))
     (λ k under. c.loop-register.invariant.1 k (omega (arith, long)))

@@ -6,4 +6,5 @@ use Rattle.state_order.proofs.join.joined_kinds.Given as goal
 abbrev pub invariant-loop-register : goal.invariant-loop-register
 invariant-loop-register l =
     (length l.joined ≡ 11)
-    × ((k : ℕ) → k < l.register → slice_index_or l.joined k abs.None ≡ joined_kind l.a l.b (slice_index_or l.kinds k abs.None) (slice_index_or l.others k abs.None))
+    × ((k : ℕ) → k < l.register → slice_index_or l.joined k abs.None
+    ≡ joined_kind l.a l.b (slice_index_or l.kinds k abs.None) (slice_index_or l.others k abs.None))

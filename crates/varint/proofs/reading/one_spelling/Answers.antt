@@ -11,7 +11,17 @@ pub returns-clause-varlong : goal.returns-clause-varlong
 returns-clause-varlong c = one_varlong
 
 pub returns-clause-varint_spelling : goal.returns-clause-varint_spelling
-returns-clause-varint_spelling c = λ form z. (λ h. (h.fits, varint_is form z h), λ h. subst (λ (f : List ℕ). IsVarint f z) (sym h.1) (IsVarint-varint z h.0))
+returns-clause-varint_spelling c =
+    λ form z. (
+      λ h. (h.fits, varint_is form z h),
+      λ h. subst (λ (f : List ℕ). IsVarint f z) (sym h.1)
+          (IsVarint-varint z h.0),
+    )
 
 pub returns-clause-varlong_spelling : goal.returns-clause-varlong_spelling
-returns-clause-varlong_spelling c = λ form z. (λ h. (h.fits, varlong_is form z h), λ h. subst (λ (f : List ℕ). IsVarlong f z) (sym h.1) (IsVarlong-varlong z h.0))
+returns-clause-varlong_spelling c =
+    λ form z. (
+      λ h. (h.fits, varlong_is form z h),
+      λ h. subst (λ (f : List ℕ). IsVarlong f z) (sym h.1)
+          (IsVarlong-varlong z h.0),
+    )

@@ -5,18 +5,24 @@ use Rattle.varint.proofs.Steps.{put_more, put_last, rest_below, rest_last}
 use Rattle.varint.proofs.writing.put_groups.Goals as goal
 
 pub returns-then-rest-lt128-clause-groups : goal.returns-then-rest-lt128-clause-groups
-returns-then-rest-lt128-clause-groups c = put_last c.loop-at.bytes c.loop-at.at c.loop-at.rest c.args.number (omega arith) c.loop-at.invariant.size c.if-rest-lt128.true c.loop-at.invariant.groups_are
+returns-then-rest-lt128-clause-groups c =
+    put_last c.loop-at.bytes c.loop-at.at c.loop-at.rest c.args.number (omega arith) c.loop-at.invariant.size
+    c.if-rest-lt128.true c.loop-at.invariant.groups_are
 
 pub loop-at-preserved : goal.loop-at-preserved
 loop-at-preserved c = record {
   size = simp length-set c.loop-at.invariant.size;
-  groups_are = put_more c.loop-at.bytes c.loop-at.at c.loop-at.rest c.args.number c.loop-at-test.true c.loop-at.invariant.size c.if-rest-lt128.false c.loop-at.invariant.groups_are;
+  groups_are = put_more c.loop-at.bytes c.loop-at.at c.loop-at.rest c.args.number c.loop-at-test.true
+      c.loop-at.invariant.size c.if-rest-lt128.false c.loop-at.invariant.groups_are;
   below = rest_below c.loop-at.at c.loop-at.rest c.loop-at.invariant.below;
 }
 
 pub returns-clause-groups : goal.returns-clause-groups
 returns-clause-groups c =
-    let two : c.loop-at.rest < 2 = rest_last c.loop-at.at c.loop-at.rest (omega arith) (omega arith) c.loop-at.invariant.below in
+    let two : c.loop-at.rest < 2 =
+    rest_last c.loop-at.at c.loop-at.rest (omega arith) (omega arith) c.loop-at.invariant.below in
     let nine : c.loop-at.at ≡ 9 = omega arith in
-    let is : take 9 c.loop-at.bytes ++ groups (10 - 9) c.loop-at.rest ≡ groups 10 c.args.number = subst (λ (k : ℕ). take k c.loop-at.bytes ++ groups (10 - k) c.loop-at.rest ≡ groups 10 c.args.number) nine c.loop-at.invariant.groups_are in
+    let is : take 9 c.loop-at.bytes ++ groups (10 - 9) c.loop-at.rest ≡ groups 10 c.args.number =
+    subst (λ (k : ℕ). take k c.loop-at.bytes ++ groups (10 - k) c.loop-at.rest ≡ groups 10 c.args.number) nine
+    c.loop-at.invariant.groups_are in
     put_last c.loop-at.bytes 9 c.loop-at.rest c.args.number (omega arith) c.loop-at.invariant.size (omega arith) is

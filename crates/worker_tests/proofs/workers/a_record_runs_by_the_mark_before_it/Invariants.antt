@@ -3,4 +3,8 @@ use Rattle.worker_tests.proofs.workers.a_record_runs_by_the_mark_before_it.Given
 
 -- the names of the cells that were just made
 abbrev pub ghosts-late : goal.ghosts-late
-ghosts-late g a = record { cells = λ input. get_or a.parts.cells input []; inputs = length a.parts.cells; outputs = a.parts.outputs }
+ghosts-late g a = record {
+  cells = λ input. get_or a.parts.cells input [];
+  inputs = length a.parts.cells;
+  outputs = a.parts.outputs;
+}

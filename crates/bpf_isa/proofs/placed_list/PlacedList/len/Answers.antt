@@ -5,4 +5,5 @@ use Rattle.bpf_isa.proofs.placed_list.PlacedList.len.Goals as goal
 pub returns : goal.returns
 returns c =
     let count : c.len.result ≡ length c.self.inside.instructions.items = search rules in
-    count ∙ sym (placed_length c.self.inside.slots.items c.self.inside.instructions.items c.self.invariant) ∙ ap length c.self.view_is
+    count ∙ sym (placed_length c.self.inside.slots.items c.self.inside.instructions.items c.self.invariant)
+    ∙ ap length c.self.view_is

@@ -9,4 +9,5 @@ pub returns-clause-never_back : goal.returns-clause-never_back
 returns-clause-never_back c = λ other.
     let new = c.find_newest.new.seen in
     subst (λ (seen : Seen). IsNoOlder (among seen.versions other) (among new other)) c.self.view_is
-    (never_back-result c.args.known.now c.args.name.now (number_and_program c.in_ok-read.read) c.self.inside.seen new c.find_newest.result c.find_newest.ensures.ok c.find_newest.ensures.err other)
+    (never_back-result c.args.known.now c.args.name.now (number_and_program c.in_ok-read.read) c.self.inside.seen new
+    c.find_newest.result c.find_newest.ensures.ok c.find_newest.ensures.err other)

@@ -11,6 +11,8 @@ returns g c =
     let before = g.O.Write.contents c.args.stdout.now in
     let after = g.O.Write.contents c.print_appended.new.stdout in
     let appended = c.append_source-appended.result in
-    let appends = subst (λ (inputs : ℕ). AppendsOf inputs c.args.input (bytes_of files c.args.source) (unread_of c.args.source) old new appended) c.self.view_is c.append_source-appended.ensures in
+    let appends = subst (λ (inputs : ℕ). AppendsOf inputs c.args.input (bytes_of files c.args.source)
+    (unread_of c.args.source) old new appended) c.self.view_is c.append_source-appended.ensures in
     all_printed c.args.self.now files c.args.input c.args.source old new before after appended appends
-    c.deref.result.now c.len-before.result c.deref.ensures.value (c.len-before.ensures ∙ c.args.receipts.now.ok.0) c.in_ok-print_appended.ensures.ok
+    c.deref.result.now c.len-before.result c.deref.ensures.value (c.len-before.ensures ∙ c.args.receipts.now.ok.0)
+    c.in_ok-print_appended.ensures.ok

@@ -12,7 +12,8 @@ returns-clause-means c =
     let program : Program = program_of c.self.inside.image in
     let input : Input = record { given = c.args.given.now; place = c.args.place.now } in
     let ran = c.run.ensures c.self.inside.image c.self.invariant in
-    let means = run_means program input c.self.inside.verified.code c.self.inside.verified.claims ran.0 ran.1 c.run.result ran.2 in
+    let means = run_means program input c.self.inside.verified.code c.self.inside.verified.claims ran.0 ran.1
+    c.run.result ran.2 in
     subst (λ (p : Program). IfOk c.run.result (λ (o : Outcome). (n : ℕ) × Means p input o n)) c.self.view_is means
 
 pub returns-clause-safe : goal.returns-clause-safe
@@ -20,5 +21,6 @@ returns-clause-safe c =
     let program : Program = program_of c.self.inside.image in
     let input : Input = record { given = c.args.given.now; place = c.args.place.now } in
     let ran = c.run.ensures c.self.inside.image c.self.invariant in
-    let safe = run_safe program input c.self.inside.verified.code c.self.inside.verified.claims ran.0 ran.1 c.self.invariant in
+    let safe = run_safe program input c.self.inside.verified.code c.self.inside.verified.claims ran.0 ran.1
+    c.self.invariant in
     (ran.0, subst (λ (p : Program). RunsSafely p input ran.0) c.self.view_is safe, ran.2)

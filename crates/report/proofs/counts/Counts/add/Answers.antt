@@ -17,5 +17,6 @@ pub invariant_of-self-in-Rejected : goal.invariant_of-self-in-Rejected
 invariant_of-self-in-Rejected c =
     let s = c.self.inside in let i = c.self.invariant in (
       i.0 ++ Rejected c.in-Rejected.code ∷ [],
-      rejected_more i.0 s.records s.unprogrammed s.kept c.in-Rejected.code s.rejects.entries c.add_reject.new.rejects.entries i.1 c.in_ok-add_reject-in-Rejected.ensures.ok,
+      rejected_more i.0 s.records s.unprogrammed s.kept c.in-Rejected.code s.rejects.entries
+          c.add_reject.new.rejects.entries i.1 c.in_ok-add_reject-in-Rejected.ensures.ok,
     )

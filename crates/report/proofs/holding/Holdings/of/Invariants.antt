@@ -4,4 +4,6 @@ use Rattle.report.proofs.holding.Holdings.of.Given as goal
 
 abbrev pub invariant-loop-input : goal.invariant-loop-input
 invariant-loop-input g l =
-    (length l.list.items ≡ l.input) × ((input : ℕ) (h : Held) → slice_get l.list.items input ≡ Some h → IsHolding g.Id.Names.outputs l.book.output input h)
+    (length l.list.items ≡ l.input)
+    × ((input : ℕ) (h : Held) → slice_get l.list.items input ≡ Some h →
+    IsHolding g.Id.Names.outputs l.book.output input h)

@@ -1,6 +1,6 @@
 use Rattle.std.proofs.Common.{◌≡◌, ◌<◌, ◌++◌, ◌∷◌, [], List, length, set, get_or, sym, ap, subst, ◌∙◌}
 use Rattle.std.proofs.lemmas.List.{get_or_read}
-use Rattle.log_spec.specs.Logs.{Item as Kept}
+use Rattle.log_spec.specs.Logs.{Item as LogItem}
 use Rattle.log_spec.specs.Worlds.{World, log_of}
 use Rattle.log_item.specs.Items.{item_view}
 use Rattle.world.specs.Views.{world_seen, IsCore}
@@ -15,6 +15,9 @@ invariant_of-self-2 c =
     let input = c.args.input in
     let item = item_view c.args.item in
     let lt = seen_input w c.args.self.now input c.self.view_is c.requires.input in
-    let mine : c.index_mut.result.now ≡ log_of w input = get_or_read logs input c.index_mut.result.now lt c.index_mut.ensures.value [] in
-    let is : c.append.new.self ≡ log_of w input ++ item ∷ [] = c.in-Ok.ensures.ok ∙ ap (λ (items : List Kept). items ++ item ∷ []) mine in
-    subst (λ (items : List Kept). IsCore (world_seen s.cells s.table (set logs input items) s.books.items) s.outputs) (sym is) (core-appended w s.outputs input item c.self.invariant lt)
+    let mine : c.index_mut.result.now ≡ log_of w input =
+    get_or_read logs input c.index_mut.result.now lt c.index_mut.ensures.value [] in
+    let is : c.append.new.self ≡ log_of w input ++ item ∷ [] = c.in-Ok.ensures.ok
+    ∙ ap (λ (items : List LogItem). items ++ item ∷ []) mine in
+    subst (λ (items : List LogItem). IsCore (world_seen s.cells s.table (set logs input items) s.books.items) s.outputs)
+    (sym is) (core-appended w s.outputs input item c.self.invariant lt)
