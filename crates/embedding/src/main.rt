@@ -82,10 +82,16 @@ fn main(rt: HostRuntime) -> io::Result<()> {
     let mut reader = fs::open(&rt, batches.as_str())?;
     let parts = Parts::new(&rt, rt.alloc(), 1, 1, 1_024)?;
     match transform::<Brand, HostRuntime, _>(&rt, rt.alloc(), parts, &image, &mut reader) {
-        Ok(made) => println!(rt;
-            "{} batches, {} items, {} bytes fetched",
-            made.batches, made.items, made.rows.map_or(0, |bytes| bytes.len())
-        ),
+        Ok(
+            Transformed {
+                batches,
+                items,
+                rows,
+            },
+        ) => {
+            let fetched = rows.map_or(0, |bytes| bytes.len());
+            println!(rt; "{batches} batches, {items} items, {fetched} bytes fetched")
+        }
         Err(fault) => println!(rt; "{fault}"),
     }
 }
