@@ -6,8 +6,8 @@ use Rattle.machine_spec.specs.declared.outcome.Outcome.TheVariants as ending
 use Rattle.machine_spec.specs.Image.{Program}
 use Rattle.machine_spec.specs.Meaning.{Means}
 use Rattle.log_spec.specs.Logs.{Item, Records, Marked, Closed, in_force, offset_of, place_of}
-use Rattle.report.specs.declared.fate.Fate.{Fate}
-use Rattle.report.specs.declared.fate.Fate.TheVariants.{Unprogrammed, Kept, Rejected}
+use Rattle.fates.specs.declared.fate.Fate.{Fate}
+use Rattle.fates.specs.declared.fate.Fate.TheVariants.{Unprogrammed, Kept, Rejected}
 
 -- what becomes of a record with this outcome
 abbrev pub fate_of : Outcome → Fate

@@ -1,10 +1,11 @@
 //! How many records met which fate.
 
 ghost use Rattle.std.specs.Prelude.{◌≡◌, ◌+◌, ◌<◌, ◌^◌, ◌++◌, ◌∷◌, [], List, OnOk, OnErr, unwrap_or};
-ghost use Rattle.report.specs.declared.fate.Fate.{Fate as Met};
-ghost use Rattle.report.specs.Totals.{AreCounts, IsOneMore, rejected_by};
+ghost use Rattle.fates.specs.declared.fate.Fate.{Fate as Met};
+ghost use Rattle.fates.specs.Totals.{AreCounts};
 
 use crate::fate::Fate;
+use crate::rejects::{count_rejects, sum_rejects};
 use std::alloc::{AllocError, Global};
 use std::collections::BTreeMap;
 use std::marker::Model;
@@ -21,8 +22,8 @@ pub struct Counts {
 
 impl Model for Counts {
     ghost use Rattle.std.specs.Prelude.{List};
-    ghost use Rattle.report.specs.declared.fate.Fate.{Fate};
-    ghost use Rattle.report.specs.Totals.{Totals, totals, AreCounts};
+    ghost use Rattle.fates.specs.declared.fate.Fate.{Fate};
+    ghost use Rattle.fates.specs.Totals.{Totals, totals, AreCounts};
 
     ghost Value = { Totals };
 
@@ -33,7 +34,7 @@ impl Model for Counts {
 
 impl Counts {
     /// Of no record.
-    pub(crate) fn new(alloc: Global) -> Counts
+    pub fn new(alloc: Global) -> Counts
         ensures counts { AreCounts [] result }
         ensures records { result.records ≡ 0 }
     {
@@ -75,7 +76,7 @@ impl Counts {
 
     /// Counts one more record. Where memory runs out, the counts stay.
     #[tactic(auto, using(crate::proofs::CountLaws::unprogrammed_more, crate::proofs::CountLaws::kept_more, crate::proofs::CountLaws::rejected_more, crate::proofs::CountLaws::few_rejects))]
-    pub(crate) fn add(&mut self, fate: Fate) -> Result<(), AllocError>
+    pub fn add(&mut self, fate: Fate) -> Result<(), AllocError>
         requires { self.old.records < 2 ^ 63 }
         ensures counts { OnOk result ((fates : List Met) → AreCounts fates self.old → AreCounts (fates ++ fate ∷ []) self.new) }
         ensures records { OnOk result (self.new.records ≡ self.old.records + 1) }
@@ -93,21 +94,25 @@ impl Counts {
                 Ok(())
             }
             Fate::Rejected(code) => {
-                add_reject(&mut self.rejects, code)?;
+                count_rejects(&mut self.rejects, code, 1)?;
                 self.records += 1;
                 Ok(())
             }
         }
     }
-}
 
-/// Counts one more record that a code rejected.
-fn add_reject(rejects: &mut BTreeMap<u64, u64>, code: u64) -> Result<(), AllocError>
-    requires { unwrap_or (rejected_by code rejects.old.entries) 0 < 2 ^ 63 }
-    ensures ok { OnOk result (IsOneMore code rejects.old.entries rejects.new.entries) }
-    ensures err { OnErr result (rejects.new.entries ≡ rejects.old.entries) }
-{
-    let before = rejects.get(&code).copied().unwrap_or(0);
-    rejects.insert(code, before + 1)?;
-    Ok(())
+    /// Counts the records of others beside its own. The time goes by the reject codes of the others.
+    /// Where memory runs out, the counts stay.
+    pub fn add_all(&mut self, others: &Counts) -> Result<(), AllocError>
+        requires { self.old.records + others.now.records < 2 ^ 63 }
+        ensures counts { OnOk result ((before here : List Met) → AreCounts before self.old → AreCounts here others.now → AreCounts (before ++ here) self.new) }
+        ensures records { OnOk result (self.new.records ≡ self.old.records + others.now.records) }
+        ensures err { OnErr result (self.new ≡ self.old) }
+    {
+        sum_rejects(&mut self.rejects, &others.rejects)?;
+        self.records += others.records;
+        self.unprogrammed += others.unprogrammed;
+        self.kept += others.kept;
+        Ok(())
+    }
 }

@@ -1,7 +1,7 @@
 use Rattle.std.proofs.Common.{[], ◌∷◌, ◌++◌}
-use Rattle.report.specs.declared.fate.Fate.TheVariants.{Unprogrammed, Kept, Rejected}
-use Rattle.report.proofs.CountLaws.{unprogrammed_more, kept_more, rejected_more}
-use Rattle.report.proofs.counts.Counts.add.Goals as goal
+use Rattle.fates.specs.declared.fate.Fate.TheVariants.{Unprogrammed, Kept, Rejected}
+use Rattle.fates.proofs.CountLaws.{unprogrammed_more, kept_more, rejected_more}
+use Rattle.fates.proofs.counts.Counts.add.Goals as goal
 
 pub invariant_of-self : goal.invariant_of-self
 invariant_of-self c =
@@ -18,5 +18,5 @@ invariant_of-self-in-Rejected c =
     let s = c.self.inside in let i = c.self.invariant in (
       i.0 ++ Rejected c.in-Rejected.code ∷ [],
       rejected_more i.0 s.records s.unprogrammed s.kept c.in-Rejected.code s.rejects.entries
-          c.add_reject.new.rejects.entries i.1 c.in_ok-add_reject-in-Rejected.ensures.ok,
+          c.count_rejects.new.rejects.entries i.1 c.in_ok-count_rejects-in-Rejected.ensures.ok,
     )
