@@ -3,12 +3,16 @@
 
 mod book;
 mod fault;
+mod indexed;
 mod laws;
+mod probes;
 mod rows;
+mod search;
 mod sharing;
 
 pub use crate::book::{Book, Delivered};
 pub use crate::fault::BookFault;
 pub use crate::laws::follows_core;
+pub use crate::probes::Probes;
 pub use crate::rows::Rows;
 pub use crate::sharing::share_row;
