@@ -1,3 +1,4 @@
+pub mod DoneLaws
 pub mod BookLaws
 pub mod Origins
 pub mod TieLaws

@@ -2,6 +2,7 @@
 #![tactic(auto)]
 
 mod book;
+mod done;
 mod fault;
 mod indexed;
 mod laws;
