@@ -1,5 +1,5 @@
 use Rattle.std.proofs.Common.{[], get_or, length}
-use Rattle.bench_fetch.proofs.measure.Given as goal
+use Rattle.bench_broker.proofs.fetches.measure_all.Given as goal
 
 -- the names of the cells that were just made
 abbrev pub ghosts-compare : goal.ghosts-compare

@@ -1,9 +1,10 @@
 //! What a load of a name costs, among the first of many and among the last, and the memory that they
 //! take.
 
-use crate::finds::{FORWARD, NAME};
+use broker_fixtures::NAME;
 use bytes::Bytes;
 use catalogue::Catalogue;
+use fixtures::FORWARD;
 use std::alloc::{Alloc, AllocError, Global};
 use std::fs::{self, Files};
 use std::io;
@@ -66,6 +67,7 @@ pub(crate) fn measure<R: Wait + Clock + Files + Alloc + Print>(
     let last = load(rt, alloc, &mut catalogue, SOME)?;
     let after = peak_memory(rt)?;
     println!(rt;
-        "the first 1,000 loads of 100,000: {first:6.2} us a load, {before} kB; the last 1,000: {last:6.2} us, {after} kB"
+        "the first 1,000 loads of 100,000: {first:6.2} us a load, {before} kB; \
+            the last 1,000: {last:6.2} us, {after} kB"
     )
 }

@@ -2,10 +2,11 @@
 
 ghost use Rattle.broker.specs.Layouts.{IsNamed};
 
-use crate::appends::{Open, Target, are_done, deploy, fill};
-use broker::{Broker, Parts, Stepped, Until};
+use crate::turns::fill;
+use broker::{Broker, Parts, Stepped};
+use broker_fixtures::{deploy, drain, step_book};
 use catalogue::Catalogue;
-use out_book::Book;
+use fixtures::FORWARD;
 use part_log::Names;
 use std::alloc::Global;
 use std::io;
@@ -22,21 +23,7 @@ const CELLS: usize = 65_536;
 /// How many steps are measured together.
 const STEPS: usize = 1_000;
 
-/// Takes the next item into a book; whether there was one.
-fn step<Id: Names, C>(alloc: Global, broker: &Broker<Id, C>, book: &mut Book<Id>) -> bool {
-    let _some = broker.inputs();
-    if book.done(0) >= broker.cells(0) {
-        return false;
-    }
-    let mut note = broker.note(0, book.done(0));
-    match broker.step(alloc, book, 0, &mut note) {
-        Ok(Stepped::Added(_)) => true,
-        Ok(Stepped::Nothing) => false,
-        Err(_) => false,
-    }
-}
-
-/// What a step took in nanoseconds, after this number of items. None where there were too few.
+/// What a step took in nanoseconds, after some items. None where there were too few.
 fn after<Id: Names + Send + Sync, R: Threads + Wait + Clock + Sync>(
     rt: &R,
     alloc: Global,
@@ -45,15 +32,15 @@ fn after<Id: Names + Send + Sync, R: Threads + Wait + Clock + Sync>(
 ) -> Option<f64>
     requires { IsNamed Id.cells Id.inputs Id.outputs parts }
 {
-    let broker: Broker<Id, Catalogue<&R>> = Broker::new(alloc, parts).ok()?;
-    deploy(rt, alloc, &broker, 0, Target::First)?;
-    fill(rt, alloc, &broker, 0, items.wrapping_sub(1), 1)?;
-    let ended = broker.start(rt, alloc, Until::Drained, &Open).ok()?;
-    if !are_done(&ended) {
+    let made: Broker<Id, Catalogue<&R>> = Broker::new(alloc, parts).ok()?;
+    let broker = &made;
+    deploy(rt, alloc, broker, 0, &FORWARD)?;
+    fill(rt, alloc, broker, 0, items.wrapping_sub(1), 1)?;
+    if !drain(rt, alloc, broker) {
         return None;
     }
-    fill(rt, alloc, &broker, 0, STEPS, 1)?;
-    step_all(rt, alloc, &broker)
+    fill(rt, alloc, broker, 0, STEPS, 1)?;
+    step_all(rt, alloc, broker)
 }
 
 /// What a step took in nanoseconds, over the next steps of the first book.
@@ -66,9 +53,9 @@ fn step_all<Id: Names, C, R: Wait + Clock>(
     let mut book = broker.book(0).lock(rt);
     let start = Instant::now(rt).ok()?;
     for _ in 0..STEPS {
-        if !step(alloc, broker, &mut book) {
+        let Ok(Stepped::Added(_)) = step_book(alloc, broker, &mut *book, 0)? else {
             return None;
-        }
+        };
     }
     let took = start.elapsed(rt).ok()?.as_secs_f64();
     Some(took * 1_000_000_000.0 / nearest_u64_to_f64(STEPS as u64))

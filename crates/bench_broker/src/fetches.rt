@@ -1,22 +1,17 @@
-//! Measures how fast a broker's rows are fetched as batches, beside the writing of the same batch by
-//! `batch` and beside a copy of its bytes. Given how many times to do so in a turn, it takes ten
-//! turns with rows of each size and prints the bytes and rows a second of the best; given nothing,
-//! it prints nothing.
-#![tactic(auto)]
-
-mod log;
-mod turns;
+//! How fast a broker's rows are fetched as batches.
 
 ghost use Rattle.broker.specs.Layouts.{IsNamed};
 
-use crate::log::fill;
-use crate::turns::{Times, shortest_copy, shortest_encode, shortest_fetch};
+use crate::shortest::{Times, shortest_copy, shortest_encode, shortest_fetch};
 use batch::decode;
-use broker::{Broker, Parts};
+use broker::{Broker, Ended, Parts, Until};
+use broker_fixtures::{deploy, ends};
 use bytes::Bytes;
 use catalogue::Catalogue;
+use fixtures::{FORWARD, batch_of_copies};
 use part_log::Names;
 use std::alloc::Global;
+use std::io;
 use std::io::ErrorKind;
 use std::marker::Brand;
 use std::num::nearest_u64_to_f64;
@@ -24,13 +19,14 @@ use std::rt::Clock;
 use std::sync::Wait;
 use std::thread::Threads;
 use std::time::Duration;
-use std::{env, io};
+use worker::Open;
 
 /// What the rows are like: how many one batch takes, and the bytes of a value.
-pub(crate) struct Shape {
+#[derive(Clone, Copy, Drop)]
+struct Shape {
     name: &'static str,
-    pub(crate) rows: usize,
-    pub(crate) value: usize,
+    rows: usize,
+    value: usize,
 }
 
 const SMALL: Shape = Shape {
@@ -63,6 +59,27 @@ fn show<R: Print>(
     )
 }
 
+/// Gives output 0 the rows of eight batches of this shape. None where memory ran out.
+fn fill<Id: Names + Send + Sync, H: Wait + Drop + Send, R: Threads + Wait + Sync>(
+    rt: &R,
+    alloc: Global,
+    broker: &Broker<Id, Catalogue<H>>,
+    shape: &Shape,
+) -> Option<()> {
+    deploy(rt, alloc, broker, 0, &FORWARD)?;
+    let value = vec![in alloc; b'v'; shape.value].ok()?;
+    for _ in 0..8 {
+        let (key, value) = (Some(b"kkkkkkkk".as_slice()), Some(value.as_slice()));
+        let batch = batch_of_copies(alloc, 1_700_000_000_000, shape.rows, key, value)?;
+        broker.append(rt, alloc, 0, batch).ok()?;
+    }
+    if ends(rt, alloc, broker, Until::Drained, &Open, &[Ended::Done(9)]) {
+        Some(())
+    } else {
+        None
+    }
+}
+
 /// Fills an output partition with the rows of eight batches, and fetches the first and the last.
 fn compare<Id: Names + Send + Sync, R: Threads + Wait + Print + Clock + Sync>(
     rt: &R,
@@ -73,8 +90,9 @@ fn compare<Id: Names + Send + Sync, R: Threads + Wait + Print + Clock + Sync>(
 ) -> io::Result<()>
     requires { IsNamed Id.cells Id.inputs Id.outputs parts }
 {
-    let broker: Broker<Id, Catalogue<&R>> = Broker::new(alloc, parts)?;
-    let Some(()) = fill(rt, alloc, &broker, shape) else {
+    let made: Broker<Id, Catalogue<&R>> = Broker::new(alloc, parts)?;
+    let broker = &made;
+    let Some(()) = fill(rt, alloc, broker, shape) else {
         return Err(ErrorKind::InvalidData.into());
     };
     let Ok(Some(first)) = broker.fetch(rt, 0, 0, shape.rows) else {
@@ -86,7 +104,7 @@ fn compare<Id: Names + Send + Sync, R: Threads + Wait + Print + Clock + Sync>(
         let place = shape.rows.wrapping_mul(place);
         let took = shortest_fetch(
             rt,
-            &broker,
+            broker,
             place,
             &Times {
                 times,
@@ -104,22 +122,15 @@ fn compare<Id: Names + Send + Sync, R: Threads + Wait + Print + Clock + Sync>(
     show(rt, "  encode      ", took, times, size, shape.rows)
 }
 
-fn measure<R: Threads + Wait + Print + Clock + Sync>(
+/// Prints how fast the rows of both shapes are fetched.
+pub(crate) fn measure_all<R: Threads + Wait + Print + Clock + Sync>(
     rt: &R,
     alloc: Global,
-    shape: &Shape,
     times: u32,
 ) -> io::Result<()> {
-    compare::<Brand, _>(rt, alloc, Parts::new(rt, alloc, 1, 1, 256)?, shape, times)
-}
-
-fn main(rt: HostRuntime) -> io::Result<()> {
-    match env::args(&rt)?.nth(1) {
-        Some(times) => {
-            let times = times.parse::<u32>().unwrap_or(20);
-            measure(&rt, rt.alloc(), &SMALL, times)?;
-            measure(&rt, rt.alloc(), &LARGE, times)
-        }
-        None => Ok(()),
+    for shape in [SMALL, LARGE] {
+        let parts = Parts::new(rt, alloc, 1, 1, 256)?;
+        compare::<Brand, R>(rt, alloc, parts, &shape, times)?;
     }
+    Ok(())
 }

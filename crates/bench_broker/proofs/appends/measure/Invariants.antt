@@ -1,5 +1,5 @@
 use Rattle.std.proofs.Common.{[], get_or, length}
-use Rattle.bench_log.proofs.measure.Given as goal
+use Rattle.bench_broker.proofs.appends.measure.Given as goal
 
 -- the names of the cells that were just made
 abbrev pub ghosts-turn : goal.ghosts-turn

@@ -3,8 +3,10 @@
 ghost use Rattle.broker.specs.Layouts.{IsNamed};
 
 use broker::{Broker, Parts};
+use broker_fixtures::{NAME, load};
 use bytes::Bytes;
 use catalogue::{Catalogue, Known};
+use fixtures::FORWARD;
 use part_log::Names;
 use std::alloc::{AllocError, Global};
 use std::marker::Brand;
@@ -16,19 +18,11 @@ use std::thread::Threads;
 use std::time::Instant;
 use std::{io, thread};
 
-/// The name of the program.
-pub(crate) const NAME: &str = "fwd";
-
 /// How often a reader finds.
 const FINDS: u64 = 200_000;
 
 /// How often the writer loads at most.
 const LOADS: u64 = 4_000;
-
-/// mov64 r1, 0; call 3; exit
-pub(crate) const FORWARD: [u8; 24] = [
-    0xb7, 1, 0, 0, 0, 0, 0, 0, 0x85, 0, 0, 0, 3, 0, 0, 0, 0x95, 0, 0, 0, 0, 0, 0, 0,
-];
 
 /// What a thread did, and in how many seconds.
 #[derive(Clone, Copy, Drop)]
@@ -79,20 +73,7 @@ fn load_all<Id: Names, H: Wait + Drop, R: Wait + Clock>(
     Some(Work { count, seconds })
 }
 
-/// What is known after a first load.
-fn load_first<Id: Names, H: Wait + Drop, R: Wait>(
-    rt: &R,
-    alloc: Global,
-    broker: &Broker<Id, Catalogue<H>>,
-) -> Result<Known, AllocError> {
-    let image = Bytes::copy_from_slice(alloc, &FORWARD)?;
-    let (_version, known) = broker
-        .load(rt, alloc, NAME, &image)
-        .map_err(|_| AllocError)?;
-    Ok(known)
-}
-
-/// What the writer did, and then what each reader did.
+/// What the writer did, and then what each of some readers did.
 fn run<Id: Names + Send + Sync, R: Threads + Wait + Clock + Sync>(
     rt: &R,
     alloc: Global,
@@ -102,8 +83,12 @@ fn run<Id: Names + Send + Sync, R: Threads + Wait + Clock + Sync>(
     requires { IsNamed Id.cells Id.inputs Id.outputs parts }
 {
     let made: Broker<Id, Catalogue<&R>> = Broker::new(alloc, parts)?;
-    let (broker, ended) = (&made, &AtomicU64::new(0));
-    let known = &load_first(rt, alloc, broker)?;
+    let broker = &made;
+    let ended = &AtomicU64::new(0);
+    let Some((_version, first)) = load(rt, alloc, broker, &FORWARD) else {
+        return Err(AllocError);
+    };
+    let known = &first;
     let one = move |number: usize| -> Option<Work> {
         if number == 0 {
             load_all(rt, alloc, broker, readers as u64, ended)

@@ -1,70 +1,29 @@
-//! Measures how fast threads append to logs and find programs. Given how many turns to take, it fills
-//! logs of several sizes by one, two and four producers and prints what an append took in the best
-//! turn, then how many programs one and four readers find a second while a writer loads, and what a
-//! load takes; given nothing, it prints nothing.
-#![tactic(auto)]
-
-mod finds;
-mod loads;
+//! How fast threads append to logs.
 
 ghost use Rattle.std.specs.Prelude.{◌≤◌};
-ghost use Rattle.log_spec.specs.Logs.{FitsLog};
-ghost use Rattle.broker.specs.Layouts.{IsNamed, IsCount};
+ghost use Rattle.broker.specs.Layouts.{IsCount, IsNamed};
 
 use broker::{Broker, Parts};
-use bytes::Bytes;
 use catalogue::Catalogue;
+use fixtures::batch_of_copies;
 use part_log::{LoggedBatch, Names};
-use std::alloc::{Alloc, AllocError, Global};
-use std::fs::Files;
-use std::io::ErrorKind;
+use std::alloc::{AllocError, Global};
 use std::marker::Brand;
 use std::num::nearest_u64_to_f64;
 use std::rt::Clock;
 use std::sync::Wait;
 use std::thread::Threads;
 use std::time::{Duration, Instant};
-use std::{env, io, thread};
-use wire_spec::{Batch, Headers, Record, Records};
+use std::{io, thread};
 
+/// How many cells the largest log has.
 const MOST_CELLS: usize = 65_536;
 
-/// A batch of one record of 64 bytes.
-fn batch_of(alloc: Global) -> Result<Batch, AllocError> {
-    let value = vec![in alloc; b'v'; 64]?;
-    let given = Record {
-        timestamp_delta: 0,
-        key: None,
-        value: Some(Bytes::from_vec(value)?),
-        headers: Headers {
-            list: Vec::new(alloc),
-        },
-    };
-    let mut list = Vec::new(alloc);
-    list.push(given)?;
-    Ok(Batch {
-        base_offset: 0,
-        leader_epoch: 0,
-        base_timestamp: 1_700_000_000_000,
-        producer_id: -1,
-        producer_epoch: -1,
-        base_sequence: -1,
-        records: Records { list },
-    })
-}
+/// The timestamp of each batch.
+const TIMESTAMP: i64 = 1_700_000_000_000;
 
-/// The batch, where a log takes it.
-fn if_fits(batch: Batch) -> Option<LoggedBatch> {
-    let fits = batch::fits(&batch);
-    if fits {
-        Some(LoggedBatch::new(batch))
-    } else {
-        None
-    }
-}
-
-/// Appends batches of the producer's own until those were `most`, or one is refused; how many
-/// appends that were.
+/// Appends batches of one record of 64 bytes, the producer's own, until those were `most`, or one is
+/// refused; how many appends that were.
 fn fill<Id: Names, C, R: Wait>(
     rt: &R,
     alloc: Global,
@@ -72,9 +31,10 @@ fn fill<Id: Names, C, R: Wait>(
     input: usize,
     most: usize,
 ) -> Result<u64, AllocError> {
-    let Some(logged) = if_fits(batch_of(alloc)?) else {
-        return Ok(0);
+    let Some(first) = batch_of_copies(alloc, TIMESTAMP, 1, None, Some(&[b'v'; 64])) else {
+        return Err(AllocError);
     };
+    let logged = LoggedBatch::new(first);
     let mut count = 0u64;
     for _ in 0..most {
         let batch = batch::share(alloc, logged.batch())?;
@@ -146,13 +106,14 @@ fn ends<Id: Names, R: Wait + Clock>(
 ) -> io::Result<(f64, f64)>
     requires { IsNamed Id.cells Id.inputs Id.outputs parts }
 {
-    let broker: Broker<Id, Catalogue<&R>> = Broker::new(alloc, parts)?;
+    let made: Broker<Id, Catalogue<&R>> = Broker::new(alloc, parts)?;
+    let broker = &made;
     let start = Instant::now(rt)?;
-    let count = fill(rt, alloc, &broker, 0, 1_000)?;
+    let count = fill(rt, alloc, broker, 0, 1_000)?;
     let first = nanos(start.elapsed(rt)?, count);
-    fill(rt, alloc, &broker, 0, MOST_CELLS - 2_000)?;
+    fill(rt, alloc, broker, 0, MOST_CELLS - 2_000)?;
     let start = Instant::now(rt)?;
-    let count = fill(rt, alloc, &broker, 0, 1_000)?;
+    let count = fill(rt, alloc, broker, 0, 1_000)?;
     Ok((first, nanos(start.elapsed(rt)?, count)))
 }
 
@@ -171,7 +132,8 @@ fn measure_ends<R: Wait + Clock + Print>(rt: &R, alloc: Global, turns: u32) -> i
     )
 }
 
-fn measure_all<R: Threads + Wait + Clock + Files + Alloc + Print + Sync>(
+/// Prints what an append took at both ends of a log, and in logs of several sizes.
+pub(crate) fn measure_all<R: Threads + Wait + Clock + Print + Sync>(
     rt: &R,
     alloc: Global,
     turns: u32,
@@ -184,14 +146,5 @@ fn measure_all<R: Threads + Wait + Clock + Files + Alloc + Print + Sync>(
             measure(rt, alloc, 1, cells, producers, turns)?;
         }
     }
-    finds::measure(rt, alloc, 1, turns)?;
-    finds::measure(rt, alloc, 4, turns)?;
-    loads::measure(rt, alloc)
-}
-
-fn main(rt: HostRuntime) -> io::Result<()> {
-    match env::args(&rt)?.nth(1) {
-        Some(turns) => measure_all(&rt, rt.alloc(), turns.parse::<u32>().unwrap_or(20)),
-        None => Ok(()),
-    }
+    Ok(())
 }
