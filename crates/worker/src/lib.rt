@@ -9,7 +9,7 @@ mod results;
 mod walk;
 
 pub use crate::delivery::Delivery;
-pub use crate::gate::Gate;
+pub use crate::gate::{Gate, Open};
 pub use crate::processing::{process, process_for};
 pub use crate::results::Results;
 pub use crate::walk::Walk;
