@@ -1,0 +1,7 @@
+//! Record batches through a program, with no log: the rows of each batch in each output partition,
+//! and these as record batches again.
+#![tactic(auto)]
+
+mod backlog;
+
+pub use crate::backlog::Backlog;
