@@ -1,1 +1,3 @@
 pub mod BacklogLaws
+pub mod WrittenLaws
+pub mod OutletLaws

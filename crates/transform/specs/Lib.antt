@@ -1,1 +1,2 @@
 pub mod Backlogs
+pub mod Outlets

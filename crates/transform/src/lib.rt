@@ -3,5 +3,7 @@
 #![tactic(auto)]
 
 mod backlog;
+mod outlet;
 
-pub use crate::backlog::Backlog;
+pub use crate::backlog::{Backlog, BacklogFault};
+pub use crate::outlet::{Outlet, OutletFault};
