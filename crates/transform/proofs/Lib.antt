@@ -1,3 +1,5 @@
 pub mod BacklogLaws
 pub mod WrittenLaws
 pub mod OutletLaws
+pub mod EachLaws
+pub mod FillLaws

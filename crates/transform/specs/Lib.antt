@@ -1,2 +1,3 @@
 pub mod Backlogs
 pub mod Outlets
+pub mod Transforms

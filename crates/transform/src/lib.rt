@@ -3,7 +3,9 @@
 #![tactic(auto)]
 
 mod backlog;
+mod flow;
 mod outlet;
 
 pub use crate::backlog::{Backlog, BacklogFault};
+pub use crate::flow::{Transform, TransformFault};
 pub use crate::outlet::{Outlet, OutletFault};
