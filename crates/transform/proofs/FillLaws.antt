@@ -1,8 +1,8 @@
 -- Output partitions that are filled and emptied.
-use Rattle.std.proofs.Common.{◌≡◌, ℕ, List, Result, Err, refl, sym, ap, subst}
+use Rattle.std.proofs.Common.{◌≡◌, ℕ, List, Err, sym, subst}
 use Rattle.log_spec.specs.declared.row.Row.{Row}
 use Rattle.item_rows.specs.ItemRows.{rows_in}
-use Rattle.transform.specs.declared.{flow.TransformFault.TransformFault, outlet.OutletFault.OutletFault}
+use Rattle.transform.specs.declared.{flow.TransformFault.TransformFault}
 use Rattle.transform.specs.declared.flow.TransformFault.TheVariants as fault
 use Rattle.transform.specs.Outlets.{Outflow, with_rows}
 use Rattle.transform.specs.Transforms.{Fills, FillsSome, StopsFilling, Empties, EmptiesSome, StopsEmptying, InOne}

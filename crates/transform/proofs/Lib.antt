@@ -3,3 +3,5 @@ pub mod WrittenLaws
 pub mod OutletLaws
 pub mod EachLaws
 pub mod FillLaws
+pub mod LogOfLaws
+pub mod FollowLaws

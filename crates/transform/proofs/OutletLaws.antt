@@ -1,6 +1,6 @@
 -- Batches of the rows of an output, one after the other, and what a writer has of them.
-use Rattle.std.proofs.Common.{◌≡◌, ℕ, ◌+◌, ◌<◌, ◌≤◌, List, [], ◌∷◌, ◌++◌, length, take, drop, Option, Some, None, refl, sym, ap}
-use Rattle.std.proofs.Common.{subst, ◌∙◌, append-nil, append_assoc, arith, Result, Ok, Err}
+use Rattle.std.proofs.Common.{◌≡◌, ℕ, ◌<◌, List, [], ◌∷◌, ◌++◌, length, Option, Some, refl, sym, ap}
+use Rattle.std.proofs.Common.{subst, ◌∙◌, append-nil, arith, Result, Err}
 use Rattle.std.specs.List.{concat}
 use Rattle.std.specs.Io.KnownBytes.{Appends}
 use Rattle.std.proofs.KnownBytes.{Appends-nil, Appends-trans}
@@ -8,7 +8,7 @@ use Rattle.std.proofs.lemmas.List.{length-drop}
 use Rattle.std.proofs.lemmas.List.Folds.{concat-append}
 use Rattle.transform.specs.declared.outlet.OutletFault.{OutletFault}
 use Rattle.transform.specs.declared.outlet.OutletFault.TheVariants as fault
-use Rattle.transform.specs.Backlogs.{Waiting, rest_after, IsBatchOf, IsFull, GivesFull, GivesNext}
+use Rattle.transform.specs.Backlogs.{Waiting, rest_after, IsBatchOf, GivesFull, GivesNext}
 use Rattle.transform.specs.Outlets.{AreFull, AreBatches, HasBegun, WroteFull, WroteBatches, WrotePart, PutsFull, PutsAll}
 use Rattle.transform.proofs.WrittenLaws.{begun_then}
 

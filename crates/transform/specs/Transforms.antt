@@ -1,5 +1,5 @@
 -- A stream of record batches through a program, into output partitions.
-use Rattle.std.specs.Prelude.{◌≡◌, ◌≢◌, ℕ, ◌+◌, ◌<◌, ◌≤◌, List, [], ◌∷◌, ◌++◌, length, map, Option, Some, None, Result, Ok}
+use Rattle.std.specs.Prelude.{◌≡◌, ◌≢◌, ℕ, ◌+◌, ◌<◌, ◌≤◌, List, [], ◌∷◌, ◌++◌, length, map, Some, None, Result, Ok}
 use Rattle.std.specs.Prelude.{Err, get_or}
 use Rattle.wire_spec.specs.declared.{record.Batch.Batch, limits.TheConstants.TIMESTAMP_END}
 use Rattle.machine_spec.specs.Image.{Program}
@@ -10,7 +10,7 @@ use Rattle.item_rows.specs.ItemRows.{rows_in, AreItemRows}
 use Rattle.transform.specs.declared.{flow.TransformFault.TransformFault, outlet.OutletFault.OutletFault}
 use Rattle.transform.specs.declared.flow.TransformFault.TheVariants as fault
 use Rattle.transform.specs.Backlogs.{Waiting, waiting}
-use Rattle.transform.specs.Outlets.{Outflow, outflow, with_rows, WroteFull, WroteBatches, PutsFull, PutsAll, Stops}
+use Rattle.transform.specs.Outlets.{Outflow, outflow, with_rows, WroteFull, WroteBatches, Stops}
 
 -- ---- the rows of batches
 
@@ -154,3 +154,64 @@ EndsOne output old (Err (fault.Output number why)) new =
     (number ≡ output) × InOne old new output (λ x. StopsEmptying x why) (λ other. Stays)
 EndsOne output old (Err fault.Full) new = ⊥
 EndsOne output old (Err fault.Memory) new = ⊥
+
+-- ---- many batches
+
+-- how many records batches have
+abbrev pub records_of : List Batch → ℕ
+records_of [] = 0
+records_of (batch ∷ batches) = length batch.records + records_of batches
+
+-- the rows that batches give to an output of a stream
+abbrev pub AreFlowRows : Flow → Program → List Batch → ℕ → List Row → Type 0
+AreFlowRows start program batches output rows =
+    AreRows start.input output (length start.outputs) program start.offset batches rows
+
+-- Batches were pushed since the start: each output partition has their rows, some in full batches, and the others wait.
+pub record Follows (start : Flow) (program : Program) (batches : List Batch) (now : Flow) : Type 0 where
+  pub input : now.input ≡ start.input
+  pub offset : now.offset ≡ start.offset + records_of batches
+  pub count : length now.outputs ≡ length start.outputs
+  pub each : (output : ℕ) → output < length start.outputs →
+      (rows : List Row) × AreFlowRows start program batches output rows
+      × Fills rows (output_at start.outputs output) (output_at now.outputs output)
+
+-- all rows that waited in an output partition and those that were added were written
+abbrev pub FillsAll : List Row → Outflow → Outflow → Type 0
+FillsAll rows old new =
+    WroteBatches (with_rows old.waits rows) old.written new.waits new.written × (new.waits.rows ≡ [])
+
+-- Batches were pushed since the start, and all their rows are in batches that were written.
+pub record Finished (start : Flow) (program : Program) (batches : List Batch) (now : List Outflow) : Type 0 where
+  pub count : length now ≡ length start.outputs
+  pub each : (output : ℕ) → output < length start.outputs →
+      (rows : List Row) × AreFlowRows start program batches output rows
+      × FillsAll rows (output_at start.outputs output) (output_at now output)
+
+-- Batches were pushed since the start, until an output partition failed: the others have written whole batches of their
+-- rows.
+pub record Broken (start : Flow) (program : Program) (batches : List Batch) (now : List Outflow) (output : ℕ)
+    (why : OutletFault) : Type 0 where
+  pub count : length now ≡ length start.outputs
+  pub within : output < length start.outputs
+  pub here : (rows : List Row) × AreFlowRows start program batches output rows
+      × StopsFilling rows (output_at start.outputs output) why (output_at now output)
+  pub others : (other : ℕ) → other < length start.outputs → other ≢ output →
+      (rows : List Row) × AreFlowRows start program batches other rows
+      × FillsSome rows (output_at start.outputs other) (output_at now other)
+
+-- What is known of the batches that were pushed since the start, with one more or one that fails, and at the end.
+pub record ManyBatches : Type 0 where
+  pub none : (start : Flow) (program : Program) → Follows start program [] start
+  pub more : (start old new : Flow) (program : Program) (batches : List Batch) (batch : Batch) →
+      Follows start program batches old → Pushes program batch old (Ok tt) new →
+      Follows start program (batches ++ batch ∷ []) new
+  pub stop : (start old new : Flow) (program : Program) (batches : List Batch) (batch : Batch) (output : ℕ)
+      (why : OutletFault) → Follows start program batches old →
+      Pushes program batch old (Err (fault.Output output why)) new →
+      Broken start program (batches ++ batch ∷ []) new.outputs output why
+  pub end : (start old new : Flow) (program : Program) (batches : List Batch) → Follows start program batches old →
+      EndsFlow old (Ok tt) new → Finished start program batches new.outputs
+  pub end_stop : (start old new : Flow) (program : Program) (batches : List Batch) (output : ℕ) (why : OutletFault) →
+      Follows start program batches old → EndsFlow old (Err (fault.Output output why)) new →
+      Broken start program batches new.outputs output why

@@ -1,4 +1,3 @@
-use Rattle.std.proofs.Common.{◌≡◌, length}
 use Rattle.item_rows.specs.ItemRows.{rows_in}
 use Rattle.transform.specs.Transforms.{Fills}
 use Rattle.transform.proofs.EachLaws.{InFirst, AreLeft}

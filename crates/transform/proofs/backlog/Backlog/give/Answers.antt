@@ -1,5 +1,4 @@
-use Rattle.std.proofs.Common.{◌≡◌, ◌≤◌, length, ap, subst, sym, ◌∙◌, rules, arith}
-use Rattle.wire_spec.specs.declared.record.Batch.{Batch}
+use Rattle.std.proofs.Common.{◌≡◌, ◌≤◌, length, rules, arith}
 use Rattle.transform.proofs.BacklogLaws.{with_less}
 use Rattle.transform.proofs.backlog.Backlog.give.Goals as goal
 

@@ -1,0 +1,7 @@
+//! Tests of batches through a program, by public calls.
+#![tactic(auto)]
+
+#[cfg(test)]
+mod batches;
+#[cfg(test)]
+mod writers;
