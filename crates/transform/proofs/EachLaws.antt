@@ -33,6 +33,7 @@ module _ (Holds : ℕ → Outflow → Outflow → Type 0) where
       earlier q lt before =
           subst (Holds q (output_at old q)) (sym (one.others q (omega (arith, first.count)) (λ e. omega (arith, e, before))))
           (first.done q lt before)
+
       now : (q : ℕ) → q < length old → q ≡ n → Holds q (output_at old q) (output_at new q)
       now q lt is =
           let same : output_at mid n ≡ output_at old n = first.left n (omega (arith, is, lt)) (omega arith) in

@@ -149,9 +149,11 @@ fills_then rows more x y z one two =
 
 fills_then_some : (rows more : List Row) (x y z : Outflow) → Fills rows x y → FillsSome more y z →
     FillsSome (rows ++ more) x z
-fills_then_some rows more x y z one two =
-    (two.0, wrote_then_batches (with_rows x.waits (rows ++ more)) (with_rows y.waits more) two.0 x.written y.written
-    z.written (filled_with rows more x y one) two.1)
+fills_then_some rows more x y z one two = (
+  two.0,
+  wrote_then_batches (with_rows x.waits (rows ++ more)) (with_rows y.waits more) two.0 x.written y.written
+      z.written (filled_with rows more x y one) two.1,
+)
 
 fills_then_stops : (rows more : List Row) (x y z : Outflow) (why : OutletFault) → Fills rows x y →
     StopsFilling more y why z → StopsFilling (rows ++ more) x why z

@@ -67,8 +67,7 @@ pub rows_more : (input output outputs : ℕ) (program : Program) (offset : ℕ) 
     IsItemRows input output outputs (Some program) (offset + records_of batches) (Records batch) here →
     AreRows input output outputs program offset (batches ++ batch ∷ []) (rows ++ here)
 rows_more input output outputs program offset [] batch rows here none is =
-    let at : offset + 0 ≡ offset = omega arith in
-    (
+    let at : offset + 0 ≡ offset = omega arith in (
       here,
       [],
       subst (λ (o : ℕ). IsItemRows input output outputs (Some program) o (Records batch) here) at is,

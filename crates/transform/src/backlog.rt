@@ -78,6 +78,13 @@ impl Backlog {
         self.place
     }
 
+    /// How many rows were added, those that wait among them.
+    pub fn rows(&self) -> u64
+        ensures { result ≡ self.now.place + length self.now.rows }
+    {
+        self.place + self.len() as u64
+    }
+
     /// How many rows wait.
     pub fn len(&self) -> usize
         ensures { result ≡ length self.now.rows }

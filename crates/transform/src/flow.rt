@@ -1,6 +1,6 @@
 //! Record batches through a program, into output partitions.
 
-ghost use Rattle.std.specs.Prelude.{◌≡◌, ℕ, ◌<◌, ◌≤◌, length, All};
+ghost use Rattle.std.specs.Prelude.{◌≡◌, ℕ, ◌<◌, ◌≤◌, length, slice_get, All, Some};
 ghost use Rattle.wire_spec.specs.declared.limits.TheConstants.{TIMESTAMP_END};
 ghost use Rattle.log_spec.specs.Logs.{FitsLog, RowFits};
 ghost use Rattle.item_rows.specs.ItemRows.{rows_in};
@@ -86,6 +86,21 @@ impl<W: Write> Transform<W> {
         ensures { result ≡ self.now.offset }
     {
         self.offset
+    }
+
+    /// How many output partitions there are.
+    pub fn outputs(&self) -> usize
+        ensures { result ≡ length self.now.outputs }
+    {
+        self.outlets.len()
+    }
+
+    /// An output partition.
+    pub fn outlet(&self, output: usize) -> &Outlet<W>
+        requires { output < length self.now.outputs }
+        ensures { slice_get self.now.outputs output ≡ Some result.now }
+    {
+        &self.outlets[output]
     }
 
     /// Runs a program on the records of the next batch, in order, each once, and puts the rows into

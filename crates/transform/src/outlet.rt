@@ -1,6 +1,6 @@
 //! An output partition's rows as record batches in a writer.
 
-ghost use Rattle.std.specs.Prelude.{◌≡◌, ◌≤◌, [], ◌++◌, length, All};
+ghost use Rattle.std.specs.Prelude.{◌≡◌, ◌+◌, [], length, All};
 ghost use Rattle.log_spec.specs.Logs.{RowFits};
 ghost use Rattle.transform.specs.Backlogs.{waiting};
 ghost use Rattle.transform.specs.Outlets.{outflow, Writes, WritesSome, PutsRows, PutsFull, PutsAll, PutsRest};
@@ -64,6 +64,20 @@ impl<W: Write> Outlet<W> {
             backlog: Backlog::new(alloc),
             writer,
         }
+    }
+
+    /// The writer.
+    pub fn writer(&self) -> &W
+        ensures { W.contents result.now ≡ self.now.written }
+    {
+        &self.writer
+    }
+
+    /// How many rows were put, those that wait among them.
+    pub fn rows(&self) -> u64
+        ensures { result ≡ self.now.waits.place + length self.now.waits.rows }
+    {
+        self.backlog.rows()
     }
 
     /// Adds rows at the end, and writes each batch that is full then. It fails where an offset would be

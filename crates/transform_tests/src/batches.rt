@@ -1,3 +1,6 @@
+ghost use Rattle.std.specs.Prelude.{IfSome, ◌≡◌, length, IfOk, ◌≤◌};
+ghost use Rattle.log_spec.specs.Logs.{FitsLog};
+
 use batch::Feed;
 use bytes::Bytes;
 use fixtures::{FORWARD, batch_at, batch_of};
@@ -6,9 +9,6 @@ use std::alloc::{AllocError, Global};
 use std::test::Fail;
 use transform::{Outlet, Transform};
 use wire_spec::{Batch, Headers, Record, Records};
-
-ghost use Rattle.std.specs.Prelude.{IfSome, ◌≡◌, length, IfOk, ◌≤◌};
-ghost use Rattle.log_spec.specs.Logs.{FitsLog};
 
 /// mov64 r1, 1; call 3; exit: each record goes to output 1 as it is.
 const SECOND: [u8; 24] = [

@@ -1,3 +1,5 @@
+ghost use Rattle.std.specs.Prelude.{◌≡◌, length, IfOk};
+
 use crate::batches::program_of;
 use fixtures::{FORWARD, batch_of};
 use std::alloc::{AllocError, Global};
@@ -5,8 +7,6 @@ use std::io;
 use std::io::Write;
 use std::test::Fail;
 use transform::{Outlet, OutletFault, Transform, TransformFault};
-
-ghost use Rattle.std.specs.Prelude.{◌≡◌, length, IfOk};
 
 /// Takes `room` bytes, at most seven at once and none in every other call, and then fails.
 #[derive(Drop)]

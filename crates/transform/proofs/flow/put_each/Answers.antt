@@ -15,8 +15,13 @@ loop-output-init g c =
 
 pub take-requires : goal.take-requires
 take-requires g c =
-    omega (arith, c.loop-output-test.true, c.requires.count, c.loop-output.invariant.0.count,
-    c.loop-output.invariant.1.count)
+    omega (
+      arith,
+      c.loop-output-test.true,
+      c.requires.count,
+      c.loop-output.invariant.0.count,
+      c.loop-output.invariant.1.count,
+    )
 
 pub put_one-requires-clause-fit : goal.put_one-requires-clause-fit
 put_one-requires-clause-fit g c =
