@@ -81,7 +81,9 @@ impl<R: Read + Drop> BatchReader<R> {
             },
         })
     }
+}
 
+impl<R: Read> BatchReader<R> {
     /// How much was given. No clause says so.
     pub fn position(&self) -> Position {
         self.position
@@ -141,11 +143,7 @@ fn cut(feed: &mut Feed, position: &mut Position) -> Result<Option<Batch>, BatchF
 }
 
 // Feeds a piece more, or returns false at the reader's end.
-fn read_more<R: Read>(
-    feed: &mut Feed,
-    reader: &mut R,
-    buffer: &mut [u8],
-) -> Result<bool, ReadFault>
+fn read_more<R: Read>(feed: &mut Feed, reader: &mut R, buffer: &mut [u8]) -> Result<bool, ReadFault>
     requires open { feed.old ≡ Open (pending_bytes feed.old) }
     requires buffer { 1 ≤ length buffer.old }
     ensures reads { ReadsMore (inlet feed.old (R.remaining reader.old)) result (inlet feed.new (R.remaining reader.new)) }

@@ -5,3 +5,4 @@ pub mod EachLaws
 pub mod FillLaws
 pub mod LogOfLaws
 pub mod FollowLaws
+pub mod StreamLaws
