@@ -103,6 +103,14 @@ impl<W: Write> Transform<W> {
         &self.outlets[output]
     }
 
+    /// The output partitions, by value.
+    pub fn into_outlets(self) -> Vec<Outlet<W>>
+        ensures { result.items ≡ self.outputs }
+    {
+        let Transform { outlets, .. } = self;
+        outlets
+    }
+
     /// Runs a program on the records of the next batch, in order, each once, and puts the rows into
     /// the output partitions, which write each batch that is full then. It fails where the batch
     /// might reach the offset 2^62, or where memory runs out before a row is put; then nothing

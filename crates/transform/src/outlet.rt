@@ -73,6 +73,14 @@ impl<W: Write> Outlet<W> {
         &self.writer
     }
 
+    /// The writer, by value. Rows that wait are lost.
+    pub fn into_writer(self) -> W
+        ensures { W.contents result ≡ self.written }
+    {
+        let Outlet { writer, backlog: _ } = self;
+        writer
+    }
+
     /// How many rows were put, those that wait among them.
     pub fn rows(&self) -> u64
         ensures { result ≡ self.now.waits.place + length self.now.waits.rows }

@@ -25,7 +25,7 @@ pub(crate) fn program_of(alloc: Global, image: &[u8]) -> Result<Program, Fail> {
 }
 
 /// The base offset and the number of records of each batch that the bytes are.
-fn batches_in(alloc: Global, bytes: &[u8]) -> Result<Vec<(i64, usize)>, Fail> {
+pub(crate) fn batches_in(alloc: Global, bytes: &[u8]) -> Result<Vec<(i64, usize)>, Fail> {
     let mut feed = Feed::new(alloc);
     feed.feed(bytes)?;
     let mut found = Vec::new(alloc);

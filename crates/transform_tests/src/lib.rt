@@ -4,4 +4,6 @@
 #[cfg(test)]
 mod batches;
 #[cfg(test)]
+mod streams;
+#[cfg(test)]
 mod writers;
