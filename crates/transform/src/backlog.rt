@@ -152,9 +152,8 @@ impl Backlog {
         requires { 0 < length self.now.rows }
         ensures { IfOk result (λ batch. IsNext self.now (length batch.records) batch) }
     {
-        let rows = &self.rows[self.taken..];
-        let most = rows.len().min(MAX_RECORDS as usize);
-        first_batch(self.alloc, self.place as usize, &rows[..most])
+        let most = self.len().min(MAX_RECORDS as usize);
+        first_batch(self.alloc, &self.rows, self.taken, most, self.place as usize)
     }
 
     // The bytes of the next batch, whose rows wait no more.

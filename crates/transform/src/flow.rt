@@ -151,9 +151,9 @@ fn put_each<W: Write>(
     mut rows: ItemRows,
     outlets: &mut [Outlet<W>],
 ) -> Result<(), TransformFault>
-    requires count { length rows ≡ length outlets.old }
-    requires fit { (output : ℕ) → output < length outlets.old → All RowFits (rows_in rows output) }
-    ensures { PutsEach rows outlets.old result outlets.new }
+    requires count { length rows.rows ≡ length outlets.old }
+    requires fit { (output : ℕ) → output < length outlets.old → All RowFits (rows_in rows.rows output) }
+    ensures { PutsEach rows.rows outlets.old result outlets.new }
 {
     for output in 0..outlets.len() {
         put_one(output, rows.take(alloc, output), outlets)?;
