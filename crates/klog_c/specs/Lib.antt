@@ -1,3 +1,5 @@
 pub mod Handles
 pub mod Numbers
 pub mod Calls
+pub mod Outcomes
+pub mod Texts

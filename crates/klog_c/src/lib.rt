@@ -3,8 +3,11 @@
 #![tactic(auto)]
 
 ghost use Rattle.std.specs.Prelude.{◌≡◌, Some, None};
-ghost use Rattle.klog_c.specs.Calls.{Loads, Shares, Runs, program_in};
+ghost use Rattle.klog_c.specs.Calls.{Loads, Shares, Runs, program_in, outcome_in};
+ghost use Rattle.klog_c.specs.Outcomes.{Tells, TellsAt, CopiesAt};
+ghost use Rattle.klog_c.specs.Texts.{Writes, fault_text};
 
+mod emissions;
 mod faults;
 mod filling;
 mod handle;
@@ -12,11 +15,14 @@ mod object;
 mod parts;
 mod running;
 mod shared;
+mod texts;
 mod working;
 
+use crate::emissions::{Emitted, copy_key, copy_value, tell, tell_emission};
 use crate::faults::KIND;
 use crate::handle::Handle;
 use crate::running::Asked;
+use crate::texts::write_fault;
 use crate::working::{load_into, run_into, share_into};
 use std::alloc::Global;
 
@@ -32,6 +38,21 @@ pub extern "C" fn klog_load(
     ensures { Loads image.now program.old.place.object program.new.place.object place.new result }
 {
     load_into(alloc, image, program, place)
+}
+
+/// Writes the text of a fault at the front of a buffer, and its length, also where the buffer is too
+/// short. `place` is what the call that failed gave for it.
+#[unsafe(no_mangle)]
+pub extern "C" fn klog_fault_text(
+    alloc: Global,
+    fault: u32,
+    place: usize,
+    buffer: &mut [u8],
+    length: &mut usize,
+) -> u32
+    ensures { Writes (fault_text fault place) buffer.old buffer.new length.old length.new result }
+{
+    write_fault(alloc, fault, place, buffer, length)
 }
 
 /// Gives another owner of a loaded program to a handle that holds nothing or a program, for another
@@ -68,6 +89,86 @@ pub extern "C" fn klog_run(
     };
     let number = run_into(alloc, &object, asked, key, value, outcome);
     program.put(alloc, object);
+    number
+}
+
+/// Tells what an outcome is: its reject code, 0 where the record is kept, and how many emissions it
+/// has, at most 16.
+#[unsafe(no_mangle)]
+pub extern "C" fn klog_outcome(
+    alloc: Global,
+    outcome: &mut Handle,
+    code: &mut u64,
+    count: &mut usize,
+) -> u32
+    ensures outcome { outcome.new.place.object ≡ outcome.old.place.object }
+    ensures told { Tells (outcome_in outcome.old.place.object) code.new count.new result }
+{
+    let Some(object) = outcome.take(alloc) else {
+        return KIND;
+    };
+    let number = tell(&object, code, count);
+    outcome.put(alloc, object);
+    number
+}
+
+/// Tells of an emission of an outcome, by its number from 0: its output partition, and how long its
+/// key and its value are.
+#[unsafe(no_mangle)]
+pub extern "C" fn klog_emission(
+    alloc: Global,
+    outcome: &mut Handle,
+    at: usize,
+    emission: &mut Emitted,
+) -> u32
+    ensures outcome { outcome.new.place.object ≡ outcome.old.place.object }
+    ensures told { TellsAt (outcome_in outcome.old.place.object) at emission.new result }
+{
+    let Some(object) = outcome.take(alloc) else {
+        return KIND;
+    };
+    let number = tell_emission(&object, at, emission);
+    outcome.put(alloc, object);
+    number
+}
+
+/// Copies the key of an emission of an outcome to the front of a buffer. A fault leaves the buffer
+/// as it was.
+#[unsafe(no_mangle)]
+pub extern "C" fn klog_emission_key(
+    alloc: Global,
+    outcome: &mut Handle,
+    at: usize,
+    buffer: &mut [u8],
+) -> u32
+    ensures outcome { outcome.new.place.object ≡ outcome.old.place.object }
+    ensures copied { CopiesAt (λ e. e.key) (outcome_in outcome.old.place.object) at buffer.old buffer.new result }
+{
+    let Some(object) = outcome.take(alloc) else {
+        return KIND;
+    };
+    let number = copy_key(&object, at, buffer);
+    outcome.put(alloc, object);
+    number
+}
+
+/// Copies the value of an emission of an outcome to the front of a buffer. A fault leaves the buffer
+/// as it was.
+#[unsafe(no_mangle)]
+pub extern "C" fn klog_emission_value(
+    alloc: Global,
+    outcome: &mut Handle,
+    at: usize,
+    buffer: &mut [u8],
+) -> u32
+    ensures outcome { outcome.new.place.object ≡ outcome.old.place.object }
+    ensures copied { CopiesAt (λ e. e.value) (outcome_in outcome.old.place.object) at buffer.old buffer.new result }
+{
+    let Some(object) = outcome.take(alloc) else {
+        return KIND;
+    };
+    let number = copy_value(&object, at, buffer);
+    outcome.put(alloc, object);
     number
 }
 
