@@ -29,7 +29,7 @@ use std::alloc::Global;
 /// Loads a program's image into a handle that holds nothing or a program. A fault leaves the handle
 /// as it was; of a refusal `place` is then the slot or the instruction.
 #[unsafe(no_mangle)]
-pub extern "C" fn klog_load(
+pub extern "C" fn klog_c_load(
     alloc: Global,
     image: &[u8],
     program: &mut Handle,
@@ -43,7 +43,7 @@ pub extern "C" fn klog_load(
 /// Writes the text of a fault at the front of a buffer, and its length, also where the buffer is too
 /// short. `place` is what the call that failed gave for it.
 #[unsafe(no_mangle)]
-pub extern "C" fn klog_fault_text(
+pub extern "C" fn klog_c_fault_text(
     alloc: Global,
     fault: u32,
     place: usize,
@@ -58,7 +58,7 @@ pub extern "C" fn klog_fault_text(
 /// Gives another owner of a loaded program to a handle that holds nothing or a program, for another
 /// thread. A fault leaves the handle as it was.
 #[unsafe(no_mangle)]
-pub extern "C" fn klog_share(alloc: Global, program: &mut Handle, other: &mut Handle) -> u32
+pub extern "C" fn klog_c_share(alloc: Global, program: &mut Handle, other: &mut Handle) -> u32
     ensures program { program.new.place.object ≡ program.old.place.object }
     ensures other { Shares program.old.place.object other.old.place.object other.new.place.object result }
 {
@@ -73,7 +73,7 @@ pub extern "C" fn klog_share(alloc: Global, program: &mut Handle, other: &mut Ha
 /// Runs a program on one record, into a handle that holds nothing or an outcome. A fault leaves the
 /// handle as it was.
 #[unsafe(no_mangle)]
-pub extern "C" fn klog_run(
+pub extern "C" fn klog_c_run(
     alloc: Global,
     program: &mut Handle,
     asked: &Asked,
@@ -95,7 +95,7 @@ pub extern "C" fn klog_run(
 /// Tells what an outcome is: its reject code, 0 where the record is kept, and how many emissions it
 /// has, at most 16.
 #[unsafe(no_mangle)]
-pub extern "C" fn klog_outcome(
+pub extern "C" fn klog_c_outcome(
     alloc: Global,
     outcome: &mut Handle,
     code: &mut u64,
@@ -115,7 +115,7 @@ pub extern "C" fn klog_outcome(
 /// Tells of an emission of an outcome, by its number from 0: its output partition, and how long its
 /// key and its value are.
 #[unsafe(no_mangle)]
-pub extern "C" fn klog_emission(
+pub extern "C" fn klog_c_emission(
     alloc: Global,
     outcome: &mut Handle,
     at: usize,
@@ -135,7 +135,7 @@ pub extern "C" fn klog_emission(
 /// Copies the key of an emission of an outcome to the front of a buffer. A fault leaves the buffer
 /// as it was.
 #[unsafe(no_mangle)]
-pub extern "C" fn klog_emission_key(
+pub extern "C" fn klog_c_emission_key(
     alloc: Global,
     outcome: &mut Handle,
     at: usize,
@@ -155,7 +155,7 @@ pub extern "C" fn klog_emission_key(
 /// Copies the value of an emission of an outcome to the front of a buffer. A fault leaves the buffer
 /// as it was.
 #[unsafe(no_mangle)]
-pub extern "C" fn klog_emission_value(
+pub extern "C" fn klog_c_emission_value(
     alloc: Global,
     outcome: &mut Handle,
     at: usize,
@@ -174,7 +174,7 @@ pub extern "C" fn klog_emission_value(
 
 /// Frees what a handle holds. It holds nothing then.
 #[unsafe(no_mangle)]
-pub extern "C" fn klog_free(alloc: Global, handle: &mut Handle)
+pub extern "C" fn klog_c_free(alloc: Global, handle: &mut Handle)
     ensures { handle.new.place.object ≡ None }
 {
     drop(handle.take(alloc));
