@@ -1,10 +1,9 @@
 -- What a run is given is in the ranges of the machine's.
-use Rattle.std.specs.Prelude.{◌≡◌, ℕ, Bool, true, false, not, ◌&&◌, ◌||◌, nat_le, if◌then◌else◌, List, length, ◌≤◌}
-use Rattle.std.specs.Prelude.{Option, unwrap_or}
+use Rattle.std.specs.Prelude.{◌≡◌, ℕ, Bool, true, false, not, if◌then◌else◌, List, length, ◌≤◌}
 use mathlib.Core.Path.{refl}
 use Rattle.std.proofs.Common.{arith}
 use Rattle.std.proofs.lemmas.Bool.{and_parts, leb-true, ltb-true}
-use Rattle.wire_spec.specs.declared.limits.TheConstants.{MAX_KEY, MAX_VALUE, TIMESTAMP_END}
+use Rattle.wire_spec.specs.declared.limits.TheConstants.{MAX_KEY, MAX_VALUE}
 use Rattle.machine_spec.specs.Machine.{bytes_of}
 use Rattle.machine_spec.specs.Meaning.{IsPlace}
 use Rattle.verifier_spec.specs.StandsFor.{IsWithinLimits}
@@ -28,7 +27,8 @@ in_range asked range =
       offset = ltb-true _ _ offset.1;
       timestamp = ltb-true _ _ timestamp.1;
       some_output = leb-true _ _ some.1;
-      outputs = leb-true _ _ outputs.1 }
+      outputs = leb-true _ _ outputs.1;
+    }
 
 pub place_is : (asked : Asked) (key value : List ℕ) → run_fault asked key value ≡ 0 → IsPlace (place_of asked)
 place_is asked key value none = in_range asked (both _ _ none).0
@@ -44,4 +44,5 @@ limits_are asked key value none =
     let parts = and_parts _ _ (both _ _ none).1 in
     record {
       key = fits (is_key_null asked.nulls) key MAX_KEY parts.0;
-      value = fits (is_value_null asked.nulls) value MAX_VALUE parts.1 }
+      value = fits (is_value_null asked.nulls) value MAX_VALUE parts.1;
+    }

@@ -4,7 +4,6 @@ use Rattle.std.specs.Prelude.{List, [], length, Option, Some, None, is_none, Err
 use Rattle.wire_spec.specs.declared.record.Record.{Record}
 use Rattle.wire_spec.specs.declared.limits.TheConstants.{MAX_KEY, MAX_VALUE, TIMESTAMP_END}
 use Rattle.machine_spec.specs.declared.{outcome.Outcome.Outcome, outcome.Place.Place}
-use Rattle.machine_spec.specs.declared.outcome.Outcome.TheVariants.{Kept, Rejected}
 use Rattle.machine_spec.specs.Image.{Program, program_of}
 use Rattle.machine_spec.specs.Machine.{Input}
 use Rattle.machine_spec.specs.Meaning.{Means}
@@ -96,10 +95,11 @@ are_parts_fitting asked key value =
 -- the record that a program runs on: a key and a value, and no headers
 abbrev pub record_of : Asked → List ℕ → List ℕ → Record
 record_of asked key value = record {
-    timestamp_delta = pos 0;
-    key = part_of (is_key_null asked.nulls) key;
-    value = part_of (is_value_null asked.nulls) value;
-    headers = [] }
+  timestamp_delta = pos 0;
+  key = part_of (is_key_null asked.nulls) key;
+  value = part_of (is_value_null asked.nulls) value;
+  headers = [];
+}
 
 abbrev pub input_of : Asked → List ℕ → List ℕ → Input
 input_of asked key value = record { given = record_of asked key value; place = place_of asked }

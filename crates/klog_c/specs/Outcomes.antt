@@ -36,10 +36,11 @@ nulls_of key value = (if is_none key then 1 else 0) + (if is_none value then 2 e
 
 abbrev pub description_of : Emission → Emitted
 description_of emission = record {
-    output = emission.out;
-    key_length = length_of emission.key;
-    value_length = length_of emission.value;
-    nulls = nulls_of emission.key emission.value }
+  output = emission.out;
+  key_length = length_of emission.key;
+  value_length = length_of emission.value;
+  nulls = nulls_of emission.key emission.value;
+}
 
 -- what is told of an emission of an outcome, by its number; RANGE where there is none
 abbrev pub TellsEmission : Option Emission → Emitted → ℕ → Type 0

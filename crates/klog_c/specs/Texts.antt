@@ -1,5 +1,5 @@
 -- The texts of faults. A text is the list of its bytes.
-use Rattle.std.specs.Prelude.{◌≡◌, ℕ, zero, suc, ◌⊎◌, ◌==◌, ◌&&◌, nat_le, if◌then◌else◌, List, [], ◌++◌, length, drop, codes, decimal}
+use Rattle.std.specs.Prelude.{◌≡◌, ℕ, ◌⊎◌, ◌==◌, ◌&&◌, nat_le, if◌then◌else◌, List, [], ◌++◌, length, codes, decimal}
 use Rattle.klog_c.specs.declared.faults.TheConstants.{MEMORY}
 use Rattle.klog_c.specs.Outcomes.{Copies}
 

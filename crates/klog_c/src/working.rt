@@ -30,12 +30,7 @@ fn loaded(alloc: Global, image: &[u8]) -> Result<Shared, LoadFault>
     }
 }
 
-pub(crate) fn load_into(
-    alloc: Global,
-    image: &[u8],
-    program: &mut Handle,
-    place: &mut usize,
-) -> u32
+pub(crate) fn load_into(alloc: Global, image: &[u8], program: &mut Handle, place: &mut usize) -> u32
     ensures { definitions.Loads image.now program.old.place.object program.new.place.object place.new result }
 {
     match loaded(alloc, image) {
