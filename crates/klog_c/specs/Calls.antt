@@ -1,6 +1,6 @@
 -- What the calls of C's answer. A number is 0 where the call did its work.
 use Rattle.std.specs.Prelude.{◌≡◌, ◌≢◌, ℕ, zero, suc, ◌%◌, pos, Bool, true, false, not, ◌&&◌, ◌||◌, ◌==◌, nat_le, nat_lt, if◌then◌else◌}
-use Rattle.std.specs.Prelude.{List, [], length, Option, Some, None, is_none, Err}
+use Rattle.std.specs.Prelude.{List, [], length, Option, Some, None, is_none, Err, string_bytes}
 use Rattle.wire_spec.specs.declared.record.Record.{Record}
 use Rattle.wire_spec.specs.declared.limits.TheConstants.{MAX_KEY, MAX_VALUE, TIMESTAMP_END}
 use Rattle.machine_spec.specs.declared.{outcome.Outcome.Outcome, outcome.Place.Place}
@@ -21,20 +21,34 @@ use Rattle.klog_c.specs.declared.running.Asked.{Asked}
 abbrev pub program_in : Option Object → Option Program
 program_in (Some (object.Program program)) = Some program
 program_in (Some (object.Outcome outcome)) = None
+program_in (Some (object.Text text)) = None
 program_in None = None
 
 abbrev pub outcome_in : Option Object → Option Outcome
 outcome_in (Some (object.Program program)) = None
 outcome_in (Some (object.Outcome outcome)) = Some outcome
+outcome_in (Some (object.Text text)) = None
 outcome_in None = None
 
--- a handle that may be filled with an object: it holds nothing or one of the same kind
+-- the bytes of a text
+abbrev pub text_in : Option Object → Option (List ℕ)
+text_in (Some (object.Program program)) = None
+text_in (Some (object.Outcome outcome)) = None
+text_in (Some (object.Text text)) = Some (string_bytes text)
+text_in None = None
+
+abbrev pub kind_of : Object → ℕ
+kind_of (object.Program program) = 0
+kind_of (object.Outcome outcome) = 1
+kind_of (object.Text text) = 2
+
+-- a handle that may be filled with an object of a kind: it holds nothing or one of the same kind
+abbrev pub takes_kind : Option Object → ℕ → Bool
+takes_kind None kind = true
+takes_kind (Some held) kind = kind_of held == kind
+
 abbrev pub takes : Option Object → Object → Bool
-takes None object = true
-takes (Some (object.Program held)) (object.Program program) = true
-takes (Some (object.Outcome held)) (object.Outcome outcome) = true
-takes (Some (object.Program held)) (object.Outcome outcome) = false
-takes (Some (object.Outcome held)) (object.Program program) = false
+takes before object = takes_kind before (kind_of object)
 
 -- the handle holds the object; or it is as it was
 abbrev pub Fills : Object → Option Object → Option Object → ℕ → Type 0
@@ -55,7 +69,7 @@ Loads image before after place zero =
     (after ≡ Some (object.Program (program_of image))) × IsAccepted (program_of image)
 Loads image before after place (suc number) =
     (after ≡ before) × (suc number ≢ MEMORY → suc number ≢ KIND → Refuses image place (suc number))
-    × (suc number ≡ KIND → takes before (object.Program (program_of image)) ≡ false)
+    × (suc number ≡ KIND → takes_kind before 0 ≡ false)
 
 -- the other handle holds the same program; or it is as it was
 abbrev pub Shares : Option Object → Option Object → Option Object → ℕ → Type 0
@@ -119,4 +133,4 @@ Runs None asked key value before after number = (after ≡ before) × (number �
 Runs (Some program) asked key value before after zero = RunsTo program (input_of asked key value) after
 Runs (Some program) asked key value before after (suc number) =
     (after ≡ before) × (suc number ≢ MEMORY → suc number ≢ KIND → suc number ≡ run_fault asked key value)
-    × (suc number ≡ KIND → is_none (program_in before) ≡ false)
+    × (suc number ≡ KIND → takes_kind before 1 ≡ false)

@@ -3,3 +3,4 @@ pub mod Numbers
 pub mod Calls
 pub mod Outcomes
 pub mod Texts
+pub mod Explained

@@ -9,20 +9,22 @@ use crate::handle::Handle;
 use crate::object::Object;
 use std::alloc::Global;
 
+/// The kind of an object, as a number.
+fn kind_of(object: &Object) -> u32
+    ensures { result ≡ definitions.kind_of object.now }
+{
+    match object {
+        Object::Program(_) => 0,
+        Object::Outcome(_) => 1,
+        Object::Text(_) => 2,
+    }
+}
+
 /// Whether a handle that holds one object may be filled with another.
 fn is_same_kind(held: &Object, object: &Object) -> bool
     ensures { result ≡ definitions.takes (Some held.now) object.now }
 {
-    match held {
-        Object::Program(_) => match object {
-            Object::Program(_) => true,
-            Object::Outcome(_) => false,
-        },
-        Object::Outcome(_) => match object {
-            Object::Program(_) => false,
-            Object::Outcome(_) => true,
-        },
-    }
+    kind_of(held) == kind_of(object)
 }
 
 /// Puts an object into a handle that holds nothing or one of the same kind.

@@ -3,11 +3,13 @@
 #![tactic(auto)]
 
 ghost use Rattle.std.specs.Prelude.{◌≡◌, Some, None};
-ghost use Rattle.klog_c.specs.Calls.{Loads, Shares, Runs, program_in, outcome_in};
+ghost use Rattle.klog_c.specs.Calls.{Loads, Shares, Runs, program_in, outcome_in, text_in};
+ghost use Rattle.klog_c.specs.Explained.{Explained, CopiesText};
 ghost use Rattle.klog_c.specs.Outcomes.{Tells, TellsAt, CopiesAt};
 ghost use Rattle.klog_c.specs.Texts.{Writes, fault_text};
 
 mod emissions;
+mod explaining;
 mod faults;
 mod filling;
 mod handle;
@@ -19,6 +21,7 @@ mod texts;
 mod working;
 
 use crate::emissions::{Emitted, copy_key, copy_value, tell, tell_emission};
+use crate::explaining::{copy_text, explain_into};
 use crate::faults::KIND;
 use crate::handle::Handle;
 use crate::running::Asked;
@@ -169,6 +172,39 @@ pub extern "C" fn klog_c_emission_value(
     };
     let number = copy_value(&object, at, buffer);
     outcome.put(alloc, object);
+    number
+}
+
+/// Explains why the verifier accepts or refuses an image, into a handle that holds nothing or a text:
+/// the instructions, or those alone that lead to the refused one, each with what is known before it.
+#[unsafe(no_mangle)]
+pub extern "C" fn klog_c_explain(
+    alloc: Global,
+    image: &[u8],
+    is_refused_alone: bool,
+    text: &mut Handle,
+) -> u32
+    ensures { Explained image.now is_refused_alone text.old.place.object text.new.place.object result }
+{
+    explain_into(alloc, image, is_refused_alone, text)
+}
+
+/// Copies a text to the front of a buffer, and tells its length, also where the buffer is too short.
+#[unsafe(no_mangle)]
+pub extern "C" fn klog_c_text(
+    alloc: Global,
+    text: &mut Handle,
+    buffer: &mut [u8],
+    length: &mut usize,
+) -> u32
+    ensures text { text.new.place.object ≡ text.old.place.object }
+    ensures copied { CopiesText (text_in text.old.place.object) buffer.old buffer.new length.new result }
+{
+    let Some(object) = text.take(alloc) else {
+        return KIND;
+    };
+    let number = copy_text(&object, buffer, length);
+    text.put(alloc, object);
     number
 }
 

@@ -8,4 +8,6 @@ pub enum Object {
     Program(Shared),
     /// What a program made of a record.
     Outcome(Outcome),
+    /// A text.
+    Text(String),
 }
