@@ -22,10 +22,15 @@ uint32_t klog_c_outcome(klog_handle *outcome, uint64_t *code, size_t *count);
 uint32_t klog_c_emission(klog_handle *outcome, size_t number, klog_emission *emission);
 uint32_t klog_c_emission_key(klog_handle *outcome, size_t number, uint8_t *buffer, size_t room);
 uint32_t klog_c_emission_value(klog_handle *outcome, size_t number, uint8_t *buffer, size_t room);
+uint32_t klog_c_explain(const uint8_t *image, size_t length, bool is_refused_alone, klog_handle *text);
+uint32_t klog_c_text(klog_handle *text, uint8_t *buffer, size_t room, size_t *length);
 void klog_c_free(klog_handle *handle);
 
 /* The longest image: 4,096 slots of 8 bytes. */
 static const size_t longest_image = 32768;
+
+/* The longest file that is explained, an image or not. */
+static const size_t longest_file = 1048576;
 
 /* The fault I1. */
 static const uint32_t size_fault = 101;
@@ -125,14 +130,14 @@ uint32_t klog_emission_at(klog_handle *outcome, size_t number, klog_emission *em
 }
 
 /* The first fault of a handle and a buffer, or KLOG_OK. */
-static uint32_t copy_fault(const klog_handle *outcome, const void *buffer, size_t room)
+static uint32_t copy_fault(const klog_handle *handle, const void *buffer, size_t room)
 {
-	if (!outcome)
+	if (!handle)
 		return KLOG_NULL;
 	uint32_t number = buffer_fault(buffer, room);
 	if (number)
 		return number;
-	return is_foreign(outcome) ? KLOG_KIND : KLOG_OK;
+	return is_foreign(handle) ? KLOG_KIND : KLOG_OK;
 }
 
 uint32_t klog_emission_key(klog_handle *outcome, size_t number, uint8_t *buffer, size_t room)
@@ -145,6 +150,23 @@ uint32_t klog_emission_value(klog_handle *outcome, size_t number, uint8_t *buffe
 {
 	uint32_t fault = copy_fault(outcome, buffer, room);
 	return fault ? fault : klog_c_emission_value(outcome, number, buffer ? buffer : no_bytes, room);
+}
+
+uint32_t klog_explain(const uint8_t *image, size_t length, int is_refused_alone, klog_handle *text)
+{
+	if (!text || is_no_buffer(image, length))
+		return KLOG_NULL;
+	if (is_foreign(text))
+		return KLOG_KIND;
+	if (length > longest_file)
+		return KLOG_RANGE;
+	return klog_c_explain(image ? image : no_bytes, length, is_refused_alone != 0, text);
+}
+
+uint32_t klog_text(klog_handle *text, char *buffer, size_t room, size_t *length)
+{
+	uint32_t fault = length ? copy_fault(text, buffer, room) : KLOG_NULL;
+	return fault ? fault : klog_c_text(text, buffer ? (uint8_t *)buffer : no_bytes, room, length);
 }
 
 void klog_free(klog_handle *handle)

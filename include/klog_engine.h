@@ -8,7 +8,7 @@
  * Every function but klog_free returns a number: KLOG_OK, or why it did nothing. After another number than
  * KLOG_OK each handle and each buffer is as it was.
  *
- * Handles. A `klog_handle` holds a program, an outcome or nothing; one of zero bytes (KLOG_NOTHING) holds
+ * Handles. A `klog_handle` holds a program, an outcome, a text or nothing; one of zero bytes (KLOG_NOTHING) holds
  * nothing. Only the library reads or writes its fields, and no handle is copied: klog_share makes another
  * handle of one program. klog_free ends what a handle holds; each handle that holds something is freed once.
  *
@@ -48,7 +48,7 @@ enum { KLOG_NULL_KEY = 1, KLOG_NULL_VALUE = 2 };
 /* The most emissions of one record. */
 enum { KLOG_EMISSIONS = 16 };
 
-/* Something that the library made, or nothing. */
+/* A program, an outcome, a text, or nothing. */
 typedef struct klog_handle {
 	unsigned char *at;
 	unsigned char full;
@@ -78,7 +78,7 @@ typedef struct klog_emission {
 
 /* Loads the image of `length` bytes into `program`, which holds nothing or a program; that one is freed.
  * A refused image is 101 to 106 or 201 to 213, and `*place` is then its slot or its instruction; else `*place`
- * is as it was. KLOG_KIND: `program` holds an outcome. KLOG_NULL: `program` or `place` is null, or `image` is
+ * is as it was. KLOG_KIND: `program` holds something else. KLOG_NULL: `program` or `place` is null, or `image` is
  * null and `length` is not 0. KLOG_MEMORY. An image of more than 32,768 bytes is 101, and is not read. */
 uint32_t klog_load(const uint8_t *image, size_t length, klog_handle *program, size_t *place);
 
@@ -89,12 +89,12 @@ uint32_t klog_load(const uint8_t *image, size_t length, klog_handle *program, si
 uint32_t klog_fault_text(uint32_t fault, size_t place, char *buffer, size_t room, size_t *length);
 
 /* Gives another owner of a program to `other`, which holds nothing or a program; that one is freed. The program
- * ends with its last owner. KLOG_KIND: `program` holds no program, or `other` an outcome. KLOG_NULL: one is
+ * ends with its last owner. KLOG_KIND: `program` holds no program, or `other` something else. KLOG_NULL: one is
  * null, or both are one handle. KLOG_MEMORY. */
 uint32_t klog_share(klog_handle *program, klog_handle *other);
 
 /* Runs a program on one record with no headers, into `outcome`, which holds nothing or an outcome; that one is
- * freed. KLOG_KIND: `program` holds no program, or `outcome` holds a program. KLOG_RANGE: a number of the record
+ * freed. KLOG_KIND: `program` holds no program, or `outcome` something else. KLOG_RANGE: a number of the record
  * is out of its range. KLOG_LENGTH: the key or the value is too long. KLOG_NULL: a pointer is null, one handle is
  * given twice, or a null key or value has a length. KLOG_MEMORY. */
 uint32_t klog_run(klog_handle *program, const klog_record *record, klog_handle *outcome);
@@ -112,6 +112,17 @@ uint32_t klog_emission_at(klog_handle *outcome, size_t number, klog_emission *em
  * KLOG_NULL: `outcome` is null, or `buffer` is null and `room` is not 0. */
 uint32_t klog_emission_key(klog_handle *outcome, size_t number, uint8_t *buffer, size_t room);
 uint32_t klog_emission_value(klog_handle *outcome, size_t number, uint8_t *buffer, size_t room);
+
+/* Explains why the verifier accepts or refuses an image, as `klog explain` prints it, into `text`, which holds
+ * nothing or a text; that one is freed. Where `is_refused_alone` is not 0, only the instructions that lead to the
+ * refused one are listed. KLOG_KIND: `text` holds something else. KLOG_NULL: `text` is null, or `image` is null and
+ * `length` is not 0. KLOG_RANGE: `length` is above 1,048,576. KLOG_MEMORY. */
+uint32_t klog_explain(const uint8_t *image, size_t length, int is_refused_alone, klog_handle *text);
+
+/* Copies a text to the front of a buffer of `room` bytes, with no zero byte at its end, and its length to `*length`.
+ * KLOG_ROOM: the buffer is too short; `*length` is what it needs. KLOG_KIND: `text` holds no text. KLOG_NULL: `text`
+ * or `length` is null, or `buffer` is null and `room` is not 0. */
+uint32_t klog_text(klog_handle *text, char *buffer, size_t room, size_t *length);
 
 /* Frees what a handle holds; it holds nothing then. A null pointer and a handle of nothing are left alone. */
 void klog_free(klog_handle *handle);

@@ -80,9 +80,15 @@ static size_t length_below(struct worker *w, size_t limit)
 	return below(w, one_in(w, 8) ? limit : 64);
 }
 
-static klog_handle *handle(struct worker *w)
+/* What a handle mostly holds, by its number. */
+enum { PROGRAMS = 0, OUTCOMES = 2, TEXTS = 4 };
+
+/* A handle that mostly holds what is asked for, any other, or none. */
+static klog_handle *handle(struct worker *w, size_t first)
 {
-	return one_in(w, 40) ? NULL : &w->handles[below(w, HANDLES)];
+	if (one_in(w, 40))
+		return NULL;
+	return &w->handles[one_in(w, 8) ? below(w, HANDLES) : first + below(w, 2)];
 }
 
 /* A fault leaves a handle as it was. */
@@ -106,7 +112,7 @@ static void load(struct worker *w)
 		memcpy(bytes, from->bytes, length < from->length ? length : from->length);
 	for (uint64_t k = below(w, 3); k && length; k--)
 		bytes[below(w, length)] ^= (uint8_t)(1u << below(w, 8));
-	klog_handle *to = handle(w), before = to ? *to : (klog_handle)KLOG_NOTHING;
+	klog_handle *to = handle(w, PROGRAMS), before = to ? *to : (klog_handle)KLOG_NOTHING;
 	uint32_t fault = klog_load(one_in(w, 40) ? NULL : bytes, length, to, one_in(w, 40) ? NULL : &place);
 	look("load", fault, &before, to);
 	if (fault > KLOG_KIND && fault != KLOG_NULL && !is_image_fault(fault))
@@ -133,7 +139,7 @@ static void fault_text(struct worker *w)
 
 static void share(struct worker *w)
 {
-	klog_handle *from = handle(w), *to = handle(w), before = to ? *to : (klog_handle)KLOG_NOTHING;
+	klog_handle *from = handle(w, PROGRAMS), *to = handle(w, PROGRAMS), before = to ? *to : (klog_handle)KLOG_NOTHING;
 	uint32_t fault;
 	if (one_in(w, 2)) {
 		pthread_mutex_lock(&lock);
@@ -175,7 +181,8 @@ static void run(struct worker *w)
 	}
 	if (one_in(w, 60))
 		given.value_length = given.value ? (size_t)-1 : given.value_length;
-	klog_handle *program = handle(w), *outcome = handle(w), before = outcome ? *outcome : (klog_handle)KLOG_NOTHING;
+	klog_handle *program = handle(w, PROGRAMS), *outcome = handle(w, OUTCOMES);
+	klog_handle before = outcome ? *outcome : (klog_handle)KLOG_NOTHING;
 	uint32_t fault = klog_run(program, one_in(w, 60) ? NULL : &given, outcome);
 	look("run", fault, &before, outcome);
 	if (fault > KLOG_LENGTH && fault != KLOG_NULL)
@@ -202,7 +209,7 @@ static void copy(struct worker *w, klog_handle *outcome, size_t at, size_t lengt
 
 static void emissions(struct worker *w)
 {
-	klog_handle *outcome = handle(w);
+	klog_handle *outcome = handle(w, OUTCOMES);
 	uint64_t code = 0;
 	size_t count = 0;
 	uint32_t fault = klog_outcome(outcome, &code, &count);
@@ -221,6 +228,30 @@ static void emissions(struct worker *w)
 		fail("emission_at's answer", found);
 	copy(w, outcome, at, told.key_length, true);
 	copy(w, outcome, at, told.value_length, false);
+}
+
+static void explain(struct worker *w)
+{
+	if (!one_in(w, 16))
+		return;
+	const struct image *from = &images[below(w, image_count)];
+	size_t length = one_in(w, 4) ? length_below(w, LONGEST) : from->length, told = 0;
+	uint8_t *bytes = block(w, length);
+	memcpy(bytes, from->bytes, length < from->length ? length : from->length);
+	if (length && one_in(w, 2))
+		bytes[below(w, length)] ^= (uint8_t)(1u << below(w, 8));
+	klog_handle *text = handle(w, TEXTS), before = text ? *text : (klog_handle)KLOG_NOTHING;
+	uint32_t fault = klog_explain(bytes, length, (int)below(w, 2), text);
+	look("explain", fault, &before, text);
+	if (fault != KLOG_OK && fault != (text ? KLOG_KIND : KLOG_NULL))
+		fail("explain", fault);
+	size_t room = below(w, 8000);
+	char *buffer = (char *)block(w, room);
+	uint32_t copied = klog_text(text, buffer, room, &told);
+	if (!fault && copied != (told > room ? KLOG_ROOM : KLOG_OK))
+		fail("text", copied);
+	free(buffer);
+	free(bytes);
 }
 
 /* The shared program forwards the record that it is given. */
@@ -249,12 +280,12 @@ static void forward(struct worker *w)
 
 static void *work(void *at)
 {
-	static void (*const calls[])(struct worker *) = {load, load, fault_text, share, run, run, run, emissions, emissions, forward};
+	static void (*const calls[])(struct worker *) = {load, load, load, fault_text, share, explain, run, run, run, emissions, emissions, forward};
 	struct worker *w = at;
 	while (time(NULL) < end) {
 		calls[below(w, sizeof calls / sizeof calls[0])](w);
 		if (one_in(w, 8))
-			klog_free(handle(w));
+			klog_free(handle(w, 2 * below(w, 3)));
 		w->calls++;
 	}
 	for (size_t k = 0; k < HANDLES; k++)
