@@ -1,7 +1,7 @@
 ghost use Rattle.broker.specs.Layouts.{IsNamed};
 
 use broker::{Broker, BrokerFault, Parts};
-use bytes::Bytes;
+use broker_fixtures::{NAME, load};
 use catalogue::{CatFault, Catalogue, Finder, Known};
 use fixtures::FORWARD;
 use log_spec::Name;
@@ -26,16 +26,16 @@ fn deploy_some<Id: Names, R: Wait + Abort>(
     requires { IsNamed Id.cells Id.inputs Id.outputs parts }
 {
     let broker: Broker<Id, Catalogue<&R>> = Broker::new(alloc, parts)?;
-    let known = load(rt, alloc, &broker)?;
+    let known = load_forward(rt, alloc, &broker)?;
     assert_eq!(rt; known.version(), 1);
     let mut finder = broker.finder(rt, alloc)?;
     assert_eq!(rt;
-        deploy(rt, alloc, &broker, 0, "fwd", &mut finder, &known),
+        deploy(rt, alloc, &broker, 0, NAME, &mut finder, &known),
         Ok((0, 1))
     );
-    assert_eq!(rt; load(rt, alloc, &broker)?.version(), 2);
+    assert_eq!(rt; load_forward(rt, alloc, &broker)?.version(), 2);
     assert_eq!(rt;
-        deploy(rt, alloc, &broker, 0, "fwd", &mut finder, &known),
+        deploy(rt, alloc, &broker, 0, NAME, &mut finder, &known),
         Ok((1, 2))
     );
     assert_eq!(rt;
@@ -46,13 +46,12 @@ fn deploy_some<Id: Names, R: Wait + Abort>(
 }
 
 /// What is known after a load of the forwarding program; its version is the answered one.
-fn load<Id: Names, H: Wait + Drop, R: Wait>(
+fn load_forward<Id: Names, H: Wait + Drop, R: Wait>(
     rt: &R,
     alloc: Global,
     broker: &Broker<Id, Catalogue<H>>,
 ) -> Result<Known, Fail> {
-    let image = Bytes::copy_from_slice(alloc, &FORWARD)?;
-    let (version, known) = broker.load(rt, alloc, "fwd", &image)?;
+    let (version, known) = load(rt, alloc, broker, &FORWARD).ok_or("a version")?;
     if version != known.version() {
         return Err(Fail::from("another version"));
     }
@@ -73,7 +72,7 @@ fn refuse_all<Id: Names, C, R: Wait + Abort>(
     for (input, name, want_lost, want) in [
         (1, "other", BrokerFault::Partition, BrokerFault::Partition),
         (0, "other", no_reader, BrokerFault::NoProgram),
-        (0, "fwd", no_reader, full),
+        (0, NAME, no_reader, full),
     ] {
         assert_eq!(rt;
             deploy(rt, alloc, broker, input, name, &mut lost, known),

@@ -1,9 +1,10 @@
 ghost use Rattle.broker.specs.Layouts.{IsNamed};
 
-use crate::calls::{drain, forward, one_long, sizes, two_stamped};
-use broker::{Broker, BrokerFault, Parts};
+use crate::calls::{one_long, sizes, two_stamped};
+use broker::{Broker, BrokerFault, Ended, Parts, Until};
+use broker_fixtures::{deploy, ends};
 use catalogue::Catalogue;
-use fixtures::batch_of;
+use fixtures::{FORWARD, batch_of};
 use part_log::Names;
 use std::alloc::Global;
 use std::marker::Brand;
@@ -11,6 +12,7 @@ use std::process::Abort;
 use std::sync::Wait;
 use std::test::Fail;
 use std::thread::Threads;
+use worker::Open;
 
 /// The batch of two rows with the key `k`, the value `v` and the timestamps 1000 and 900, spelled by
 /// another implementation.
@@ -36,11 +38,12 @@ fn fetch_two<Id: Names + Send + Sync, R: Threads + Wait + Sync + Abort>(
     requires { IsNamed Id.cells Id.inputs Id.outputs parts }
 {
     let broker: Broker<Id, Catalogue<&R>> = Broker::new(alloc, parts)?;
-    assert_eq!(rt; forward(rt, alloc, &broker), Some(0));
+    assert_eq!(rt; deploy(rt, alloc, &broker, 0, &FORWARD), Some(0));
     let batch = two_stamped(alloc).ok_or("a batch")?;
     broker.append(rt, alloc, 0, batch)?;
     assert!(rt; broker.fetch(rt, 0, 0, 10)?.is_none());
-    assert!(rt; drain(rt, alloc, &broker, 2));
+    let done = [Ended::Done(2)];
+    assert!(rt; ends(rt, alloc, &broker, Until::Drained, &Open, &done));
     for max in [10, 2, 2] {
         let bytes = broker.fetch(rt, 0, 0, max)?.ok_or("a batch")?;
         assert!(rt; bytes.as_slice() == TWO.as_slice());
@@ -69,7 +72,7 @@ fn fetch_many<Id: Names + Send + Sync, R: Threads + Wait + Sync + Abort>(
     requires { IsNamed Id.cells Id.inputs Id.outputs parts }
 {
     let broker: Broker<Id, Catalogue<&R>> = Broker::new(alloc, parts)?;
-    assert_eq!(rt; forward(rt, alloc, &broker), Some(0));
+    assert_eq!(rt; deploy(rt, alloc, &broker, 0, &FORWARD), Some(0));
     for _ in 0..16 {
         let batch = one_long(alloc, 65_536).ok_or("a batch")?;
         broker.append(rt, alloc, 0, batch)?;
@@ -78,7 +81,8 @@ fn fetch_many<Id: Names + Send + Sync, R: Threads + Wait + Sync + Abort>(
         let batch = batch_of(alloc, count, 1000).ok_or("a batch")?;
         broker.append(rt, alloc, 0, batch)?;
     }
-    assert!(rt; drain(rt, alloc, &broker, 19));
+    let done = [Ended::Done(19)];
+    assert!(rt; ends(rt, alloc, &broker, Until::Drained, &Open, &done));
     assert_eq!(rt; sizes(rt, alloc, &broker, 0, 16), Some((983_266, 15)));
     assert_eq!(rt; sizes(rt, alloc, &broker, 15, 1), Some((65_608, 1)));
     assert_eq!(rt;

@@ -1,49 +1,61 @@
 -- Rows that are added to lists of the outputs, one step after the other.
-use Rattle.std.proofs.Common.{◌≡◌, ℕ, zero, suc, ◌+◌, ◌<◌, ◌≤◌, cond, List, [], ◌∷◌, ◌++◌, length, take, drop, get_or}
-use Rattle.std.proofs.Common.{Option, None, Some, Result, Ok, Err, refl, sym, ap, subst, ◌∙◌, append_assoc, arith}
-use Rattle.std.specs.Prelude.{◌==◌, OnOk}
+use Rattle.std.proofs.Common.{◌≡◌, ℕ, zero, suc, ◌+◌, ◌-◌, ◌<◌, ◌≤◌, Bool, true, false, cond, List, [], ◌∷◌, ◌++◌}
+use Rattle.std.proofs.Common.{length, take, drop, get_or, slice_get, slice_set, Option, Some, Result, Ok, Err, refl}
+use Rattle.std.proofs.Common.{sym, ap, subst, ◌∙◌, append_assoc, arith}
+use Rattle.std.specs.Prelude.{◌==◌, IfOk}
 use Rattle.std.specs.List.{AllByRecursion}
-use Rattle.std.proofs.lemmas.List.{take_more, length-take, length-append, append-nil, drop_all}
-use Rattle.std.proofs.lemmas.List.Elements.{All-nil}
+use Rattle.std.proofs.lemmas.Bool.Decides.{nat_tests}
+use Rattle.std.proofs.lemmas.List.{take_more, length-take, length-append, length-set, append-nil, drop_all}
+use Rattle.std.proofs.lemmas.List.{get_or-set_same, get_or-set_other}
+use Rattle.std.proofs.lemmas.Option.{get_or_from_slice_get}
 use Rattle.wire_spec.specs.declared.{record.Record.Record, record.Batch.Batch}
 use Rattle.machine_spec.specs.declared.{outcome.Emission.Emission, outcome.Outcome.Outcome, outcome.Place.Place}
 use Rattle.machine_spec.specs.Image.{Program}
 use Rattle.machine_spec.specs.Meaning.{Means}
 use Rattle.log_spec.specs.declared.row.Row.{Row}
 use Rattle.log_spec.specs.Logs.{Item as LogItem, Records, rows_to, rows_of, row_of, place_of, IsRecordRows}
-use Rattle.log_spec.specs.Logs.{IsRecordsRows, IsItemRows, FitsLog, RowFits}
+use Rattle.log_spec.specs.Logs.{IsRecordsRows, FitsLog}
 use Rattle.log_spec.proofs.FittingRows.{batch_rows_fit}
 use Rattle.log_spec.proofs.LogLaws.{rows_to-next, records-next}
+use Rattle.fates.specs.declared.fate.Fate.{Fate}
+use Rattle.fates.specs.Fates.{IsFate, AreRecordsFates}
+use Rattle.fates.specs.Totals.{Totals, AreCountsWith, AreItemCounts}
 use Rattle.item_rows.specs.declared.origin.Origin.{Origin}
-use Rattle.item_rows.specs.ItemRows.{rows_in, GivesRows, AreItemRows, AreEmpty, Adds}
+use Rattle.item_rows.specs.ItemRows.{rows_in, GivesRows, AreItemRows, AreRowsFrom, AreEmpty, Adds}
+
+pub if_ok : {A E : Type 0} (result : Result A E) (P Q : A → Type 0) → IfOk result P → ((x : A) → P x → Q x) →
+    IfOk result Q
+if_ok (Ok value) P Q h so = so value h
+if_ok (Err fault) P Q h so = tt
 
 -- ---- what is added
 
-pub on_ok : {A E : Type 0} (result : Result A E) (P Q : Type 0) → OnOk result P → (P → Q) → OnOk result Q
-on_ok (Ok value) P Q h so = so h
-on_ok (Err fault) P Q h so = tt
+pub adds_none : (first : ℕ) (all : List (List Row)) (P : ℕ → List Row → Type 0) → ((q : ℕ) → P q []) →
+    Adds first all all P
+adds_none first all P none = record {
+  count = refl;
+  each = λ k lt. ([], none (first + k), sym (append-nil (rows_in all k)));
+}
 
-pub adds_none : (all : List (List Row)) (P : ℕ → List Row → Type 0) → ((q : ℕ) → P q []) → Adds all all P
-adds_none all P none = record { count = refl; each = λ q lt. ([], none q, sym (append-nil (rows_in all q))) }
-
-pub adds_then : (one two three : List (List Row)) (P Q R : ℕ → List Row → Type 0) → Adds one two P → Adds two three Q
-    → ((q : ℕ) (here later : List Row) → P q here → Q q later → R q (here ++ later)) → Adds one three R
-adds_then one two three P Q R first second join = record {
-  count = second.count ∙ first.count;
-  each = λ q lt.
-      let x = first.each q lt in
-      let y = second.each q (subst (λ (n : ℕ). q < n) (sym first.count) lt) in (
+pub adds_then : (first : ℕ) (one two three : List (List Row)) (P Q R : ℕ → List Row → Type 0) → Adds first one two P →
+    Adds first two three Q → ((q : ℕ) (here later : List Row) → P q here → Q q later → R q (here ++ later)) →
+    Adds first one three R
+adds_then first one two three P Q R before after join = record {
+  count = after.count ∙ before.count;
+  each = λ k lt.
+      let x = before.each k lt in
+      let y = after.each k (subst (λ (n : ℕ). k < n) (sym before.count) lt) in (
         x.0 ++ y.0,
-        join q x.0 y.0 x.1 y.1,
+        join (first + k) x.0 y.0 x.1 y.1,
         y.2
-            ∙ (ap (λ (rs : List Row). rs ++ y.0) x.2 ∙ append_assoc (rows_in one q) x.0 y.0),
+            ∙ (ap (λ (rs : List Row). rs ++ y.0) x.2 ∙ append_assoc (rows_in one k) x.0 y.0),
       );
 }
 
-pub adds_as : (one two : List (List Row)) (P Q : ℕ → List Row → Type 0) → Adds one two P →
-    ((q : ℕ) (here : List Row) → P q here → Q q here) → Adds one two Q
-adds_as one two P Q first so =
-    record { count = first.count; each = λ q lt. let x = first.each q lt in (x.0, so q x.0 x.1, x.2) }
+pub adds_as : (first : ℕ) (one two : List (List Row)) (P Q : ℕ → List Row → Type 0) → Adds first one two P →
+    ((q : ℕ) (here : List Row) → P q here → Q q here) → Adds first one two Q
+adds_as first one two P Q adds so =
+    record { count = adds.count; each = λ k lt. let x = adds.each k lt in (x.0, so (first + k) x.0 x.1, x.2) }
 
 -- ---- no rows at first
 
@@ -67,15 +79,15 @@ empty_none = record { count = refl; each = λ q. refl }
 -- ---- one more emission, one more record
 
 -- one more emission
-pub emissions_more : (place : Place) (number : ℕ) (emissions : List Emission) (emission : Emission)
+pub emissions_more : (first : ℕ) (place : Place) (number : ℕ) (emissions : List Emission) (emission : Emission)
     (one two three : List (List Row)) → number ≡ length emissions →
-    Adds one two (λ q here. here ≡ rows_to q place 0 emissions) →
-    Adds two three (λ q here. here ≡ cond (emission.out == q) (row_of place number emission ∷ []) []) →
-    Adds one three (λ q here. here ≡ rows_to q place 0 (emissions ++ emission ∷ []))
-emissions_more place number emissions emission one two three count first second =
-    adds_then one two three (λ q here. here ≡ rows_to q place 0 emissions)
+    Adds first one two (λ q here. here ≡ rows_to q place 0 emissions) →
+    Adds first two three (λ q here. here ≡ cond (emission.out == q) (row_of place number emission ∷ []) []) →
+    Adds first one three (λ q here. here ≡ rows_to q place 0 (emissions ++ emission ∷ []))
+emissions_more first place number emissions emission one two three count before after =
+    adds_then first one two three (λ q here. here ≡ rows_to q place 0 emissions)
     (λ q here. here ≡ cond (emission.out == q) (row_of place number emission ∷ []) [])
-    (λ q here. here ≡ rows_to q place 0 (emissions ++ emission ∷ [])) first second join
+    (λ q here. here ≡ rows_to q place 0 (emissions ++ emission ∷ [])) before after join
   where
     join : (q : ℕ) (here later : List Row) → here ≡ rows_to q place 0 emissions →
         later ≡ cond (emission.out == q) (row_of place number emission ∷ []) [] →
@@ -91,25 +103,34 @@ emissions_more place number emissions emission one two three count first second 
         ∙ (ap (λ (rs : List Row). rows_to q place 0 emissions ++ rs) are ∙ sym more')
 
 -- the rows of what a run ends with
-pub outcome_rows : (program : Program) (place : Place) (given : Record) (outcome : Outcome) (n : ℕ)
+pub outcome_rows : (first : ℕ) (program : Program) (place : Place) (given : Record) (outcome : Outcome) (n : ℕ)
     (one two : List (List Row)) → Means program (record { given = given; place = place }) outcome n
-    → Adds one two (λ q here. here ≡ rows_of q place outcome) →
-    Adds one two (λ q here. IsRecordRows q (Some program) place given here)
-outcome_rows program place given outcome n one two means adds =
-    adds_as one two (λ q here. here ≡ rows_of q place outcome)
+    → Adds first one two (λ q here. here ≡ rows_of q place outcome) →
+    Adds first one two (λ q here. IsRecordRows q (Some program) place given here)
+outcome_rows first program place given outcome n one two means adds =
+    adds_as first one two (λ q here. here ≡ rows_of q place outcome)
     (λ q here. IsRecordRows q (Some program) place given here) adds (λ q here is. (outcome, n, means, is))
 
+-- what a record comes to, by the program by another name
+pub record_made : (first : ℕ) (program program' : Option Program) (place : Place) (given : Record) (fate : Fate)
+    (one two : List (List Row)) → program ≡ program' → IsFate program place given fate →
+    Adds first one two (λ q here. IsRecordRows q program place given here) →
+    IsFate program' place given fate × Adds first one two (λ q here. IsRecordRows q program' place given here)
+record_made first program program' place given fate one two same is adds =
+    subst (λ (p : Option Program). IsFate p place given fate
+    × Adds first one two (λ q here. IsRecordRows q p place given here)) same (is, adds)
+
 -- one more record of a batch
-pub records_more : (input outputs : ℕ) (program : Option Program) (batch : Batch) (offset : ℕ) (givens : List Record)
+pub records_more : (first input outputs : ℕ) (program : Option Program) (batch : Batch) (offset : ℕ) (givens : List Record)
     (k at : ℕ) (given : Record) (one two three : List (List Row)) → k < length givens →
     given ≡ get_or givens k given → at ≡ offset + k →
-    Adds one two (λ q here. IsRecordsRows input q outputs program batch offset (take k givens) here) →
-    Adds two three (λ q here. IsRecordRows q program (place_of input outputs at batch given) given here) →
-    Adds one three (λ q here. IsRecordsRows input q outputs program batch offset (take (k + 1) givens) here)
-records_more input outputs program batch offset givens k at given one two three lt is place first second =
-    adds_then one two three (λ q here. IsRecordsRows input q outputs program batch offset (take k givens) here)
+    Adds first one two (λ q here. IsRecordsRows input q outputs program batch offset (take k givens) here) →
+    Adds first two three (λ q here. IsRecordRows q program (place_of input outputs at batch given) given here) →
+    Adds first one three (λ q here. IsRecordsRows input q outputs program batch offset (take (k + 1) givens) here)
+records_more first input outputs program batch offset givens k at given one two three lt is place earlier here =
+    adds_then first one two three (λ q here. IsRecordsRows input q outputs program batch offset (take k givens) here)
     (λ q here. IsRecordRows q program (place_of input outputs at batch given) given here)
-    (λ q here. IsRecordsRows input q outputs program batch offset (take (k + 1) givens) here) first second join
+    (λ q here. IsRecordsRows input q outputs program batch offset (take (k + 1) givens) here) earlier here join
   where
     join : (q : ℕ) (here later : List Row) → IsRecordsRows input q outputs program batch offset (take k givens) here →
         IsRecordRows q program (place_of input outputs at batch given) given later →
@@ -124,6 +145,63 @@ records_more input outputs program batch offset givens k at given one two three 
         subst (λ (gs : List Record). IsRecordsRows input q outputs program batch offset gs (here ++ later)) (sym longer)
         (records-next input q outputs program batch offset (take k givens) given here later before now')
 
+-- the row of an emission in its output
+pub row_added : (first : ℕ) (place : Place) (number : ℕ) (emission : Emission) (old new : List (List Row))
+    (rows : List Row) → first ≤ emission.out → emission.out - first < length old →
+    slice_get old (emission.out - first) ≡ Some rows →
+    new ≡ slice_set old (emission.out - first) (rows ++ row_of place number emission ∷ []) →
+    Adds first old new (λ q here. here ≡ cond (emission.out == q) (row_of place number emission ∷ []) [])
+row_added first place number emission old new rows from within at set = record {
+  count = ap (λ (rs : List (List Row)). length rs) set ∙ length-set old n more;
+  each = λ k lt. by_test k lt (emission.out == first + k) refl;
+}
+  where
+    n : ℕ
+    n = emission.out - first
+
+    here : List Row
+    here = row_of place number emission ∷ []
+
+    more : List Row
+    more = rows ++ here
+
+    by_test : (k : ℕ) → k < length old → (b : Bool) → (emission.out == first + k) ≡ b →
+        (added : List Row) × (added ≡ cond (emission.out == first + k) here [])
+        × (rows_in new k ≡ rows_in old k ++ added)
+    by_test k lt true e =
+        let same : n ≡ k = grind (arith, nat_tests) in
+        let was : rows_in old k ≡ rows =
+        subst (λ (j : ℕ). rows_in old j ≡ rows) same (get_or_from_slice_get old n rows [] at) in
+        let is : rows_in new k ≡ more = ap (λ (rs : List (List Row)). rows_in rs k) set
+        ∙ subst (λ (j : ℕ). rows_in (slice_set old n more) j ≡ more) same (get_or-set_same old n more [] within) in (
+          here,
+          ap (λ (b : Bool). cond b here []) (sym e),
+          is
+              ∙ ap (λ (rs : List Row). rs ++ here) (sym was),
+        )
+    by_test k lt false e =
+        let apart : k ≡ n → ⊥ = λ (same : k ≡ n). grind (arith, nat_tests) in
+        let is : rows_in new k ≡ rows_in old k = ap (λ (rs : List (List Row)). rows_in rs k) set
+        ∙ get_or-set_other old n k more [] apart in (
+          [],
+          ap (λ (b : Bool). cond b here []) (sym e),
+          is
+              ∙ sym (append-nil (rows_in old k)),
+        )
+
+-- an emission to none of these outputs
+pub row_outside : (first : ℕ) (place : Place) (number : ℕ) (emission : Emission) (all : List (List Row)) →
+    ((k : ℕ) → k < length all → (emission.out == first + k) ≡ false) →
+    Adds first all all (λ q here. here ≡ cond (emission.out == q) (row_of place number emission ∷ []) [])
+row_outside first place number emission all apart = record {
+  count = refl;
+  each = λ k lt. (
+    [],
+    ap (λ (b : Bool). cond b (row_of place number emission ∷ []) []) (sym (apart k lt)),
+    sym (append-nil (rows_in all k)),
+  );
+}
+
 -- what holds of each element holds of one
 pub each_at : {A : Type 0} (P : A → Type 0) (xs : List A) (k : ℕ) (x : A) → AllByRecursion P xs → k < length xs →
     x ≡ get_or xs k x → P x
@@ -135,54 +213,81 @@ each_at P (y ∷ xs) (suc k) x all lt e =
 
 -- ---- items
 
--- without a program a batch's records give none
-pub no_program_rows : (input output outputs : ℕ) (batch : Batch) (offset : ℕ) (givens : List Record) →
-    IsRecordsRows input output outputs None batch offset givens []
-no_program_rows input output outputs batch offset [] = refl
-no_program_rows input output outputs batch offset (given ∷ givens) =
-    ([], [], refl, no_program_rows input output outputs batch (offset + 1) givens, refl)
-
--- the program and the item by other names
-pub adds_for : (origin : Origin) (program : Option Program) (item : LogItem) (program' : Option Program)
-    (item' : LogItem) (one two : List (List Row)) → program ≡ program' → item ≡ item' →
-    Adds one two (GivesRows origin program item) → Adds one two (GivesRows origin program' item')
-adds_for origin program item program' item' one two same alike adds =
-    subst (λ (p : Option Program). Adds one two (GivesRows origin p item')) same
-    (subst (λ (k : LogItem). Adds one two (GivesRows origin program k)) alike adds)
-
--- no rows, each of which fits
-pub no_rows : (origin : Origin) (program : Option Program) (item : LogItem) (all : List (List Row)) →
-    ((q : ℕ) → IsItemRows origin.input q origin.outputs program origin.offset item []) →
-    Adds all all (GivesRows origin program item)
-no_rows origin program item all none =
-    adds_none all (GivesRows origin program item) (λ q. record { are = none q; fit = All-nil RowFits })
-
 -- the rows of a batch that fits a log
-pub batch_rows : (origin : Origin) (program : Option Program) (batch : Batch) (one two : List (List Row)) →
-    FitsLog batch → Adds one two (λ q here. IsRecordsRows origin.input q origin.outputs program batch origin.offset
-    batch.records here) → Adds one two (GivesRows origin program (Records batch))
-batch_rows origin program batch one two fits adds =
-    adds_as one two (λ q here. IsRecordsRows origin.input q origin.outputs program batch origin.offset batch.records
-    here) (GivesRows origin program (Records batch)) adds
+pub batch_rows : (first : ℕ) (origin : Origin) (program : Option Program) (batch : Batch) (one two : List (List Row)) →
+    FitsLog batch → Adds first one two (λ q here. IsRecordsRows origin.input q origin.outputs program batch
+    origin.offset batch.records here) → Adds first one two (GivesRows origin program (Records batch))
+batch_rows first origin program batch one two fits adds =
+    adds_as first one two (λ q here. IsRecordsRows origin.input q origin.outputs program batch origin.offset
+    batch.records here) (GivesRows origin program (Records batch)) adds
     (λ q here is. record {
       are = is;
       fit = batch_rows_fit origin.input q origin.outputs program batch origin.offset here fits is;
     })
 
--- rows added where there were none
-pub item_rows_are : (origin : Origin) (program : Option Program) (item : LogItem) (old new : List (List Row)) →
-    AreEmpty origin.outputs old → Adds old new (GivesRows origin program item) → AreItemRows origin program item new
-item_rows_are origin program item old new none adds = record {
+-- what a batch that fits a log comes to
+pub batch_made : (first : ℕ) (origin : Origin) (program : Option Program) (batch : Batch) (one two : List (List Row))
+    (counts : Totals) → FitsLog batch →
+    AreCountsWith (AreRecordsFates origin.input origin.outputs program batch origin.offset batch.records) counts
+    × Adds first one two (λ q here. IsRecordsRows origin.input q origin.outputs program batch origin.offset
+    batch.records here) →
+    AreItemCounts origin.input origin.outputs program origin.offset (Records batch) counts
+    × Adds first one two (GivesRows origin program (Records batch))
+batch_made first origin program batch one two counts fits is = (
+  record {
+    fates = is.0.fates;
+    fates_are = is.0.fates_are;
+    counts_are = is.0.counts_are;
+  },
+  batch_rows first origin program batch one two fits is.1,
+)
+
+-- the item by another name
+pub item_made : (first : ℕ) (origin : Origin) (program : Option Program) (item item' : LogItem)
+    (one two : List (List Row)) (counts : Totals) → item ≡ item' →
+    AreItemCounts origin.input origin.outputs program origin.offset item counts
+    × Adds first one two (GivesRows origin program item) →
+    AreItemCounts origin.input origin.outputs program origin.offset item' counts
+    × Adds first one two (GivesRows origin program item')
+item_made first origin program item item' one two counts same is =
+    subst (λ (x : LogItem). AreItemCounts origin.input origin.outputs program origin.offset x counts
+    × Adds first one two (GivesRows origin program x)) same is
+
+-- rows that are added where there were none
+pub rows_are_from : (first count : ℕ) (origin : Origin) (program : Option Program) (item : LogItem)
+    (old new : List (List Row)) → AreEmpty count old → Adds first old new (GivesRows origin program item) →
+    AreRowsFrom first count origin program item new
+rows_are_from first count origin program item old new none adds = record {
   outputs = adds.count ∙ none.count;
+  each = λ k lt.
+      let x = adds.each k (subst (λ (n : ℕ). k < n) (sym none.count) lt) in
+      let is : x.0 ≡ rows_in new k = sym (x.2 ∙ ap (λ (rs : List Row). rs ++ x.0) (none.each k)) in
+      subst (GivesRows origin program item (first + k)) is x.1;
+}
+
+-- in every output
+pub item_rows_are : (origin : Origin) (program : Option Program) (item : LogItem) (all : List (List Row)) →
+    AreRowsFrom 0 origin.outputs origin program item all → AreItemRows origin program item all
+item_rows_are origin program item all are = record {
+  outputs = are.outputs;
   each = λ q lt. (gives q lt).are;
   fit = λ q lt. (gives q lt).fit;
 }
   where
-    gives : (q : ℕ) → q < origin.outputs → GivesRows origin program item q (rows_in new q)
+    gives : (q : ℕ) → q < origin.outputs → GivesRows origin program item q (rows_in all q)
     gives q lt =
-        let x = adds.each q (subst (λ (n : ℕ). q < n) (sym none.count) lt) in
-        let is : x.0 ≡ rows_in new q = sym (x.2 ∙ ap (λ (rs : List Row). rs ++ x.0) (none.each q)) in
-        subst (GivesRows origin program item q) is x.1
+        let at : 0 + q ≡ q = omega arith in
+        subst (λ (k : ℕ). GivesRows origin program item k (rows_in all q)) at (are.each q lt)
+
+-- in one output
+pub one_output_is : (output : ℕ) (origin : Origin) (program : Option Program) (item : LogItem) (all : List (List Row))
+    (rows : List Row) → AreRowsFrom output 1 origin program item all → slice_get all 0 ≡ Some rows →
+    GivesRows origin program item output rows
+one_output_is output origin program item all rows are at =
+    let here : output + 0 ≡ output = omega arith in
+    let first : rows_in all 0 ≡ rows = get_or_from_slice_get all 0 rows [] at in
+    subst (λ (rs : List Row). GivesRows origin program item output rs) first
+    (subst (λ (k : ℕ). GivesRows origin program item k (rows_in all 0)) here (are.each 0 (omega arith)))
 
 -- ---- lists
 

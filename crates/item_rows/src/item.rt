@@ -1,37 +1,69 @@
-ghost use Rattle.std.specs.Prelude.{IfOk, OnOk, option_map};
+ghost use Rattle.std.specs.Prelude.{◌≡◌, ◌<◌, IfOk, option_map};
+ghost use Rattle.std.specs.Arc.{arc_value};
+ghost use Rattle.fates.specs.Totals.{AreItemCounts};
 ghost use Rattle.log_item.specs.Items.{item_view};
-ghost use Rattle.item_rows.specs.ItemRows.{IsOrigin, GivesRows, AreItemRows, Adds};
+ghost use Rattle.item_rows.specs.ItemRows.{IsOrigin, GivesRows, AreItemRows, AreRowsFrom, Adds};
 
 use crate::origin::Origin;
 use crate::records::push_records;
 use crate::rows::{ItemRows, OutputRows, empty};
+use fates::Counts;
 use log_item::{Item, Program};
+use log_spec::Row;
 use std::alloc::{AllocError, Global};
+use std::sync::Arc;
+
+/// The rows of an item in one output partition, and what became of its records.
+#[derive(Drop)]
+pub struct OneOutput {
+    /// The rows.
+    pub rows: Vec<Row>,
+    /// The counts of the item's records.
+    pub counts: Arc<Counts>,
+}
 
 /// Adds the rows of an item: none of a mark or the end, and none of a batch with no mark before it.
+/// Returns the counts of its records.
 fn push_item(
     alloc: Global,
     origin: &Origin,
     program: Option<&Program>,
     item: &Item,
+    first: usize,
     all: &mut [OutputRows],
-) -> Result<(), AllocError>
+) -> Result<Counts, AllocError>
     requires { IsOrigin origin.now }
-    ensures { OnOk result (Adds all.old all.new (GivesRows origin.now (option_map (λ p. p.now) program.entry) (item_view item.now))) }
+    ensures { IfOk result (λ counts. AreItemCounts origin.now.input origin.now.outputs (option_map (λ p. p.now) program.entry) origin.now.offset (item_view item.now) counts
+        × Adds first all.old all.new (GivesRows origin.now (option_map (λ p. p.now) program.entry) (item_view item.now))) }
 {
     match item {
-        Item::Mark { .. } => Ok(()),
-        Item::End => Ok(()),
-        Item::Batch(logged) => match program {
-            None => Ok(()),
-            Some(program) => push_records(alloc, program, origin, logged.batch(), all),
-        },
+        Item::Mark { .. } => Ok(Counts::new(alloc)),
+        Item::End => Ok(Counts::new(alloc)),
+        Item::Batch(logged) => push_records(alloc, program, origin, logged.batch(), first, all),
     }
 }
 
+/// The rows of an item in `count` output partitions from `first` on, and the counts of its records.
+fn rows_from(
+    alloc: Global,
+    origin: &Origin,
+    program: Option<&Program>,
+    item: &Item,
+    first: usize,
+    count: usize,
+) -> Result<ItemRows, AllocError>
+    requires { IsOrigin origin.now }
+    ensures { IfOk result (λ made. AreItemCounts origin.now.input origin.now.outputs (option_map (λ p. p.now) program.entry) origin.now.offset (item_view item.now) made.counts
+        × AreRowsFrom first count origin.now (option_map (λ p. p.now) program.entry) (item_view item.now) made.rows) }
+{
+    let mut all = empty(alloc, count)?;
+    let counts = push_item(alloc, origin, program, item, first, all.as_mut_slice())?;
+    ItemRows::new(alloc, all, counts)
+}
+
 /// The rows of an item in each output, by the program in force before it: none of a mark or the
-/// end, and none of a batch with no mark before it. Each record is run once. It fails only where
-/// memory runs out.
+/// end, and none of a batch with no mark before it; and the counts of its records. Each record is run
+/// once. It fails only where memory runs out.
 pub fn item_rows(
     alloc: Global,
     origin: &Origin,
@@ -39,9 +71,29 @@ pub fn item_rows(
     item: &Item,
 ) -> Result<ItemRows, AllocError>
     requires { IsOrigin origin.now }
-    ensures { IfOk result (AreItemRows origin.now (option_map (λ p. p.now) program.entry) (item_view item.now)) }
+    ensures rows { IfOk result (λ made. AreItemRows origin.now (option_map (λ p. p.now) program.entry) (item_view item.now) made.rows) }
+    ensures counts { IfOk result (λ made. AreItemCounts origin.now.input origin.now.outputs (option_map (λ p. p.now) program.entry) origin.now.offset (item_view item.now) made.counts) }
 {
-    let mut all = empty(alloc, origin.outputs)?;
-    push_item(alloc, origin, program, item, all.as_mut_slice())?;
-    Ok(ItemRows::new(all))
+    rows_from(alloc, origin, program, item, 0, origin.outputs)
+}
+
+/// The rows of an item in one output alone, and the counts of its records. Each record is run once. It
+/// fails only where memory runs out.
+pub fn output_rows(
+    alloc: Global,
+    origin: &Origin,
+    program: Option<&Program>,
+    item: &Item,
+    output: usize,
+) -> Result<OneOutput, AllocError>
+    requires { IsOrigin origin.now }
+    ensures rows { IfOk result (λ made. GivesRows origin.now (option_map (λ p. p.now) program.entry) (item_view item.now) output made.rows.items) }
+    ensures counts { IfOk result (λ made. AreItemCounts origin.now.input origin.now.outputs (option_map (λ p. p.now) program.entry) origin.now.offset (item_view item.now) (arc_value made.counts)) }
+{
+    let mut made = rows_from(alloc, origin, program, item, output, 1)?;
+    let counts = Arc::try_clone(made.counts())?;
+    Ok(OneOutput {
+        rows: made.take(alloc, 0),
+        counts,
+    })
 }

@@ -1,4 +1,5 @@
-//! The rows of a log's item, for every output partition at once: each record is run once.
+//! The rows of a log's item, for every output partition at once or for one, and what became of its
+//! records: each record is run once.
 #![tactic(auto)]
 
 mod item;
@@ -7,7 +8,7 @@ mod origin;
 mod records;
 mod rows;
 
-pub use crate::item::item_rows;
+pub use crate::item::{OneOutput, item_rows, output_rows};
 pub use crate::laws::one_list_of_rows;
 pub use crate::origin::Origin;
 pub use crate::records::timestamp;

@@ -1,9 +1,13 @@
 ghost use Rattle.std.specs.Prelude.{◌≡◌, ◌<◌, ◌++◌, ◌∷◌, [], length, IfOk, OnOk, Some, slice_get, slice_set};
-ghost use Rattle.item_rows.specs.ItemRows.{AreEmpty};
+ghost use Rattle.std.specs.Arc.{arc_value};
+ghost use Rattle.item_rows.specs.ItemRows.{AreEmpty, item_yield};
 
+use fates::Counts;
 use log_spec::Row;
 use std::alloc::{AllocError, Global};
 use std::marker::Model;
+use std::mem;
+use std::sync::Arc;
 
 /// Rows in one output partition. Contracts see the list of them.
 #[derive(Drop)]
@@ -66,50 +70,68 @@ pub(crate) fn empty(alloc: Global, outputs: usize) -> Result<Vec<OutputRows>, Al
     Ok(all)
 }
 
-/// The rows of an item, output by output. Contracts see a list for each output partition.
+/// The rows of an item, output by output, and what became of its records. Contracts see a list for
+/// each output partition, and the counts.
 #[derive(Drop)]
 pub struct ItemRows {
     outputs: Vec<OutputRows>,
+    counts: Arc<Counts>,
 }
 
 impl Model for ItemRows {
-    ghost use Rattle.std.specs.Prelude.{List};
-    ghost use Rattle.log_spec.specs.declared.row.Row.{Row};
+    ghost use Rattle.std.specs.Arc.{arc_value};
+    ghost use Rattle.item_rows.specs.ItemRows.{ItemYield, item_yield};
 
-    ghost Value = { List (List Row) };
+    ghost Value = { ItemYield };
 
-    ghost view = { λ r. r.outputs.items };
+    ghost view = { λ r. item_yield r.outputs.items (arc_value r.counts) };
 }
 
 impl ItemRows {
-    pub(crate) fn new(outputs: Vec<OutputRows>) -> ItemRows
-        ensures { result ≡ outputs.items }
+    /// These rows and counts. It fails only where memory runs out.
+    pub(crate) fn new(
+        alloc: Global,
+        outputs: Vec<OutputRows>,
+        counts: Counts,
+    ) -> Result<ItemRows, AllocError>
+        ensures { IfOk result (λ made. made ≡ item_yield outputs.items counts) }
     {
-        ItemRows { outputs }
+        Ok(ItemRows {
+            outputs,
+            counts: Arc::new(alloc, counts)?,
+        })
     }
 
     /// How many output partitions there are.
     pub fn outputs(&self) -> usize
-        ensures { result ≡ length self.now }
+        ensures { result ≡ length self.now.rows }
     {
         self.outputs.len()
     }
 
     /// The item's rows in an output partition.
     pub fn rows(&self, output: usize) -> &[Row]
-        requires { output < length self.now }
-        ensures { slice_get self.now output ≡ Some result.now }
+        requires { output < length self.now.rows }
+        ensures { slice_get self.now.rows output ≡ Some result.now }
     {
         self.outputs[output].as_slice()
     }
 
+    /// What became of the item's records.
+    pub fn counts(&self) -> &Arc<Counts>
+        ensures { arc_value result.now ≡ self.now.counts }
+    {
+        &self.counts
+    }
+
     /// The item's rows in an output partition, by value. None are left there.
     pub fn take(&mut self, alloc: Global, output: usize) -> Vec<Row>
-        requires { output < length self.old }
-        ensures rows { slice_get self.old output ≡ Some result.items }
-        ensures left { self.new ≡ slice_set self.old output [] }
+        requires { output < length self.old.rows }
+        ensures rows { slice_get self.old.rows output ≡ Some result.items }
+        ensures left { self.new.rows ≡ slice_set self.old.rows output [] }
+        ensures counts { self.new.counts ≡ self.old.counts }
     {
         let empty = OutputRows::new(alloc);
-        std::mem::replace(&mut self.outputs[output], empty).into_vec()
+        mem::replace(&mut self.outputs[output], empty).into_vec()
     }
 }

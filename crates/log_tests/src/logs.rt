@@ -2,36 +2,24 @@ ghost use Rattle.std.specs.Prelude.{◌≡◌, ◌≤◌, length};
 ghost use Rattle.broker.specs.Layouts.{IsNamed};
 
 use broker::{Broker, BrokerFault, Parts};
-use bytes::Bytes;
+use broker_fixtures::{place_of, program_of};
 use catalogue::{CatFault, Catalogue};
 use fixtures::{FORWARD, batch_of};
 use log_spec::Name;
 use out_book::BookFault;
-use part_log::{Cells, LogFault, Names, PartLog, Program, Receipt};
+use part_log::{Cells, LogFault, Names, PartLog};
 use std::alloc::Global;
 use std::marker::Brand;
 use std::process::Abort;
-use std::sync::{Arc, Wait};
+use std::sync::Wait;
 use std::test::Fail;
-
-/// The forwarding program.
-fn forward(alloc: Global) -> Option<Arc<Program>> {
-    let image = Bytes::copy_from_slice(alloc, &FORWARD).ok()?;
-    let program = Program::new(alloc, &image).ok()?;
-    Arc::new(alloc, program).ok()
-}
-
-/// Where an item is put: its partition, its index, and the number of records before it.
-fn place_of<Id: Names>(receipt: &Receipt<Id>) -> (usize, usize, u64) {
-    (receipt.partition(), receipt.index(), receipt.base())
-}
 
 fn mark<Id: Names, R: Wait>(
     rt: &R,
     alloc: Global,
     log: &PartLog<Id>,
 ) -> Result<(usize, usize, u64), LogFault> {
-    let Some(program) = forward(alloc) else {
+    let Some(program) = program_of(alloc, &FORWARD) else {
         return Err(LogFault::Memory);
     };
     let Some(name) = Name::new("fwd") else {

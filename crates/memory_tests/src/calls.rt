@@ -1,10 +1,11 @@
 //! The calls of a broker that append and load, each made again where memory was refused. None says
 //! that something was wrong.
 
-use crate::making::{NAME, batch, image, say};
+use crate::making::{batch, image, say};
 use broker::{Broker, BrokerFault};
+use broker_fixtures::{NAME, place_of};
 use catalogue::{CatFault, Catalogue, Finder, Known};
-use part_log::{LogFault, Names, Receipt};
+use part_log::{LogFault, Names};
 use std::alloc::Global;
 use std::sync::Wait;
 
@@ -107,11 +108,6 @@ pub(crate) fn items<Id: Names, C, R: Wait>(rt: &R, broker: &Broker<Id, C>) -> Op
     Some(trail.len())
 }
 
-/// The index of an item, and how many records are before it.
-pub(crate) fn place_of<Id: Names>(receipt: &Receipt<Id>) -> (usize, u64) {
-    (receipt.index(), receipt.base())
-}
-
 /// The index of the mark, and its version.
 pub(crate) fn deploy<Id: Names, C, R: Wait + Print>(
     rt: &R,
@@ -143,7 +139,7 @@ pub(crate) fn append<Id: Names, C, R: Wait + Print>(
     alloc: Global,
     broker: &Broker<Id, C>,
     value: u8,
-) -> Option<(usize, u64)> {
+) -> Option<(usize, usize, u64)> {
     let before = items(rt, broker)?;
     let receipt = match broker.append(rt, alloc, 0, batch(alloc, value)?) {
         Ok(receipt) => receipt,
@@ -162,7 +158,7 @@ pub(crate) fn close<Id: Names, C, R: Wait + Print>(
     rt: &R,
     alloc: Global,
     broker: &Broker<Id, C>,
-) -> Option<(usize, u64)> {
+) -> Option<(usize, usize, u64)> {
     let before = items(rt, broker)?;
     let receipt = match broker.close(rt, alloc, 0) {
         Ok(receipt) => receipt,
@@ -188,7 +184,7 @@ pub(crate) fn fill<Id: Names, H: Wait + Drop, R: Wait + Print>(
     let mark = deploy(rt, alloc, broker, &mut finder, &known);
     let first = append(rt, alloc, broker, b'A');
     let second = append(rt, alloc, broker, b'B');
-    if mark == Some((0, 1)) && first == Some((1, 0)) && second == Some((2, 2)) {
+    if mark == Some((0, 1)) && first == Some((0, 1, 0)) && second == Some((0, 2, 2)) {
         Some(())
     } else {
         None

@@ -2,10 +2,11 @@
 
 ghost use Rattle.std.specs.Prelude.{◌≡◌};
 
-use crate::calls::place_of;
-use crate::making::{Ending, NAME, batch, image, say};
+use crate::making::{batch, say};
 use crate::rows::done_in;
 use broker::BrokerFault;
+use broker_fixtures::{Ending, NAME, advance, place_of, program_of, results_of};
+use fixtures::BOTH;
 use log_spec::Name;
 use out_book::{Book, BookFault, Delivered};
 use part_log::{Cells, LogFault, Names, PartLog, Program};
@@ -14,7 +15,7 @@ use std::marker::Brand;
 use std::process::Abort;
 use std::sync::{Arc, Wait};
 use std::test::Fail;
-use worker::{Results, Walk, process};
+use worker::{Results, Walk};
 
 const OUTPUTS: usize = 2;
 
@@ -91,23 +92,17 @@ fn fill_log<Id: Names, R: Wait + Print>(rt: &R, alloc: Global, log: &PartLog<Id>
     let mark = mark(rt, alloc, log);
     let first = append(rt, alloc, log, b'A');
     let second = append(rt, alloc, log, b'B');
-    if mark == Some((0, 0)) && first == Some((1, 0)) && second == Some((2, 2)) {
+    if mark == Some((0, 0, 0)) && first == Some((0, 1, 0)) && second == Some((0, 2, 2)) {
         Some(())
     } else {
         None
     }
 }
 
-fn program_once(alloc: Global) -> Option<Arc<Program>> {
-    let image = image(alloc)?;
-    let program = Program::new(alloc, &image).ok()?;
-    Arc::new(alloc, program).ok()
-}
-
 fn program(alloc: Global) -> Option<Arc<Program>> {
-    match program_once(alloc) {
+    match program_of(alloc, &BOTH) {
         Some(program) => Some(program),
-        None => program_once(alloc),
+        None => program_of(alloc, &BOTH),
     }
 }
 
@@ -130,7 +125,7 @@ fn mark<Id: Names, R: Wait + Print>(
     rt: &R,
     alloc: Global,
     log: &PartLog<Id>,
-) -> Option<(usize, u64)> {
+) -> Option<(usize, usize, u64)> {
     let receipt = match log.mark(rt, alloc, Name::new(NAME)?, 1, program(alloc)?) {
         Ok(receipt) => receipt,
         Err(fault) => {
@@ -149,7 +144,7 @@ fn append<Id: Names, R: Wait + Print>(
     alloc: Global,
     log: &PartLog<Id>,
     value: u8,
-) -> Option<(usize, u64)> {
+) -> Option<(usize, usize, u64)> {
     let items = log.trail(rt).ok()?.len();
     let receipt = match log.append(rt, alloc, batch(alloc, value)?) {
         Ok(receipt) => receipt,
@@ -163,15 +158,6 @@ fn append<Id: Names, R: Wait + Print>(
     Some(place_of(&receipt))
 }
 
-/// Makes the next item the walk's last one, if it is there.
-fn advance<Id: Names>(log: &PartLog<Id>, walk: &mut Walk<Id>) -> bool {
-    if walk.partition() != log.partition() || walk.len() >= log.cells() {
-        return false;
-    }
-    let mut note = log.note(walk.len());
-    walk.next(log, &mut note)
-}
-
 /// The rows of the item at a walk's position.
 fn processed<Id: Names, R: Print>(
     rt: &R,
@@ -181,14 +167,11 @@ fn processed<Id: Names, R: Print>(
 ) -> Option<Results<Id>>
     requires { Id.outputs ≡ 2 }
 {
-    if walk.partition() != log.partition() || walk.partition() >= 64 || walk.len() == 0 {
-        return None;
-    }
-    match process(alloc, walk, log, OUTPUTS) {
-        Ok(results) => Some(results),
-        Err(_) => {
+    match results_of(alloc, walk, log, OUTPUTS) {
+        Some(results) => Some(results),
+        None => {
             let _ = println!(rt; "refused process: no memory");
-            process(alloc, walk, log, OUTPUTS).ok()
+            results_of(alloc, walk, log, OUTPUTS)
         }
     }
 }

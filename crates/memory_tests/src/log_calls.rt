@@ -3,11 +3,11 @@
 ghost use Rattle.broker.specs.Layouts.{IsNamed};
 
 use crate::calls::{append, close, deploy, find, finder, items, load};
-use crate::making::Ending;
 use broker::{Broker, Parts};
+use broker_fixtures::{Ending, new_broker};
 use catalogue::Catalogue;
 use part_log::Names;
-use std::alloc::{AllocError, Global};
+use std::alloc::Global;
 use std::marker::Brand;
 use std::process::Abort;
 use std::sync::Wait;
@@ -38,15 +38,12 @@ fn call_all<Id: Names, R: Wait + Print>(
 ) -> Result<(), Ending>
     requires { IsNamed Id.cells Id.inputs Id.outputs parts }
 {
-    let made: Result<Broker<Id, Catalogue<&R>>, AllocError> = Broker::new(alloc, parts);
-    let Ok(broker) = made else {
-        return Err(Ending::NotMade);
-    };
+    let broker: Broker<Id, Catalogue<&R>> = new_broker(alloc, parts)?;
     program_calls(rt, alloc, &broker)?;
-    if append(rt, alloc, &broker, b'A') != Some((1, 0)) {
+    if append(rt, alloc, &broker, b'A') != Some((0, 1, 0)) {
         return Err(Ending::Wrong("append"));
     }
-    if close(rt, alloc, &broker) != Some((2, 2)) {
+    if close(rt, alloc, &broker) != Some((0, 2, 2)) {
         return Err(Ending::Wrong("close"));
     }
     if items(rt, &broker) != Some(3) {

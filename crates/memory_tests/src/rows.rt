@@ -2,7 +2,7 @@
 //! and then two batches, of the values `A` and `B`.
 
 use broker::Broker;
-use log_spec::Row;
+use broker_fixtures::is_row;
 use out_book::Book;
 use part_log::Names;
 use std::sync::Wait;
@@ -16,19 +16,9 @@ fn rows_of_first(items: usize) -> u64 {
     }
 }
 
-/// Whether this is the row of the record at an offset, in an output partition.
-fn is_row(row: &Row, offset: u64, output: usize) -> bool {
-    let value = if offset < 2 { b'A' } else { b'B' };
-    row.offset == offset && row.number == output && row.timestamp == 1000 && holds(row, value)
-}
-
-/// Whether the row's key is `k` and its value this byte.
-fn holds(row: &Row, value: u8) -> bool {
-    match (&row.key, &row.value) {
-        (Some(key), Some(bytes)) => key.as_slice() == b"k".as_slice()
-            && bytes.as_slice() == [value].as_slice(),
-        _ => false,
-    }
+/// The value of the record at an offset.
+fn value_at(offset: u64) -> u8 {
+    if offset < 2 { b'A' } else { b'B' }
 }
 
 /// How many items of input partition 0 are done in a book; none where its rows are not theirs.
@@ -38,7 +28,7 @@ pub(crate) fn done_in<Id: Names>(book: &Book<Id>) -> Option<usize> {
     }
     let mut offset = 0u64;
     for row in book.rows_from(0) {
-        if !is_row(row, offset, book.output()) {
+        if !is_row(row, offset, book.output(), value_at(offset)) {
             return None;
         }
         offset = offset.wrapping_add(1);

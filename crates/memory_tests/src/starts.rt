@@ -3,29 +3,20 @@
 ghost use Rattle.broker.specs.Layouts.{IsNamed};
 
 use crate::calls::fill;
-use crate::making::{Ending, say};
+use crate::making::say;
 use crate::rows::done_of;
 use broker::{Broker, BrokerFault, Ended, Parts, Until};
+use broker_fixtures::{Ending, new_broker};
 use catalogue::Catalogue;
 use out_book::BookFault;
 use part_log::Names;
-use std::alloc::{AllocError, Global};
+use std::alloc::Global;
 use std::marker::Brand;
 use std::process::Abort;
 use std::sync::Wait;
 use std::test::Fail;
 use std::thread::Threads;
-use worker::Gate;
-
-/// Lets every offer pass.
-#[derive(Drop)]
-pub struct Open;
-
-impl Gate for Open {
-    fn pass(&self, _input: usize, _index: usize, _output: usize) -> bool {
-        true
-    }
-}
+use worker::Open;
 
 #[test]
 fn a_refused_start_can_be_made_again(rt: HostRuntime) -> Result<(), Fail> {
@@ -53,10 +44,7 @@ fn start_all<Id: Names + Send + Sync, R: Threads + Wait + Print + Sync>(
 ) -> Result<(), Ending>
     requires { IsNamed Id.cells Id.inputs Id.outputs parts }
 {
-    let made: Result<Broker<Id, Catalogue<&R>>, AllocError> = Broker::new(alloc, parts);
-    let Ok(broker) = made else {
-        return Err(Ending::NotMade);
-    };
+    let broker: Broker<Id, Catalogue<&R>> = new_broker(alloc, parts)?;
     fill(rt, alloc, &broker).ok_or(Ending::Wrong("fill"))?;
     if start(rt, alloc, &broker) != Some(Ok(Ended::Done(3))) {
         return Err(Ending::Wrong("start"));

@@ -3,13 +3,14 @@
 ghost use Rattle.broker.specs.Layouts.{IsNamed};
 
 use crate::calls::fill;
-use crate::making::{Ending, say};
+use crate::making::say;
 use crate::rows::{done_in, done_of};
 use broker::{Broker, BrokerFault, Parts, Stepped};
+use broker_fixtures::{Ending, new_broker, step_book};
 use catalogue::Catalogue;
-use out_book::{Book, BookFault};
+use out_book::BookFault;
 use part_log::Names;
-use std::alloc::{AllocError, Global};
+use std::alloc::Global;
 use std::marker::Brand;
 use std::process::Abort;
 use std::sync::Wait;
@@ -42,10 +43,7 @@ fn step_all<Id: Names, R: Wait + Print>(
 ) -> Result<(), Ending>
     requires { IsNamed Id.cells Id.inputs Id.outputs parts }
 {
-    let made: Result<Broker<Id, Catalogue<&R>>, AllocError> = Broker::new(alloc, parts);
-    let Ok(broker) = made else {
-        return Err(Ending::NotMade);
-    };
+    let broker: Broker<Id, Catalogue<&R>> = new_broker(alloc, parts)?;
     fill(rt, alloc, &broker).ok_or(Ending::Wrong("fill"))?;
     for want in [
         Stepped::Added(0),
@@ -77,7 +75,7 @@ fn step<Id: Names, C, R: Wait + Print>(
     let mut guard = broker.book(output).lock(rt);
     let book = &mut *guard;
     let before = done_in(book)?;
-    match step_once(alloc, broker, book)? {
+    match step_book(alloc, broker, book, 0)? {
         Ok(stepped) => Some(stepped),
         Err(fault) => {
             say(rt, "step", fault);
@@ -85,22 +83,7 @@ fn step<Id: Names, C, R: Wait + Print>(
             if !is_memory || done_in(book) != Some(before) {
                 return None;
             }
-            step_once(alloc, broker, book)?.ok()
+            step_book(alloc, broker, book, 0)?.ok()
         }
     }
-}
-
-/// None where the log has no further cell.
-fn step_once<Id: Names, C>(
-    alloc: Global,
-    broker: &Broker<Id, C>,
-    book: &mut Book<Id>,
-) -> Option<Result<Stepped, BrokerFault>> {
-    let _some = broker.inputs();
-    let done = book.done(0);
-    if done >= broker.cells(0) {
-        return None;
-    }
-    let mut note = broker.note(0, done);
-    Some(broker.step(alloc, book, 0, &mut note))
 }

@@ -2,13 +2,18 @@
 #![tactic(auto)]
 
 mod book;
+mod done;
 mod fault;
+mod indexed;
 mod laws;
+mod probes;
 mod rows;
+mod search;
 mod sharing;
 
 pub use crate::book::{Book, Delivered};
 pub use crate::fault::BookFault;
 pub use crate::laws::follows_core;
+pub use crate::probes::Probes;
 pub use crate::rows::Rows;
 pub use crate::sharing::share_row;

@@ -1,4 +1,2 @@
-pub mod CountLaws
-pub mod FateLaws
 pub mod PlaceLaws
 pub mod WrittenLaws

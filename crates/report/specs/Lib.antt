@@ -1,4 +1,3 @@
-pub mod Fates
 pub mod Totals
 pub mod Holdings
 pub mod Snapshots

@@ -4,12 +4,12 @@ ghost use Rattle.std.specs.Prelude.{◌≡◌, ◌<◌, ◌≤◌, ◌+◌, ◌^
 ghost use Rattle.log_spec.specs.Logs.{FitsLog, records_in, program_after};
 ghost use Rattle.log_item.specs.Items.{item_view};
 ghost use Rattle.item_rows.specs.ItemRows.{IsOrigin};
-ghost use Rattle.report.specs.Fates.{AreRecordsFates, AreItemFates};
-ghost use Rattle.report.specs.Totals.{AreCounted, AreCountsOf};
+ghost use Rattle.fates.specs.Fates.{AreRecordsFates, AreItemFates};
+ghost use Rattle.fates.specs.Totals.{AreCounted, AreCountsOf};
 
-use crate::counts::Counts;
 use crate::fate::record_fate;
 use broker::Broker;
+use fates::Counts;
 use item_rows::{Origin, timestamp};
 use log_item::{Item, Program};
 use machine_spec::Place;

@@ -3,23 +3,13 @@
 ghost use Rattle.std.specs.Prelude.{◌≡◌, IfOk, option_map};
 ghost use Rattle.machine_spec.specs.Meaning.{IsPlace};
 ghost use Rattle.verifier_spec.specs.StandsFor.{IsWithinLimits};
-ghost use Rattle.report.specs.Fates.{fate_of, IsFate};
+ghost use Rattle.fates.specs.Fates.{fate_of, IsFate};
 
+use fates::Fate;
 use log_item::Program;
 use machine_spec::{Outcome, Place};
 use std::alloc::{AllocError, Global};
 use wire_spec::Record;
-
-/// What became of a record.
-#[derive(Clone, Copy, Debug, PartialEq, Eq)]
-pub enum Fate {
-    /// There is no mark before it, so no program ran.
-    Unprogrammed,
-    /// The program kept its emissions.
-    Kept,
-    /// The program rejected it by this code.
-    Rejected(u64),
-}
 
 /// What a run's outcome is for its record.
 fn fate_of(outcome: &Outcome) -> Fate

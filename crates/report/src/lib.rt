@@ -4,7 +4,6 @@
 #![tactic(auto)]
 
 mod counting;
-mod counts;
 mod fate;
 mod fault;
 mod gathering;
@@ -14,11 +13,10 @@ mod snapshot;
 mod tally;
 mod writing;
 
-pub use crate::counts::Counts;
-pub use crate::fate::Fate;
 pub use crate::fault::ReportFault;
 pub use crate::gathering::gather;
 pub use crate::holding::Holding;
 pub use crate::snapshot::Snapshot;
 pub use crate::tally::Tally;
 pub use crate::writing::write;
+pub use fates::{Counts, Fate};

@@ -1,7 +1,7 @@
 ghost use Rattle.std.specs.Prelude.{◌≡◌, ◌<◌, Some, length, slice_get};
 ghost use Rattle.log_spec.specs.Logs.{IsRowsOf};
 ghost use Rattle.report.specs.Snapshots.{gathered_snapshot, held_at, IsGathered, IsLeast};
-ghost use Rattle.report.specs.Totals.{AreCountsOf};
+ghost use Rattle.fates.specs.Totals.{AreCountsOf};
 
 use crate::holding::{Holding, Holdings};
 use crate::tally::Tally;

@@ -1,9 +1,10 @@
 ghost use Rattle.std.specs.Prelude.{◌≡◌, ◌<◌, length, IfOk};
-ghost use Rattle.report.specs.Totals.{AreCountsOf, IsTallied};
+ghost use Rattle.fates.specs.Totals.{AreCountsOf};
+ghost use Rattle.report.specs.Totals.{IsTallied};
 
 use crate::counting::count_items;
-use crate::counts::Counts;
 use broker::Broker;
+use fates::Counts;
 use part_log::{Names, Trail};
 use std::alloc::{AllocError, Global};
 use std::marker::Model;

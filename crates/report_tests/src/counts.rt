@@ -1,7 +1,8 @@
 ghost use Rattle.broker.specs.Layouts.{IsNamed};
 
-use crate::calls::{deploy, go, put, put_byte, reports};
+use crate::calls::{put_record, reports};
 use broker::{Broker, Parts};
+use broker_fixtures::{deploy, drain, put};
 use catalogue::Catalogue;
 use fixtures::FORWARD;
 use part_log::Names;
@@ -43,9 +44,9 @@ fn keep_one<Id: Names + Send + Sync, R: Threads + Wait + Abort + Sync>(
 {
     let broker: Broker<Id, Catalogue<&R>> = Broker::new(alloc, parts)?;
     assert_eq!(rt; deploy(rt, alloc, &broker, 0, &FORWARD), Some(0));
-    assert!(rt; put_byte(rt, alloc, &broker, 0, b'v').is_some());
+    assert!(rt; put(rt, alloc, &broker, 0, b'v').is_some());
     for _ in 0..2 {
-        assert!(rt; go(rt, alloc, &broker));
+        assert!(rt; drain(rt, alloc, &broker));
         let want = "row 0 0 0 0 1000 6b 76 0\n\
             out 0 in 0 done 2 rows 1\n\
             out 1 in 0 done 2 rows 0\n\
@@ -69,12 +70,12 @@ fn deploy_late<Id: Names + Send + Sync, R: Threads + Wait + Abort + Sync>(
     requires { IsNamed Id.cells Id.inputs Id.outputs parts }
 {
     let broker: Broker<Id, Catalogue<&R>> = Broker::new(alloc, parts)?;
-    assert!(rt; put(rt, alloc, &broker, 0, 5, None, Some(b"")).is_some());
+    assert!(rt; put_record(rt, alloc, &broker, 0, 5, None, Some(b"")).is_some());
     assert_eq!(rt; deploy(rt, alloc, &broker, 0, &FIVE), Some(1));
-    assert!(rt; put(rt, alloc, &broker, 0, 6, Some(b"k"), None).is_some());
-    assert!(rt; put(rt, alloc, &broker, 0, 7, Some(b""), Some(b"")).is_some());
+    assert!(rt; put_record(rt, alloc, &broker, 0, 6, Some(b"k"), None).is_some());
+    assert!(rt; put_record(rt, alloc, &broker, 0, 7, Some(b""), Some(b"")).is_some());
     assert!(rt; broker.close(rt, alloc, 0).is_ok());
-    assert!(rt; go(rt, alloc, &broker));
+    assert!(rt; drain(rt, alloc, &broker));
     let want = "out 0 in 0 done 5 rows 0\n\
         in 0 items 5 records 3 unprogrammed 1 kept 0\n\
         in 0 reject 5 count 2\n";
@@ -98,13 +99,13 @@ fn reject_some<Id: Names + Send + Sync, R: Threads + Wait + Abort + Sync>(
 {
     let broker: Broker<Id, Catalogue<&R>> = Broker::new(alloc, parts)?;
     assert_eq!(rt; deploy(rt, alloc, &broker, 0, &TWO_AND_FIVE), Some(0));
-    assert!(rt; put_byte(rt, alloc, &broker, 0, b'v').is_some());
+    assert!(rt; put(rt, alloc, &broker, 0, b'v').is_some());
     assert_eq!(rt; deploy(rt, alloc, &broker, 1, &FIRST_BYTE), Some(0));
     for value in [9, 7, 0, 7] {
-        assert!(rt; put_byte(rt, alloc, &broker, 1, value).is_some());
+        assert!(rt; put(rt, alloc, &broker, 1, value).is_some());
     }
-    assert!(rt; put(rt, alloc, &broker, 1, 1000, None, None).is_some());
-    assert!(rt; go(rt, alloc, &broker));
+    assert!(rt; put_record(rt, alloc, &broker, 1, 1000, None, None).is_some());
+    assert!(rt; drain(rt, alloc, &broker));
     let want = "out 0 in 0 done 2 rows 0\n\
         out 0 in 1 done 6 rows 0\n\
         in 0 items 2 records 1 unprogrammed 0 kept 0\n\

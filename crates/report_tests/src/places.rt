@@ -1,9 +1,10 @@
 ghost use Rattle.broker.specs.Layouts.{IsNamed};
 
-use crate::calls::{deploy, go, put_byte, reports};
-use broker::{Broker, Parts, Stepped};
+use crate::calls::reports;
+use broker::{Broker, Parts};
+use broker_fixtures::{deploy, drain, put, step};
 use catalogue::Catalogue;
-use fixtures::FORWARD;
+use fixtures::{BOTH, FORWARD};
 use part_log::Names;
 use report::gather;
 use std::alloc::Global;
@@ -12,12 +13,6 @@ use std::process::Abort;
 use std::sync::Wait;
 use std::test::Fail;
 use std::thread::Threads;
-
-/// Each record goes to output 0 and then to output 1.
-const BOTH: [u8; 40] = [
-    0xb7, 1, 0, 0, 0, 0, 0, 0, 0x85, 0, 0, 0, 3, 0, 0, 0, 0xb7, 1, 0, 0, 1, 0, 0, 0, 0x85, 0, 0, 0,
-    3, 0, 0, 0, 0x95, 0, 0, 0, 0, 0, 0, 0,
-];
 
 #[test]
 fn lines_are_in_the_order_of_partitions(rt: HostRuntime) -> Result<(), Fail> {
@@ -35,9 +30,9 @@ fn fill_two<Id: Names + Send + Sync, R: Threads + Wait + Abort + Sync>(
     let broker: Broker<Id, Catalogue<&R>> = Broker::new(alloc, parts)?;
     for (input, value) in [(1, b'B'), (0, b'A')] {
         assert_eq!(rt; deploy(rt, alloc, &broker, input, &BOTH), Some(0));
-        assert!(rt; put_byte(rt, alloc, &broker, input, value).is_some());
+        assert!(rt; put(rt, alloc, &broker, input, value).is_some());
     }
-    assert!(rt; go(rt, alloc, &broker));
+    assert!(rt; drain(rt, alloc, &broker));
     let want = "row 0 0 0 0 1000 6b 41 0\n\
         row 0 1 0 0 1000 6b 42 0\n\
         row 1 0 0 1 1000 6b 41 0\n\
@@ -79,7 +74,7 @@ fn step_apart<Id: Names, R: Wait + Abort>(
     );
     assert_eq!(rt; deploy(rt, alloc, &broker, 0, &FORWARD), Some(0));
     for value in [b'A', b'B', b'C'] {
-        assert!(rt; put_byte(rt, alloc, &broker, 0, value).is_some());
+        assert!(rt; put(rt, alloc, &broker, 0, value).is_some());
     }
     for output in [0, 1, 0, 1, 0] {
         assert!(rt; step(rt, alloc, &broker, output).is_some());
@@ -92,27 +87,6 @@ fn step_apart<Id: Names, R: Wait + Abort>(
     assert!(rt; reports(rt, alloc, &broker, want));
     assert_eq!(rt; parts_of(rt, alloc, &broker), Some((3, 2, 2, 1)));
     Ok(())
-}
-
-/// A step of an output partition's book over input partition 0.
-fn step<Id: Names, C, R: Wait>(
-    rt: &R,
-    alloc: Global,
-    broker: &Broker<Id, C>,
-    output: usize,
-) -> Option<Stepped> {
-    if output >= broker.outputs() {
-        return None;
-    }
-    let _some = broker.inputs();
-    let mut guard = broker.book(output).lock(rt);
-    let book = &mut *guard;
-    let done = book.done(0);
-    if done >= broker.cells(0) {
-        return None;
-    }
-    let mut note = broker.note(0, done);
-    broker.step(alloc, book, 0, &mut note).ok()
 }
 
 /// Of input partition 0: how many items and rows output partition 0 has, and how many items and records

@@ -3,12 +3,12 @@
 
 ghost use Rattle.broker.specs.Layouts.{IsNamed};
 
-use crate::calls::{deploy, go, put_byte};
 use broker::{Broker, BrokerFault, Parts};
+use broker_fixtures::{Ending, deploy, drain, new_broker, put};
 use catalogue::Catalogue;
 use part_log::Names;
 use report::{ReportFault, Snapshot, gather, write};
-use std::alloc::{AllocError, Global};
+use std::alloc::Global;
 use std::marker::Brand;
 use std::process::Abort;
 use std::sync::Wait;
@@ -27,15 +27,6 @@ const WANT: &str = "row 0 0 1 0 1000 6b 00 0\n\
     in 0 items 4 records 3 unprogrammed 0 kept 1\n\
     in 0 reject 7 count 1\n\
     in 0 reject 9 count 1\n";
-
-/// Why the calls of a test did not all end well.
-#[derive(Clone, Copy, Debug, PartialEq, Eq)]
-enum Ending {
-    /// There was no memory for a broker.
-    NotMade,
-    /// The named call gave another answer than its own for memory, or a wrong one.
-    Wrong(&'static str),
-}
 
 #[test]
 fn a_refused_report_can_be_made_again(rt: HostRuntime) -> Result<(), Fail> {
@@ -62,10 +53,7 @@ fn report_all<Id: Names + Send + Sync, R: Threads + Wait + Print + Sync>(
 ) -> Result<(), Ending>
     requires { IsNamed Id.cells Id.inputs Id.outputs parts }
 {
-    let made: Result<Broker<Id, Catalogue<&R>>, AllocError> = Broker::new(alloc, parts);
-    let Ok(broker) = made else {
-        return Err(Ending::NotMade);
-    };
+    let broker: Broker<Id, Catalogue<&R>> = new_broker(alloc, parts)?;
     fill(rt, alloc, &broker).ok_or(Ending::Wrong("fill"))?;
     let snapshot = snapshot_of(rt, alloc, &broker).ok_or(Ending::Wrong("gather"))?;
     if is_written(rt, alloc, &snapshot) {
@@ -85,11 +73,11 @@ fn fill<Id: Names + Send + Sync, R: Threads + Wait + Sync>(
         deploy(rt, alloc, broker, 0, &FIRST_BYTE)?;
     }
     for value in [9, 0, 7] {
-        if put_byte(rt, alloc, broker, 0, value).is_none() {
-            put_byte(rt, alloc, broker, 0, value)?;
+        if put(rt, alloc, broker, 0, value).is_none() {
+            put(rt, alloc, broker, 0, value)?;
         }
     }
-    if go(rt, alloc, broker) || go(rt, alloc, broker) {
+    if drain(rt, alloc, broker) || drain(rt, alloc, broker) {
         Some(())
     } else {
         None

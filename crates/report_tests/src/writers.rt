@@ -1,7 +1,7 @@
 ghost use Rattle.broker.specs.Layouts.{IsNamed};
 
-use crate::calls::{deploy, go, put_byte};
 use broker::{Broker, Parts};
+use broker_fixtures::{deploy, drain, put};
 use catalogue::Catalogue;
 use fixtures::FORWARD;
 use part_log::Names;
@@ -54,8 +54,8 @@ fn cut_short<Id: Names + Send + Sync, R: Threads + Wait + Abort + Sync>(
 {
     let broker: Broker<Id, Catalogue<&R>> = Broker::new(alloc, parts)?;
     assert_eq!(rt; deploy(rt, alloc, &broker, 0, &FORWARD), Some(0));
-    assert!(rt; put_byte(rt, alloc, &broker, 0, b'v').is_some());
-    assert!(rt; go(rt, alloc, &broker));
+    assert!(rt; put(rt, alloc, &broker, 0, b'v').is_some());
+    assert!(rt; drain(rt, alloc, &broker));
     let Ok(snapshot) = gather(rt, alloc, &broker) else {
         return Err(Fail::from("a snapshot"));
     };

@@ -1,9 +1,9 @@
 -- Batches of the first rows: what they have, and how they grow.
 use Rattle.std.proofs.Common.{◌≡◌, ℕ, zero, suc, ◌+◌, ◌^◌, ◌<◌, ◌≤◌, ℤ, pos, List, [], ◌∷◌, ◌++◌, length, take, drop}
-use Rattle.std.proofs.Common.{get_or, slice_index_or, map, Option, refl, sym, ap, subst, ◌∙◌, append_assoc, negsuc}
+use Rattle.std.proofs.Common.{get_or, slice_index_or, map, refl, sym, ap, subst, ◌∙◌, append_assoc, negsuc}
 use Rattle.std.proofs.Common.{⊎_elim, arith}
 use Rattle.std.specs.Prelude.{◌-ℤ◌, ◌+ℤ◌, ◌≤ℤ◌, ◌<ℤ◌, All, FitsSigned}
-use Rattle.std.specs.Int.{w16, w32, w64}
+use Rattle.std.specs.Int.{w64}
 use Rattle.std.specs.List.{AllByRecursion}
 use Rattle.std.proofs.lemmas.Int.{ints}
 use Rattle.std.proofs.lemmas.Bool.{cases_lt}
@@ -19,7 +19,7 @@ use Rattle.wire_spec.proofs.RecordLaws.{length-record_body}
 use Rattle.wire_spec.proofs.BatchLaws.{length-covered, records_length}
 use Rattle.log_spec.specs.declared.row.Row.{Row}
 use Rattle.log_spec.specs.Logs.{RowFits}
-use Rattle.row_batch.specs.RowBatches.{record_of, first_timestamp, batch_of, MayTake, TakesMost}
+use Rattle.row_batch.specs.RowBatches.{record_of, first_timestamp, batch_of, TakesMost}
 use Rattle.row_batch.specs.FirstRows.{size_with, AreFirst, IsFirst}
 
 -- ---- one row

@@ -1,5 +1,5 @@
 -- Rows of an output partition as record batches.
-use Rattle.std.specs.Prelude.{◌≡◌, ℕ, ◌+◌, ◌≤◌, ℤ, pos, negsuc, ◌-ℤ◌, List, [], ◌∷◌, length, map, take, drop, Option}
+use Rattle.std.specs.Prelude.{◌≡◌, ℕ, ◌≤◌, pos, negsuc, ◌-ℤ◌, List, [], ◌∷◌, length, map, take, drop, Option}
 use Rattle.std.specs.Prelude.{Some, None, ◌⊎◌}
 use Rattle.wire_spec.specs.declared.{record.Record.Record, record.Batch.Batch}
 use Rattle.wire_spec.specs.BatchSpelling.{max_batch, max_records, batch_spelling, BatchFits}

@@ -6,4 +6,4 @@ mod records;
 mod rows;
 
 pub use crate::laws::one_row_fits;
-pub use crate::rows::{first_batch, row_batch};
+pub use crate::rows::row_batch;

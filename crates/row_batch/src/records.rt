@@ -1,6 +1,6 @@
 //! Rows as records.
 
-ghost use Rattle.std.specs.Prelude.{◌≡◌, ◌<◌, ◌≤◌, ◌-ℤ◌, pos, length, All, IfOk};
+ghost use Rattle.std.specs.Prelude.{◌≡◌, ◌+◌, ◌<◌, ◌≤◌, ◌-ℤ◌, pos, length, take, drop, All, IfOk};
 ghost use Rattle.log_spec.specs.Logs.{RowFits};
 ghost use Rattle.wire_spec.specs.RecordSpelling.{RecordFits};
 ghost use Rattle.row_batch.specs.RowBatches.{record_of};
@@ -9,6 +9,7 @@ ghost use Rattle.row_batch.specs.FirstRows.{AreFirst};
 use batch::{HEADER, MAX_BATCH, record_len};
 use kafka_record::{share_bytes, share_headers};
 use log_spec::Row;
+use segments::Segments;
 use std::alloc::{AllocError, Global};
 use wire_spec::{Record, Records, TIMESTAMP_END};
 
@@ -36,20 +37,28 @@ fn record_of(alloc: Global, base: u64, row: &Row) -> Result<Record, AllocError>
     })
 }
 
-/// The records of the first rows, as many as one batch has room for; a record's timestamp delta is
-/// the row's timestamp minus `base`. Their parts share their bytes with the rows. It fails only
-/// where memory runs out.
-pub fn first_records(alloc: Global, base: u64, rows: &[Row]) -> Result<Records, AllocError>
+/// The records of the first rows of `most` from a place on, as many as one batch has room for; a
+/// record's timestamp delta is the row's timestamp minus `base`. Their parts share their bytes with
+/// the rows. It fails only where memory runs out.
+pub fn first_records(
+    alloc: Global,
+    base: u64,
+    rows: &Segments<Row>,
+    place: usize,
+    most: usize,
+) -> Result<Records, AllocError>
     requires base { base < TIMESTAMP_END }
-    requires few { length rows.now ≤ 10000 }
-    requires fit { All RowFits rows.now }
-    ensures { IfOk result (λ records. AreFirst base rows.now records) }
+    requires there { place + most ≤ length rows.now.items }
+    requires few { most ≤ 10000 }
+    requires fit { All RowFits rows.now.items }
+    ensures { IfOk result (λ records. AreFirst base (take most (drop place rows.now.items)) records) }
 {
+    let _few = rows.len();
     let mut list = Vec::new(alloc);
     let mut size = HEADER;
-    for (place, row) in rows.iter().enumerate() {
-        let given = record_of(alloc, base, row)?;
-        size += record_len(&given, place);
+    for count in 0..most {
+        let given = record_of(alloc, base, rows.get(place + count))?;
+        size += record_len(&given, count);
         if size > MAX_BATCH {
             return Ok(Records { list });
         }

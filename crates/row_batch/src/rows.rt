@@ -1,6 +1,6 @@
 //! The batch of rows from a place on.
 
-ghost use Rattle.std.specs.Prelude.{◌≡◌, ◌<◌, ◌≤◌, ◌^◌, ℕ, length, All, IfOk, option_map};
+ghost use Rattle.std.specs.Prelude.{◌≡◌, ◌+◌, ◌≤◌, ℕ, length, take, drop, All, IfOk, option_map};
 ghost use Rattle.log_spec.specs.Logs.{RowFits};
 ghost use Rattle.row_batch.specs.RowBatches.{IsFetched};
 ghost use Rattle.row_batch.specs.FirstRows.{IsFirst};
@@ -8,20 +8,27 @@ ghost use Rattle.row_batch.specs.FirstRows.{IsFirst};
 use crate::records::first_records;
 use batch::{MAX_RECORDS, encode};
 use log_spec::Row;
+use segments::Segments;
 use std::alloc::{AllocError, Global};
 use wire_spec::Batch;
 
-/// The batch of the first rows, at least one and as many as it has room for. The first row has this
-/// place, which is the batch's base offset. The rows' parts share their bytes with the records. It
+/// The batch of the first rows of `most` from a place on, at least one and as many as it has room
+/// for. The place is the batch's base offset. The rows' parts share their bytes with the records. It
 /// fails only where memory runs out.
-pub fn first_batch(alloc: Global, place: usize, rows: &[Row]) -> Result<Batch, AllocError>
-    requires place { place < 2 ^ 63 }
-    requires some { 0 < length rows.now }
-    requires few { length rows.now ≤ 10000 }
-    requires fit { All RowFits rows.now }
-    ensures { IfOk result (λ batch. IsFirst place rows.now (length batch.records) batch) }
+fn first_batch(
+    alloc: Global,
+    rows: &Segments<Row>,
+    place: usize,
+    most: usize,
+) -> Result<Batch, AllocError>
+    requires there { place + most ≤ length rows.now.items }
+    requires some { 1 ≤ most }
+    requires few { most ≤ 10000 }
+    requires fit { All RowFits rows.now.items }
+    ensures { IfOk result (λ batch. IsFirst place (take most (drop place rows.now.items)) (length batch.records) batch) }
 {
-    let base = rows[0].timestamp;
+    let _few = rows.len();
+    let base = rows.get(place).timestamp;
     Ok(Batch {
         base_offset: place as i64,
         leader_epoch: 0,
@@ -29,7 +36,7 @@ pub fn first_batch(alloc: Global, place: usize, rows: &[Row]) -> Result<Batch, A
         producer_id: -1,
         producer_epoch: -1,
         base_sequence: -1,
-        records: first_records(alloc, base, rows)?,
+        records: first_records(alloc, base, rows, place, most)?,
     })
 }
 
@@ -40,18 +47,18 @@ pub fn first_batch(alloc: Global, place: usize, rows: &[Row]) -> Result<Batch, A
 /// fails only where memory runs out.
 pub fn row_batch(
     alloc: Global,
-    rows: &[Row],
+    rows: &Segments<Row>,
     place: usize,
     max: usize,
 ) -> Result<Option<Vec<u8>>, AllocError>
-    requires { All RowFits rows.now }
-    ensures { IfOk result (λ found. IsFetched rows.now place max (option_map (λ bytes. bytes.items) found)) }
+    requires { All RowFits rows.now.items }
+    ensures { IfOk result (λ found. IsFetched rows.now.items place max (option_map (λ bytes. bytes.items) found)) }
 {
     if place >= rows.len() || max == 0 {
         return Ok(None);
     }
-    let left = &rows[place..];
-    let most = left.len().min(max).min(MAX_RECORDS as usize);
-    let batch = first_batch(alloc, place, &left[..most])?;
+    let left = rows.len() - place;
+    let most = left.min(max).min(MAX_RECORDS as usize);
+    let batch = first_batch(alloc, rows, place, most)?;
     Ok(Some(encode(alloc, &batch)?))
 }

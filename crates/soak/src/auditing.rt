@@ -2,7 +2,8 @@
 
 use crate::making::batch_of;
 use crate::threads::INPUTS;
-use broker::{Audit, Broker};
+use broker::Broker;
+use broker_fixtures::audited;
 use part_log::{Names, Receipt};
 use std::alloc::Global;
 use std::sync::Wait;
@@ -61,27 +62,4 @@ fn wait_for<Id: Names, C, R: Wait>(
         thread::yield_now();
     }
     None
-}
-
-/// How many rows an output partition has of a receipt's item, if it has processed it.
-fn audited<Id: Names, C, R: Wait>(
-    rt: &R,
-    broker: &Broker<Id, C>,
-    output: usize,
-    receipt: &Receipt<Id>,
-) -> Option<usize> {
-    if output >= broker.outputs() {
-        return None;
-    }
-    let book = broker.book(output).lock(rt);
-    match broker.audit(receipt, &book) {
-        Audit::Pending => None,
-        Audit::Processed(rows) => {
-            let mut count = 0usize;
-            for _ in rows {
-                count = count.wrapping_add(1);
-            }
-            Some(count)
-        }
-    }
 }

@@ -4,16 +4,6 @@ use crate::making::mixed;
 use std::sync::atomic::{AtomicU64, Ordering};
 use worker::Gate;
 
-/// Lets every offer pass.
-#[derive(Drop)]
-pub struct Open;
-
-impl Gate for Open {
-    fn pass(&self, _input: usize, _index: usize, _output: usize) -> bool {
-        true
-    }
-}
-
 /// Stops a worker at a random offer.
 #[derive(Drop)]
 pub struct Chance {

@@ -4,9 +4,9 @@ ghost use Rattle.std.specs.Prelude.{IfSome};
 ghost use Rattle.log_spec.specs.Logs.{FitsLog};
 
 use bytes::Bytes;
-use fixtures::batch_at;
+use fixtures::{batch_at, record_of};
 use std::alloc::{AllocError, Global};
-use wire_spec::{Batch, Headers, Record, Records};
+use wire_spec::{Batch, Record, Records};
 
 /// Emits a record to the output that its value's first byte gives, modulo 64.
 const ONE: [u8; 56] = [
@@ -42,15 +42,9 @@ pub(crate) fn image(alloc: Global, versions: usize) -> Option<Bytes> {
 
 /// A record whose key is its number and whose value is random.
 fn record(alloc: Global, number: u64) -> Result<Record, AllocError> {
-    let value = mixed(number).to_be_bytes();
-    Ok(Record {
-        timestamp_delta: 0,
-        key: Some(Bytes::copy_from_slice(alloc, &number.to_be_bytes())?),
-        value: Some(Bytes::copy_from_slice(alloc, &value)?),
-        headers: Headers {
-            list: Vec::new(alloc),
-        },
-    })
+    let key = Bytes::copy_from_slice(alloc, &number.to_be_bytes())?;
+    let value = Bytes::copy_from_slice(alloc, &mixed(number).to_be_bytes())?;
+    Ok(record_of(alloc, 0, Some(key), Some(value)))
 }
 
 fn records(alloc: Global, first: usize, count: usize) -> Result<Records, AllocError> {

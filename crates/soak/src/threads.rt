@@ -5,7 +5,7 @@ ghost use Rattle.broker.specs.Layouts.{IsNamed};
 use crate::auditing::{AUDITED, audit_all};
 use crate::comparing::{Compared, compare};
 use crate::deploying::{deploy_all, versions};
-use crate::gates::{Chance, Open};
+use crate::gates::Chance;
 use crate::making::mixed;
 use crate::producing::Share;
 use broker::{Broker, Ended, Parts, Until};
@@ -16,6 +16,7 @@ use std::sync::Wait;
 use std::sync::atomic::{AtomicU64, Ordering};
 use std::thread;
 use std::thread::Threads;
+use worker::Open;
 
 /// How many input partitions the broker has.
 pub const INPUTS: usize = 4;

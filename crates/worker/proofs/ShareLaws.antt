@@ -6,9 +6,10 @@ use Rattle.std.proofs.lemmas.List.{length-append, get_or-set_other}
 use Rattle.log_spec.specs.declared.row.Row.{Row}
 use Rattle.log_spec.specs.Logs.{IsRowsAt, RowFits}
 use Rattle.part_log.specs.Parts.{Log}
+use Rattle.fates.specs.Totals.{Totals}
 use Rattle.item_rows.specs.ItemRows.{rows_in}
-use Rattle.worker.specs.Walks.{last, AreRowsOfLast}
-use Rattle.worker.specs.Processed.{OutputShare, output_share, IsOfLast, AreInTurn}
+use Rattle.worker.specs.Walks.{last, AreRowsOfLast, AreCountsOfLast}
+use Rattle.worker.specs.Processed.{OutputShare, output_share, IsOfLast, IsShare, AreInTurn}
 
 -- the rows of the first outputs are taken, and those of the others are left
 pub record AreTaken (walk : Log) (all left : List (List Row)) (n : ℕ) (shares : List OutputShare) : Type 0 where
@@ -16,7 +17,7 @@ pub record AreTaken (walk : Log) (all left : List (List Row)) (n : ℕ) (shares 
   pub kept : length left ≡ length all
   pub left_are : (output : ℕ) → n ≤ output → rows_in left output ≡ rows_in all output
   pub each : (output : ℕ) (share : OutputShare) → slice_get shares output ≡ Some share →
-      share ≡ output_share walk output (rows_in all output)
+      IsShare walk output (rows_in all output) share
 
 pub none_taken : (walk : Log) (all : List (List Row)) → AreTaken walk all all 0 []
 none_taken walk all = record {
@@ -40,12 +41,11 @@ pushed P (z ∷ xs) n x all at (suc k) y e =
 
 pub one_more : (walk : Log) (all left after : List (List Row)) (n : ℕ) (shares : List OutputShare) (rows : List Row)
     (share : OutputShare) → AreTaken walk all left n shares → slice_get left n ≡ Some rows →
-    after ≡ slice_set left n [] → length after ≡ length left → share ≡ output_share walk n rows →
+    after ≡ slice_set left n [] → length after ≡ length left → IsShare walk n rows share →
     AreTaken walk all after (n + 1) (shares ++ share ∷ [])
 one_more walk all left after n shares rows share taken at set long is =
     let here : rows ≡ rows_in all n = sym (get_or_from_slice_get left n rows [] at) ∙ taken.left_are n (omega arith) in
-    let whole : share ≡ output_share walk n (rows_in all n) = is
-    ∙ ap (λ (rs : List Row). output_share walk n rs) here in
+    let whole : IsShare walk n (rows_in all n) share = subst (λ (rs : List Row). IsShare walk n rs share) here is in
     let end : 0 + length shares ≡ n = omega (arith, taken.count) in
     let start : (k : ℕ) → 0 + k ≡ k = λ k. omega arith in
     record {
@@ -55,10 +55,10 @@ one_more walk all left after n shares rows share taken at set long is =
           ap (λ (rs : List (List Row)). rows_in rs output) set
           ∙ (get_or-set_other left n output [] [] (λ e. omega (arith, e)) ∙ taken.left_are output (omega arith));
       each = λ output s e.
-          subst (λ k. s ≡ output_share walk k (rows_in all k)) (start output)
-          (pushed (λ k t. t ≡ output_share walk k (rows_in all k)) shares 0 share
-          (λ k t h. subst (λ m. t ≡ output_share walk m (rows_in all m)) (sym (start k)) (taken.each k t h))
-          (subst (λ k. share ≡ output_share walk k (rows_in all k)) (sym end) whole) output s e);
+          subst (λ k. IsShare walk k (rows_in all k) s) (start output)
+          (pushed (λ k t. IsShare walk k (rows_in all k) t) shares 0 share
+          (λ k t h. subst (λ m. IsShare walk m (rows_in all m) t) (sym (start k)) (taken.each k t h))
+          (subst (λ k. IsShare walk k (rows_in all k) share) (sym end) whole) output s e);
     }
 
 pub all_taken : (walk : Log) (all left : List (List Row)) (n : ℕ) (shares : List OutputShare) →
@@ -68,11 +68,12 @@ all_taken walk all left n shares taken whole = record {
   each = taken.each;
 }
 
--- the rows of one output are those of the last item
+-- the rows of one output and the counts are those of the last item
 pub is_of_last : (outputs : ℕ) (walk : Log) (all left : List (List Row)) (n : ℕ) (shares : List OutputShare)
-    (rows : List Row) → AreRowsOfLast outputs walk all → AreTaken walk all left n shares →
-    slice_get left n ≡ Some rows → n < length all → IsOfLast outputs (output_share walk n rows)
-is_of_last outputs walk all left n shares rows are taken at within =
+    (rows : List Row) (counts : Totals) → AreRowsOfLast outputs walk all → AreCountsOfLast outputs walk counts →
+    AreTaken walk all left n shares → slice_get left n ≡ Some rows → n < length all →
+    IsOfLast outputs (output_share walk n rows counts)
+is_of_last outputs walk all left n shares rows counts are many taken at within =
     let lt : n < outputs = omega (arith, are.count) in
     let here : rows ≡ rows_in all n = sym (get_or_from_slice_get left n rows [] at) ∙ taken.left_are n (omega arith) in
     record {
@@ -80,4 +81,5 @@ is_of_last outputs walk all left n shares rows are taken at within =
       rows_are = subst (λ (rs : List Row). IsRowsAt walk.partition n outputs walk.items (last walk.items) rs) (sym here)
           (are.each n lt);
       fit = subst (λ (rs : List Row). All RowFits rs) (sym here) (are.fit n lt);
+      counts_are = many;
     }

@@ -1,13 +1,14 @@
 ghost use Rattle.std.specs.Prelude.{◌≡◌, ◌<◌, ◌≤◌, length, IfOk};
 
+use crate::delivery::Delivery;
 use crate::results::Results;
 use crate::walk::Walk;
-use item_rows::{Origin, item_rows};
+use item_rows::{Origin, item_rows, output_rows};
 use part_log::{Names, PartLog};
 use std::alloc::{AllocError, Global};
 
-/// The rows of a walk's last item for each output partition. Each record is run once, by the program
-/// in force for the item. It fails only where memory runs out.
+/// The rows of a walk's last item for each output partition, and the counts of its records. Each record
+/// is run once, by the program in force for the item. It fails only where memory runs out.
 pub fn process<Id: Names>(
     alloc: Global,
     walk: &Walk<Id>,
@@ -31,4 +32,32 @@ pub fn process<Id: Names>(
     };
     let rows = item_rows(alloc, &origin, walk.program(log), item)?;
     Ok(Results::new(walk.trail().again(), rows))
+}
+
+/// The rows of a walk's last item for one output partition alone, and the counts of its records. Each
+/// record is run once, by the program in force for the item. It fails only where memory runs out.
+pub fn process_for<Id: Names>(
+    alloc: Global,
+    walk: &Walk<Id>,
+    log: &PartLog<Id>,
+    outputs: usize,
+    output: usize,
+) -> Result<Delivery<Id>, AllocError>
+    requires partition { walk.now.partition ≡ log.now }
+    requires input { walk.now.partition < 64 }
+    requires item { 0 < length walk.now.items }
+    requires outputs { outputs ≡ Id.outputs }
+    requires few { outputs ≤ 64 }
+    requires output { output < outputs }
+    ensures { IfOk result (λ delivery. (delivery.walk ≡ walk.now) × (delivery.output ≡ output)) }
+{
+    let _most = log.cells();
+    let item = log.item(walk.trail(), walk.len() - 1);
+    let origin = Origin {
+        input: walk.partition(),
+        offset: walk.base(),
+        outputs,
+    };
+    let made = output_rows(alloc, &origin, walk.program(log), item, output)?;
+    Ok(Delivery::new(walk.trail().again(), output, made.rows, made.counts))
 }

@@ -17,16 +17,6 @@ pub(crate) fn sees(flag: &AtomicBool) -> bool {
     false
 }
 
-/// Lets every offer pass.
-#[derive(Drop)]
-pub struct Open;
-
-impl Gate for Open {
-    fn pass(&self, _input: usize, _index: usize, _output: usize) -> bool {
-        true
-    }
-}
-
 /// Stops before one offer.
 #[derive(Drop)]
 pub struct Shut {

@@ -2,7 +2,7 @@
 #![tactic(auto)]
 
 #[cfg(test)]
-mod calls;
+mod books;
 #[cfg(test)]
 mod gates;
 #[cfg(test)]

@@ -1,6 +1,7 @@
 ghost use Rattle.std.specs.Prelude.{◌≡◌};
 
-use crate::calls::batch_of;
+use broker_fixtures::{advance, results_of};
+use fixtures::batch_of_value;
 use out_book::{Book, BookFault, Delivered};
 use part_log::{Cells, Names, PartLog};
 use std::alloc::Global;
@@ -8,7 +9,7 @@ use std::marker::Brand;
 use std::process::Abort;
 use std::sync::Wait;
 use std::test::Fail;
-use worker::{Walk, process};
+use worker::Walk;
 
 #[test]
 fn a_book_takes_items_in_order(rt: HostRuntime) -> Result<(), Fail> {
@@ -24,7 +25,7 @@ fn offer_three<Id: Names, R: Wait + Abort>(rt: &R, alloc: Global, cells: Cells) 
 {
     let log: PartLog<Id> = PartLog::new(0, cells);
     for value in 0..3 {
-        let batch = batch_of(alloc, value).ok_or("a batch")?;
+        let batch = batch_of_value(alloc, 1, value).ok_or("a batch")?;
         log.append(rt, alloc, batch)?;
     }
     let mut book = Book::new(alloc, 1, 0)?;
@@ -46,15 +47,6 @@ fn offer_three<Id: Names, R: Wait + Abort>(rt: &R, alloc: Global, cells: Cells) 
     Ok(())
 }
 
-/// Makes the next item the walk's last one, if it is there.
-fn advance<Id: Names>(log: &PartLog<Id>, walk: &mut Walk<Id>) -> bool {
-    if walk.partition() != log.partition() || walk.len() >= log.cells() {
-        return false;
-    }
-    let mut note = log.note(walk.len());
-    walk.next(log, &mut note)
-}
-
 /// Gives a book the rows of the item at a walk's position by value.
 fn hand_over<Id: Names>(
     alloc: Global,
@@ -64,13 +56,8 @@ fn hand_over<Id: Names>(
 ) -> Option<Result<Delivered, BookFault>>
     requires { Id.outputs ≡ 1 }
 {
-    if walk.partition() != log.partition() || walk.partition() >= 64 || walk.len() == 0 {
-        return None;
-    }
-    let deliveries = process(alloc, walk, log, 1)
-        .ok()?
-        .into_deliveries(alloc)
-        .ok()?;
+    let results = results_of(alloc, walk, log, 1)?;
+    let deliveries = results.into_deliveries(alloc).ok()?;
     for delivery in deliveries {
         if delivery.output() == book.output() {
             return Some(book.receive(walk, delivery));
@@ -88,9 +75,6 @@ fn offer<Id: Names>(
 ) -> Option<Result<Delivered, BookFault>>
     requires { Id.outputs ≡ 1 }
 {
-    if walk.partition() != log.partition() || walk.partition() >= 64 || walk.len() == 0 {
-        return None;
-    }
-    let results = process(alloc, walk, log, 1).ok()?;
+    let results = results_of(alloc, walk, log, 1)?;
     Some(book.deliver(walk, &results))
 }

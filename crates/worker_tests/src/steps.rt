@@ -1,10 +1,11 @@
 ghost use Rattle.broker.specs.Layouts.{IsNamed};
 
-use crate::calls::{deploy, has, put};
-use broker::{Audit, Broker, Parts, Stepped};
+use crate::books::has;
+use broker::{Broker, Parts, Stepped};
+use broker_fixtures::{audited, deploy, put, step};
 use catalogue::Catalogue;
 use fixtures::FORWARD;
-use part_log::{Names, Receipt};
+use part_log::Names;
 use std::alloc::Global;
 use std::marker::Brand;
 use std::process::Abort;
@@ -27,37 +28,16 @@ fn step_two<Id: Names, R: Wait + Abort>(
     let broker: Broker<Id, Catalogue<&R>> = Broker::new(alloc, parts)?;
     assert_eq!(rt; deploy(rt, alloc, &broker, 0, &FORWARD), Some(0));
     let receipt = put(rt, alloc, &broker, 0, b'v').ok_or("a receipt")?;
-    assert_eq!(rt; count(rt, &broker, 0, &receipt), None);
+    assert_eq!(rt; audited(rt, &broker, 0, &receipt), None);
     for want in [Stepped::Added(0), Stepped::Added(1), Stepped::Nothing] {
         assert_eq!(rt; step(rt, alloc, &broker, 0), Some(want));
     }
-    assert_eq!(rt; count(rt, &broker, 0, &receipt), Some(1));
-    assert_eq!(rt; count(rt, &broker, 1, &receipt), None);
+    assert_eq!(rt; audited(rt, &broker, 0, &receipt), Some(1));
+    assert_eq!(rt; audited(rt, &broker, 1, &receipt), None);
     assert!(rt; has(rt, &broker, 0, 0, 2, &[(0, 0, b'v')]));
     assert_eq!(rt; step_again(rt, alloc, &broker, 0), Some(Stepped::Added(1)));
     assert!(rt; has(rt, &broker, 0, 0, 3, &[(0, 0, b'v'), (1, 0, b'w')]));
     Ok(())
-}
-
-/// A step of an output partition's book over input partition 0.
-fn step<Id: Names, C, R: Wait>(
-    rt: &R,
-    alloc: Global,
-    broker: &Broker<Id, C>,
-    output: usize,
-) -> Option<Stepped> {
-    if output >= broker.outputs() {
-        return None;
-    }
-    let _some = broker.inputs();
-    let mut guard = broker.book(output).lock(rt);
-    let book = &mut *guard;
-    let done = book.done(0);
-    if done >= broker.cells(0) {
-        return None;
-    }
-    let mut note = broker.note(0, done);
-    broker.step(alloc, book, 0, &mut note).ok()
 }
 
 /// A step that finds nothing, and with the same note another one, after a record came.
@@ -83,27 +63,4 @@ fn step_again<Id: Names, C, R: Wait>(
     }
     put(rt, alloc, broker, 0, b'w')?;
     broker.step(alloc, book, 0, &mut note).ok()
-}
-
-/// How many rows an audit finds of a receipt's item in an output partition; none where it is not done.
-fn count<Id: Names, C, R: Wait>(
-    rt: &R,
-    broker: &Broker<Id, C>,
-    output: usize,
-    receipt: &Receipt<Id>,
-) -> Option<u64> {
-    if output >= broker.outputs() {
-        return None;
-    }
-    let book = broker.book(output).lock(rt);
-    match broker.audit(receipt, &book) {
-        Audit::Pending => None,
-        Audit::Processed(rows) => {
-            let mut count = 0u64;
-            for _ in rows {
-                count = count.wrapping_add(1);
-            }
-            Some(count)
-        }
-    }
 }

@@ -1,10 +1,11 @@
 ghost use Rattle.broker.specs.Layouts.{IsNamed};
 
-use crate::calls::{BOTH, TURNED, deploy, ends, has, put};
-use crate::gates::{Hold, Open, Pair, Shut, sees};
+use crate::books::has;
+use crate::gates::{Hold, Pair, Shut, sees};
 use broker::{Broker, Ended, Parts, Until};
+use broker_fixtures::{deploy, ends, put};
 use catalogue::Catalogue;
-use fixtures::FORWARD;
+use fixtures::{BOTH, FORWARD};
 use part_log::Names;
 use std::alloc::Global;
 use std::marker::Brand;
@@ -14,6 +15,13 @@ use std::sync::atomic::Ordering;
 use std::test::Fail;
 use std::thread;
 use std::thread::Threads;
+use worker::Open;
+
+/// Each record goes to output 1 and then to output 0.
+const TURNED: [u8; 40] = [
+    0xb7, 1, 0, 0, 1, 0, 0, 0, 0x85, 0, 0, 0, 3, 0, 0, 0, 0xb7, 1, 0, 0, 0, 0, 0, 0, 0x85, 0, 0, 0,
+    3, 0, 0, 0, 0x95, 0, 0, 0, 0, 0, 0, 0,
+];
 
 #[test]
 fn workers_run_side_by_side(rt: HostRuntime) -> Result<(), Fail> {

@@ -14,7 +14,7 @@ loop-emission-preserved c = (
   tt,
   omega (arith, length-append c.loop-emission.yielded (c.in-Some.emission ∷ []), c.loop-emission.invariant.2),
   search rules,
-  emissions_more c.args.place.now c.loop-emission.number c.loop-emission.yielded c.in-Some.emission c.args.all.now
+  emissions_more c.args.first c.args.place.now c.loop-emission.number c.loop-emission.yielded c.in-Some.emission c.args.all.now
       c.loop-emission.all c.push_row.new.all
       c.loop-emission.invariant.2 c.loop-emission.invariant.4 c.in_ok-push_row.ensures,
 )
@@ -27,5 +27,5 @@ returns c =
     c.loop-emission.yielded c.loop-emission.emission-iterator c.loop-emission.yielded_by c.next.result c.next.new.self
     c.in-None.is c.next.ensures.steps in
     let whole : c.loop-emission.yielded ≡ c.args.emissions.items = sym (map-id c.loop-emission.yielded) ∙ all.0 in
-    subst (λ (es : List Emission). Adds c.args.all.now c.loop-emission.all
+    subst (λ (es : List Emission). Adds c.args.first c.args.all.now c.loop-emission.all
     (λ q here. here ≡ rows_to q c.args.place.now 0 es)) whole c.loop-emission.invariant.4

@@ -10,4 +10,4 @@ invariant-loop-emission l =
     × (l.number ≡ length l.yielded)
     × (l.number + goal.iterator-loop-emission.remaining l.emission-iterator ≤ goal.iterator-loop-emission.remaining
     l.initial.emission-iterator)
-    × Adds l.initial.all l.all (λ q here. here ≡ rows_to q l.place 0 l.yielded)
+    × Adds l.first l.initial.all l.all (λ q here. here ≡ rows_to q l.place 0 l.yielded)

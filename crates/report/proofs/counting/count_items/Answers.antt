@@ -3,7 +3,7 @@ use Rattle.machine_spec.specs.Image.{Program}
 use Rattle.log_spec.specs.Logs.{Item as LogItem, records_in, program_after, in_force, offset_of}
 use Rattle.log_spec.proofs.LogLaws.{in_force-next, offset_of-next, in_force-start, offset_of-start}
 use Rattle.log_item.specs.Items.{item_view}
-use Rattle.report.proofs.FateLaws.{items_more, no_items, counted_for}
+use Rattle.fates.proofs.FateLaws.{items_more, no_items, counted_for}
 use Rattle.report.proofs.counting.count_items.Goals as goal
 
 pub loop-index-init : goal.loop-index-init

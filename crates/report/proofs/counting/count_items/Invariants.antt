@@ -1,6 +1,6 @@
 use Rattle.std.proofs.Common.{◌≡◌, ◌*◌, ◌≤◌, option_map}
 use Rattle.log_spec.specs.Logs.{in_force, offset_of}
-use Rattle.report.specs.Totals.{AreCountsOf}
+use Rattle.fates.specs.Totals.{AreCountsOf}
 use Rattle.report.proofs.counting.count_items.Given as goal
 
 abbrev pub invariant-loop-index : goal.invariant-loop-index

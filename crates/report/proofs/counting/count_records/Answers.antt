@@ -3,8 +3,8 @@ use Rattle.wire_spec.specs.declared.record.Record.{Record}
 use Rattle.log_spec.specs.Logs.{FitsRecord}
 use Rattle.log_spec.proofs.FittingBatches.{within_limits}
 use Rattle.item_rows.proofs.RowLaws.{each_at}
-use Rattle.report.specs.Fates.{IsFate}
-use Rattle.report.proofs.FateLaws.{records_more}
+use Rattle.fates.specs.Fates.{IsFate}
+use Rattle.fates.proofs.FateLaws.{records_more}
 use Rattle.report.proofs.counting.count_records.Goals as goal
 
 pub record_fate-requires-clause-limits : goal.record_fate-requires-clause-limits

@@ -1,6 +1,6 @@
 use Rattle.std.proofs.Common.{◌≡◌, ◌+◌, take, option_map}
-use Rattle.report.specs.Fates.{AreRecordsFates}
-use Rattle.report.specs.Totals.{AreCounted}
+use Rattle.fates.specs.Fates.{AreRecordsFates}
+use Rattle.fates.specs.Totals.{AreCounted}
 use Rattle.report.proofs.counting.count_records.Given as goal
 
 abbrev pub invariant-loop-given : goal.invariant-loop-given

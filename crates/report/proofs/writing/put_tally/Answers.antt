@@ -1,7 +1,7 @@
 use Rattle.std.proofs.Common.{◌≡◌, List, ℕ, length, rules, ap, subst, ◌∙◌}
 use Rattle.std.specs.Io.KnownBytes.{Appends}
 use Rattle.part_log.specs.Parts.{Log}
-use Rattle.report.specs.Totals.{Totals}
+use Rattle.fates.specs.Totals.{Totals}
 use Rattle.report.specs.Texts.{items_line, rejects_text, tally_text}
 use Rattle.report.specs.Writes.{HasBegun}
 use Rattle.report.proofs.WrittenLaws.{writes_fault, writes_then, writes_same, begun_first}

@@ -1,0 +1,73 @@
+//! What a load of a name costs, among the first of many and among the last, and the memory that they
+//! take.
+
+use broker_fixtures::NAME;
+use bytes::Bytes;
+use catalogue::Catalogue;
+use fixtures::FORWARD;
+use std::alloc::{Alloc, AllocError, Global};
+use std::fs::{self, Files};
+use std::io;
+use std::num::nearest_u64_to_f64;
+use std::rt::Clock;
+use std::sync::Wait;
+use std::time::Instant;
+
+/// How many loads are timed, at the start and at the end.
+const SOME: u64 = 1_000;
+
+/// How many loads there are between these.
+const BETWEEN: u64 = 98_000;
+
+/// The most memory that the process had so far, in kB; 0 where the system does not say.
+fn peak_memory<R: Files + Alloc>(rt: &R) -> io::Result<u64> {
+    let status = fs::read_to_string(rt, "/proc/self/status")?;
+    for line in status.lines() {
+        if let Some(amount) = line.strip_prefix("VmHWM:") {
+            return Ok(number_of(amount));
+        }
+    }
+    Ok(0)
+}
+
+/// The first number of a line.
+fn number_of(line: &str) -> u64 {
+    match line.split_whitespace().next() {
+        Some(word) => word.parse::<u64>().unwrap_or(0),
+        None => 0,
+    }
+}
+
+/// Loads the name so often; what a load took, in microseconds.
+fn load<W: Wait + Drop, R: Clock>(
+    rt: &R,
+    alloc: Global,
+    catalogue: &mut Catalogue<W>,
+    count: u64,
+) -> io::Result<f64> {
+    let image = Bytes::copy_from_slice(alloc, &FORWARD)?;
+    let start = Instant::now(rt)?;
+    for _ in 0..count {
+        let loaded = catalogue.load(alloc, NAME, &image);
+        loaded.map_err(|_| AllocError)?;
+    }
+    let took = start.elapsed(rt)?.as_secs_f64();
+    Ok(took * 1_000_000.0 / nearest_u64_to_f64(count))
+}
+
+/// Prints what a load took at both ends of 100,000, and the memory after each.
+pub(crate) fn measure<R: Wait + Clock + Files + Alloc + Print>(
+    rt: &R,
+    alloc: Global,
+) -> io::Result<()> {
+    let mut catalogue = Catalogue::new(rt, alloc)?;
+    let first = load(rt, alloc, &mut catalogue, SOME)?;
+    let before = peak_memory(rt)?;
+    load(rt, alloc, &mut catalogue, BETWEEN)?;
+    let last = load(rt, alloc, &mut catalogue, SOME)?;
+    let after = peak_memory(rt)?;
+    println!(rt;
+        "the first 1,000 loads of 100,000: {first:6.2} us a load, {before} kB; \
+            the last 1,000: {last:6.2} us, {after} kB"
+    )
+}

@@ -1,0 +1,78 @@
+//! Measures a broker. The first argument is a subject, the second how often it is measured:
+//! - `log TURNS` fills logs of several sizes by one, two and four producers and prints what an append
+//!   took in the best turn, then how many programs one and four readers find a second while a writer
+//!   loads, and what a load takes.
+//! - `worker TURNS` prints how many records a second went from the append to the row in the best turn,
+//!   with one, two and four input partitions and as many threads, and with 1, 8 and 64 output
+//!   partitions; then what a step of a book took after 1,000 and after 60,000 items. With a number of
+//!   batches after TURNS it keeps their records and rows instead, for its memory to be looked at.
+//! - `fetch TIMES` fetches rows as batches that many times in each of ten turns, and prints the bytes
+//!   and rows a second of the best, beside the writing of the same batch by `batch` and a copy.
+//!
+//! Given nothing, it prints nothing.
+#![tactic(auto)]
+
+mod appends;
+mod fetches;
+mod finds;
+mod loads;
+mod shortest;
+mod steps;
+mod turns;
+
+use std::alloc::{Alloc, Global};
+use std::fs::Files;
+use std::rt::Clock;
+use std::sync::Wait;
+use std::thread::Threads;
+use std::{env, io};
+
+/// How often a subject is measured.
+fn count_of(word: Option<String>, otherwise: u32) -> u32 {
+    match word {
+        Some(word) => word.parse::<u32>().unwrap_or(otherwise),
+        None => otherwise,
+    }
+}
+
+/// Appends, then finds and loads.
+fn measure_logs<R: Threads + Wait + Clock + Files + Alloc + Print + Sync>(
+    rt: &R,
+    alloc: Global,
+    turns: u32,
+) -> io::Result<()> {
+    appends::measure_all(rt, alloc, turns)?;
+    finds::measure(rt, alloc, 1, turns)?;
+    finds::measure(rt, alloc, 4, turns)?;
+    loads::measure(rt, alloc)
+}
+
+fn measure_workers<R: Threads + Wait + Clock + Print + Sync>(
+    rt: &R,
+    alloc: Global,
+    turns: u32,
+) -> io::Result<()> {
+    turns::measure_all(rt, alloc, turns)?;
+    steps::measure(rt, alloc, turns)
+}
+
+fn main(rt: HostRuntime) -> io::Result<()> {
+    let alloc = rt.alloc();
+    let mut words = env::args(&rt)?.skip(1);
+    let Some(subject) = words.next() else {
+        return Ok(());
+    };
+    let count = words.next();
+    if subject.as_str() == "log" {
+        measure_logs(&rt, alloc, count_of(count, 20))
+    } else if subject.as_str() == "worker" {
+        match words.next() {
+            Some(batches) => turns::keep(&rt, alloc, batches.parse::<usize>().unwrap_or(0)),
+            None => measure_workers(&rt, alloc, count_of(count, 3)),
+        }
+    } else if subject.as_str() == "fetch" {
+        fetches::measure_all(&rt, alloc, count_of(count, 20))
+    } else {
+        println!(rt; "the subjects are log, worker and fetch")
+    }
+}

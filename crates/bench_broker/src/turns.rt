@@ -1,0 +1,288 @@
+//! How many records a second workers make rows of.
+
+ghost use Rattle.std.specs.Prelude.{IfSome};
+ghost use Rattle.log_spec.specs.Logs.{FitsLog};
+ghost use Rattle.broker.specs.Layouts.{IsCount, IsNamed};
+
+use broker::{Broker, Parts};
+use broker_fixtures::{deploy, drain};
+use bytes::Bytes;
+use catalogue::Catalogue;
+use fixtures::{FORWARD, batch_at, record_of};
+use part_log::Names;
+use std::alloc::{AllocError, Global};
+use std::marker::Brand;
+use std::num::nearest_u64_to_f64;
+use std::rt::Clock;
+use std::sync::Wait;
+use std::thread::Threads;
+use std::time::Instant;
+use std::{io, thread};
+use wire_spec::{Batch, Records};
+
+/// How many bytes a record's value has.
+const SIZE: usize = 64;
+
+/// How many records a batch has in most measures.
+const RECORDS: usize = 100;
+
+/// call 9; mov64 r1, r0; call 3; exit: each record goes to the output of its input's number as it is.
+const TO_OWN: [u8; 32] = [
+    0x85, 0, 0, 0, 9, 0, 0, 0, 0xbf, 1, 0, 0, 0, 0, 0, 0, 0x85, 0, 0, 0, 3, 0, 0, 0, 0x95, 0, 0, 0,
+    0, 0, 0, 0,
+];
+
+/// How many cells a log has.
+const CELLS: usize = 65_536;
+
+/// How many batches all logs have together.
+const BATCHES: usize = 8_000;
+
+/// What the appends and then the workers took, in seconds.
+#[derive(Clone, Copy, Drop)]
+struct Times {
+    appends: f64,
+    workers: f64,
+}
+
+const LONGEST: Times = Times {
+    appends: f64::INFINITY,
+    workers: f64::INFINITY,
+};
+
+impl Times {
+    fn all(self) -> f64 {
+        self.appends + self.workers
+    }
+
+    /// Of two turns the one that took less in all.
+    fn or_less(self, other: Times) -> Times {
+        if other.all() < self.all() {
+            other
+        } else {
+            self
+        }
+    }
+}
+
+/// Records whose values share one buffer.
+fn records(alloc: Global, count: usize) -> Result<Records, AllocError> {
+    let mut list = Vec::with_capacity(alloc, count)?;
+    let mut rest = Bytes::from_vec(vec![in alloc; b'v'; count.wrapping_mul(SIZE)]?)?;
+    for _ in 0..count {
+        if rest.len() < SIZE {
+            break;
+        }
+        let value = rest.split_to(SIZE)?;
+        list.push(record_of(alloc, 0, None, Some(value)))?;
+    }
+    Ok(Records { list })
+}
+
+fn batch_of(alloc: Global, count: usize) -> Option<Batch>
+    ensures { IfSome result (λ batch. FitsLog batch) }
+{
+    batch_at(1000, records(alloc, count).ok()?)
+}
+
+/// Appends batches of that number of records. None where one is refused.
+pub(crate) fn fill<Id: Names, C, R: Wait>(
+    rt: &R,
+    alloc: Global,
+    broker: &Broker<Id, C>,
+    input: usize,
+    batches: usize,
+    records: usize,
+) -> Option<()> {
+    for _ in 0..batches {
+        let batch = batch_of(alloc, records)?;
+        broker.append(rt, alloc, input, batch).ok()?;
+    }
+    Some(())
+}
+
+/// How many rows all output partitions have.
+fn rows<Id: Names, C, R: Wait>(rt: &R, broker: &Broker<Id, C>) -> usize {
+    let mut rows = 0usize;
+    for output in 0..broker.outputs() {
+        rows = rows.wrapping_add(broker.book(output).lock(rt).len());
+    }
+    rows
+}
+
+/// A turn with a new broker: appends side by side, and then the workers. None where a call is refused.
+fn taken<R: Threads + Wait + Clock + Sync>(
+    rt: &R,
+    alloc: Global,
+    inputs: usize,
+    outputs: usize,
+    image: &[u8],
+    batches: usize,
+) -> Option<Times>
+    requires inputs { IsCount inputs }
+    requires outputs { IsCount outputs }
+{
+    let parts = Parts::new(rt, alloc, inputs, outputs, CELLS).ok()?;
+    turn::<Brand, R>(rt, alloc, parts, image, batches)
+}
+
+fn turn<Id: Names + Send + Sync, R: Threads + Wait + Clock + Sync>(
+    rt: &R,
+    alloc: Global,
+    parts: Parts<Catalogue<&R>>,
+    image: &[u8],
+    batches: usize,
+) -> Option<Times>
+    requires { IsNamed Id.cells Id.inputs Id.outputs parts }
+{
+    let made: Broker<Id, Catalogue<&R>> = Broker::new(alloc, parts).ok()?;
+    let broker = &made;
+    let each = batches / broker.inputs();
+    let appends = append_all(rt, alloc, broker, image, each)?;
+    let workers = work(rt, alloc, broker)?;
+    let all = each.wrapping_mul(broker.inputs()).wrapping_mul(RECORDS);
+    if rows(rt, broker) != all {
+        return None;
+    }
+    Some(Times { appends, workers })
+}
+
+/// What it took to append that number of batches to each log by a thread of its own.
+fn append_all<Id: Names + Send + Sync, R: Threads + Wait + Clock + Sync>(
+    rt: &R,
+    alloc: Global,
+    broker: &Broker<Id, Catalogue<&R>>,
+    image: &[u8],
+    each: usize,
+) -> Option<f64> {
+    let inputs = broker.inputs();
+    for input in 0..inputs {
+        deploy(rt, alloc, broker, input, image)?;
+    }
+    let one = move |input: usize| -> bool {
+        fill(rt, alloc, broker, input, each, RECORDS).is_some()
+    };
+    let start = Instant::now(rt).ok()?;
+    let filled = thread::map_indices(rt, alloc, inputs, &one).ok()?;
+    let took = start.elapsed(rt).ok()?.as_secs_f64();
+    if filled.iter().all(|is_full| *is_full) {
+        Some(took)
+    } else {
+        None
+    }
+}
+
+/// What the workers took.
+fn work<Id: Names + Send + Sync, R: Threads + Wait + Clock + Sync>(
+    rt: &R,
+    alloc: Global,
+    broker: &Broker<Id, Catalogue<&R>>,
+) -> Option<f64> {
+    let start = Instant::now(rt).ok()?;
+    let is_done = drain(rt, alloc, broker);
+    let took = start.elapsed(rt).ok()?.as_secs_f64();
+    if is_done { Some(took) } else { None }
+}
+
+/// The best of some turns.
+fn best<R: Threads + Wait + Clock + Sync>(
+    rt: &R,
+    alloc: Global,
+    inputs: usize,
+    outputs: usize,
+    image: &[u8],
+    turns: u32,
+) -> Times
+    requires inputs { IsCount inputs }
+    requires outputs { IsCount outputs }
+{
+    let mut least = LONGEST;
+    for _ in 0..turns {
+        if let Some(times) = taken(rt, alloc, inputs, outputs, image, BATCHES) {
+            least = least.or_less(times);
+        }
+    }
+    least
+}
+
+/// Millions of records a second.
+fn rate(seconds: f64) -> f64 {
+    nearest_u64_to_f64((BATCHES * RECORDS) as u64) / seconds / 1_000_000.0
+}
+
+/// Prints the best turn of one, two and four input partitions, with that number of output partitions.
+fn measure_cores<R: Threads + Wait + Clock + Print + Sync>(
+    rt: &R,
+    alloc: Global,
+    outputs: usize,
+    image: &[u8],
+    turns: u32,
+) -> io::Result<()>
+    requires { IsCount outputs }
+{
+    let one = best(rt, alloc, 1, outputs, image, turns);
+    print_cores(rt, 1, one, one)?;
+    let two = best(rt, alloc, 2, outputs, image, turns);
+    print_cores(rt, 2, two, one)?;
+    let four = best(rt, alloc, 4, outputs, image, turns);
+    print_cores(rt, 4, four, one)
+}
+
+/// Prints each rate, and beside it how many times that of one input partition it is.
+fn print_cores<R: Print>(rt: &R, inputs: usize, times: Times, one: Times) -> io::Result<()> {
+    println!(rt;
+        "{inputs} inputs: {:6.3} million records/s, {:5.2} of one; workers alone {:6.3}, {:5.2} of one",
+        rate(times.all()),
+        one.all() / times.all(),
+        rate(times.workers),
+        one.workers / times.workers
+    )
+}
+
+/// Prints the best turn of one input partition, with that number of output partitions.
+fn measure_outputs<R: Threads + Wait + Clock + Print + Sync>(
+    rt: &R,
+    alloc: Global,
+    outputs: usize,
+    turns: u32,
+) -> io::Result<()>
+    requires { IsCount outputs }
+{
+    let times = best(rt, alloc, 1, outputs, &FORWARD, turns);
+    println!(rt;
+        "1 input, {outputs:2} outputs: {:6.3} million records/s; workers alone {:6.3}",
+        rate(times.all()),
+        rate(times.workers)
+    )
+}
+
+/// Prints the best turns with several numbers of input and output partitions.
+pub(crate) fn measure_all<R: Threads + Wait + Clock + Print + Sync>(
+    rt: &R,
+    alloc: Global,
+    turns: u32,
+) -> io::Result<()> {
+    println!(rt; "from append to row, all to 1 output:")?;
+    measure_cores(rt, alloc, 1, &FORWARD, turns)?;
+    println!(rt; "from append to row, each input to 1 of 4 outputs:")?;
+    measure_cores(rt, alloc, 4, &TO_OWN, turns)?;
+    println!(rt; "from append to row, all to the first of some outputs:")?;
+    for outputs in [1, 8, 64] {
+        measure_outputs(rt, alloc, outputs, turns)?;
+    }
+    Ok(())
+}
+
+/// Keeps the records of batches and their rows.
+pub(crate) fn keep<R: Threads + Wait + Clock + Print + Sync>(
+    rt: &R,
+    alloc: Global,
+    batches: usize,
+) -> io::Result<()> {
+    match taken(rt, alloc, 1, 1, &FORWARD, batches) {
+        Some(_) => println!(rt;
+            "{batches} batches of {RECORDS} records are kept, with a row for each record"
+        ),
+        None => println!(rt; "a call was refused"),
+    }
+}

@@ -1,0 +1,19 @@
+use Rattle.std.proofs.Common.{◌≡◌, Err, Ok, false, sym, ◌∙◌, rules}
+use Rattle.transform.specs.Transforms.{EndsFlow}
+use Rattle.transform.specs.Streams.{is_broken}
+use Rattle.transform.proofs.StreamLaws.{all_written, unwritten}
+use Rattle.transform.proofs.stream.transform_all.Goals as goal
+
+pub returns-in-Ok : goal.returns-in-Ok
+returns-in-Ok g c =
+    let whole : is_broken c.push_all-pushed.result ≡ false = sym c.is_broken.ensures ∙ c.if-is_broken.false in
+    let ends : EndsFlow c.push_all-pushed.new.stream (Ok tt) c.end.new.self = search rules in
+    all_written c.args.program.now c.args.reader.now c.args.stream.now c.push_all-pushed.result
+    c.push_all-pushed.new.stream c.end.new.self whole c.push_all-pushed.ensures ends
+
+pub returns-in-Err : goal.returns-in-Err
+returns-in-Err g c =
+    let whole : is_broken c.push_all-pushed.result ≡ false = sym c.is_broken.ensures ∙ c.if-is_broken.false in
+    let ends : EndsFlow c.push_all-pushed.new.stream (Err c.in-Err.fault) c.end.new.self = search rules in
+    unwritten c.args.program.now c.args.reader.now c.args.stream.now c.push_all-pushed.result
+    c.push_all-pushed.new.stream c.end.new.self c.in-Err.fault whole c.push_all-pushed.ensures ends

@@ -1,0 +1,4 @@
+pub mod Backlogs
+pub mod Outlets
+pub mod Transforms
+pub mod Streams

@@ -1,0 +1,99 @@
+-- Record batches of an output partition that are written one after the other.
+use Rattle.std.specs.Prelude.{◌≡◌, ℕ, ◌<◌, ◌≤◌, List, [], ◌∷◌, ◌++◌, length, take, Option, Result, Ok, Err}
+use Rattle.std.specs.List.{concat}
+use Rattle.std.specs.Io.KnownBytes.{Appends}
+use Rattle.log_spec.specs.declared.row.Row.{Row}
+use Rattle.transform.specs.declared.outlet.OutletFault.{OutletFault}
+use Rattle.transform.specs.declared.outlet.OutletFault.TheVariants as fault
+use Rattle.transform.specs.Backlogs.{Waiting, waiting, rest_after, IsBatchOf, IsFull}
+
+-- what a writer holds, where that is known, and the rows that wait for a batch
+pub record Outflow : Type 0 where
+  pub written : Option (List ℕ)
+  pub waits : Waiting
+
+abbrev pub outflow : Option (List ℕ) → Waiting → Outflow
+outflow written waits = record { written = written; waits = waits }
+
+-- with rows more at the end
+abbrev pub with_rows : Waiting → List Row → Waiting
+with_rows w rows = waiting w.place (w.rows ++ rows)
+
+-- These are the batches of the first rows that wait, one after the other, each full; the other rows wait still.
+abbrev pub AreFull : Waiting → List (List ℕ) → Waiting → Type 0
+AreFull old [] new = new ≡ old
+AreFull old (bytes ∷ others) new =
+    (count : ℕ) × IsBatchOf old count bytes × IsFull old count × AreFull (rest_after old count) others new
+
+-- The same, where the last batch may have all rows that wait and room for more.
+abbrev pub AreBatches : Waiting → List (List ℕ) → Waiting → Type 0
+AreBatches old [] new = new ≡ old
+AreBatches old (bytes ∷ others) new =
+    (count : ℕ) × IsBatchOf old count bytes × (count < length old.rows → IsFull old count)
+    × AreBatches (rest_after old count) others new
+
+-- ---- what a writer holds
+
+-- what a writer holds has grown by a beginning of some bytes
+pub record HasBegun (before after : Option (List ℕ)) (bytes : List ℕ) : Type 0 where
+  pub count : ℕ
+  pub written : Appends before after (take count bytes)
+
+-- full batches of the rows that waited were written, and nothing else
+pub record WroteFull (old : Waiting) (before : Option (List ℕ)) (new : Waiting) (after : Option (List ℕ)) : Type 0 where
+  pub batches : List (List ℕ)
+  pub are : AreFull old batches new
+  pub written : Appends before after (concat batches)
+
+-- whole batches of the rows that waited were written, and nothing else
+pub record WroteBatches (old : Waiting) (before : Option (List ℕ)) (new : Waiting) (after : Option (List ℕ)) : Type 0
+  where
+    pub batches : List (List ℕ)
+    pub are : AreBatches old batches new
+    pub written : Appends before after (concat batches)
+
+-- whole batches of the rows that waited were written, and a beginning of one more
+pub record WrotePart (old : Waiting) (before after : Option (List ℕ)) : Type 0 where
+  pub batches : List (List ℕ)
+  pub rest : Waiting
+  pub are : AreBatches old batches rest
+  pub count : ℕ
+  pub next : List ℕ
+  pub next_is : IsBatchOf rest count next
+  pub written : HasBegun before after (concat batches ++ next)
+
+-- what a fault leaves: whole batches, and a beginning of one more where the writer failed
+abbrev pub Stops : Waiting → Option (List ℕ) → OutletFault → Option (List ℕ) → Type 0
+Stops old before fault.Write after = WrotePart old before after
+Stops old before fault.Full after = (rest : Waiting) × WroteBatches old before rest after
+Stops old before fault.Memory after = (rest : Waiting) × WroteBatches old before rest after
+
+-- Full batches were written, or a fault stopped that.
+abbrev pub PutsFull : Waiting → Option (List ℕ) → Result (Unit {0}) OutletFault → Waiting → Option (List ℕ) → Type 0
+PutsFull old before (Ok done) new after = WroteFull old before new after
+PutsFull old before (Err why) new after = Stops old before why after
+
+-- All rows that waited were written, or a fault stopped that.
+abbrev pub PutsAll : Waiting → Option (List ℕ) → Result (Unit {0}) OutletFault → Waiting → Option (List ℕ) → Type 0
+PutsAll old before (Ok done) new after = WroteBatches old before new after × (new.rows ≡ [])
+PutsAll old before (Err why) new after = Stops old before why after
+
+-- Rows were added, and full batches written, or a fault stopped that.
+abbrev pub PutsRows : Outflow → List Row → Result (Unit {0}) OutletFault → Outflow → Type 0
+PutsRows old rows result new = PutsFull (with_rows old.waits rows) old.written result new.waits new.written
+
+-- All rows that waited were written, or a fault stopped that.
+abbrev pub PutsRest : Outflow → Result (Unit {0}) OutletFault → Outflow → Type 0
+PutsRest old result new = PutsAll old.waits old.written result new.waits new.written
+
+-- ---- one batch
+
+-- all bytes were written, or a beginning of them
+abbrev pub Writes : Option (List ℕ) → Option (List ℕ) → List ℕ → Result (Unit {0}) OutletFault → Type 0
+Writes before after bytes (Ok done) = Appends before after bytes
+Writes before after bytes (Err why) = HasBegun before after bytes × (why ≡ fault.Write)
+
+-- this number of the first bytes was written, or a beginning of them
+abbrev pub WritesSome : Option (List ℕ) → Option (List ℕ) → List ℕ → Result ℕ OutletFault → Type 0
+WritesSome before after bytes (Ok count) = (count ≤ length bytes) × Appends before after (take count bytes)
+WritesSome before after bytes (Err why) = HasBegun before after bytes × (why ≡ fault.Write)

@@ -1,0 +1,227 @@
+//! The rows of an output partition on their way into record batches.
+
+ghost use Rattle.std.specs.Prelude.{◌≡◌, ◌<◌, ◌≤◌, ◌+◌, ◌^◌, ◌++◌, [], length, drop, All, IfOk, OnOk, OnErr, IfErr, option_map};
+ghost use Rattle.log_spec.specs.Logs.{RowFits};
+ghost use Rattle.transform.specs.Backlogs.{waiting, rest_after, IsNext, IsBatchOf, GivesFull, GivesNext};
+ghost use Rattle.transform.specs.declared.backlog.BacklogFault.TheVariants.{Full, Memory};
+
+use batch::{MAX_BATCH, MAX_RECORDS, encode};
+use bytes::Bytes;
+use log_spec::Row;
+use row_batch::first_batch;
+use std::alloc::{AllocError, Global};
+use std::marker::Model;
+use thiserror::Error;
+use wire_spec::{Batch, Headers};
+
+/// Offsets of an output partition's rows are below this number.
+const PLACE_END: u64 = 9_223_372_036_854_775_808;
+
+// The bytes of a record without key, value and headers, whose numbers take one byte each.
+const LEAST_RECORD: usize = 7;
+
+/// Why rows are not taken.
+#[derive(Clone, Copy, Debug, PartialEq, Eq, Drop, Error)]
+pub enum BacklogFault {
+    /// The output partition's offsets are used up.
+    #[error("full")]
+    Full,
+    /// Memory ran out.
+    #[error("memory")]
+    Memory,
+}
+
+/// The rows of an output partition that are in no batch yet. Contracts see how many rows were in
+/// batches before, and those that wait.
+#[derive(Drop)]
+pub struct Backlog {
+    alloc: Global,
+    // How many rows are in batches, and so the offset of the first that waits.
+    place: u64,
+    rows: Vec<Row>,
+    // How many of these rows, the first, are in batches.
+    taken: usize,
+    // At most as many bytes as the rows that wait take in batches.
+    bytes: usize,
+}
+
+impl Model for Backlog {
+    ghost use Rattle.std.specs.Prelude.{◌<◌, ◌≤◌, ◌+◌, ◌^◌, length, drop, All};
+    ghost use Rattle.log_spec.specs.Logs.{RowFits};
+    ghost use Rattle.transform.specs.Backlogs.{Waiting, waiting, IsBacklog};
+
+    ghost Value = { Waiting };
+
+    ghost view = { λ b. waiting b.place (drop b.taken b.rows.items) };
+
+    ghost invariant = { λ b. IsBacklog b.place b.taken b.rows.items };
+}
+
+impl Backlog {
+    /// The backlog of an output partition without rows.
+    pub fn new(alloc: Global) -> Backlog
+        ensures { result ≡ waiting 0 [] }
+    {
+        Backlog {
+            alloc,
+            place: 0,
+            rows: Vec::new(alloc),
+            taken: 0,
+            bytes: 0,
+        }
+    }
+
+    /// The offset of the first row that waits: how many rows are in batches.
+    pub fn place(&self) -> u64
+        ensures { result ≡ self.now.place }
+    {
+        self.place
+    }
+
+    /// How many rows were added, those that wait among them.
+    pub fn rows(&self) -> u64
+        ensures { result ≡ self.now.place + length self.now.rows }
+    {
+        self.place + self.len() as u64
+    }
+
+    /// How many rows wait.
+    pub fn len(&self) -> usize
+        ensures { result ≡ length self.now.rows }
+    {
+        self.rows.len() - self.taken
+    }
+
+    /// Adds rows at the end. It fails where an offset would be 2^63 or more, and where memory runs
+    /// out; then nothing changes.
+    pub fn add(&mut self, rows: Vec<Row>) -> Result<(), BacklogFault>
+        requires { All RowFits rows.items }
+        ensures ok { OnOk result (self.new ≡ waiting self.old.place (self.old.rows ++ rows.items)) }
+        ensures err { OnErr result (self.new ≡ self.old) }
+        ensures full { IfErr result (λ fault. fault ≡ Full → 2 ^ 63 < self.old.place + length self.old.rows + length rows.items) }
+    {
+        if rows.len() as u64 > PLACE_END - self.place - self.len() as u64 {
+            return Err(BacklogFault::Full);
+        }
+        let bytes = self.bytes.saturating_add(bytes_of(&rows));
+        match extend(&mut self.rows, &mut self.taken, rows) {
+            Ok(()) => {
+                self.bytes = bytes;
+                Ok(())
+            }
+            Err(_) => Err(BacklogFault::Memory),
+        }
+    }
+
+    /// The bytes of the next batch, where one row more would be too much for it: as many of the rows
+    /// that wait as one batch takes, the first of them first. None where they may go into one batch
+    /// with more. It fails only where memory runs out; then nothing changes.
+    pub fn next_full(&mut self) -> Result<Option<Vec<u8>>, AllocError>
+        ensures gives { IfOk result (λ found. GivesFull self.old (option_map (λ bytes. bytes.items) found) self.new) }
+        ensures err { OnErr result (self.new ≡ self.old) }
+    {
+        if self.len() < MAX_RECORDS as usize && self.bytes < MAX_BATCH {
+            return Ok(None);
+        }
+        if self.len() == 0 {
+            return Ok(None);
+        }
+        let batch = self.first()?;
+        let count = batch.records.list.len();
+        if count == self.len() && count < MAX_RECORDS as usize {
+            return Ok(None);
+        }
+        Ok(Some(self.give(&batch)?))
+    }
+
+    /// The bytes of the next batch: as many of the rows that wait as one batch takes, the first of them
+    /// first. None where no row waits. It fails only where memory runs out; then nothing changes.
+    pub fn next(&mut self) -> Result<Option<Vec<u8>>, AllocError>
+        ensures gives { IfOk result (λ found. GivesNext self.old (option_map (λ bytes. bytes.items) found) self.new) }
+        ensures err { OnErr result (self.new ≡ self.old) }
+    {
+        if self.len() == 0 {
+            return Ok(None);
+        }
+        let batch = self.first()?;
+        Ok(Some(self.give(&batch)?))
+    }
+
+    // The batch of the first rows that wait.
+    fn first(&self) -> Result<Batch, AllocError>
+        requires { 0 < length self.now.rows }
+        ensures { IfOk result (λ batch. IsNext self.now (length batch.records) batch) }
+    {
+        let rows = &self.rows[self.taken..];
+        let most = rows.len().min(MAX_RECORDS as usize);
+        first_batch(self.alloc, self.place as usize, &rows[..most])
+    }
+
+    // The bytes of the next batch, whose rows wait no more.
+    fn give(&mut self, batch: &Batch) -> Result<Vec<u8>, AllocError>
+        requires { IsNext self.old (length batch.now.records) batch.now }
+        ensures ok { IfOk result (λ bytes. IsBatchOf self.old (length batch.now.records) bytes.items) }
+        ensures new { OnOk result (self.new ≡ rest_after self.old (length batch.now.records)) }
+        ensures err { OnErr result (self.new ≡ self.old) }
+    {
+        let bytes = encode(self.alloc, batch)?;
+        let count = batch.records.list.len();
+        self.place += count as u64;
+        self.taken += count;
+        self.bytes = self.bytes.saturating_sub(bytes.len());
+        Ok(bytes)
+    }
+}
+
+// Adds rows at the end of those that are not taken, which are then all. An `Err` changes nothing of
+// those.
+fn extend(rows: &mut Vec<Row>, taken: &mut usize, mut more: Vec<Row>) -> Result<(), AllocError>
+    requires { taken.old ≤ length rows.old.items }
+    ensures ok { OnOk result ((taken.new ≡ 0) × (rows.new.items ≡ drop taken.old rows.old.items ++ more.items)) }
+    ensures err { OnErr result ((taken.new ≤ length rows.new.items) × (drop taken.new rows.new.items ≡ drop taken.old rows.old.items)) }
+{
+    if *taken == rows.len() {
+        *rows = more;
+        *taken = 0;
+        return Ok(());
+    }
+    if *taken > 0 {
+        *rows = rows.split_off(*taken)?;
+        *taken = 0;
+    }
+    rows.append(&mut more)
+}
+
+// At most as many bytes as the rows take in batches.
+fn bytes_of(rows: &[Row]) -> usize {
+    let mut bytes = 0usize;
+    for row in rows {
+        bytes = bytes.saturating_add(row_bytes(row));
+    }
+    bytes
+}
+
+// At most as many bytes as the row takes in a batch, whatever is before it there.
+fn row_bytes(row: &Row) -> usize {
+    part_bytes(&row.key)
+        .saturating_add(part_bytes(&row.value))
+        .saturating_add(header_bytes(&row.headers))
+        .saturating_add(LEAST_RECORD)
+}
+
+fn part_bytes(part: &Option<Bytes>) -> usize {
+    match part {
+        Some(bytes) => bytes.len(),
+        None => 0,
+    }
+}
+
+fn header_bytes(headers: &Headers) -> usize {
+    let mut bytes = 0usize;
+    for header in &headers.list {
+        bytes = bytes
+            .saturating_add(header.key.len())
+            .saturating_add(part_bytes(&header.value));
+    }
+    bytes
+}

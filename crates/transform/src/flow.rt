@@ -1,0 +1,199 @@
+//! Record batches through a program, into output partitions.
+
+ghost use Rattle.std.specs.Prelude.{◌≡◌, ℕ, ◌<◌, ◌≤◌, length, slice_get, All, Some};
+ghost use Rattle.wire_spec.specs.declared.limits.TheConstants.{TIMESTAMP_END};
+ghost use Rattle.log_spec.specs.Logs.{FitsLog, RowFits};
+ghost use Rattle.item_rows.specs.ItemRows.{rows_in};
+ghost use Rattle.transform.specs.Transforms.{flow, Pushes, PutsEach, PutsOne, EndsEach, EndsOne, EndsFlow};
+
+use crate::outlet::{Outlet, OutletFault};
+use item_rows::{ItemRows, Origin, item_rows};
+use log_item::{Item, LoggedBatch, Program};
+use log_spec::Row;
+use std::alloc::{AllocError, Global};
+use std::io::Write;
+use std::marker::Model;
+use thiserror::Error;
+use wire_spec::{Batch, TIMESTAMP_END};
+
+/// How many records a batch has at most.
+const MOST_RECORDS: u64 = 10_000;
+
+/// Why a batch is not transformed.
+#[derive(Clone, Copy, Debug, PartialEq, Eq, Drop, Error)]
+pub enum TransformFault {
+    /// The offsets of the input's records are used up.
+    #[error("full")]
+    Full,
+    /// Memory ran out.
+    #[error("memory")]
+    Memory,
+    /// The rows of an output partition are not written.
+    #[error("output {output}: {fault}")]
+    Output { output: usize, fault: OutletFault },
+}
+
+impl From<AllocError> for TransformFault {
+    ghost use Rattle.transform.specs.declared.flow.TransformFault.TheVariants.{Memory};
+
+    ghost from_gives = { λ _ fault. fault ≡ Memory };
+
+    fn from(_error: AllocError) -> TransformFault {
+        TransformFault::Memory
+    }
+}
+
+/// A stream of record batches through a program. Contracts see the input partition's number, the
+/// offset of the next record, and the output partitions.
+#[derive(Drop)]
+pub struct Transform<W: Write> {
+    alloc: Global,
+    input: usize,
+    offset: u64,
+    outlets: Vec<Outlet<W>>,
+}
+
+impl<W: Write> Model for Transform<W> {
+    ghost use Rattle.transform.specs.Transforms.{Flow, flow, IsFlow};
+
+    ghost Value = { Flow };
+
+    ghost view = { λ t. flow t.input t.offset t.outlets.items };
+
+    ghost invariant = { λ t. IsFlow (flow t.input t.offset t.outlets.items) };
+}
+
+impl<W: Write> Transform<W> {
+    /// A stream before its first batch, whose first record has this offset, at most 2^62, in this
+    /// input partition, below 64, into these 1 to 64 output partitions.
+    pub fn new(alloc: Global, input: usize, offset: u64, outlets: Vec<Outlet<W>>) -> Transform<W>
+        requires input { input < 64 }
+        requires offset { offset ≤ TIMESTAMP_END }
+        requires some { 1 ≤ length outlets.items }
+        requires few { length outlets.items ≤ 64 }
+        ensures { result ≡ flow input offset outlets.items }
+    {
+        Transform {
+            alloc,
+            input,
+            offset,
+            outlets,
+        }
+    }
+
+    /// The offset of the next record: that of the first, and how many came since.
+    pub fn offset(&self) -> u64
+        ensures { result ≡ self.now.offset }
+    {
+        self.offset
+    }
+
+    /// How many output partitions there are.
+    pub fn outputs(&self) -> usize
+        ensures { result ≡ length self.now.outputs }
+    {
+        self.outlets.len()
+    }
+
+    /// An output partition.
+    pub fn outlet(&self, output: usize) -> &Outlet<W>
+        requires { output < length self.now.outputs }
+        ensures { slice_get self.now.outputs output ≡ Some result.now }
+    {
+        &self.outlets[output]
+    }
+
+    /// The output partitions, by value.
+    pub fn into_outlets(self) -> Vec<Outlet<W>>
+        ensures { result.items ≡ self.outputs }
+    {
+        let Transform { outlets, .. } = self;
+        outlets
+    }
+
+    /// Runs a program on the records of the next batch, in order, each once, and puts the rows into
+    /// the output partitions, which write each batch that is full then. It fails where the batch
+    /// might reach the offset 2^62, or where memory runs out before a row is put; then nothing
+    /// changes. It fails with an output partition as `Outlet::put` does; then each output partition
+    /// has written whole batches of its rows, and that one maybe a beginning of one more.
+    pub fn push(&mut self, program: &Program, batch: Batch) -> Result<(), TransformFault>
+        requires { FitsLog batch }
+        ensures { Pushes program.now batch self.old result self.new }
+    {
+        if self.offset > TIMESTAMP_END - MOST_RECORDS {
+            return Err(TransformFault::Full);
+        }
+        let origin = Origin {
+            input: self.input,
+            offset: self.offset,
+            outputs: self.outlets.len(),
+        };
+        let item = Item::Batch(LoggedBatch::new(batch));
+        let rows = item_rows(self.alloc, &origin, Some(program), &item)?;
+        put_each(self.alloc, rows, &mut self.outlets)?;
+        self.offset += item.records();
+        Ok(())
+    }
+
+    /// Writes the batches of all rows that wait. It fails with an output partition as `Outlet::end`
+    /// does; then each has written whole batches of its rows, and that one maybe a beginning of one
+    /// more.
+    pub fn end(&mut self) -> Result<(), TransformFault>
+        ensures { EndsFlow self.old result self.new }
+    {
+        end_each(&mut self.outlets)
+    }
+}
+
+// Puts the rows of an item into each output partition.
+fn put_each<W: Write>(
+    alloc: Global,
+    mut rows: ItemRows,
+    outlets: &mut [Outlet<W>],
+) -> Result<(), TransformFault>
+    requires count { length rows ≡ length outlets.old }
+    requires fit { (output : ℕ) → output < length outlets.old → All RowFits (rows_in rows output) }
+    ensures { PutsEach rows outlets.old result outlets.new }
+{
+    for output in 0..outlets.len() {
+        put_one(output, rows.take(alloc, output), outlets)?;
+    }
+    Ok(())
+}
+
+// Puts rows into an output partition.
+fn put_one<W: Write>(
+    output: usize,
+    rows: Vec<Row>,
+    outlets: &mut [Outlet<W>],
+) -> Result<(), TransformFault>
+    requires within { output < length outlets.old }
+    requires fit { All RowFits rows.items }
+    ensures { PutsOne output rows.items outlets.old result outlets.new }
+{
+    match outlets[output].put(rows) {
+        Ok(()) => Ok(()),
+        Err(fault) => Err(TransformFault::Output { output, fault }),
+    }
+}
+
+// Writes what waits in each output partition.
+fn end_each<W: Write>(outlets: &mut [Outlet<W>]) -> Result<(), TransformFault>
+    ensures { EndsEach outlets.old result outlets.new }
+{
+    for output in 0..outlets.len() {
+        end_one(output, outlets)?;
+    }
+    Ok(())
+}
+
+// Writes what waits in an output partition.
+fn end_one<W: Write>(output: usize, outlets: &mut [Outlet<W>]) -> Result<(), TransformFault>
+    requires { output < length outlets.old }
+    ensures { EndsOne output outlets.old result outlets.new }
+{
+    match outlets[output].end() {
+        Ok(()) => Ok(()),
+        Err(fault) => Err(TransformFault::Output { output, fault }),
+    }
+}

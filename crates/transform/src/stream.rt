@@ -1,0 +1,106 @@
+//! All batches of a reader through a program.
+
+ghost use Rattle.std.specs.Prelude.{◌≡◌, IfOk, IfSome};
+ghost use Rattle.log_spec.specs.Logs.{FitsLog};
+ghost use Rattle.batch_reader.specs.Readings.{IsOpen, ReadsBatch};
+ghost use Rattle.transform.specs.Streams.{is_broken, PushesAll, TransformsAll};
+ghost use Rattle.transform.specs.declared.stream.StreamFault.TheVariants.{Read as Unread, Transform as Stopped};
+
+use crate::flow::{Transform, TransformFault};
+use batch_reader::{BatchReader, ReadFault};
+use log_item::Program;
+use std::io::{Read, Write};
+use thiserror::Error;
+use wire_spec::Batch;
+
+/// Why no further batch of a reader is transformed.
+#[derive(Clone, Copy, Debug, PartialEq, Eq, Drop, Error)]
+pub enum StreamFault {
+    /// No batch is read.
+    #[error("{0}")]
+    Read(ReadFault),
+    /// The batch that was read is not transformed, or rows are not written.
+    #[error("{0}")]
+    Transform(TransformFault),
+}
+
+impl From<ReadFault> for StreamFault {
+    ghost from_gives = { λ fault e. e ≡ Unread fault };
+
+    fn from(fault: ReadFault) -> StreamFault {
+        StreamFault::Read(fault)
+    }
+}
+
+impl From<TransformFault> for StreamFault {
+    ghost from_gives = { λ fault e. e ≡ Stopped fault };
+
+    fn from(fault: TransformFault) -> StreamFault {
+        StreamFault::Transform(fault)
+    }
+}
+
+/// Runs a program on all batches of a reader, one after the other, and writes all their rows. After a
+/// fault the rows of the batches before it are written too, unless an output partition failed:
+/// then each output partition has written whole batches of its rows, and that one maybe a beginning
+/// of one more.
+pub fn transform_all<R: Read, W: Write>(
+    program: &Program,
+    reader: &mut BatchReader<R>,
+    stream: &mut Transform<W>,
+) -> Result<(), StreamFault>
+    requires { IsOpen reader.old }
+    ensures { TransformsAll program.now reader.old stream.old result stream.new }
+{
+    let pushed = push_all(program, reader, stream);
+    if is_broken(&pushed) {
+        return pushed;
+    }
+    match stream.end() {
+        Ok(()) => pushed,
+        Err(fault) => Err(StreamFault::Transform(fault)),
+    }
+}
+
+// Whether an output partition failed.
+fn is_broken(pushed: &Result<(), StreamFault>) -> bool
+    ensures { result ≡ is_broken pushed.now }
+{
+    match pushed {
+        Ok(()) => false,
+        Err(StreamFault::Read(_)) => false,
+        Err(StreamFault::Transform(fault)) => match fault {
+            TransformFault::Full => false,
+            TransformFault::Memory => false,
+            TransformFault::Output { .. } => true,
+        },
+    }
+}
+
+// Runs a program on all batches of a reader.
+fn push_all<R: Read, W: Write>(
+    program: &Program,
+    reader: &mut BatchReader<R>,
+    stream: &mut Transform<W>,
+) -> Result<(), StreamFault>
+    requires { IsOpen reader.old }
+    ensures { PushesAll program.now reader.old stream.old result stream.new }
+{
+    for _ in 0..u64::MAX {
+        match next_batch(reader)? {
+            None => return Ok(()),
+            Some(batch) => stream.push(program, batch)?,
+        }
+    }
+    Err(StreamFault::Read(ReadFault::Read))
+}
+
+// The next batch of a reader, which a log takes.
+#[tactic(auto, using(crate::proofs::StreamLaws::fits))]
+fn next_batch<R: Read>(reader: &mut BatchReader<R>) -> Result<Option<Batch>, ReadFault>
+    requires { IsOpen reader.old }
+    ensures gives { ReadsBatch reader.old result reader.new }
+    ensures fits { IfOk result (λ given. IfSome given FitsLog) }
+{
+    reader.next()
+}

@@ -1,0 +1,154 @@
+ghost use Rattle.std.specs.Prelude.{IfSome, ◌≡◌, length, IfOk, ◌≤◌};
+ghost use Rattle.log_spec.specs.Logs.{FitsLog};
+
+use batch::Feed;
+use bytes::Bytes;
+use fixtures::{FORWARD, batch_at, batch_of};
+use log_item::Program;
+use std::alloc::{AllocError, Global};
+use std::test::Fail;
+use transform::{Outlet, Transform};
+use wire_spec::{Batch, Headers, Record, Records};
+
+/// mov64 r1, 1; call 3; exit: each record goes to output 1 as it is.
+const SECOND: [u8; 24] = [
+    0xb7, 1, 0, 0, 1, 0, 0, 0, 0x85, 0, 0, 0, 3, 0, 0, 0, 0x95, 0, 0, 0, 0, 0, 0, 0,
+];
+
+/// The program of an image.
+pub(crate) fn program_of(alloc: Global, image: &[u8]) -> Result<Program, Fail> {
+    let image = Bytes::copy_from_slice(alloc, image)?;
+    match Program::new(alloc, &image) {
+        Ok(program) => Ok(program),
+        Err(_) => Err(Fail::from("a program")),
+    }
+}
+
+/// The base offset and the number of records of each batch that the bytes are.
+pub(crate) fn batches_in(alloc: Global, bytes: &[u8]) -> Result<Vec<(i64, usize)>, Fail> {
+    let mut feed = Feed::new(alloc);
+    feed.feed(bytes)?;
+    let mut found = Vec::new(alloc);
+    for _ in 0..1000 {
+        match feed.next() {
+            Ok(Some(batch)) => found.push((batch.base_offset, batch.records.list.len()))?,
+            Ok(None) => break,
+            Err(_) => return Err(Fail::from("a batch")),
+        }
+    }
+    Ok(found)
+}
+
+fn long_records(alloc: Global, count: usize, bytes: usize) -> Result<Records, AllocError> {
+    let mut list = Vec::new(alloc);
+    for _ in 0..count {
+        let value = Bytes::from_vec(vec![in alloc; 0x76; bytes]?)?;
+        list.push(Record {
+            timestamp_delta: 0,
+            key: None,
+            value: Some(value),
+            headers: Headers {
+                list: Vec::new(alloc),
+            },
+        })?;
+    }
+    Ok(Records { list })
+}
+
+/// A batch of records with values of this many bytes, or with none.
+fn batch_with(alloc: Global, count: usize, bytes: usize) -> Option<Batch>
+    ensures { IfSome result FitsLog }
+{
+    if bytes == 0 {
+        return batch_of(alloc, count, 1000);
+    }
+    batch_at(1000, long_records(alloc, count, bytes).ok()?)
+}
+
+fn two_outlets(alloc: Global) -> Result<Vec<Outlet<Vec<u8>>>, AllocError>
+    ensures { IfOk result (λ outlets. length outlets.items ≡ 2) }
+{
+    let mut outlets = Vec::new(alloc);
+    outlets.push(Outlet::new(alloc, Vec::new(alloc)))?;
+    outlets.push(Outlet::new(alloc, Vec::new(alloc)))?;
+    Ok(outlets)
+}
+
+/// What output 1 has before the end and after it, of batches with these counts of records and bytes
+/// of a value.
+fn outputs_of(
+    alloc: Global,
+    given: &[(usize, usize)],
+) -> Result<(Vec<(i64, usize)>, Vec<(i64, usize)>), Fail> {
+    let program = program_of(alloc, &SECOND)?;
+    let mut stream = Transform::new(alloc, 0, 0, two_outlets(alloc)?);
+    for (count, bytes) in given {
+        let batch = batch_with(alloc, *count, *bytes).ok_or("a batch")?;
+        stream.push(&program, batch)?;
+    }
+    let early = written(alloc, &stream, 1)?;
+    stream.end()?;
+    if !written(alloc, &stream, 0)?.is_empty() {
+        return Err(Fail::from("no row in output 0"));
+    }
+    Ok((early, written(alloc, &stream, 1)?))
+}
+
+/// The batches in an output.
+fn written(
+    alloc: Global,
+    stream: &Transform<Vec<u8>>,
+    output: usize,
+) -> Result<Vec<(i64, usize)>, Fail> {
+    if output >= stream.outputs() {
+        return Err(Fail::from("an output"));
+    }
+    batches_in(alloc, stream.outlet(output).writer().as_slice())
+}
+
+#[test]
+fn batches_fill_up_to_their_limits(rt: HostRuntime) -> Result<(), Fail> {
+    let rows: [(&[(usize, usize)], &[(i64, usize)], &[(i64, usize)]); 6] = [
+        (&[], &[], &[]),
+        (&[(1, 0)], &[], &[(0, 1)]),
+        (&[(4000, 0), (4000, 0)], &[], &[(0, 8000)]),
+        (
+            &[(4000, 0), (4000, 0), (4000, 0)],
+            &[(0, 10_000)],
+            &[(0, 10_000), (10_000, 2000)],
+        ),
+        (
+            &[(10_000, 0), (10_000, 0), (5000, 0)],
+            &[(0, 10_000), (10_000, 10_000)],
+            &[(0, 10_000), (10_000, 10_000), (20_000, 5000)],
+        ),
+        (
+            &[(10, 65_536), (10, 65_536), (1, 0)],
+            &[(0, 15)],
+            &[(0, 15), (15, 6)],
+        ),
+    ];
+    for (given, early, all) in &rows {
+        let found = outputs_of(rt.alloc(), given)?;
+        assert!(rt; found.0.as_slice() == *early, "before the end");
+        assert!(rt; found.1.as_slice() == *all, "at the end");
+    }
+    Ok(())
+}
+
+#[test]
+fn offsets_end_below_two_to_the_62(rt: HostRuntime) -> Result<(), Fail> {
+    let alloc = rt.alloc();
+    let program = program_of(alloc, &FORWARD)?;
+    for (offset, taken) in [
+        (4_611_686_018_427_377_904, true),
+        (4_611_686_018_427_377_905, false),
+    ] {
+        let mut stream = Transform::new(alloc, 63, offset, two_outlets(alloc)?);
+        let batch = batch_of(alloc, 2, 1000).ok_or("a batch")?;
+        assert_eq!(rt; stream.push(&program, batch).is_ok(), taken);
+        let after = if taken { offset + 2 } else { offset };
+        assert_eq!(rt; stream.offset(), after);
+    }
+    Ok(())
+}

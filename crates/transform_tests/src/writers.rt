@@ -1,0 +1,82 @@
+ghost use Rattle.std.specs.Prelude.{◌≡◌, length, IfOk};
+
+use crate::batches::program_of;
+use fixtures::{FORWARD, batch_of};
+use std::alloc::{AllocError, Global};
+use std::io;
+use std::io::Write;
+use std::test::Fail;
+use transform::{Outlet, OutletFault, Transform, TransformFault};
+
+/// Takes `room` bytes, at most seven at once and none in every other call, and then fails.
+#[derive(Drop)]
+struct Narrow {
+    taken: Vec<u8>,
+    room: usize,
+    is_interrupted: bool,
+}
+
+impl Write for Narrow {
+    fn write(&mut self, bytes: &[u8]) -> io::Result<usize> {
+        self.is_interrupted = !self.is_interrupted;
+        if self.is_interrupted {
+            return Err(io::Error::from(io::ErrorKind::Interrupted));
+        }
+        if self.room == 0 {
+            return Err(io::Error::from(io::ErrorKind::StorageFull));
+        }
+        let count = bytes.len().min(self.room).min(7);
+        self.taken.extend_from_slice(&bytes[..count])?;
+        self.room -= count;
+        Ok(count)
+    }
+
+    fn flush(&mut self) -> io::Result<()> {
+        Ok(())
+    }
+}
+
+fn one_outlet(alloc: Global, room: usize) -> Result<Vec<Outlet<Narrow>>, AllocError>
+    ensures { IfOk result (λ outlets. length outlets.items ≡ 1) }
+{
+    let writer = Narrow {
+        taken: Vec::new(alloc),
+        room,
+        is_interrupted: false,
+    };
+    let mut outlets = Vec::new(alloc);
+    outlets.push(Outlet::new(alloc, writer))?;
+    Ok(outlets)
+}
+
+/// How the end of a stream of one record went whose writer takes this many bytes, and how many it has.
+fn ended(alloc: Global, room: usize) -> Result<(Result<(), TransformFault>, usize), Fail> {
+    let program = program_of(alloc, &FORWARD)?;
+    let mut stream = Transform::new(alloc, 0, 0, one_outlet(alloc, room)?);
+    let batch = batch_of(alloc, 1, 1000).ok_or("a batch")?;
+    stream.push(&program, batch)?;
+    let result = stream.end();
+    if stream.outputs() == 0 {
+        return Err(Fail::from("an output"));
+    }
+    Ok((result, stream.outlet(0).writer().taken.len()))
+}
+
+#[test]
+fn a_writer_that_fails_ends_the_stream(rt: HostRuntime) -> Result<(), Fail> {
+    let failed = TransformFault::Output {
+        output: 0,
+        fault: OutletFault::Write,
+    };
+    for (room, result, taken) in [
+        (0, Err(failed), 0),
+        (67, Err(failed), 67),
+        (68, Ok(()), 68),
+        (1000, Ok(()), 68),
+    ] {
+        let found = ended(rt.alloc(), room)?;
+        assert!(rt; found.0 == result);
+        assert_eq!(rt; found.1, taken);
+    }
+    Ok(())
+}
