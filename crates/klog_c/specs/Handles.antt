@@ -1,0 +1,24 @@
+-- What a handle of C's owns.
+use base.Fml.{Fml, ftrue}
+use base.Stored.{Coded}
+use denote.RawPtr.{Ptr}
+use Rattle.std.specs.Prelude.{Option, Some, None, Bool, true, false}
+use Rattle.std.specs.Coded.{coded_option}
+use Rattle.std.specs.Box.Ownership.{box_owns}
+use Rattle.std.specs.Global.{Global}
+use Rattle.std.specs.contracts.impls.GlobalAllocator.TheImpl.{ghosts}
+use Rattle.klog_c.specs.contracts.object.Object.{the_row}
+
+abbrev pub Held : Type 0
+Held = Option the_row.Denot
+
+abbrev pub handle_owns : Global → Ptr → Option the_row.Denot → Fml
+handle_owns alloc p None = ftrue
+handle_owns alloc p (Some x) = box_owns (ghosts.dealloc_token alloc) the_row p x
+
+abbrev pub object_coded : Coded (Option the_row.Denot)
+object_coded = coded_option the_row.coded
+
+abbrev pub is_full : Option the_row.Denot → Bool
+is_full None = false
+is_full (Some x) = true

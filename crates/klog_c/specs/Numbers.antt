@@ -1,0 +1,51 @@
+-- The numbers of faults.
+use Rattle.std.specs.Prelude.{ℕ}
+use Rattle.machine_spec.specs.declared.instruction.IsaFault.{IsaFault}
+use Rattle.verifier_spec.specs.declared.fault.Check.{Check}
+use Rattle.verifier_spec.specs.declared.fault.LoadFault.{LoadFault}
+use Rattle.verifier_spec.specs.declared.fault.LoadFault.TheVariants.{Isa, Verify}
+
+abbrev pub isa_number : IsaFault → ℕ
+isa_number IsaFault.Size = 101
+isa_number (IsaFault.Opcode slot) = 102
+isa_number (IsaFault.Register slot) = 103
+isa_number (IsaFault.Unused slot) = 104
+isa_number (IsaFault.Wide slot) = 105
+isa_number (IsaFault.NotInProfile slot) = 106
+isa_number IsaFault.Memory = 1
+
+abbrev pub check_number : Check → ℕ
+check_number Check.JumpTarget = 201
+check_number Check.BackJump = 202
+check_number Check.RunsOff = 203
+check_number Check.Unset = 204
+check_number Check.WrongType = 205
+check_number Check.Frame = 206
+check_number Check.RecordBounds = 207
+check_number Check.StackBounds = 208
+check_number Check.StackUnset = 209
+check_number Check.ReadOnly = 210
+check_number Check.Helper = 211
+check_number Check.HelperArg = 212
+check_number Check.Exit = 213
+check_number Check.Memory = 1
+check_number Check.Notes = 215
+
+-- Of a refusal of an image: I1 to I6 are 101 to 106, V1 to V13 are 201 to 213. Where memory ran out it is 1.
+abbrev pub fault_number : LoadFault → ℕ
+fault_number (Isa fault) = isa_number fault
+fault_number (Verify fault) = check_number fault.kind
+
+abbrev pub isa_place : IsaFault → ℕ
+isa_place IsaFault.Size = 0
+isa_place (IsaFault.Opcode slot) = slot
+isa_place (IsaFault.Register slot) = slot
+isa_place (IsaFault.Unused slot) = slot
+isa_place (IsaFault.Wide slot) = slot
+isa_place (IsaFault.NotInProfile slot) = slot
+isa_place IsaFault.Memory = 0
+
+-- the slot of an image, or the instruction, that a refusal is about
+abbrev pub fault_place : LoadFault → ℕ
+fault_place (Isa fault) = isa_place fault
+fault_place (Verify fault) = fault.pc

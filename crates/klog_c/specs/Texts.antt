@@ -1,0 +1,50 @@
+-- The texts of faults. A text is the list of its bytes.
+use Rattle.std.specs.Prelude.{◌≡◌, ℕ, ◌⊎◌, ◌==◌, ◌&&◌, nat_le, if◌then◌else◌, List, [], ◌++◌, length, codes, decimal}
+use Rattle.klog_c.specs.declared.faults.TheConstants.{MEMORY}
+use Rattle.klog_c.specs.Outcomes.{Copies}
+
+abbrev pub image_fault_name : ℕ → List ℕ
+image_fault_name n =
+    if n == 101 then codes "I1 Size" else if n == 102 then codes "I2 Opcode" else
+    if n == 103 then codes "I3 Register" else if n == 104 then codes "I4 Unused" else
+    if n == 105 then codes "I5 Wide" else if n == 106 then codes "I6 NotInProfile" else codes "no fault"
+
+abbrev pub register_fault_name : ℕ → List ℕ
+register_fault_name n =
+    if n == 201 then codes "V1 JumpTarget" else if n == 202 then codes "V2 BackJump" else
+    if n == 203 then codes "V3 RunsOff" else if n == 204 then codes "V4 Unset" else
+    if n == 205 then codes "V5 Type" else if n == 206 then codes "V6 Frame" else image_fault_name n
+
+abbrev pub program_fault_name : ℕ → List ℕ
+program_fault_name n =
+    if n == 207 then codes "V7 RecordBounds" else if n == 208 then codes "V8 StackBounds" else
+    if n == 209 then codes "V9 StackUnset" else if n == 210 then codes "V10 ReadOnly" else
+    if n == 211 then codes "V11 Helper" else if n == 212 then codes "V12 HelperArg" else
+    if n == 213 then codes "V13 Exit" else register_fault_name n
+
+-- the names of faults, as `klog` prints them
+abbrev pub name_of : ℕ → List ℕ
+name_of n =
+    if n == 1 then codes "memory ran out" else if n == 2 then codes "a handle of nothing, or of another kind" else
+    if n == 3 then codes "a number is out of its range" else if n == 4 then codes "a key or a value is too long" else
+    if n == 5 then codes "a buffer is too short" else
+    if n == 6 then codes "a null pointer, or a handle given twice" else program_fault_name n
+
+-- an image's faults but its size's are at a slot, the verifier's at an instruction
+abbrev pub place_word : ℕ → List ℕ
+place_word n =
+    if nat_le 102 n && nat_le n 106 then codes " slot " else
+    if nat_le 201 n && nat_le n 213 then codes " at " else []
+
+abbrev pub with_place : List ℕ → List ℕ → ℕ → List ℕ
+with_place name word place = if length word == 0 then name else name ++ (word ++ decimal place)
+
+-- `I3 Register slot 0`, `V7 RecordBounds at 0`
+abbrev pub fault_text : ℕ → ℕ → List ℕ
+fault_text number place = with_place (name_of number) (place_word number) place
+
+-- a text at the front of a buffer, and its length; only where memory ran out the length is as it was
+abbrev pub Writes : List ℕ → List ℕ → List ℕ → ℕ → ℕ → ℕ → Type 0
+Writes text before after length_before length_after number =
+    ((number ≡ MEMORY) × (after ≡ before) × (length_after ≡ length_before))
+    ⊎ ((length_after ≡ length text) × Copies text before after number)

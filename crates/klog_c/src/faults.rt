@@ -1,0 +1,95 @@
+//! The numbers of faults.
+
+ghost use Rattle.std.specs.Prelude.{◌≡◌};
+ghost use Rattle.klog_c.specs.Numbers as definitions;
+
+use machine_spec::IsaFault;
+use verifier_spec::{Check, LoadFault, VerifyFault};
+
+/// The call did its work.
+pub(crate) const OK: u32 = 0;
+
+/// Memory ran out.
+pub(crate) const MEMORY: u32 = 1;
+
+/// A handle is of nothing, or of another kind than the call needs.
+pub(crate) const KIND: u32 = 2;
+
+/// A number is out of its range.
+pub(crate) const RANGE: u32 = 3;
+
+/// A key or a value is longer than a record's may be.
+pub(crate) const LENGTH: u32 = 4;
+
+/// A buffer is too short.
+pub(crate) const ROOM: u32 = 5;
+
+fn isa_number(fault: IsaFault) -> u32
+    ensures { result ≡ definitions.isa_number fault }
+{
+    match fault {
+        IsaFault::Size => 101,
+        IsaFault::Opcode(_) => 102,
+        IsaFault::Register(_) => 103,
+        IsaFault::Unused(_) => 104,
+        IsaFault::Wide(_) => 105,
+        IsaFault::NotInProfile(_) => 106,
+        IsaFault::Memory => MEMORY,
+    }
+}
+
+fn check_number(check: Check) -> u32
+    ensures { result ≡ definitions.check_number check }
+{
+    match check {
+        Check::JumpTarget => 201,
+        Check::BackJump => 202,
+        Check::RunsOff => 203,
+        Check::Unset => 204,
+        Check::WrongType => 205,
+        Check::Frame => 206,
+        Check::RecordBounds => 207,
+        Check::StackBounds => 208,
+        Check::StackUnset => 209,
+        Check::ReadOnly => 210,
+        Check::Helper => 211,
+        Check::HelperArg => 212,
+        Check::Exit => 213,
+        Check::Memory => MEMORY,
+        Check::Notes => 215,
+    }
+}
+
+/// The number of a refusal: I1 to I6 are 101 to 106, V1 to V13 are 201 to 213.
+pub(crate) fn fault_number(fault: LoadFault) -> u32
+    ensures { result ≡ definitions.fault_number fault }
+{
+    match fault {
+        LoadFault::Isa(fault) => isa_number(fault),
+        LoadFault::Verify(fault) => check_number(fault.kind),
+    }
+}
+
+fn isa_place(fault: IsaFault) -> usize
+    ensures { result ≡ definitions.isa_place fault }
+{
+    match fault {
+        IsaFault::Size => 0,
+        IsaFault::Opcode(slot) => slot,
+        IsaFault::Register(slot) => slot,
+        IsaFault::Unused(slot) => slot,
+        IsaFault::Wide(slot) => slot,
+        IsaFault::NotInProfile(slot) => slot,
+        IsaFault::Memory => 0,
+    }
+}
+
+/// The slot or the instruction that a refusal is about; 0 where it is about none.
+pub(crate) fn fault_place(fault: LoadFault) -> usize
+    ensures { result ≡ definitions.fault_place fault }
+{
+    match fault {
+        LoadFault::Isa(fault) => isa_place(fault),
+        LoadFault::Verify(VerifyFault { pc, kind: _ }) => pc,
+    }
+}

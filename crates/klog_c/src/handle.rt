@@ -1,0 +1,125 @@
+//! What C holds: a pointer to an object, or to none.
+ghost use Rattle.std.specs.Prelude.{◌≡◌, Some, None, IsSome, option_map};
+ghost use Rattle.klog_c.specs.Handles.{Held, object_coded, handle_owns, is_full};
+
+use crate::object::Object;
+use crate::parts::Parts;
+use std::alloc::Global;
+use std::marker::Model;
+use std::mem;
+use std::ptr::null_mut;
+
+/// A pointer to an object, if there is one.
+#[repr(C)]
+#[derive(Drop)]
+pub struct Place {
+    at: *mut u8,
+    alloc: Global,
+    pub ghost object: { Held } by { object_coded },
+}
+
+impl Model for Place {
+    ghost also_owns = { λ s. handle_owns s.alloc s.at s.object };
+}
+
+impl Place {
+    fn empty(alloc: Global) -> Place
+        ensures { result.object ≡ None }
+    {
+        Place {
+            at: null_mut(),
+            alloc,
+        }
+    }
+
+    fn of_parts(parts: Parts<Object, Global>) -> Place
+        ensures { result.object ≡ Some parts.value }
+    {
+        let Parts { ptr, alloc } = parts;
+        Place {
+            at: ptr as *mut u8,
+            alloc,
+        }
+    }
+
+    fn into_parts(self) -> Parts<Object, Global>
+        requires { IsSome self.object }
+        ensures { self.object ≡ Some result.value }
+    {
+        let Place { at, alloc } = self;
+        Parts {
+            ptr: at as *mut Object,
+            alloc,
+        }
+    }
+}
+
+/// A handle of C's.
+#[repr(C)]
+#[derive(Drop)]
+pub struct Handle {
+    pub place: Place,
+    full: bool,
+    ghost agrees: { full ≡ is_full place.object },
+}
+
+impl Handle {
+    /// A handle of an object, or of nothing.
+    fn of(alloc: Global, object: Option<Box<Object>>) -> Handle
+        ensures { result.place.object ≡ option_map (λ object. object.value) object }
+    {
+        match object {
+            None => Handle {
+                place: Place::empty(alloc),
+                full: false,
+            },
+            Some(object) => Handle {
+                place: Place::of_parts(Parts::of(object)),
+                full: true,
+            },
+        }
+    }
+
+    /// The object, if there is one.
+    fn into_box(self) -> Option<Box<Object>>
+        ensures { option_map (λ object. object.value) result ≡ self.place.object }
+    {
+        let Handle { place, full } = self;
+        if !full {
+            return None;
+        }
+        Some(place.into_parts().into_box())
+    }
+
+    /// Takes the object out.
+    pub(crate) fn take(&mut self, alloc: Global) -> Option<Box<Object>>
+        ensures object { option_map (λ object. object.value) result ≡ self.old.place.object }
+        ensures left { self.new.place.object ≡ None }
+    {
+        mem::replace(self, Handle::of(alloc, None)).into_box()
+    }
+
+    /// Puts an object in, and frees the one that was there.
+    pub(crate) fn put(&mut self, alloc: Global, object: Box<Object>)
+        ensures { self.new.place.object ≡ Some object.value }
+    {
+        drop(self.take(alloc));
+        *self = Handle::of(alloc, Some(object));
+    }
+}
+
+/// A place goes to another thread with its object.
+unsafe impl Send for Place {}
+
+fn sent<T: Send>(x: T) -> T
+    ensures { result ≡ x }
+{
+    x
+}
+
+/// A handle may go to another thread.
+pub(crate) fn may_cross(handle: Handle) -> Handle
+    ensures { result ≡ handle }
+{
+    sent(handle)
+}

@@ -1,0 +1,217 @@
+//! The library for C: a program is loaded from its image, and runs on records. C holds handles: a
+//! `struct klog` of zeros is one of nothing.
+#![tactic(auto)]
+
+ghost use Rattle.std.specs.Prelude.{◌≡◌, Some, None};
+ghost use Rattle.klog_c.specs.Calls.{Loads, Shares, Runs, program_in, outcome_in, text_in};
+ghost use Rattle.klog_c.specs.Explained.{Explained, CopiesText};
+ghost use Rattle.klog_c.specs.Outcomes.{Tells, TellsAt, CopiesAt};
+ghost use Rattle.klog_c.specs.Texts.{Writes, fault_text};
+
+mod emissions;
+mod explaining;
+mod faults;
+mod filling;
+mod handle;
+mod object;
+mod parts;
+mod running;
+mod shared;
+mod texts;
+mod working;
+
+use crate::emissions::{Emitted, copy_key, copy_value, tell, tell_emission};
+use crate::explaining::{copy_text, explain_into};
+use crate::faults::KIND;
+use crate::handle::Handle;
+use crate::running::Asked;
+use crate::texts::write_fault;
+use crate::working::{load_into, run_into, share_into};
+use std::alloc::Global;
+
+/// Loads a program's image into a handle that holds nothing or a program. A fault leaves the handle
+/// as it was; of a refusal `place` is then the slot or the instruction.
+#[unsafe(no_mangle)]
+pub extern "C" fn klog_c_load(
+    alloc: Global,
+    image: &[u8],
+    program: &mut Handle,
+    place: &mut usize,
+) -> u32
+    ensures { Loads image.now program.old.place.object program.new.place.object place.new result }
+{
+    load_into(alloc, image, program, place)
+}
+
+/// Writes the text of a fault at the front of a buffer, and its length, also where the buffer is too
+/// short. `place` is what the call that failed gave for it.
+#[unsafe(no_mangle)]
+pub extern "C" fn klog_c_fault_text(
+    alloc: Global,
+    fault: u32,
+    place: usize,
+    buffer: &mut [u8],
+    length: &mut usize,
+) -> u32
+    ensures { Writes (fault_text fault place) buffer.old buffer.new length.old length.new result }
+{
+    write_fault(alloc, fault, place, buffer, length)
+}
+
+/// Gives another owner of a loaded program to a handle that holds nothing or a program, for another
+/// thread. A fault leaves the handle as it was.
+#[unsafe(no_mangle)]
+pub extern "C" fn klog_c_share(alloc: Global, program: &mut Handle, other: &mut Handle) -> u32
+    ensures program { program.new.place.object ≡ program.old.place.object }
+    ensures other { Shares program.old.place.object other.old.place.object other.new.place.object result }
+{
+    let Some(object) = program.take(alloc) else {
+        return KIND;
+    };
+    let number = share_into(alloc, &object, other);
+    program.put(alloc, object);
+    number
+}
+
+/// Runs a program on one record, into a handle that holds nothing or an outcome. A fault leaves the
+/// handle as it was.
+#[unsafe(no_mangle)]
+pub extern "C" fn klog_c_run(
+    alloc: Global,
+    program: &mut Handle,
+    asked: &Asked,
+    key: &[u8],
+    value: &[u8],
+    outcome: &mut Handle,
+) -> u32
+    ensures program { program.new.place.object ≡ program.old.place.object }
+    ensures outcome { Runs (program_in program.old.place.object) asked.now key.now value.now outcome.old.place.object outcome.new.place.object result }
+{
+    let Some(object) = program.take(alloc) else {
+        return KIND;
+    };
+    let number = run_into(alloc, &object, asked, key, value, outcome);
+    program.put(alloc, object);
+    number
+}
+
+/// Tells what an outcome is: its reject code, 0 where the record is kept, and how many emissions it
+/// has, at most 16.
+#[unsafe(no_mangle)]
+pub extern "C" fn klog_c_outcome(
+    alloc: Global,
+    outcome: &mut Handle,
+    code: &mut u64,
+    count: &mut usize,
+) -> u32
+    ensures outcome { outcome.new.place.object ≡ outcome.old.place.object }
+    ensures told { Tells (outcome_in outcome.old.place.object) code.new count.new result }
+{
+    let Some(object) = outcome.take(alloc) else {
+        return KIND;
+    };
+    let number = tell(&object, code, count);
+    outcome.put(alloc, object);
+    number
+}
+
+/// Tells of an emission of an outcome, by its number from 0: its output partition, and how long its
+/// key and its value are.
+#[unsafe(no_mangle)]
+pub extern "C" fn klog_c_emission(
+    alloc: Global,
+    outcome: &mut Handle,
+    at: usize,
+    emission: &mut Emitted,
+) -> u32
+    ensures outcome { outcome.new.place.object ≡ outcome.old.place.object }
+    ensures told { TellsAt (outcome_in outcome.old.place.object) at emission.new result }
+{
+    let Some(object) = outcome.take(alloc) else {
+        return KIND;
+    };
+    let number = tell_emission(&object, at, emission);
+    outcome.put(alloc, object);
+    number
+}
+
+/// Copies the key of an emission of an outcome to the front of a buffer. A fault leaves the buffer
+/// as it was.
+#[unsafe(no_mangle)]
+pub extern "C" fn klog_c_emission_key(
+    alloc: Global,
+    outcome: &mut Handle,
+    at: usize,
+    buffer: &mut [u8],
+) -> u32
+    ensures outcome { outcome.new.place.object ≡ outcome.old.place.object }
+    ensures copied { CopiesAt (λ e. e.key) (outcome_in outcome.old.place.object) at buffer.old buffer.new result }
+{
+    let Some(object) = outcome.take(alloc) else {
+        return KIND;
+    };
+    let number = copy_key(&object, at, buffer);
+    outcome.put(alloc, object);
+    number
+}
+
+/// Copies the value of an emission of an outcome to the front of a buffer. A fault leaves the buffer
+/// as it was.
+#[unsafe(no_mangle)]
+pub extern "C" fn klog_c_emission_value(
+    alloc: Global,
+    outcome: &mut Handle,
+    at: usize,
+    buffer: &mut [u8],
+) -> u32
+    ensures outcome { outcome.new.place.object ≡ outcome.old.place.object }
+    ensures copied { CopiesAt (λ e. e.value) (outcome_in outcome.old.place.object) at buffer.old buffer.new result }
+{
+    let Some(object) = outcome.take(alloc) else {
+        return KIND;
+    };
+    let number = copy_value(&object, at, buffer);
+    outcome.put(alloc, object);
+    number
+}
+
+/// Explains why the verifier accepts or refuses an image, into a handle that holds nothing or a text:
+/// the instructions, or those alone that lead to the refused one, each with what is known before it.
+#[unsafe(no_mangle)]
+pub extern "C" fn klog_c_explain(
+    alloc: Global,
+    image: &[u8],
+    is_refused_alone: bool,
+    text: &mut Handle,
+) -> u32
+    ensures { Explained image.now is_refused_alone text.old.place.object text.new.place.object result }
+{
+    explain_into(alloc, image, is_refused_alone, text)
+}
+
+/// Copies a text to the front of a buffer, and tells its length, also where the buffer is too short.
+#[unsafe(no_mangle)]
+pub extern "C" fn klog_c_text(
+    alloc: Global,
+    text: &mut Handle,
+    buffer: &mut [u8],
+    length: &mut usize,
+) -> u32
+    ensures text { text.new.place.object ≡ text.old.place.object }
+    ensures copied { CopiesText (text_in text.old.place.object) buffer.old buffer.new length.new result }
+{
+    let Some(object) = text.take(alloc) else {
+        return KIND;
+    };
+    let number = copy_text(&object, buffer, length);
+    text.put(alloc, object);
+    number
+}
+
+/// Frees what a handle holds. It holds nothing then.
+#[unsafe(no_mangle)]
+pub extern "C" fn klog_c_free(alloc: Global, handle: &mut Handle)
+    ensures { handle.new.place.object ≡ None }
+{
+    drop(handle.take(alloc));
+}

@@ -1,0 +1,13 @@
+use crate::shared::Shared;
+use machine_spec::Outcome;
+
+/// What a handle of C's stands for.
+#[derive(Drop)]
+pub enum Object {
+    /// A program that was loaded.
+    Program(Shared),
+    /// What a program made of a record.
+    Outcome(Outcome),
+    /// A text.
+    Text(String),
+}

@@ -1,0 +1,95 @@
+//! What the calls do with what handles hold.
+
+ghost use Rattle.std.specs.Prelude.{◌≡◌, ◌≢◌, Some, None, IfOk, zero, suc};
+ghost use Rattle.klog_c.specs.Calls as definitions;
+ghost use Rattle.log_item.specs.Programs.{ProgramIs};
+
+use crate::faults::{KIND, MEMORY, OK, fault_number, fault_place};
+use crate::filling::fill;
+use crate::handle::Handle;
+use crate::object::Object;
+use crate::running::{Asked, run, run_fault};
+use crate::shared::Shared;
+use bytes::Bytes;
+use log_item::Program;
+use machine_spec::IsaFault;
+use std::alloc::Global;
+use verifier_spec::LoadFault;
+
+/// The program of an image, or the image's refusal.
+fn loaded(alloc: Global, image: &[u8]) -> Result<Shared, LoadFault>
+    ensures { ProgramIs image.now result }
+{
+    let Ok(image) = Bytes::copy_from_slice(alloc, image) else {
+        return Err(LoadFault::Isa(IsaFault::Memory));
+    };
+    let program = Program::new(alloc, &image)?;
+    match Shared::new(alloc, program) {
+        Ok(shared) => Ok(shared),
+        Err(_) => Err(LoadFault::Isa(IsaFault::Memory)),
+    }
+}
+
+pub(crate) fn load_into(alloc: Global, image: &[u8], program: &mut Handle, place: &mut usize) -> u32
+    ensures { definitions.Loads image.now program.old.place.object program.new.place.object place.new result }
+{
+    match loaded(alloc, image) {
+        Ok(shared) => fill(alloc, program, Object::Program(shared)),
+        Err(fault) => {
+            *place = fault_place(fault);
+            fault_number(fault)
+        }
+    }
+}
+
+/// Puts another owner of an object's program into a handle.
+pub(crate) fn share_into(alloc: Global, object: &Object, other: &mut Handle) -> u32
+    ensures { definitions.Shares (Some object.now) other.old.place.object other.new.place.object result }
+{
+    match object {
+        Object::Outcome(_) | Object::Text(_) => KIND,
+        Object::Program(program) => match program.again() {
+            Err(_) => MEMORY,
+            Ok(shared) => fill(alloc, other, Object::Program(shared)),
+        },
+    }
+}
+
+fn run_program(
+    alloc: Global,
+    program: &Program,
+    asked: &Asked,
+    key: &[u8],
+    value: &[u8],
+    outcome: &mut Handle,
+) -> u32
+    ensures { definitions.Runs (Some program.now) asked.now key.now value.now outcome.old.place.object outcome.new.place.object result }
+{
+    let fault = run_fault(asked, key, value);
+    if fault != OK {
+        return fault;
+    }
+    match run(alloc, program, asked, key, value) {
+        Err(_) => MEMORY,
+        Ok(found) => fill(alloc, outcome, Object::Outcome(found)),
+    }
+}
+
+/// Puts what an object's program means on a record into a handle.
+pub(crate) fn run_into(
+    alloc: Global,
+    object: &Object,
+    asked: &Asked,
+    key: &[u8],
+    value: &[u8],
+    outcome: &mut Handle,
+) -> u32
+    ensures { definitions.Runs (definitions.program_in (Some object.now)) asked.now key.now value.now outcome.old.place.object outcome.new.place.object result }
+{
+    match object {
+        Object::Outcome(_) | Object::Text(_) => KIND,
+        Object::Program(program) => {
+            run_program(alloc, program.program(), asked, key, value, outcome)
+        }
+    }
+}

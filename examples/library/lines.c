@@ -1,0 +1,94 @@
+/* Runs a program on each line of standard input as a value with a null key, and prints what it makes of it.
+ *	lines IMAGE < TEXT */
+#include <klog_engine.h>
+#include <stdio.h>
+#include <string.h>
+
+enum { LONGEST_IMAGE = 32768, LONGEST_KEY = 4096, LONGEST_VALUE = 65536 };
+
+/* Prints the text of a fault, and is the program's status. */
+static int print_fault(const char *call, uint32_t fault, size_t place)
+{
+	char text[64];
+	size_t length;
+	if (klog_fault_text(fault, place, text, sizeof text, &length) == KLOG_OK)
+		fprintf(stderr, "%s: %.*s\n", call, (int)length, text);
+	return 1;
+}
+
+static int load(const char *name, klog_handle *program)
+{
+	static uint8_t image[LONGEST_IMAGE + 1];
+	FILE *file = fopen(name, "rb");
+	if (!file) {
+		perror(name);
+		return 1;
+	}
+	size_t length = fread(image, 1, sizeof image, file), place = 0;
+	fclose(file);
+	uint32_t fault = klog_load(image, length, program, &place);
+	return fault ? print_fault(name, fault, place) : 0;
+}
+
+static int print_emission(klog_handle *outcome, size_t number)
+{
+	static uint8_t key[LONGEST_KEY], value[LONGEST_VALUE];
+	klog_emission emission;
+	uint32_t fault = klog_emission_at(outcome, number, &emission);
+	if (!fault)
+		fault = klog_emission_key(outcome, number, key, sizeof key);
+	if (!fault)
+		fault = klog_emission_value(outcome, number, value, sizeof value);
+	if (fault)
+		return print_fault("emission", fault, 0);
+	printf("  to %zu key ", emission.output);
+	fwrite(emission.nulls & KLOG_NULL_KEY ? (const uint8_t *)"null" : key, 1,
+	       emission.nulls & KLOG_NULL_KEY ? 4 : emission.key_length, stdout);
+	printf(" value ");
+	fwrite(emission.nulls & KLOG_NULL_VALUE ? (const uint8_t *)"null" : value, 1,
+	       emission.nulls & KLOG_NULL_VALUE ? 4 : emission.value_length, stdout);
+	printf("\n");
+	return 0;
+}
+
+static int run(klog_handle *program, klog_handle *outcome, const char *line, uint64_t offset)
+{
+	klog_record record = {0};
+	record.value = (const uint8_t *)line;
+	record.value_length = strlen(line);
+	record.offset = offset;
+	record.outputs = 2;
+	uint64_t code;
+	size_t count;
+	uint32_t fault = klog_run(program, &record, outcome);
+	if (!fault)
+		fault = klog_outcome(outcome, &code, &count);
+	if (fault)
+		return print_fault("run", fault, 0);
+	if (code)
+		printf("%s: rejected with code %llu\n", line, (unsigned long long)code);
+	else
+		printf("%s: kept, emissions %zu\n", line, count);
+	for (size_t k = 0; k < count; k++)
+		if (print_emission(outcome, k))
+			return 1;
+	return 0;
+}
+
+int main(int argc, char **argv)
+{
+	static char line[LONGEST_VALUE];
+	klog_handle program = KLOG_NOTHING, outcome = KLOG_NOTHING;
+	if (argc != 2) {
+		fprintf(stderr, "usage: lines IMAGE < TEXT\n");
+		return 2;
+	}
+	int status = load(argv[1], &program);
+	for (uint64_t offset = 0; !status && fgets(line, sizeof line, stdin); offset++) {
+		line[strcspn(line, "\n")] = 0;
+		status = run(&program, &outcome, line, offset);
+	}
+	klog_free(&outcome);
+	klog_free(&program);
+	return status;
+}

@@ -1,0 +1,28 @@
+#!/bin/sh
+# Runs the examples of the C library: examples/library/run.sh FOLDER, where FOLDER is what tools/build_library.sh made.
+# C and Python are run; so is Go where it is installed.
+set -eu
+if [ $# -ne 1 ]; then
+	echo "usage: examples/library/run.sh FOLDER" >&2
+	exit 2
+fi
+here=$(cd "$(dirname "$0")" && pwd)
+folder=$(cd "$1" && pwd)
+image=$here/../c/filter_first_byte.bin
+text='A first line
+B second line
+
+A third line'
+
+"${CC:-cc}" -std=c99 -O2 -Wall -Wextra -pedantic -Werror -I"$folder" "$here/lines.c" "$folder/libklog.a" -o "$folder/lines"
+echo "C:"
+echo "$text" | "$folder/lines" "$image"
+echo "Python:"
+echo "$text" | python3 "$here/lines.py" "$folder/libklog.so" "$image"
+if command -v go >/dev/null; then
+	echo "Go:"
+	(cd "$here/go" && CGO_CFLAGS="-I$folder" CGO_LDFLAGS="$folder/libklog.a" GO111MODULE=off go build -o "$folder/lines_go" lines.go)
+	echo "$text" | "$folder/lines_go" "$image"
+else
+	echo "Go: not installed"
+fi

@@ -1,0 +1,176 @@
+/* What C calls: each function looks at its pointers, and calls the proved function of the same name, which stands
+ * in crates/klog_c and may be given no null pointer. No proof covers this file. */
+#include "klog_engine.h"
+
+#include <stdbool.h>
+
+/* As `Asked` of crates/klog_c. */
+struct asked {
+	uint64_t offset;
+	uint64_t timestamp;
+	size_t partition;
+	size_t outputs;
+	uint32_t nulls;
+};
+
+uint32_t klog_c_load(const uint8_t *image, size_t length, klog_handle *program, size_t *place);
+uint32_t klog_c_fault_text(uint32_t fault, size_t place, uint8_t *buffer, size_t room, size_t *length);
+uint32_t klog_c_share(klog_handle *program, klog_handle *other);
+uint32_t klog_c_run(klog_handle *program, const struct asked *asked, const uint8_t *key, size_t key_length,
+		    const uint8_t *value, size_t value_length, klog_handle *outcome);
+uint32_t klog_c_outcome(klog_handle *outcome, uint64_t *code, size_t *count);
+uint32_t klog_c_emission(klog_handle *outcome, size_t number, klog_emission *emission);
+uint32_t klog_c_emission_key(klog_handle *outcome, size_t number, uint8_t *buffer, size_t room);
+uint32_t klog_c_emission_value(klog_handle *outcome, size_t number, uint8_t *buffer, size_t room);
+uint32_t klog_c_explain(const uint8_t *image, size_t length, bool is_refused_alone, klog_handle *text);
+uint32_t klog_c_text(klog_handle *text, uint8_t *buffer, size_t room, size_t *length);
+void klog_c_free(klog_handle *handle);
+
+/* The longest image: 4,096 slots of 8 bytes. */
+static const size_t longest_image = 32768;
+
+/* The longest file that is explained, an image or not. */
+static const size_t longest_file = 1048576;
+
+/* The fault I1. */
+static const uint32_t size_fault = 101;
+
+/* No block of memory is longer. */
+static const size_t longest_buffer = PTRDIFF_MAX;
+
+/* What a slice of no bytes points to. */
+static uint8_t no_bytes[1];
+
+/* Neither filled by the library nor zeros. */
+static bool is_foreign(const klog_handle *handle)
+{
+	return handle->full > 1 || (handle->full == 1 && !handle->at);
+}
+
+static bool is_no_buffer(const void *bytes, size_t length)
+{
+	return !bytes && length != 0;
+}
+
+/* The first fault of a buffer, or KLOG_OK. */
+static uint32_t buffer_fault(const void *buffer, size_t room)
+{
+	if (is_no_buffer(buffer, room))
+		return KLOG_NULL;
+	return room > longest_buffer ? KLOG_RANGE : KLOG_OK;
+}
+
+uint32_t klog_load(const uint8_t *image, size_t length, klog_handle *program, size_t *place)
+{
+	if (!program || !place || is_no_buffer(image, length))
+		return KLOG_NULL;
+	if (is_foreign(program))
+		return KLOG_KIND;
+	if (length > longest_image) {
+		*place = 0;
+		return size_fault;
+	}
+	return klog_c_load(image ? image : no_bytes, length, program, place);
+}
+
+uint32_t klog_fault_text(uint32_t fault, size_t place, char *buffer, size_t room, size_t *length)
+{
+	uint32_t number = length ? buffer_fault(buffer, room) : KLOG_NULL;
+	if (number)
+		return number;
+	return klog_c_fault_text(fault, place, buffer ? (uint8_t *)buffer : no_bytes, room, length);
+}
+
+uint32_t klog_share(klog_handle *program, klog_handle *other)
+{
+	if (!program || !other || program == other)
+		return KLOG_NULL;
+	if (is_foreign(program) || is_foreign(other))
+		return KLOG_KIND;
+	return klog_c_share(program, other);
+}
+
+uint32_t klog_run(klog_handle *program, const klog_record *record, klog_handle *outcome)
+{
+	if (!program || !record || !outcome || program == outcome)
+		return KLOG_NULL;
+	if (is_no_buffer(record->key, record->key_length) || is_no_buffer(record->value, record->value_length))
+		return KLOG_NULL;
+	if (is_foreign(program) || is_foreign(outcome))
+		return KLOG_KIND;
+	if (record->key_length > longest_buffer || record->value_length > longest_buffer)
+		return KLOG_LENGTH;
+	struct asked asked = {
+		.offset = record->offset,
+		.timestamp = record->timestamp,
+		.partition = record->partition,
+		.outputs = record->outputs,
+		.nulls = (record->key ? 0u : KLOG_NULL_KEY) + (record->value ? 0u : KLOG_NULL_VALUE),
+	};
+	return klog_c_run(program, &asked, record->key ? record->key : no_bytes, record->key_length,
+			  record->value ? record->value : no_bytes, record->value_length, outcome);
+}
+
+uint32_t klog_outcome(klog_handle *outcome, uint64_t *code, size_t *count)
+{
+	if (!outcome || !code || !count)
+		return KLOG_NULL;
+	if (is_foreign(outcome))
+		return KLOG_KIND;
+	return klog_c_outcome(outcome, code, count);
+}
+
+uint32_t klog_emission_at(klog_handle *outcome, size_t number, klog_emission *emission)
+{
+	if (!outcome || !emission)
+		return KLOG_NULL;
+	if (is_foreign(outcome))
+		return KLOG_KIND;
+	return klog_c_emission(outcome, number, emission);
+}
+
+/* The first fault of a handle and a buffer, or KLOG_OK. */
+static uint32_t copy_fault(const klog_handle *handle, const void *buffer, size_t room)
+{
+	if (!handle)
+		return KLOG_NULL;
+	uint32_t number = buffer_fault(buffer, room);
+	if (number)
+		return number;
+	return is_foreign(handle) ? KLOG_KIND : KLOG_OK;
+}
+
+uint32_t klog_emission_key(klog_handle *outcome, size_t number, uint8_t *buffer, size_t room)
+{
+	uint32_t fault = copy_fault(outcome, buffer, room);
+	return fault ? fault : klog_c_emission_key(outcome, number, buffer ? buffer : no_bytes, room);
+}
+
+uint32_t klog_emission_value(klog_handle *outcome, size_t number, uint8_t *buffer, size_t room)
+{
+	uint32_t fault = copy_fault(outcome, buffer, room);
+	return fault ? fault : klog_c_emission_value(outcome, number, buffer ? buffer : no_bytes, room);
+}
+
+uint32_t klog_explain(const uint8_t *image, size_t length, int is_refused_alone, klog_handle *text)
+{
+	if (!text || is_no_buffer(image, length))
+		return KLOG_NULL;
+	if (is_foreign(text))
+		return KLOG_KIND;
+	if (length > longest_file)
+		return KLOG_RANGE;
+	return klog_c_explain(image ? image : no_bytes, length, is_refused_alone != 0, text);
+}
+
+uint32_t klog_text(klog_handle *text, char *buffer, size_t room, size_t *length)
+{
+	uint32_t fault = length ? copy_fault(text, buffer, room) : KLOG_NULL;
+	return fault ? fault : klog_c_text(text, buffer ? (uint8_t *)buffer : no_bytes, room, length);
+}
+
+void klog_free(klog_handle *handle)
+{
+	if (handle && !is_foreign(handle))
+		klog_c_free(handle);
+}

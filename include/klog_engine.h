@@ -1,0 +1,134 @@
+/* klog's engine as a library: load an eBPF program once, run it on records.
+ *
+ * A program is loaded from its image, as `klog asm` or `tools/image.py` makes it. A load accepts exactly the
+ * images that the verifier accepts, and what it accepts runs without a trap, within as many instructions as it
+ * has, and reads nothing but its record and its stack. docs/library.md says what is proved of a call, and what
+ * the caller owes.
+ *
+ * Every function but klog_free returns a number: KLOG_OK, or why it did nothing. After another number than
+ * KLOG_OK each handle and each buffer is as it was.
+ *
+ * Handles. A `klog_handle` holds a program, an outcome, a text or nothing; one of zero bytes (KLOG_NOTHING) holds
+ * nothing. Only the library reads or writes its fields, and no handle is copied: klog_share makes another
+ * handle of one program. klog_free ends what a handle holds; each handle that holds something is freed once.
+ *
+ * Threads. The library starts none, has no lock and no global state. A handle is given to one call at a time.
+ * It may go to another thread, where the threads order that (a thread's start or its join, a mutex). Handles of
+ * one program, made by klog_share, serve as many threads at the same time.
+ *
+ * Memory. Handles and buffers of one call do not overlap. The memory of a program and of an outcome comes from
+ * malloc, realloc and free. */
+#ifndef KLOG_ENGINE_H
+#define KLOG_ENGINE_H
+
+#include <stddef.h>
+#include <stdint.h>
+
+#ifdef __cplusplus
+extern "C" {
+#endif
+
+/* What a call returns. Of a refused image it is 101 to 106, the faults I1 to I6, at a slot of 8 bytes of the
+ * image, or 201 to 213, the faults V1 to V13, at an instruction. docs/faults.md has their causes and cures. */
+enum {
+	KLOG_OK = 0,
+	KLOG_MEMORY = 1, /* memory ran out */
+	KLOG_KIND = 2,   /* a handle holds nothing, or something else than the call needs */
+	KLOG_RANGE = 3,  /* a number is out of its range */
+	KLOG_LENGTH = 4, /* a key or a value is too long */
+	KLOG_ROOM = 5,   /* a buffer is too short */
+	KLOG_NULL = 6,   /* a null pointer, or one handle given twice */
+	KLOG_IMAGE = 100,
+	KLOG_VERIFIER = 200
+};
+
+/* Bits of klog_emission.nulls. */
+enum { KLOG_NULL_KEY = 1, KLOG_NULL_VALUE = 2 };
+
+/* The most emissions of one record. */
+enum { KLOG_EMISSIONS = 16 };
+
+/* A program, an outcome, a text, or nothing. */
+typedef struct klog_handle {
+	unsigned char *at;
+	unsigned char full;
+} klog_handle;
+
+#define KLOG_NOTHING {0, 0}
+
+/* A record, and where it is. */
+typedef struct klog_record {
+	const uint8_t *key; /* NULL for a null key, with the length 0 */
+	size_t key_length;  /* 0 to 4,096 bytes */
+	const uint8_t *value; /* NULL for a null value, with the length 0 */
+	size_t value_length;  /* 0 to 65,536 bytes */
+	uint64_t offset;      /* in its input partition, below 2^62 */
+	uint64_t timestamp;   /* in milliseconds, below 2^62 */
+	size_t partition;     /* the input partition, below 64 */
+	size_t outputs;       /* how many output partitions there are, 1 to 64 */
+} klog_record;
+
+/* What is emitted to an output partition. */
+typedef struct klog_emission {
+	size_t output;       /* the output partition, below the record's `outputs` */
+	size_t key_length;   /* in bytes, 0 for a null key */
+	size_t value_length; /* in bytes, 0 for a null value */
+	uint32_t nulls;      /* KLOG_NULL_KEY, KLOG_NULL_VALUE */
+} klog_emission;
+
+/* Loads the image of `length` bytes into `program`, which holds nothing or a program; that one is freed.
+ * A refused image is 101 to 106 or 201 to 213, and `*place` is then its slot or its instruction; else `*place`
+ * is as it was. KLOG_KIND: `program` holds something else. KLOG_NULL: `program` or `place` is null, or `image` is
+ * null and `length` is not 0. KLOG_MEMORY. An image of more than 32,768 bytes is 101, and is not read. */
+uint32_t klog_load(const uint8_t *image, size_t length, klog_handle *program, size_t *place);
+
+/* Writes the text of a fault as `klog` prints it ("I3 Register slot 0", "V7 RecordBounds at 2") to the front of a
+ * buffer of `room` bytes, with no zero byte at its end, and its length to `*length`. `place` is what klog_load
+ * gave. KLOG_ROOM: the buffer is too short; `*length` is what it needs. 64 bytes are enough for each text.
+ * KLOG_NULL: `length` is null, or `buffer` is null and `room` is not 0. KLOG_MEMORY. */
+uint32_t klog_fault_text(uint32_t fault, size_t place, char *buffer, size_t room, size_t *length);
+
+/* Gives another owner of a program to `other`, which holds nothing or a program; that one is freed. The program
+ * ends with its last owner. KLOG_KIND: `program` holds no program, or `other` something else. KLOG_NULL: one is
+ * null, or both are one handle. KLOG_MEMORY. */
+uint32_t klog_share(klog_handle *program, klog_handle *other);
+
+/* Runs a program on one record with no headers, into `outcome`, which holds nothing or an outcome; that one is
+ * freed. KLOG_KIND: `program` holds no program, or `outcome` something else. KLOG_RANGE: a number of the record
+ * is out of its range. KLOG_LENGTH: the key or the value is too long. KLOG_NULL: a pointer is null, one handle is
+ * given twice, or a null key or value has a length. KLOG_MEMORY. */
+uint32_t klog_run(klog_handle *program, const klog_record *record, klog_handle *outcome);
+
+/* Tells the reject code, 0 where the record is kept, and how many emissions there are, 0 to KLOG_EMISSIONS; a
+ * rejected record has none. KLOG_KIND: `outcome` holds no outcome. KLOG_NULL: a pointer is null. */
+uint32_t klog_outcome(klog_handle *outcome, uint64_t *code, size_t *count);
+
+/* Tells of an emission, by its number from 0 in the order of the program's calls. KLOG_KIND: `outcome` holds no
+ * outcome. KLOG_RANGE: it has no such emission. KLOG_NULL: a pointer is null. */
+uint32_t klog_emission_at(klog_handle *outcome, size_t number, klog_emission *emission);
+
+/* Copies the key, or the value, of an emission to the front of a buffer of `room` bytes, of which the rest is as
+ * it was. Of null there are no bytes. KLOG_KIND, KLOG_RANGE: as above. KLOG_ROOM: the buffer is too short.
+ * KLOG_NULL: `outcome` is null, or `buffer` is null and `room` is not 0. */
+uint32_t klog_emission_key(klog_handle *outcome, size_t number, uint8_t *buffer, size_t room);
+uint32_t klog_emission_value(klog_handle *outcome, size_t number, uint8_t *buffer, size_t room);
+
+/* Explains why the verifier accepts or refuses an image, as `klog explain` prints it, into `text`, which holds
+ * nothing or a text; that one is freed. Where `is_refused_alone` is not 0, only the instructions that lead to the
+ * refused one are listed. KLOG_KIND: `text` holds something else. KLOG_NULL: `text` is null, or `image` is null and
+ * `length` is not 0. KLOG_RANGE: `length` is above 1,048,576. KLOG_MEMORY. */
+uint32_t klog_explain(const uint8_t *image, size_t length, int is_refused_alone, klog_handle *text);
+
+/* Copies a text to the front of a buffer of `room` bytes, with no zero byte at its end, and its length to `*length`.
+ * KLOG_ROOM: the buffer is too short; `*length` is what it needs. KLOG_KIND: `text` holds no text. KLOG_NULL: `text`
+ * or `length` is null, or `buffer` is null and `room` is not 0. */
+uint32_t klog_text(klog_handle *text, char *buffer, size_t room, size_t *length);
+
+/* Frees what a handle holds; it holds nothing then. A null pointer and a handle of nothing are left alone. */
+void klog_free(klog_handle *handle);
+
+#ifdef __cplusplus
+}
+#endif
+
+#endif

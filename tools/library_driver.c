@@ -1,0 +1,344 @@
+/* Calls each function of the C library in random order, from several threads that share one program, with random,
+ * damaged and huge images and records, short buffers, null pointers and handles of every kind.
+ *	library_driver SECONDS THREADS SEED IMAGE ..
+ * It fails where a fault is none of the function's, where a fault changes a handle or a buffer, or where the first
+ * image, which forwards each record to output 0, gives another record than it was given. A sanitizer finds the rest:
+ *	cc -std=c99 -D_POSIX_C_SOURCE=200809L -g -fsanitize=address,undefined -fno-sanitize-recover -pthread -IFOLDER \
+ *		tools/library_driver.c FOLDER/libklog.a -o library_driver */
+#include "klog_engine.h"
+
+#include <pthread.h>
+#include <stdbool.h>
+#include <stdio.h>
+#include <stdlib.h>
+#include <string.h>
+#include <time.h>
+
+enum { HANDLES = 6, IMAGES = 64, LONGEST = 200000, MOST_THREADS = 16 };
+
+struct image {
+	uint8_t *bytes;
+	size_t length;
+};
+
+struct worker {
+	pthread_t thread;
+	uint64_t state;
+	unsigned long calls, runs;
+	klog_handle handles[HANDLES];
+	klog_handle forward, outcome;
+};
+
+static struct image images[IMAGES];
+static size_t image_count;
+static time_t end;
+/* The program that all threads share; its handle is given to one call at a time. */
+static klog_handle shared;
+static pthread_mutex_t lock = PTHREAD_MUTEX_INITIALIZER;
+
+static void fail(const char *what, uint32_t number)
+{
+	fprintf(stderr, "%s: %u\n", what, (unsigned)number);
+	abort();
+}
+
+/* A number below `limit`, by xorshift. */
+static uint64_t below(struct worker *w, uint64_t limit)
+{
+	w->state ^= w->state << 13;
+	w->state ^= w->state >> 7;
+	w->state ^= w->state << 17;
+	return w->state % limit;
+}
+
+static bool one_in(struct worker *w, uint64_t n)
+{
+	return below(w, n) == 0;
+}
+
+/* A number near one of the limits, or any. */
+static uint64_t number(struct worker *w)
+{
+	static const uint64_t ends[] = {0, 1, 2, 15, 16, 63, 64, 65, 4096, 65536, 1ull << 62, 1ull << 63, ~0ull};
+	uint64_t x = ends[below(w, sizeof ends / sizeof ends[0])] + below(w, 3) - 1;
+	return one_in(w, 4) ? below(w, ~0ull) : x;
+}
+
+/* Some bytes in a block of exactly their length, so that a sanitizer sees each byte beyond. */
+static uint8_t *block(struct worker *w, size_t length)
+{
+	uint8_t *bytes = malloc(length ? length : 1);
+	if (!bytes)
+		fail("malloc", 0);
+	for (size_t k = 0; k < length; k++)
+		bytes[k] = (uint8_t)(k * 7 + w->state);
+	return bytes;
+}
+
+static size_t length_below(struct worker *w, size_t limit)
+{
+	return below(w, one_in(w, 8) ? limit : 64);
+}
+
+/* What a handle mostly holds, by its number. */
+enum { PROGRAMS = 0, OUTCOMES = 2, TEXTS = 4 };
+
+/* A handle that mostly holds what is asked for, any other, or none. */
+static klog_handle *handle(struct worker *w, size_t first)
+{
+	if (one_in(w, 40))
+		return NULL;
+	return &w->handles[one_in(w, 8) ? below(w, HANDLES) : first + below(w, 2)];
+}
+
+/* A fault leaves a handle as it was. */
+static void look(const char *call, uint32_t fault, const klog_handle *before, const klog_handle *after)
+{
+	if (fault != KLOG_OK && after && (before->at != after->at || before->full != after->full))
+		fail(call, fault);
+}
+
+static bool is_image_fault(uint32_t fault)
+{
+	return (fault >= 101 && fault <= 106) || (fault >= 201 && fault <= 213);
+}
+
+static void load(struct worker *w)
+{
+	const struct image *from = &images[below(w, image_count)];
+	size_t length = one_in(w, 4) ? length_below(w, LONGEST) : from->length, place = 7;
+	uint8_t *bytes = block(w, length);
+	if (!one_in(w, 8))
+		memcpy(bytes, from->bytes, length < from->length ? length : from->length);
+	for (uint64_t k = below(w, 3); k && length; k--)
+		bytes[below(w, length)] ^= (uint8_t)(1u << below(w, 8));
+	klog_handle *to = handle(w, PROGRAMS), before = to ? *to : (klog_handle)KLOG_NOTHING;
+	uint32_t fault = klog_load(one_in(w, 40) ? NULL : bytes, length, to, one_in(w, 40) ? NULL : &place);
+	look("load", fault, &before, to);
+	if (fault > KLOG_KIND && fault != KLOG_NULL && !is_image_fault(fault))
+		fail("load", fault);
+	if (is_image_fault(fault) && place > 4096)
+		fail("load's place", fault);
+	free(bytes);
+}
+
+static void fault_text(struct worker *w)
+{
+	static const uint32_t faults[] = {0, 1, 2, 3, 4, 5, 6, 101, 102, 106, 107, 201, 213, 214};
+	size_t room = below(w, 80), length = 0;
+	char *text = (char *)block(w, room);
+	uint32_t of = one_in(w, 3) ? (uint32_t)number(w) : faults[below(w, sizeof faults / sizeof faults[0])];
+	uint32_t fault = klog_fault_text(of, (size_t)number(w), one_in(w, 40) ? NULL : text, room,
+					 one_in(w, 40) ? NULL : &length);
+	if (fault == KLOG_OK ? length > room || length == 0 : fault != KLOG_ROOM && fault != KLOG_NULL)
+		fail("fault_text", fault);
+	if (fault == KLOG_ROOM && length <= room)
+		fail("fault_text's length", fault);
+	free(text);
+}
+
+static void share(struct worker *w)
+{
+	klog_handle *from = handle(w, PROGRAMS), *to = handle(w, PROGRAMS), before = to ? *to : (klog_handle)KLOG_NOTHING;
+	uint32_t fault;
+	if (one_in(w, 2)) {
+		pthread_mutex_lock(&lock);
+		fault = klog_share(&shared, to);
+		pthread_mutex_unlock(&lock);
+	} else {
+		fault = klog_share(from, to);
+	}
+	look("share", fault, &before, to);
+	if (fault > KLOG_KIND && fault != KLOG_NULL)
+		fail("share", fault);
+}
+
+/* A record whose parts are blocks of their own. */
+static klog_record record(struct worker *w, bool is_fine)
+{
+	klog_record r = {0};
+	r.key_length = length_below(w, is_fine ? 4097 : 9000);
+	r.value_length = length_below(w, is_fine ? 65537 : 80000);
+	r.key = block(w, r.key_length);
+	r.value = block(w, r.value_length);
+	r.offset = is_fine ? below(w, 1ull << 62) : number(w);
+	r.timestamp = is_fine ? below(w, 1ull << 62) : number(w);
+	r.partition = is_fine ? below(w, 64) : (size_t)number(w);
+	r.outputs = is_fine ? 1 + below(w, 64) : (size_t)number(w);
+	return r;
+}
+
+static void run(struct worker *w)
+{
+	klog_record r = record(w, !one_in(w, 4)), given = r;
+	if (one_in(w, 4)) {
+		given.key = NULL;
+		given.key_length = one_in(w, 4) ? r.key_length : 0;
+	}
+	if (one_in(w, 8)) {
+		given.value = NULL;
+		given.value_length = 0;
+	}
+	if (one_in(w, 60))
+		given.value_length = given.value ? (size_t)-1 : given.value_length;
+	klog_handle *program = handle(w, PROGRAMS), *outcome = handle(w, OUTCOMES);
+	klog_handle before = outcome ? *outcome : (klog_handle)KLOG_NOTHING;
+	uint32_t fault = klog_run(program, one_in(w, 60) ? NULL : &given, outcome);
+	look("run", fault, &before, outcome);
+	if (fault > KLOG_LENGTH && fault != KLOG_NULL)
+		fail("run", fault);
+	w->runs += fault == KLOG_OK;
+	free((void *)r.key);
+	free((void *)r.value);
+}
+
+static void copy(struct worker *w, klog_handle *outcome, size_t at, size_t length, bool is_key)
+{
+	size_t room = one_in(w, 2) ? length : length_below(w, 70000);
+	uint8_t *buffer = block(w, room), *before = block(w, room);
+	memcpy(before, buffer, room);
+	uint32_t fault = is_key ? klog_emission_key(outcome, at, buffer, room) : klog_emission_value(outcome, at, buffer, room);
+	if (fault != (room < length ? KLOG_ROOM : KLOG_OK))
+		fail("copy", fault);
+	size_t changed = fault ? 0 : length;
+	if (room > changed && memcmp(buffer + changed, before + changed, room - changed))
+		fail("copy's rest", fault);
+	free(buffer);
+	free(before);
+}
+
+static void emissions(struct worker *w)
+{
+	klog_handle *outcome = handle(w, OUTCOMES);
+	uint64_t code = 0;
+	size_t count = 0;
+	uint32_t fault = klog_outcome(outcome, &code, &count);
+	if (fault != KLOG_OK && fault != (outcome ? KLOG_KIND : KLOG_NULL))
+		fail("outcome", fault);
+	if (count > KLOG_EMISSIONS || (code && count))
+		fail("outcome's count", (uint32_t)count);
+	klog_emission told = {0};
+	size_t at = one_in(w, 2) ? (size_t)number(w) : below(w, count + 1);
+	uint32_t found = klog_emission_at(outcome, at, &told);
+	if (found != (fault ? fault : at < count ? KLOG_OK : KLOG_RANGE))
+		fail("emission_at", found);
+	if (found)
+		return;
+	if (told.output >= 64 || told.key_length > 4096 || told.value_length > 65536 || told.nulls > 3)
+		fail("emission_at's answer", found);
+	copy(w, outcome, at, told.key_length, true);
+	copy(w, outcome, at, told.value_length, false);
+}
+
+static void explain(struct worker *w)
+{
+	if (!one_in(w, 16))
+		return;
+	const struct image *from = &images[below(w, image_count)];
+	size_t length = one_in(w, 4) ? length_below(w, LONGEST) : from->length, told = 0;
+	uint8_t *bytes = block(w, length);
+	memcpy(bytes, from->bytes, length < from->length ? length : from->length);
+	if (length && one_in(w, 2))
+		bytes[below(w, length)] ^= (uint8_t)(1u << below(w, 8));
+	klog_handle *text = handle(w, TEXTS), before = text ? *text : (klog_handle)KLOG_NOTHING;
+	uint32_t fault = klog_explain(bytes, length, (int)below(w, 2), text);
+	look("explain", fault, &before, text);
+	if (fault != KLOG_OK && fault != (text ? KLOG_KIND : KLOG_NULL))
+		fail("explain", fault);
+	size_t room = below(w, 8000);
+	char *buffer = (char *)block(w, room);
+	uint32_t copied = klog_text(text, buffer, room, &told);
+	if (!fault && copied != (told > room ? KLOG_ROOM : KLOG_OK))
+		fail("text", copied);
+	free(buffer);
+	free(bytes);
+}
+
+/* The shared program forwards the record that it is given. */
+static void forward(struct worker *w)
+{
+	klog_record r = record(w, true);
+	uint64_t code;
+	size_t count;
+	klog_emission told;
+	uint32_t fault = klog_run(&w->forward, &r, &w->outcome);
+	if (!fault)
+		fault = klog_outcome(&w->outcome, &code, &count);
+	if (fault || code || count != 1)
+		fail("forward", fault);
+	fault = klog_emission_at(&w->outcome, 0, &told);
+	if (fault || told.output || told.nulls || told.key_length != r.key_length || told.value_length != r.value_length)
+		fail("forward's emission", fault);
+	uint8_t *value = block(w, told.value_length);
+	fault = klog_emission_value(&w->outcome, 0, value, told.value_length);
+	if (fault || memcmp(value, r.value, told.value_length))
+		fail("forward's value", fault);
+	free(value);
+	free((void *)r.key);
+	free((void *)r.value);
+}
+
+static void *work(void *at)
+{
+	static void (*const calls[])(struct worker *) = {load, load, load, fault_text, share, explain, run, run, run, emissions, emissions, forward};
+	struct worker *w = at;
+	while (time(NULL) < end) {
+		calls[below(w, sizeof calls / sizeof calls[0])](w);
+		if (one_in(w, 8))
+			klog_free(handle(w, 2 * below(w, 3)));
+		w->calls++;
+	}
+	for (size_t k = 0; k < HANDLES; k++)
+		klog_free(&w->handles[k]);
+	klog_free(&w->forward);
+	klog_free(&w->outcome);
+	return NULL;
+}
+
+static void read_image(const char *name)
+{
+	static uint8_t bytes[LONGEST];
+	FILE *file = fopen(name, "rb");
+	if (!file || image_count == IMAGES)
+		fail(name, 0);
+	struct image *image = &images[image_count++];
+	image->length = fread(bytes, 1, sizeof bytes, file);
+	image->bytes = malloc(image->length + 1);
+	if (!image->bytes)
+		fail("malloc", 0);
+	memcpy(image->bytes, bytes, image->length);
+	fclose(file);
+}
+
+int main(int argc, char **argv)
+{
+	if (argc < 5) {
+		fprintf(stderr, "usage: library_driver SECONDS THREADS SEED IMAGE ..\n");
+		return 2;
+	}
+	static struct worker workers[MOST_THREADS];
+	size_t threads = strtoul(argv[2], NULL, 10), place;
+	unsigned long calls = 0, runs = 0;
+	for (int k = 4; k < argc; k++)
+		read_image(argv[k]);
+	if (threads < 1 || threads > MOST_THREADS || klog_load(images[0].bytes, images[0].length, &shared, &place))
+		fail("start", 0);
+	end = time(NULL) + (time_t)strtoul(argv[1], NULL, 10);
+	for (size_t k = 0; k < threads; k++) {
+		workers[k].state = strtoul(argv[3], NULL, 10) * 64 + k + 88172645463325252ull;
+		if (klog_share(&shared, &workers[k].forward))
+			fail("share", 0);
+		if (pthread_create(&workers[k].thread, NULL, work, &workers[k]))
+			fail("thread", 0);
+	}
+	for (size_t k = 0; k < threads; k++) {
+		pthread_join(workers[k].thread, NULL);
+		calls += workers[k].calls;
+		runs += workers[k].runs;
+	}
+	klog_free(&shared);
+	for (size_t k = 0; k < image_count; k++)
+		free(images[k].bytes);
+	printf("%lu calls, %lu of them runs, no fault\n", calls, runs);
+	return 0;
+}
