@@ -126,7 +126,7 @@ pub(crate) fn has<Id: Names, C, R: Wait>(
 }
 
 /// Whether this is the row of a record that `put` appended.
-fn is_row(row: &Row, want: &Seen) -> bool {
+pub(crate) fn is_row(row: &Row, want: &Seen) -> bool {
     let (offset, number, value) = *want;
     row.offset == offset && row.number == number && row.timestamp == 1000 && holds(row, value)
 }
