@@ -67,12 +67,7 @@ fn files_go_through_a_program(rt: HostRuntime) -> Result<(), Fail> {
             "out 0 in 0 done 3 rows 5\nout 1 in 0 done 3 rows 0\nin 0 items 3 records 5\nfile narrow\n",
             0,
         ),
-        (
-            &["batches.bin", "forward.bin", "out"],
-            1,
-            "I1 Size\n",
-            0,
-        ),
+        (&["batches.bin", "forward.bin", "out"], 1, "I1 Size\n", 0),
         (&["nothing", "batches.bin", "out"], 3, "file nothing\n", 0),
         (&["forward.bin", "nothing", "out"], 3, "file nothing\n", 0),
         (

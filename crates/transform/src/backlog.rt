@@ -162,7 +162,13 @@ impl Backlog {
         ensures { IfOk result (λ batch. IsNext self.now (length batch.records) batch) }
     {
         let most = self.len().min(MAX_RECORDS as usize);
-        first_batch(self.alloc, &self.rows, self.taken, most, self.place as usize)
+        first_batch(
+            self.alloc,
+            &self.rows,
+            self.taken,
+            most,
+            self.place as usize,
+        )
     }
 
     // The bytes of the next batch, whose rows wait no more.
