@@ -26,7 +26,8 @@ trap 'rm -rf "$parts"' EXIT
 cd "$parts"
 ar x "$archive"
 ar x "$kit/c/liblibc_c.a"
-"$cc" -std=c99 -O2 -fPIC -Wall -Wextra -pedantic -Werror -I"$top/include" -c "$top/include/klog_engine.c" -o klog_engine.o
+"$cc" -std=c99 -O2 -fPIC -Wall -Wextra -pedantic -Werror -I"$top/include" \
+	-c "$top/include/klog_engine.c" -o klog_engine.o
 
 rm -f "$folder/libklog.a"
 ar rcs "$folder/libklog.a" ./*.o
@@ -44,6 +45,7 @@ Libs: -L\${prefix} -lklog
 END
 
 echo "proved: $(basename "$archive") of crates/klog_c"
-echo "not proved: include/klog_engine.c (looks at pointers), and of the kit $(ar t "$kit/c/liblibc_c.a" | tr '\n' ' ')(its calls of malloc, realloc and free)"
+echo "not proved: include/klog_engine.c, which looks at pointers"
+echo "of the kit: $(ar t "$kit/c/liblibc_c.a" | tr '\n' ' ')with its calls of malloc, realloc and free"
 echo "allocator: malloc, realloc and free of the program that links the library"
 echo "made in $folder: libklog.a libklog.so klog_engine.h klog.pc"

@@ -139,7 +139,8 @@ static void fault_text(struct worker *w)
 
 static void share(struct worker *w)
 {
-	klog_handle *from = handle(w, PROGRAMS), *to = handle(w, PROGRAMS), before = to ? *to : (klog_handle)KLOG_NOTHING;
+	klog_handle *from = handle(w, PROGRAMS), *to = handle(w, PROGRAMS);
+	klog_handle before = to ? *to : (klog_handle)KLOG_NOTHING;
 	uint32_t fault;
 	if (one_in(w, 2)) {
 		pthread_mutex_lock(&lock);
@@ -197,7 +198,8 @@ static void copy(struct worker *w, klog_handle *outcome, size_t at, size_t lengt
 	size_t room = one_in(w, 2) ? length : length_below(w, 70000);
 	uint8_t *buffer = block(w, room), *before = block(w, room);
 	memcpy(before, buffer, room);
-	uint32_t fault = is_key ? klog_emission_key(outcome, at, buffer, room) : klog_emission_value(outcome, at, buffer, room);
+	uint32_t fault = is_key ? klog_emission_key(outcome, at, buffer, room)
+				: klog_emission_value(outcome, at, buffer, room);
 	if (fault != (room < length ? KLOG_ROOM : KLOG_OK))
 		fail("copy", fault);
 	size_t changed = fault ? 0 : length;
@@ -267,7 +269,8 @@ static void forward(struct worker *w)
 	if (fault || code || count != 1)
 		fail("forward", fault);
 	fault = klog_emission_at(&w->outcome, 0, &told);
-	if (fault || told.output || told.nulls || told.key_length != r.key_length || told.value_length != r.value_length)
+	if (fault || told.output || told.nulls || told.key_length != r.key_length ||
+	    told.value_length != r.value_length)
 		fail("forward's emission", fault);
 	uint8_t *value = block(w, told.value_length);
 	fault = klog_emission_value(&w->outcome, 0, value, told.value_length);
@@ -280,7 +283,8 @@ static void forward(struct worker *w)
 
 static void *work(void *at)
 {
-	static void (*const calls[])(struct worker *) = {load, load, load, fault_text, share, explain, run, run, run, emissions, emissions, forward};
+	static void (*const calls[])(struct worker *) = {load, load, load, fault_text, share, explain,
+							 run, run, run, emissions, emissions, forward};
 	struct worker *w = at;
 	while (time(NULL) < end) {
 		calls[below(w, sizeof calls / sizeof calls[0])](w);

@@ -14,14 +14,16 @@ B second line
 
 A third line'
 
-"${CC:-cc}" -std=c99 -O2 -Wall -Wextra -pedantic -Werror -I"$folder" "$here/lines.c" "$folder/libklog.a" -o "$folder/lines"
+"${CC:-cc}" -std=c99 -O2 -Wall -Wextra -pedantic -Werror -I"$folder" "$here/lines.c" "$folder/libklog.a" \
+	-o "$folder/lines"
 echo "C:"
 echo "$text" | "$folder/lines" "$image"
 echo "Python:"
 echo "$text" | python3 "$here/lines.py" "$folder/libklog.so" "$image"
 if command -v go >/dev/null; then
 	echo "Go:"
-	(cd "$here/go" && CGO_CFLAGS="-I$folder" CGO_LDFLAGS="$folder/libklog.a" GO111MODULE=off go build -o "$folder/lines_go" lines.go)
+	export CGO_CFLAGS="-I$folder" CGO_LDFLAGS="$folder/libklog.a" GO111MODULE=off
+	(cd "$here/go" && go build -o "$folder/lines_go" lines.go)
 	echo "$text" | "$folder/lines_go" "$image"
 else
 	echo "Go: not installed"

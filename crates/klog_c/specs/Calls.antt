@@ -1,5 +1,6 @@
 -- What the calls of C's answer. A number is 0 where the call did its work.
-use Rattle.std.specs.Prelude.{◌≡◌, ◌≢◌, ℕ, zero, suc, ◌%◌, pos, Bool, true, false, not, ◌&&◌, ◌||◌, ◌==◌, nat_le, nat_lt, if◌then◌else◌}
+use Rattle.std.specs.Prelude.{◌≡◌, ◌≢◌, ℕ, zero, suc, ◌%◌, pos, Bool, true, false}
+use Rattle.std.specs.Prelude.{not, ◌&&◌, ◌||◌, ◌==◌, nat_le, nat_lt, if◌then◌else◌}
 use Rattle.std.specs.Prelude.{List, [], length, Option, Some, None, is_none, Err, string_bytes}
 use Rattle.wire_spec.specs.declared.record.Record.{Record}
 use Rattle.wire_spec.specs.declared.limits.TheConstants.{MAX_KEY, MAX_VALUE, TIMESTAMP_END}
@@ -80,7 +81,12 @@ Shares held before after (suc number) = (after ≡ before) × (suc number ≢ ME
 
 -- where a record is, for the machine
 abbrev pub place_of : Asked → Place
-place_of asked = record { partition = asked.partition; offset = asked.offset; timestamp = asked.timestamp; outputs = asked.outputs }
+place_of asked = record {
+  partition = asked.partition;
+  offset = asked.offset;
+  timestamp = asked.timestamp;
+  outputs = asked.outputs;
+}
 
 -- a place in the ranges of a broker's, and a number that says which parts are null
 abbrev pub is_in_range : Asked → Bool

@@ -9,7 +9,6 @@ use Rattle.explain.specs.Explanations.{ExplainsAs}
 use Rattle.explain.specs.ImageFaults.{image_fault_text}
 use Rattle.klog_c.specs.declared.faults.TheConstants.{MEMORY, KIND}
 use Rattle.klog_c.specs.declared.object.Object.{Object}
-use Rattle.klog_c.specs.declared.object.Object.TheVariants as object
 use Rattle.klog_c.specs.Outcomes.{Copies}
 use Rattle.klog_c.specs.Calls.{text_in}
 

@@ -11,7 +11,6 @@ use std::ptr::null_mut;
 
 /// A pointer to an object, if there is one.
 #[repr(C)]
-#[derive(Drop)]
 pub struct Place {
     at: *mut u8,
     alloc: Global,
@@ -42,6 +41,15 @@ impl Place {
         }
     }
 
+    /// Ends a place of nothing. One of an object can't be let go.
+    fn end(self) -> Global
+        requires { self.object ≡ None }
+        ensures { result ≡ self.alloc }
+    {
+        let Place { at: _, alloc } = self;
+        alloc
+    }
+
     fn into_parts(self) -> Parts<Object, Global>
         requires { IsSome self.object }
         ensures { self.object ≡ Some result.value }
@@ -56,7 +64,6 @@ impl Place {
 
 /// A handle of C's.
 #[repr(C)]
-#[derive(Drop)]
 pub struct Handle {
     pub place: Place,
     full: bool,
@@ -86,6 +93,7 @@ impl Handle {
     {
         let Handle { place, full } = self;
         if !full {
+            place.end();
             return None;
         }
         Some(place.into_parts().into_box())
@@ -103,8 +111,7 @@ impl Handle {
     pub(crate) fn put(&mut self, alloc: Global, object: Box<Object>)
         ensures { self.new.place.object ≡ Some object.value }
     {
-        drop(self.take(alloc));
-        *self = Handle::of(alloc, Some(object));
+        drop(mem::replace(self, Handle::of(alloc, Some(object))).into_box());
     }
 }
 

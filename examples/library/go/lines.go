@@ -11,7 +11,8 @@ static const uint8_t no_bytes[1];
 static uint32_t run(klog_handle *program, const uint8_t *value, size_t length, uint64_t offset, size_t outputs,
 		    klog_handle *outcome)
 {
-	klog_record record = {.value = value ? value : no_bytes, .value_length = length, .offset = offset, .outputs = outputs};
+	klog_record record = {
+		.value = value ? value : no_bytes, .value_length = length, .offset = offset, .outputs = outputs};
 	return klog_run(program, &record, outcome);
 }
 */
@@ -65,7 +66,8 @@ func (p *Program) Free() {
 
 // Run runs the program on a value that is not null, with a null key.
 func (p *Program) Run(value []byte, offset uint64, outputs int) (uint64, []Emission, error) {
-	number := C.run(&p.program, bytesAt(value), C.size_t(len(value)), C.uint64_t(offset), C.size_t(outputs), &p.outcome)
+	length, at := C.size_t(len(value)), C.uint64_t(offset)
+	number := C.run(&p.program, bytesAt(value), length, at, C.size_t(outputs), &p.outcome)
 	if err := fault(number, 0); err != nil {
 		return 0, nil, err
 	}
