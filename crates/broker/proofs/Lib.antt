@@ -1,3 +1,4 @@
+pub mod AuditRows
 pub mod ItemOffsets
 pub mod NameFacts
 pub mod StepFacts

@@ -20,6 +20,7 @@ use crate::image::{Refused, check, read_image};
 use crate::reading::{Unread, read_file, read_whole};
 use crate::run::{Ended, run_script};
 use crate::stop::{Stop, status_of, unwritten};
+use crate::transforming::transform;
 use crate::words::{Call, Misuse, call_of};
 use bpf_asm::{AsmFault, assemble};
 use explain::{Explanation, Extent, explain_image};
@@ -31,16 +32,16 @@ use std::sync::Wait;
 use std::thread::Threads;
 
 /// Everything was done.
-const DONE: u8 = 0;
+pub(crate) const DONE: u8 = 0;
 
 /// What the call names is refused.
-const REFUSED: u8 = 1;
+pub(crate) const REFUSED: u8 = 1;
 
 /// The words are no call of the program.
 const USAGE: u8 = 2;
 
 /// A file can't be read or written, there is no thread for a worker, or memory ran out.
-const FAILED: u8 = 3;
+pub(crate) const FAILED: u8 = 3;
 
 /// What is reported where memory ran out.
 const MEMORY: &str = "memory\n";
@@ -49,12 +50,12 @@ const MEMORY: &str = "memory\n";
 const THREAD: &str = "thread\n";
 
 /// A text on standard error, as far as it can be written.
-fn say<E: Write>(stderr: &mut E, text: &str) {
+pub(crate) fn say<E: Write>(stderr: &mut E, text: &str) {
     let _ = stderr.write_all(text.as_bytes());
 }
 
 /// Says how the program is called, and answers the status.
-fn tell_usage<E: Write>(stderr: &mut E) -> u8
+pub(crate) fn tell_usage<E: Write>(stderr: &mut E) -> u8
     ensures { result ≡ 2 }
 {
     say(stderr, "usage: klog COMMAND FILE ...\n");
@@ -62,7 +63,7 @@ fn tell_usage<E: Write>(stderr: &mut E) -> u8
 }
 
 /// Says that memory ran out, and answers the status.
-fn tell_memory<E: Write>(stderr: &mut E) -> u8
+pub(crate) fn tell_memory<E: Write>(stderr: &mut E) -> u8
     ensures { result ≡ 3 }
 {
     say(stderr, MEMORY);
@@ -82,7 +83,11 @@ pub fn tell_no_words<E: Write>(stderr: &mut E, error: &io::Error) -> u8
 }
 
 /// Says a text and answers the status. Where there is no memory for the text, it says that.
-fn tell_text<E: Write>(stderr: &mut E, text: Result<String, AllocError>, status: u8) -> u8
+pub(crate) fn tell_text<E: Write>(
+    stderr: &mut E,
+    text: Result<String, AllocError>,
+    status: u8,
+) -> u8
     ensures { (result ≡ status) ⊎ (result ≡ 3) }
 {
     match text {
@@ -123,7 +128,7 @@ fn end_text(alloc: Global, ended: &Ended) -> Result<String, AllocError> {
     }
 }
 
-fn file_text(alloc: Global, name: &str) -> Result<String, AllocError> {
+pub(crate) fn file_text(alloc: Global, name: &str) -> Result<String, AllocError> {
     format!(in alloc; "file {name}\n")
 }
 
@@ -402,6 +407,7 @@ pub fn command<R: Threads + Wait + Sync, F: Files, I: Read, O: Write, E: Write>(
             explain_file(alloc, files, stdout, stderr, image, extent)
         }
         Ok(Call::Run(script)) => run(rt, alloc, files, stdin, stdout, stderr, script),
+        Ok(Call::Transform(words)) => transform(alloc, files, stdin, stderr, words),
         Err(Misuse::Usage) => tell_usage(stderr),
         Err(Misuse::Memory) => tell_memory(stderr),
     }

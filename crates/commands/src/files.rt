@@ -1,9 +1,9 @@
 //! The files that a command reads and writes.
 
-ghost use Rattle.std.specs.Prelude.{◌≡◌, ℕ, List, Option, Some, None, IfOk, OnOk, IfSome};
+ghost use Rattle.std.specs.Prelude.{◌≡◌, ℕ, List, [], Option, Some, None, IfOk, OnOk, IfSome};
 
 use std::io;
-use std::io::Read;
+use std::io::{Read, Write};
 
 /// Where named files are: the system's, or a test's own.
 pub trait Files {
@@ -21,4 +21,17 @@ pub trait Files {
     /// Makes a file hold these bytes and no others, or fails as `open` does.
     fn write(&mut self, name: &str, content: &[u8]) -> io::Result<()>
         ensures { OnOk result (IfSome (bytes self.new name.now) (λ known. known ≡ content.now)) };
+
+    /// What a file is written by, piece by piece.
+    type Writer: Write + Drop;
+
+    /// Makes a file empty, to be written piece by piece; the name `stdout` is standard output. It fails
+    /// as `open` does.
+    fn create(&mut self, name: &str) -> io::Result<Self::Writer>
+        ensures { IfOk result (λ writer. IfSome (Self.Writer.contents writer) (λ known. known ≡ [])) };
+
+    /// Ends a file that was created under this name: it holds what its writer has, or the call fails as
+    /// `open` does.
+    fn close(&mut self, name: &str, writer: Self::Writer) -> io::Result<()>
+        ensures { (held : List ℕ) → Self.Writer.contents writer ≡ Some held → OnOk result (IfSome (bytes self.new name.now) (λ known. known ≡ held)) };
 }

@@ -43,7 +43,7 @@ pub fn read_image<F: Files>(alloc: Global, files: &mut F, name: &str) -> Result<
 }
 
 /// The refusal of an image that is not loaded.
-fn refusal_of(fault: LoadFault) -> Refused
+pub fn refusal_of(fault: LoadFault) -> Refused
     ensures { (image : List ℕ) → FaultIs image fault → IsRefusal image result }
 {
     match fault {

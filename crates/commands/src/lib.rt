@@ -1,7 +1,7 @@
 //! What a call of the program does: `command` does what its words ask for, with the files, standard
 //! input, output and error that it is given. `run` does the commands of a script, `check` verifies
 //! a program, `explain` prints what the verifier knows of one, `asm` makes the image of a program's
-//! text, and `dis` prints that text. A `Session` does a script line by line.
+//! text, `dis` prints that text, and `transform` runs a program on record batches. A `Session` does a script line by line.
 #![tactic(auto)]
 
 mod appending;
@@ -17,6 +17,7 @@ mod reading;
 mod run;
 mod session;
 mod stop;
+mod transforming;
 mod words;
 
 pub use crate::call::{command, tell_no_words};

@@ -23,6 +23,9 @@ pub enum Call<'a> {
     Explain(&'a str, Extent),
     /// Does the commands of a script.
     Run(&'a str),
+    /// Runs a program on record batches. The words: the image, the file of the batches, and one file
+    /// for each output partition, no two of them the same.
+    Transform(&'a [String]),
 }
 
 /// Why words are no call.
@@ -90,10 +93,41 @@ fn commands<'a>(alloc: Global) -> Result<clap::Command<'a>, AllocError> {
         .subcommand(of_file(alloc, "run", "SCRIPT")?)
 }
 
+/// Whether a word is among others.
+fn is_among(word: &str, others: &[String]) -> bool {
+    others.iter().any(|other| other.as_str() == word)
+}
+
+/// Whether two words are the same.
+fn has_twice(words: &[String]) -> bool {
+    for index in 0..words.len() {
+        if is_among(words[index].as_str(), &words[..index]) {
+            return true;
+        }
+    }
+    false
+}
+
+/// The call of `transform`, if the first word is that. 3 to 66 words
+/// have to follow, no two of them the same.
+fn transform_of(words: &[String]) -> Option<Result<Call<'_>, Misuse>> {
+    if words.is_empty() || words[0].as_str() != "transform" {
+        return None;
+    }
+    let files = &words[1..];
+    if files.len() < 3 || files.len() > 66 || has_twice(files) {
+        return Some(Err(Misuse::Usage));
+    }
+    Some(Ok(Call::Transform(files)))
+}
+
 /// The call that the words ask for.
 pub fn call_of(alloc: Global, words: &[String]) -> Result<Call<'_>, Misuse> {
     if words.iter().any(|word| is_option(word.as_str())) {
         return Err(Misuse::Usage);
+    }
+    if let Some(transform) = transform_of(words) {
+        return transform;
     }
     let klog = commands(alloc)?;
     match klog.try_get_matches_from(words) {

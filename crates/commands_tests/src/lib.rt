@@ -14,4 +14,6 @@ mod shelf;
 #[cfg(test)]
 mod texts;
 #[cfg(test)]
+mod transforms;
+#[cfg(test)]
 mod words;

@@ -43,6 +43,22 @@ pub(crate) fn one_long(alloc: Global, bytes: usize) -> Option<Batch>
     batch_of_copies(alloc, 1000, 1, None, Some(value.as_slice()))
 }
 
+fn stamped_records(alloc: Global, count: usize) -> Result<Records, AllocError> {
+    let mut list = Vec::new(alloc);
+    for place in 0..count {
+        let delta = i64::try_from(place).unwrap_or(0);
+        list.push(record_of(alloc, delta, None, None))?;
+    }
+    Ok(Records { list })
+}
+
+/// `count` records with the timestamps 1000, 1001 and so on. None where memory ran out.
+pub(crate) fn stamped(alloc: Global, count: usize) -> Option<Batch>
+    ensures { IfSome result (λ batch. FitsLog batch) }
+{
+    batch_at(1000, stamped_records(alloc, count).ok()?)
+}
+
 /// How many bytes a fetch from output 0 returns, and how many records a reader finds in them. None
 /// where it returns no batch, or one that is not read.
 pub(crate) fn sizes<Id: Names, C, R: Wait>(
@@ -60,4 +76,19 @@ pub(crate) fn sizes<Id: Names, C, R: Wait>(
     } else {
         None
     }
+}
+
+/// Of a fetch from output 0: how many records, the batch's base timestamp, and the last record's
+/// delta. None where it returns no batch, or one that is not read.
+pub(crate) fn stamps<Id: Names, C, R: Wait>(
+    rt: &R,
+    alloc: Global,
+    broker: &Broker<Id, C>,
+    place: usize,
+    max: usize,
+) -> Option<(usize, i64, i64)> {
+    let bytes = broker.fetch(rt, 0, place, max).ok()??;
+    let (batch, _used) = decode(alloc, Bytes::from_vec(bytes).ok()?).ok()?;
+    let last = batch.records.list.last()?.timestamp_delta;
+    Some((batch.records.list.len(), batch.base_timestamp, last))
 }

@@ -5,3 +5,5 @@
 mod calls;
 #[cfg(test)]
 mod fetches;
+#[cfg(test)]
+mod since;

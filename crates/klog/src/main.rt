@@ -5,27 +5,63 @@
 #![tactic(auto)]
 
 use commands::{Files, command, tell_no_words};
-use std::io::BufWriter;
+use std::io::{BufWriter, Stdout, Write};
 use std::process::ExitCode;
 use std::sync::Wait;
 use std::thread::Threads;
 use std::{env, fs, io};
 
-/// The files of the system.
+/// A file that is written, or standard output.
 #[derive(Drop)]
-struct HostFiles<'a, R> {
-    rt: &'a R,
+enum HostWriter<F> {
+    File(F),
+    Stdout(Stdout),
 }
 
-impl<R: fs::Files> Files for HostFiles<'_, R> {
-    type Reader = R::File;
+impl<F: Write> Write for HostWriter<F> {
+    fn write(&mut self, bytes: &[u8]) -> io::Result<usize> {
+        match self {
+            HostWriter::File(file) => file.write(bytes),
+            HostWriter::Stdout(stdout) => stdout.write(bytes),
+        }
+    }
 
-    fn open(&mut self, name: &str) -> io::Result<R::File> {
+    fn flush(&mut self) -> io::Result<()> {
+        match self {
+            HostWriter::File(file) => file.flush(),
+            HostWriter::Stdout(stdout) => stdout.flush(),
+        }
+    }
+}
+
+/// The files of the system.
+#[derive(Drop)]
+struct HostFiles<'a> {
+    rt: &'a HostRuntime,
+}
+
+impl Files for HostFiles<'_> {
+    type Reader = <HostRuntime as fs::Files>::File;
+
+    type Writer = HostWriter<<HostRuntime as fs::Files>::File>;
+
+    fn open(&mut self, name: &str) -> io::Result<<HostRuntime as fs::Files>::File> {
         fs::open(self.rt, name)
     }
 
     fn write(&mut self, name: &str, content: &[u8]) -> io::Result<()> {
         fs::write(self.rt, name, content)
+    }
+
+    fn create(&mut self, name: &str) -> io::Result<Self::Writer> {
+        if name == "stdout" {
+            return Ok(HostWriter::Stdout(self.rt.stdout()));
+        }
+        Ok(HostWriter::File(fs::create(self.rt, name)?))
+    }
+
+    fn close(&mut self, _name: &str, mut writer: Self::Writer) -> io::Result<()> {
+        writer.flush()
     }
 }
 

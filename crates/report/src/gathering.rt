@@ -4,12 +4,12 @@ ghost use Rattle.std.specs.Prelude.{◌≡◌, ◌<◌, length, IfOk, IfErr};
 ghost use Rattle.report.specs.Holdings.{IsOutput};
 ghost use Rattle.report.specs.Snapshots.{AreOutputs, AreTallies, IsGathered, IsShorter, IsLeast, IsGatherFault};
 
-use crate::holding::Holdings;
+use crate::holding::{Holding, Holdings};
 use crate::snapshot::Snapshot;
 use crate::tally::Tally;
 use broker::{Broker, BrokerFault};
 use out_book::BookFault;
-use part_log::{Names, Trail};
+use part_log::Names;
 use std::alloc::{AllocError, Global};
 use std::sync::Wait;
 
@@ -25,7 +25,7 @@ pub fn gather<Id: Names, C, R: Wait>(
     ensures err { IfErr result IsGatherFault }
 {
     let outputs = holdings(rt, alloc, broker)?;
-    match tallies(alloc, broker, &outputs) {
+    match tallies(alloc, broker.inputs(), &outputs) {
         Ok(inputs) => Ok(Snapshot::new(outputs, inputs)),
         Err(_) => Err(BrokerFault::Memory),
     }
@@ -74,42 +74,46 @@ fn holdings_in<Id: Names, C, R: Wait>(
 
 /// What became of the records of each input partition's first items, those that are done in every
 /// output partition.
-fn tallies<Id: Names, C>(
+fn tallies<Id: Names>(
     alloc: Global,
-    broker: &Broker<Id, C>,
+    inputs: usize,
     outputs: &[Holdings<Id>],
 ) -> Result<Vec<Tally<Id>>, AllocError>
+    requires inputs { inputs ≡ Id.inputs }
     requires some { 0 < length outputs.now }
     requires outputs { AreOutputs Id.inputs Id.outputs outputs.now }
     ensures { IfOk result (λ all. (length all.items ≡ Id.inputs) × AreTallies Id.outputs outputs.now all.items) }
 {
-    let mut all = Vec::with_capacity(alloc, broker.inputs())?;
-    for input in 0..broker.inputs() {
-        let first = least(outputs, input);
-        all.push(Tally::of(alloc, broker, first)?)?;
+    let mut all = Vec::with_capacity(alloc, inputs)?;
+    for input in 0..inputs {
+        all.push(Tally::of(least(outputs, input))?)?;
     }
     Ok(all)
 }
 
-/// The items of an input partition that are done in every output partition.
-fn least<Id: Names>(outputs: &[Holdings<Id>], input: usize) -> &Trail<Id>
+/// What is held of an input partition by the output partition that has the fewest of its items done.
+fn least<Id: Names>(outputs: &[Holdings<Id>], input: usize) -> &Holding<Id>
     requires some { 0 < length outputs.now }
     requires outputs { AreOutputs Id.inputs Id.outputs outputs.now }
     requires input { input < Id.inputs }
-    ensures { IsLeast outputs.now input result.now }
+    ensures { IsLeast outputs.now input result.now.done }
 {
-    let mut first = outputs[0].at(input).done();
+    let mut first = outputs[0].at(input);
     for holdings in outputs {
-        first = shorter(first, holdings.at(input).done());
+        first = shorter(first, holdings.at(input));
     }
     first
 }
 
-/// The shorter of two trails of one log: the items that both have.
-fn shorter<'a, Id: Names>(one: &'a Trail<Id>, other: &'a Trail<Id>) -> &'a Trail<Id>
-    requires { other.now.partition ≡ one.now.partition }
-    ensures { IsShorter one.now other.now result.now }
+/// That of two output partitions which has fewer items done of an input partition: both have these.
+fn shorter<'a, Id: Names>(one: &'a Holding<Id>, other: &'a Holding<Id>) -> &'a Holding<Id>
+    requires { other.now.done.partition ≡ one.now.done.partition }
+    ensures { IsShorter one.now.done other.now.done result.now.done }
 {
-    one.agrees(other);
-    if one.len() <= other.len() { one } else { other }
+    one.done().agrees(other.done());
+    if one.done().len() <= other.done().len() {
+        one
+    } else {
+        other
+    }
 }

@@ -1,31 +1,41 @@
 ghost use Rattle.std.specs.Prelude.{◌≡◌, ◌<◌, ◌++◌, Some, length, slice_get, IfOk};
 ghost use Rattle.log_spec.specs.Logs.{IsRowsOf};
+ghost use Rattle.std.specs.Arc.{arc_value};
+ghost use Rattle.fates.specs.Totals.{AreCountsOf};
 ghost use Rattle.out_book.specs.Books.{rows_from};
 ghost use Rattle.report.specs.Holdings.{HoldsOf, IsOutput};
 
+use fates::Counts;
 use log_spec::Row;
 use out_book::{Book, Rows, share_row};
 use part_log::{Names, Trail};
 use std::alloc::{AllocError, Global};
 use std::marker::Model;
+use std::sync::Arc;
 
-/// What an output partition holds of an input partition: the items that are done, and their rows. Its
-/// type keeps that the rows are those of the items, in order and each once.
+/// What an output partition holds of an input partition: the items that are done, their rows, and what
+/// became of their records. Its type keeps that the rows are those of the items, in order and each once,
+/// and the counts those of their records.
 #[derive(Drop)]
 pub struct Holding<Id: Names> {
     output: usize,
     done: Trail<Id>,
     rows: Vec<Row>,
+    counts: Arc<Counts>,
 }
 
 impl<Id: Names> Model for Holding<Id> {
+    ghost use Rattle.std.specs.Prelude.{length};
+    ghost use Rattle.std.specs.Arc.{arc_value};
+    ghost use Rattle.fates.specs.Totals.{AreCountsOf};
     ghost use Rattle.report.specs.Holdings.{Held, held, IsHeld};
 
     ghost Value = { Held };
 
     ghost view = { λ h. held h.output h.done h.rows.items };
 
-    ghost invariant = { λ h. IsHeld Id.outputs (held h.output h.done h.rows.items) };
+    ghost invariant = { λ h. IsHeld Id.outputs (held h.output h.done h.rows.items)
+        × AreCountsOf h.done.partition Id.outputs h.done.items (length h.done.items) (arc_value h.counts) };
 }
 
 impl<Id: Names> Holding<Id> {
@@ -39,10 +49,14 @@ impl<Id: Names> Holding<Id> {
         ensures { IfOk result (HoldsOf Id.outputs book.now input) }
     {
         let rows = shared(alloc, book.rows_from(input))?;
+        let mut counts = Counts::new(alloc);
+        counts.add_all(book.counts(input))?;
+        let counts = Arc::new(alloc, counts)?;
         Ok(Holding {
             output: book.output(),
             done: book.trail(input).again(),
             rows,
+            counts,
         })
     }
 
@@ -66,6 +80,13 @@ impl<Id: Names> Holding<Id> {
         ensures are { IsRowsOf self.now.done.partition self.now.output Id.outputs self.now.done.items (length self.now.done.items) result.now }
     {
         self.rows.as_slice()
+    }
+
+    /// What became of the records of these items.
+    pub(crate) fn counts(&self) -> &Arc<Counts>
+        ensures { AreCountsOf self.now.done.partition Id.outputs self.now.done.items (length self.now.done.items) (arc_value result.now) }
+    {
+        &self.counts
     }
 }
 

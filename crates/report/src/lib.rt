@@ -1,10 +1,9 @@
 //! What became of the records of a broker: the rows that each output partition holds of each input
 //! partition, and how many records of an input's first items were kept, were rejected or met no
-//! program. `gather` takes it from a broker as a `Snapshot`, and `write` writes its lines.
+//! program. `gather` takes it from a broker as a `Snapshot`, and `write` writes its lines. No record is
+//! run: the books have counted what became of each.
 #![tactic(auto)]
 
-mod counting;
-mod fate;
 mod fault;
 mod gathering;
 mod holding;

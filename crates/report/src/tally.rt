@@ -1,46 +1,41 @@
-ghost use Rattle.std.specs.Prelude.{◌≡◌, ◌<◌, length, IfOk};
+ghost use Rattle.std.specs.Prelude.{◌≡◌, length, IfOk};
 ghost use Rattle.fates.specs.Totals.{AreCountsOf};
 ghost use Rattle.report.specs.Totals.{IsTallied};
 
-use crate::counting::count_items;
-use broker::Broker;
+use crate::holding::Holding;
 use fates::Counts;
 use part_log::{Names, Trail};
-use std::alloc::{AllocError, Global};
+use std::alloc::AllocError;
 use std::marker::Model;
+use std::sync::Arc;
 
 /// The first items of an input partition, and what became of their records. Its type keeps that the
 /// counts are those of what the program in force means on each record.
 #[derive(Drop)]
 pub struct Tally<Id: Names> {
     first: Trail<Id>,
-    counts: Counts,
+    counts: Arc<Counts>,
 }
 
 impl<Id: Names> Model for Tally<Id> {
+    ghost use Rattle.std.specs.Arc.{arc_value};
     ghost use Rattle.report.specs.Totals.{Tallied, tally_of_log, IsTallied};
 
     ghost Value = { Tallied };
 
-    ghost view = { λ t. tally_of_log t.first t.counts };
+    ghost view = { λ t. tally_of_log t.first (arc_value t.counts) };
 
-    ghost invariant = { λ t. IsTallied Id.outputs (tally_of_log t.first t.counts) };
+    ghost invariant = { λ t. IsTallied Id.outputs (tally_of_log t.first (arc_value t.counts)) };
 }
 
 impl<Id: Names> Tally<Id> {
-    /// Of the items of a trail. Each record is run once. It fails only where memory runs out.
-    pub(crate) fn of<C>(
-        alloc: Global,
-        broker: &Broker<Id, C>,
-        first: &Trail<Id>,
-    ) -> Result<Tally<Id>, AllocError>
-        requires { first.now.partition < broker.now }
-        ensures { IfOk result (λ tally. (tally.first ≡ first.now) × IsTallied Id.outputs tally) }
+    /// Of the items that are done in an output partition. It fails only where memory runs out.
+    pub(crate) fn of(holding: &Holding<Id>) -> Result<Tally<Id>, AllocError>
+        ensures { IfOk result (λ tally. (tally.first ≡ holding.now.done) × IsTallied Id.outputs tally) }
     {
-        let counts = count_items(alloc, broker, first)?;
         Ok(Tally {
-            first: first.again(),
-            counts,
+            first: holding.done().again(),
+            counts: Arc::try_clone(holding.counts())?,
         })
     }
 

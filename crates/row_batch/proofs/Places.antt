@@ -1,10 +1,10 @@
 -- Rows from a place on.
-use Rattle.std.proofs.Common.{◌≡◌, ℕ, suc, zero, ◌+◌, ◌<◌, ◌≤◌, List, [], ◌∷◌, length, take, drop, get_or, Some, slice_get}
-use Rattle.std.proofs.Common.{refl, sym, ap, subst, ◌∙◌, length-drop, arith}
+use Rattle.std.proofs.Common.{◌≡◌, ℕ, suc, zero, ◌+◌, ◌<◌, ◌≤◌, List, [], ◌∷◌, length, take, drop, get_or, Some}
+use Rattle.std.proofs.Common.{slice_get, refl, sym, ap, subst, ◌∙◌, length-drop, arith}
 use Rattle.std.specs.Prelude.{All}
 use Rattle.std.proofs.lemmas.List.{get_or-drop, length-take-le}
 use Rattle.std.proofs.lemmas.List.Elements.{All-take, All-drop}
-use Rattle.std.proofs.lemmas.Option.{slice_get_within, get_or_from_slice_get}
+use Rattle.std.proofs.lemmas.Option.{get_or_from_slice_get}
 use Rattle.log_spec.specs.declared.row.Row.{Row}
 use Rattle.log_spec.specs.Logs.{RowFits}
 use Rattle.row_batch.specs.RowBatches.{first_timestamp}
@@ -19,11 +19,6 @@ take_at (suc n) k [] row lt = refl
 take_at (suc n) zero (first ∷ rows) row lt = refl
 take_at (suc n) (suc k) (first ∷ rows) row lt = take_at n k rows row (omega (arith, lt))
 
-pub fits_at : (rows : List Row) (place : ℕ) (row : Row) → All RowFits rows → slice_get rows place ≡ Some row →
-    RowFits row
-fits_at rows place row fit at =
-    subst RowFits (get_or_from_slice_get rows place row row at) (fit place row (slice_get_within rows place row at))
-
 pub part_fits : (rows : List Row) (place most : ℕ) → All RowFits rows → All RowFits (part rows place most)
 part_fits rows place most fit = All-take RowFits most (drop place rows) (All-drop RowFits place rows fit)
 
@@ -37,6 +32,13 @@ pub part_at : (rows : List Row) (place most count : ℕ) (row : Row) → count <
 part_at rows place most count row lt at =
     sym (take_at most count (drop place rows) row lt ∙ (get_or-drop place rows count row
     ∙ get_or_from_slice_get rows (place + count) row row at))
+
+-- the row with a number among rows from a place on, which fit
+pub fits_at : (rows : List Row) (place most count : ℕ) (row : Row) → place + most ≤ length rows → count < most →
+    slice_get rows (place + count) ≡ Some row → All RowFits (part rows place most) → RowFits row
+fits_at rows place most count row there lt at fit =
+    let long = part_length rows place most there in
+    subst RowFits (sym (part_at rows place most count row lt at)) (fit count row (omega (arith, long, lt)))
 
 first_of : (rows : List Row) (row : Row) → 0 < length rows → row ≡ get_or rows 0 row →
     row.timestamp ≡ first_timestamp rows

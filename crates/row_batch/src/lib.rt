@@ -2,8 +2,10 @@
 #![tactic(auto)]
 
 mod laws;
+mod list;
 mod records;
 mod rows;
 
 pub use crate::laws::one_row_fits;
-pub use crate::rows::row_batch;
+pub use crate::list::RowList;
+pub use crate::rows::{first_batch, row_batch};

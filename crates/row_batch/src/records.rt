@@ -1,15 +1,15 @@
 //! Rows as records.
 
-ghost use Rattle.std.specs.Prelude.{◌≡◌, ◌+◌, ◌<◌, ◌≤◌, ◌-ℤ◌, pos, length, take, drop, All, IfOk};
+ghost use Rattle.std.specs.Prelude.{◌≡◌, ◌+◌, ◌<◌, ◌≤◌, ◌^◌, ◌-ℤ◌, pos, length, take, drop, All, IfOk};
 ghost use Rattle.log_spec.specs.Logs.{RowFits};
 ghost use Rattle.wire_spec.specs.RecordSpelling.{RecordFits};
 ghost use Rattle.row_batch.specs.RowBatches.{record_of};
 ghost use Rattle.row_batch.specs.FirstRows.{AreFirst};
 
+use crate::list::RowList;
 use batch::{HEADER, MAX_BATCH, record_len};
 use kafka_record::{share_bytes, share_headers};
 use log_spec::Row;
-use segments::Segments;
 use std::alloc::{AllocError, Global};
 use wire_spec::{Record, Records, TIMESTAMP_END};
 
@@ -37,27 +37,27 @@ fn record_of(alloc: Global, base: u64, row: &Row) -> Result<Record, AllocError>
     })
 }
 
-/// The records of the first rows of `most` from a place on, as many as one batch has room for; a
-/// record's timestamp delta is the row's timestamp minus `base`. Their parts share their bytes with
-/// the rows. It fails only where memory runs out.
-pub fn first_records(
+/// The records of the first of `most` rows from number `first` on, as many as one batch has room
+/// for; a record's timestamp delta is the row's timestamp minus `base`. Their parts share their bytes
+/// with the rows. It fails only where memory runs out.
+pub fn first_records<L: RowList>(
     alloc: Global,
     base: u64,
-    rows: &Segments<Row>,
-    place: usize,
+    rows: &L,
+    first: usize,
     most: usize,
 ) -> Result<Records, AllocError>
     requires base { base < TIMESTAMP_END }
-    requires there { place + most ≤ length rows.now.items }
+    requires there { first + most ≤ length (L.rows rows.now) }
+    requires small { first + most < 2 ^ 63 }
     requires few { most ≤ 10000 }
-    requires fit { All RowFits rows.now.items }
-    ensures { IfOk result (λ records. AreFirst base (take most (drop place rows.now.items)) records) }
+    requires fit { All RowFits (take most (drop first (L.rows rows.now))) }
+    ensures { IfOk result (λ records. AreFirst base (take most (drop first (L.rows rows.now))) records) }
 {
-    let _few = rows.len();
     let mut list = Vec::new(alloc);
     let mut size = HEADER;
     for count in 0..most {
-        let given = record_of(alloc, base, rows.get(place + count))?;
+        let given = record_of(alloc, base, rows.row(first + count))?;
         size += record_len(&given, count);
         if size > MAX_BATCH {
             return Ok(Records { list });

@@ -1,10 +1,11 @@
 //! The batch of rows from a place on.
 
-ghost use Rattle.std.specs.Prelude.{◌≡◌, ◌+◌, ◌≤◌, ℕ, length, take, drop, All, IfOk, option_map};
+ghost use Rattle.std.specs.Prelude.{◌≡◌, ◌+◌, ◌<◌, ◌≤◌, ◌^◌, ℕ, length, take, drop, All, IfOk, option_map};
 ghost use Rattle.log_spec.specs.Logs.{RowFits};
 ghost use Rattle.row_batch.specs.RowBatches.{IsFetched};
 ghost use Rattle.row_batch.specs.FirstRows.{IsFirst};
 
+use crate::list::RowList;
 use crate::records::first_records;
 use batch::{MAX_RECORDS, encode};
 use log_spec::Row;
@@ -12,23 +13,25 @@ use segments::Segments;
 use std::alloc::{AllocError, Global};
 use wire_spec::Batch;
 
-/// The batch of the first rows of `most` from a place on, at least one and as many as it has room
-/// for. The place is the batch's base offset. The rows' parts share their bytes with the records. It
-/// fails only where memory runs out.
-fn first_batch(
+/// The batch of the first of `most` rows from number `first` on, at least one and as many as it has
+/// room for. Its base offset is `place`. The rows' parts share their bytes with the records. It fails
+/// only where memory runs out.
+pub fn first_batch<L: RowList>(
     alloc: Global,
-    rows: &Segments<Row>,
-    place: usize,
+    rows: &L,
+    first: usize,
     most: usize,
+    place: usize,
 ) -> Result<Batch, AllocError>
-    requires there { place + most ≤ length rows.now.items }
+    requires place { place < 2 ^ 63 }
+    requires there { first + most ≤ length (L.rows rows.now) }
+    requires small { first + most < 2 ^ 63 }
     requires some { 1 ≤ most }
     requires few { most ≤ 10000 }
-    requires fit { All RowFits rows.now.items }
-    ensures { IfOk result (λ batch. IsFirst place (take most (drop place rows.now.items)) (length batch.records) batch) }
+    requires fit { All RowFits (take most (drop first (L.rows rows.now))) }
+    ensures { IfOk result (λ batch. IsFirst place (take most (drop first (L.rows rows.now))) (length batch.records) batch) }
 {
-    let _few = rows.len();
-    let base = rows.get(place).timestamp;
+    let base = rows.row(first).timestamp;
     Ok(Batch {
         base_offset: place as i64,
         leader_epoch: 0,
@@ -36,7 +39,7 @@ fn first_batch(
         producer_id: -1,
         producer_epoch: -1,
         base_sequence: -1,
-        records: first_records(alloc, base, rows, place, most)?,
+        records: first_records(alloc, base, rows, first, most)?,
     })
 }
 
@@ -59,6 +62,6 @@ pub fn row_batch(
     }
     let left = rows.len() - place;
     let most = left.min(max).min(MAX_RECORDS as usize);
-    let batch = first_batch(alloc, rows, place, most)?;
+    let batch = first_batch(alloc, rows, place, most, place)?;
     Ok(Some(encode(alloc, &batch)?))
 }

@@ -15,11 +15,21 @@ pub(crate) struct NoFiles;
 impl Files for NoFiles {
     type Reader = Cursor<Vec<u8>>;
 
+    type Writer = Vec<u8>;
+
     fn open(&mut self, _name: &str) -> io::Result<Cursor<Vec<u8>>> {
         Err(io::Error::from(io::ErrorKind::NotFound))
     }
 
     fn write(&mut self, _name: &str, _content: &[u8]) -> io::Result<()> {
+        Err(io::Error::from(io::ErrorKind::PermissionDenied))
+    }
+
+    fn create(&mut self, _name: &str) -> io::Result<Vec<u8>> {
+        Err(io::Error::from(io::ErrorKind::PermissionDenied))
+    }
+
+    fn close(&mut self, _name: &str, _writer: Vec<u8>) -> io::Result<()> {
         Err(io::Error::from(io::ErrorKind::PermissionDenied))
     }
 }

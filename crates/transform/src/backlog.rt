@@ -5,6 +5,7 @@ ghost use Rattle.log_spec.specs.Logs.{RowFits};
 ghost use Rattle.transform.specs.Backlogs.{waiting, rest_after, IsNext, IsBatchOf, GivesFull, GivesNext};
 ghost use Rattle.transform.specs.declared.backlog.BacklogFault.TheVariants.{Full, Memory};
 
+use crate::owning::own_rows;
 use batch::{MAX_BATCH, MAX_RECORDS, encode};
 use bytes::Bytes;
 use log_spec::Row;
@@ -18,7 +19,7 @@ use wire_spec::{Batch, Headers};
 const PLACE_END: u64 = 9_223_372_036_854_775_808;
 
 // The bytes of a record without key, value and headers, whose numbers take one byte each.
-const LEAST_RECORD: usize = 7;
+pub(crate) const LEAST_RECORD: usize = 7;
 
 /// Why rows are not taken.
 #[derive(Clone, Copy, Debug, PartialEq, Eq, Drop, Error)]
@@ -147,14 +148,27 @@ impl Backlog {
         Ok(Some(self.give(&batch)?))
     }
 
+    /// Copies the bytes of the rows that wait, so that they share none with the batches that they came
+    /// from. It fails only where memory runs out; then some still do.
+    pub fn own(&mut self) -> Result<(), AllocError>
+        ensures { self.new ≡ self.old }
+    {
+        own_rows(self.alloc, &mut self.rows, self.taken)
+    }
+
     // The batch of the first rows that wait.
     fn first(&self) -> Result<Batch, AllocError>
         requires { 0 < length self.now.rows }
         ensures { IfOk result (λ batch. IsNext self.now (length batch.records) batch) }
     {
-        let rows = &self.rows[self.taken..];
-        let most = rows.len().min(MAX_RECORDS as usize);
-        first_batch(self.alloc, self.place as usize, &rows[..most])
+        let most = self.len().min(MAX_RECORDS as usize);
+        first_batch(
+            self.alloc,
+            &self.rows,
+            self.taken,
+            most,
+            self.place as usize,
+        )
     }
 
     // The bytes of the next batch, whose rows wait no more.
@@ -209,14 +223,14 @@ fn row_bytes(row: &Row) -> usize {
         .saturating_add(LEAST_RECORD)
 }
 
-fn part_bytes(part: &Option<Bytes>) -> usize {
+pub(crate) fn part_bytes(part: &Option<Bytes>) -> usize {
     match part {
         Some(bytes) => bytes.len(),
         None => 0,
     }
 }
 
-fn header_bytes(headers: &Headers) -> usize {
+pub(crate) fn header_bytes(headers: &Headers) -> usize {
     let mut bytes = 0usize;
     for header in &headers.list {
         bytes = bytes

@@ -7,6 +7,7 @@ ghost use Rattle.item_rows.specs.ItemRows.{rows_in};
 ghost use Rattle.transform.specs.Transforms.{flow, Pushes, PutsEach, PutsOne, EndsEach, EndsOne, EndsFlow};
 
 use crate::outlet::{Outlet, OutletFault};
+use crate::owning::batch_bytes;
 use item_rows::{ItemRows, Origin, item_rows};
 use log_item::{Item, LoggedBatch, Program};
 use log_spec::Row;
@@ -18,6 +19,9 @@ use wire_spec::{Batch, TIMESTAMP_END};
 
 /// How many records a batch has at most.
 const MOST_RECORDS: u64 = 10_000;
+
+/// How many bytes of batches rows share while they wait, at most: 8 MiB and those of one batch.
+const MOST_SHARED: usize = 8_388_608;
 
 /// Why a batch is not transformed.
 #[derive(Clone, Copy, Debug, PartialEq, Eq, Drop, Error)]
@@ -51,6 +55,8 @@ pub struct Transform<W: Write> {
     input: usize,
     offset: u64,
     outlets: Vec<Outlet<W>>,
+    // At most as many bytes as the rows that wait share with batches.
+    shared: usize,
 }
 
 impl<W: Write> Model for Transform<W> {
@@ -78,6 +84,7 @@ impl<W: Write> Transform<W> {
             input,
             offset,
             outlets,
+            shared: 0,
         }
     }
 
@@ -112,7 +119,8 @@ impl<W: Write> Transform<W> {
     }
 
     /// Runs a program on the records of the next batch, in order, each once, and puts the rows into
-    /// the output partitions, which write each batch that is full then. It fails where the batch
+    /// the output partitions, which write each batch that is full then. Rows that wait share their
+    /// bytes with the batches of at most 8 MiB; those of older ones are copied. It fails where the batch
     /// might reach the offset 2^62, or where memory runs out before a row is put; then nothing
     /// changes. It fails with an output partition as `Outlet::put` does; then each output partition
     /// has written whole batches of its rows, and that one maybe a beginning of one more.
@@ -128,10 +136,12 @@ impl<W: Write> Transform<W> {
             offset: self.offset,
             outputs: self.outlets.len(),
         };
+        let shared = self.shared.saturating_add(batch_bytes(&batch));
         let item = Item::Batch(LoggedBatch::new(batch));
         let rows = item_rows(self.alloc, &origin, Some(program), &item)?;
         put_each(self.alloc, rows, &mut self.outlets)?;
         self.offset += item.records();
+        self.shared = owned(&mut self.outlets, shared);
         Ok(())
     }
 
@@ -145,15 +155,39 @@ impl<W: Write> Transform<W> {
     }
 }
 
+// Copies the bytes of all rows that wait, where they may share too many with batches; returns how many
+// they may share then.
+fn owned<W: Write>(outlets: &mut [Outlet<W>], shared: usize) -> usize
+    ensures { outlets.new ≡ outlets.old }
+{
+    if shared > MOST_SHARED && own_each(outlets) {
+        0
+    } else {
+        shared
+    }
+}
+
+// Whether the bytes of all rows that wait were copied; else memory ran out.
+fn own_each<W: Write>(outlets: &mut [Outlet<W>]) -> bool
+    ensures { outlets.new ≡ outlets.old }
+{
+    for output in 0..outlets.len() {
+        if outlets[output].own().is_err() {
+            return false;
+        }
+    }
+    true
+}
+
 // Puts the rows of an item into each output partition.
 fn put_each<W: Write>(
     alloc: Global,
     mut rows: ItemRows,
     outlets: &mut [Outlet<W>],
 ) -> Result<(), TransformFault>
-    requires count { length rows ≡ length outlets.old }
-    requires fit { (output : ℕ) → output < length outlets.old → All RowFits (rows_in rows output) }
-    ensures { PutsEach rows outlets.old result outlets.new }
+    requires count { length rows.rows ≡ length outlets.old }
+    requires fit { (output : ℕ) → output < length outlets.old → All RowFits (rows_in rows.rows output) }
+    ensures { PutsEach rows.rows outlets.old result outlets.new }
 {
     for output in 0..outlets.len() {
         put_one(output, rows.take(alloc, output), outlets)?;

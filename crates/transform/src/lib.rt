@@ -6,6 +6,7 @@ mod backlog;
 mod flow;
 mod laws;
 mod outlet;
+mod owning;
 mod stream;
 
 pub use crate::backlog::{Backlog, BacklogFault};

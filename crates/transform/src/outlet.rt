@@ -103,6 +103,14 @@ impl<W: Write> Outlet<W> {
         }
     }
 
+    /// Copies the bytes of the rows that wait, so that they share none with the batches that they came
+    /// from. It fails only where memory runs out; then some still do.
+    pub fn own(&mut self) -> Result<(), AllocError>
+        ensures { self.new ≡ self.old }
+    {
+        self.backlog.own()
+    }
+
     /// Writes the batches of all rows that wait; none waits then. It fails where memory runs out, and
     /// where the writer fails or takes no byte. Then whole batches of those rows were written, and
     /// where the writer failed, a beginning of one more; what waits is not said.

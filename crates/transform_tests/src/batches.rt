@@ -1,4 +1,4 @@
-ghost use Rattle.std.specs.Prelude.{IfSome, ◌≡◌, length, IfOk, ◌≤◌};
+ghost use Rattle.std.specs.Prelude.{◌≡◌, ◌≤◌, length, IfOk, IfSome};
 ghost use Rattle.log_spec.specs.Logs.{FitsLog};
 
 use batch::Feed;
@@ -8,7 +8,7 @@ use log_item::Program;
 use std::alloc::{AllocError, Global};
 use std::test::Fail;
 use transform::{Outlet, Transform};
-use wire_spec::{Batch, Headers, Record, Records};
+use wire_spec::{Batch, Headers, Record, Records, TIMESTAMP_END};
 
 /// mov64 r1, 1; call 3; exit: each record goes to output 1 as it is.
 const SECOND: [u8; 24] = [
@@ -106,49 +106,61 @@ fn written(
     batches_in(alloc, stream.outlet(output).writer().as_slice())
 }
 
+/// Batches that are pushed, as the numbers of their records and of the bytes of a value; the batches of
+/// rows before the end, and all of them, as base offsets and numbers of records.
+type Filling<'a> = (&'a [(usize, usize)], &'a [(i64, usize)], &'a [(i64, usize)]);
+
+const FILLINGS: [Filling<'static>; 6] = [
+    (&[], &[], &[]),
+    (&[(1, 0)], &[], &[(0, 1)]),
+    (&[(4000, 0), (4000, 0)], &[], &[(0, 8000)]),
+    (
+        &[(4000, 0), (4000, 0), (4000, 0)],
+        &[(0, 10_000)],
+        &[(0, 10_000), (10_000, 2000)],
+    ),
+    (
+        &[(10_000, 0), (10_000, 0), (5000, 0)],
+        &[(0, 10_000), (10_000, 10_000)],
+        &[(0, 10_000), (10_000, 10_000), (20_000, 5000)],
+    ),
+    (
+        &[(10, 65_536), (10, 65_536), (1, 0)],
+        &[(0, 15)],
+        &[(0, 15), (15, 6)],
+    ),
+];
+
+/// Whether the batches of rows are these.
+fn fills(alloc: Global, filling: &Filling<'_>) -> Result<bool, Fail> {
+    let (given, early, all) = *filling;
+    let found = outputs_of(alloc, given)?;
+    Ok(found.0.as_slice() == early && found.1.as_slice() == all)
+}
+
 #[test]
 fn batches_fill_up_to_their_limits(rt: HostRuntime) -> Result<(), Fail> {
-    let rows: [(&[(usize, usize)], &[(i64, usize)], &[(i64, usize)]); 6] = [
-        (&[], &[], &[]),
-        (&[(1, 0)], &[], &[(0, 1)]),
-        (&[(4000, 0), (4000, 0)], &[], &[(0, 8000)]),
-        (
-            &[(4000, 0), (4000, 0), (4000, 0)],
-            &[(0, 10_000)],
-            &[(0, 10_000), (10_000, 2000)],
-        ),
-        (
-            &[(10_000, 0), (10_000, 0), (5000, 0)],
-            &[(0, 10_000), (10_000, 10_000)],
-            &[(0, 10_000), (10_000, 10_000), (20_000, 5000)],
-        ),
-        (
-            &[(10, 65_536), (10, 65_536), (1, 0)],
-            &[(0, 15)],
-            &[(0, 15), (15, 6)],
-        ),
-    ];
-    for (given, early, all) in &rows {
-        let found = outputs_of(rt.alloc(), given)?;
-        assert!(rt; found.0.as_slice() == *early, "before the end");
-        assert!(rt; found.1.as_slice() == *all, "at the end");
+    for filling in &FILLINGS {
+        assert!(rt; fills(rt.alloc(), filling)?, "{filling:?}");
     }
     Ok(())
 }
 
+/// The offset after a batch of two records is pushed at an offset, if it is taken.
+fn offset_after(alloc: Global, offset: u64) -> Result<(bool, u64), Fail>
+    requires { offset ≤ TIMESTAMP_END }
+{
+    let program = program_of(alloc, &FORWARD)?;
+    let mut stream = Transform::new(alloc, 63, offset, two_outlets(alloc)?);
+    let batch = batch_of(alloc, 2, 1000).ok_or("a batch")?;
+    let taken = stream.push(&program, batch).is_ok();
+    Ok((taken, stream.offset()))
+}
+
 #[test]
 fn offsets_end_below_two_to_the_62(rt: HostRuntime) -> Result<(), Fail> {
-    let alloc = rt.alloc();
-    let program = program_of(alloc, &FORWARD)?;
-    for (offset, taken) in [
-        (4_611_686_018_427_377_904, true),
-        (4_611_686_018_427_377_905, false),
-    ] {
-        let mut stream = Transform::new(alloc, 63, offset, two_outlets(alloc)?);
-        let batch = batch_of(alloc, 2, 1000).ok_or("a batch")?;
-        assert_eq!(rt; stream.push(&program, batch).is_ok(), taken);
-        let after = if taken { offset + 2 } else { offset };
-        assert_eq!(rt; stream.offset(), after);
-    }
+    let last = TIMESTAMP_END - 10_000;
+    assert!(rt; offset_after(rt.alloc(), last)? == (true, last + 2));
+    assert!(rt; offset_after(rt.alloc(), last + 1)? == (false, last + 1));
     Ok(())
 }

@@ -61,29 +61,49 @@ fn damaged(alloc: Global, len: usize, place: usize) -> Result<Vec<u8>, Fail> {
     Ok(bytes)
 }
 
+/// Damage: how many bytes are left, and which is changed; the refusal, if there is one; how many batches
+/// and bytes were read before, and how many rows were written.
+type Damage = (usize, usize, Option<BatchFault>, u64, u64, usize);
+
+const DAMAGES: [Damage; 7] = [
+    (0, 999, None, 0, 0, 0),
+    (157, 999, None, 2, 157, 5),
+    (82, 999, None, 1, 82, 3),
+    (81, 999, Some(BatchFault::Short), 0, 0, 0),
+    (156, 999, Some(BatchFault::Short), 1, 82, 3),
+    (157, 70, Some(BatchFault::Crc), 0, 0, 0),
+    (157, 150, Some(BatchFault::Crc), 1, 82, 3),
+];
+
+/// How many rows there are in batches.
+fn rows_of(batches: &[(i64, usize)]) -> usize {
+    let mut rows = 0usize;
+    for batch in batches {
+        rows = rows.saturating_add(batch.1);
+    }
+    rows
+}
+
+/// Whether a stream ends as it should.
+fn ends_so(alloc: Global, damage: &Damage, piece: usize) -> Result<bool, Fail>
+    requires { (1 ≤ piece) × (piece ≤ 65536) }
+{
+    let (len, place, refusal, batches, bytes, rows) = *damage;
+    let found = ended(alloc, damaged(alloc, len, place)?, piece)?;
+    let result = match refusal {
+        Some(fault) => Err(StreamFault::Read(ReadFault::Batch(fault))),
+        None => Ok(()),
+    };
+    let counted = rows_of(&found.2);
+    Ok(found.0 == result && found.1 == Position { batches, bytes } && counted == rows)
+}
+
 #[test]
 fn rows_before_a_fault_are_written(rt: HostRuntime) -> Result<(), Fail> {
-    let short = Err(StreamFault::Read(ReadFault::Batch(BatchFault::Short)));
-    let crc = Err(StreamFault::Read(ReadFault::Batch(BatchFault::Crc)));
-    // How many bytes, which is changed, how the stream ends, after how many batches and bytes, and how many rows
-    // it has.
-    let rows = [
-        (0, 999, Ok(()), 0, 0, 0),
-        (157, 999, Ok(()), 2, 157, 5),
-        (82, 999, Ok(()), 1, 82, 3),
-        (81, 999, short, 0, 0, 0),
-        (156, 999, short, 1, 82, 3),
-        (157, 70, crc, 0, 0, 0),
-        (157, 150, crc, 1, 82, 3),
-    ];
-    for (len, place, result, batches, bytes, count) in rows {
-        for piece in [1, 7, 65_536] {
-            let found = ended(rt.alloc(), damaged(rt.alloc(), len, place)?, piece)?;
-            assert!(rt; found.0 == result);
-            assert!(rt; found.1 == Position { batches, bytes });
-            let counted: usize = found.2.iter().map(|batch| batch.1).sum();
-            assert_eq!(rt; counted, count);
-        }
+    for damage in &DAMAGES {
+        assert!(rt; ends_so(rt.alloc(), damage, 1)?, "{damage:?}");
+        assert!(rt; ends_so(rt.alloc(), damage, 7)?, "{damage:?}");
+        assert!(rt; ends_so(rt.alloc(), damage, 65_536)?, "{damage:?}");
     }
     Ok(())
 }

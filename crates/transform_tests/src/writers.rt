@@ -62,21 +62,29 @@ fn ended(alloc: Global, room: usize) -> Result<(Result<(), TransformFault>, usiz
     Ok((result, stream.outlet(0).writer().taken.len()))
 }
 
+const FAILED: TransformFault = TransformFault::Output {
+    output: 0,
+    fault: OutletFault::Write,
+};
+
+/// How many bytes a writer takes, and whether its stream fails. The batch has 68 bytes.
+const ROOMS: [(usize, bool); 4] = [(0, true), (67, true), (68, false), (1000, false)];
+
+/// Whether a stream fails for its writer, or not, and the writer has what it could take.
+fn ends(alloc: Global, room: usize, fails: bool) -> Result<bool, Fail> {
+    let found = ended(alloc, room)?;
+    let as_said = if fails {
+        found.0 == Err(FAILED)
+    } else {
+        found.0 == Ok(())
+    };
+    Ok(as_said && found.1 == room.min(68))
+}
+
 #[test]
 fn a_writer_that_fails_ends_the_stream(rt: HostRuntime) -> Result<(), Fail> {
-    let failed = TransformFault::Output {
-        output: 0,
-        fault: OutletFault::Write,
-    };
-    for (room, result, taken) in [
-        (0, Err(failed), 0),
-        (67, Err(failed), 67),
-        (68, Ok(()), 68),
-        (1000, Ok(()), 68),
-    ] {
-        let found = ended(rt.alloc(), room)?;
-        assert!(rt; found.0 == result);
-        assert_eq!(rt; found.1, taken);
+    for (room, fails) in ROOMS {
+        assert!(rt; ends(rt.alloc(), room, fails)?, "{room}");
     }
     Ok(())
 }

@@ -1,4 +1,5 @@
 ghost use Rattle.std.specs.Prelude.{◌≡◌, ◌<◌, ◌≤◌, length, IfOk};
+ghost use Rattle.worker.specs.Processed.{IsOfLast};
 
 use crate::delivery::Delivery;
 use crate::results::Results;
@@ -49,7 +50,7 @@ pub fn process_for<Id: Names>(
     requires outputs { outputs ≡ Id.outputs }
     requires few { outputs ≤ 64 }
     requires output { output < outputs }
-    ensures { IfOk result (λ delivery. (delivery.walk ≡ walk.now) × (delivery.output ≡ output)) }
+    ensures { IfOk result (λ delivery. (delivery.walk ≡ walk.now) × (delivery.output ≡ output) × IsOfLast Id.outputs delivery) }
 {
     let _most = log.cells();
     let item = log.item(walk.trail(), walk.len() - 1);

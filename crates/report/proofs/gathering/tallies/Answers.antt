@@ -12,7 +12,7 @@ loop-input-preserved g c =
     c.loop-input.all.items in let x : Tallied = c.in_ok-of.field-0 in
     let longer : c.push.new.self.items ≡ xs ++ x ∷ [] = c.in_ok-push.ensures.items in
     let least : IsLeast outputs c.loop-input.input x.first =
-    subst (λ (l : Log). IsLeast outputs c.loop-input.input l) (sym c.in_ok-of.ensures.0) c.least-first.ensures in
+    subst (λ (l : Log). IsLeast outputs c.loop-input.input l) (sym c.in_ok-of.ensures.0) c.least.ensures in
     let at : IsLeast outputs (length xs) x.first =
     subst (λ (k : ℕ). IsLeast outputs k x.first) (sym c.loop-input.invariant.0) least in (
       omega (arith, ap (λ (ts : List Tallied). length ts) longer, length_push xs x, c.loop-input.invariant.0),

@@ -1,7 +1,11 @@
 use Rattle.std.proofs.Common.{◌≤◌, length, drop, ap, subst, ◌∙◌, length-drop, arith}
 use Rattle.wire_spec.specs.BatchSpelling.{max_records, batch_spelling, BatchFits}
 use Rattle.row_batch.proofs.RowLaws.{most_taken}
+use Rattle.row_batch.proofs.Places.{part_fits}
 use Rattle.row_batch.proofs.rows.row_batch.Goals as goal
+
+pub first_batch-requires-clause-fit : goal.first_batch-requires-clause-fit
+first_batch-requires-clause-fit c = part_fits c.args.rows.now.items c.args.place c.min-most.result c.requires
 
 pub returns : goal.returns
 returns c =

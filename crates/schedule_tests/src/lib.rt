@@ -1,0 +1,23 @@
+//! Tests of schedules by public calls: lists of the core's events, interleavings of what threads do with
+//! logs, books and the catalogue, workers that a gate stops at each offer, threads that meet, and a stream
+//! of batches where memory is refused.
+#![tactic(auto)]
+
+#[cfg(test)]
+mod broker_calls;
+#[cfg(test)]
+mod core_lists;
+#[cfg(test)]
+mod gates;
+#[cfg(test)]
+mod interleavings;
+#[cfg(test)]
+mod making;
+#[cfg(test)]
+mod play;
+#[cfg(test)]
+mod refused;
+#[cfg(test)]
+mod rows;
+#[cfg(test)]
+mod threads;

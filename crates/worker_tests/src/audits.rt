@@ -1,0 +1,165 @@
+//! Audits of receipts.
+
+ghost use Rattle.broker.specs.Layouts.{IsNamed};
+
+use crate::books::Seen;
+use broker::{Audit, AuditedRows, Broker, Ended, Parts, Until};
+use broker_fixtures::{deploy, ends, is_row, put};
+use catalogue::Catalogue;
+use fixtures::BOTH;
+use part_log::{Names, Receipt};
+use std::alloc::Global;
+use std::marker::Brand;
+use std::process::Abort;
+use std::sync::{Mutex, Wait};
+use std::test::Fail;
+use std::thread::Threads;
+use std::{mem, thread};
+use worker::Open;
+
+const TURNS: usize = 100_000_000;
+
+#[test]
+fn receipts_are_audited_from_another_thread(rt: HostRuntime) -> Result<(), Fail> {
+    let alloc = rt.alloc();
+    hand_over::<Brand, _>(&rt, alloc, Parts::new(&rt, alloc, 2, 2, 8)?)
+}
+
+/// One thread appends records and hands their receipts to another one, which audits them in each
+/// book in turn.
+fn hand_over<Id: Names + Send + Sync, R: Threads + Wait + Abort + Sync>(
+    rt: &R,
+    alloc: Global,
+    parts: Parts<Catalogue<&R>>,
+) -> Result<(), Fail>
+    requires { IsNamed Id.cells Id.inputs Id.outputs parts }
+{
+    let made: Broker<Id, Catalogue<&R>> = Broker::new(alloc, parts)?;
+    for input in 0..2 {
+        assert_eq!(rt; deploy(rt, alloc, &made, input, &BOTH), Some(0));
+    }
+    let (broker, handed) = (&made, &Mutex::new(Vec::new(alloc)));
+    let one = move |number: usize| -> bool {
+        if number == 0 {
+            produce(rt, alloc, broker, handed)
+        } else {
+            audit(rt, alloc, broker, handed)
+        }
+    };
+    for is_right in &thread::map_indices(rt, alloc, 2, &one)? {
+        assert!(rt; *is_right);
+    }
+    Ok(())
+}
+
+/// Hands over the receipts of five records; whether it could.
+fn produce<Id: Names + Send + Sync, C: Send, R: Threads + Wait + Sync>(
+    rt: &R,
+    alloc: Global,
+    broker: &Broker<Id, C>,
+    handed: &Mutex<Vec<Receipt<Id>>>,
+) -> bool {
+    let Some(receipts) = append_five(rt, alloc, broker) else {
+        return false;
+    };
+    let _none = mem::replace(&mut *handed.lock(rt), receipts);
+    true
+}
+
+/// The receipts of two records of each input, which are processed, and of one that isn't.
+fn append_five<Id: Names + Send + Sync, C: Send, R: Threads + Wait + Sync>(
+    rt: &R,
+    alloc: Global,
+    broker: &Broker<Id, C>,
+) -> Option<Vec<Receipt<Id>>> {
+    let mut receipts = Vec::new(alloc);
+    for (input, value) in [(0, b'A'), (0, b'B'), (1, b'A'), (1, b'B')] {
+        receipts.push(put(rt, alloc, broker, input, value)?).ok()?;
+    }
+    let want = [Ended::Done(3), Ended::Done(3)];
+    if !ends(rt, alloc, broker, Until::Drained, &Open, &want) {
+        return None;
+    }
+    receipts.push(put(rt, alloc, broker, 1, b'C')?).ok()?;
+    Some(receipts)
+}
+
+/// Waits for receipts, but not for ever; whether each audit of them is right.
+fn audit<Id: Names, C, R: Wait>(
+    rt: &R,
+    alloc: Global,
+    broker: &Broker<Id, C>,
+    handed: &Mutex<Vec<Receipt<Id>>>,
+) -> bool {
+    for _ in 0..TURNS {
+        let taken = mem::replace(&mut *handed.lock(rt), Vec::new(alloc));
+        if !taken.is_empty() {
+            return are_right(rt, alloc, broker, &taken);
+        }
+        thread::yield_now();
+    }
+    false
+}
+
+/// Whether the five receipts have their own rows in both books.
+fn are_right<Id: Names, C, R: Wait>(
+    rt: &R,
+    alloc: Global,
+    broker: &Broker<Id, C>,
+    receipts: &[Receipt<Id>],
+) -> bool {
+    for output in 0..2 {
+        let (a, b) = ((0, output, b'A'), (1, output, b'B'));
+        let want = [Some(a), Some(b), Some(a), Some(b), None];
+        if !are_audited(rt, alloc, broker, output, receipts, &want) {
+            return false;
+        }
+    }
+    true
+}
+
+/// Whether audits of these receipts in an output partition find one row each, or that the item is
+/// not done.
+fn are_audited<Id: Names, C, R: Wait>(
+    rt: &R,
+    alloc: Global,
+    broker: &Broker<Id, C>,
+    output: usize,
+    receipts: &[Receipt<Id>],
+    want: &[Option<Seen>],
+) -> bool {
+    if output >= broker.outputs() {
+        return false;
+    }
+    let book = broker.book(output).lock(rt);
+    let Ok(audits) = broker.audit_all(alloc, receipts, &book) else {
+        return false;
+    };
+    let mut rest = want;
+    for audit in audits {
+        match rest.split_first() {
+            Some((first, others)) if is_audit(audit, first) => rest = others,
+            _ => return false,
+        }
+    }
+    rest.is_empty()
+}
+
+fn is_audit(audit: Audit<'_>, want: &Option<Seen>) -> bool {
+    match (audit, want) {
+        (Audit::Pending, None) => true,
+        (Audit::Processed(rows), Some(seen)) => is_one(rows, seen),
+        _ => false,
+    }
+}
+
+/// Whether there is one row, and this one.
+fn is_one(rows: AuditedRows<'_>, want: &Seen) -> bool {
+    let (offset, number, value) = want;
+    let mut left = rows;
+    let is_first = match left.next() {
+        Some(row) => is_row(row, *offset, *number, *value),
+        None => false,
+    };
+    is_first && left.next().is_none()
+}
