@@ -4,5 +4,5 @@ use Rattle.transform.proofs.EachLaws.{InFirst, AreLeft}
 use Rattle.transform.proofs.flow.put_each.Given as goal
 
 abbrev pub invariant-loop-output : goal.invariant-loop-output
-invariant-loop-output g l = InFirst l.output l.fn.outlets l.outlets (λ q. Fills (rows_in l.fn.rows q))
-    × AreLeft l.output l.fn.rows l.rows
+invariant-loop-output g l = InFirst l.output l.fn.outlets l.outlets (λ q. Fills (rows_in l.fn.rows.rows q))
+    × AreLeft l.output l.fn.rows.rows l.rows.rows
