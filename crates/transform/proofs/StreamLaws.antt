@@ -1,8 +1,7 @@
 -- Batches of a reader that are pushed one after the other, and the end.
-use Rattle.std.proofs.Common.{◌≡◌, ℕ, Bool, true, false, List, [], ◌∷◌, ◌++◌, drop, Option, Some, None, Result, Ok, Err, refl}
-use Rattle.std.proofs.Common.{sym, ap, subst, ◌∙◌}
+use Rattle.std.proofs.Common.{◌≡◌, ℕ, true, false, List, [], ◌∷◌, ◌++◌, drop, Option, Some, None, Result, Ok, Err, refl}
+use Rattle.std.proofs.Common.{sym, ap, subst}
 use Rattle.std.specs.Prelude.{IfOk, IfSome}
-use Rattle.std.specs.Io.KnownBytes.{IsAtEnd}
 use Rattle.wire_spec.specs.declared.record.Batch.{Batch}
 use Rattle.wire_spec.specs.BatchSpelling.{BatchFits}
 use Rattle.wire_spec.specs.BatchReading.{batch_at}

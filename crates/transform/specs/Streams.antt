@@ -7,7 +7,7 @@ use Rattle.batch.specs.Batches.{AreBatches}
 use Rattle.batch_reader.specs.declared.reader.ReadFault.{ReadFault}
 use Rattle.batch_reader.specs.declared.reader.ReadFault.TheVariants as read
 use Rattle.batch_reader.specs.Readings.{Inlet, left_of, BeginsBadly}
-use Rattle.transform.specs.declared.{stream.StreamFault.StreamFault, flow.TransformFault.TransformFault}
+use Rattle.transform.specs.declared.{stream.StreamFault.StreamFault}
 use Rattle.transform.specs.declared.stream.StreamFault.TheVariants as fault
 use Rattle.transform.specs.declared.flow.TransformFault.TheVariants as stop
 use Rattle.transform.specs.Transforms.{Flow, Follows, Finished, Broken}

@@ -11,7 +11,7 @@ use Rattle.transform.proofs.flow.put_each.Goals as goal
 
 pub loop-output-init : goal.loop-output-init
 loop-output-init g c =
-    (first_none (λ q. Fills (rows_in c.args.rows.rows q)) c.args.outlets.now, all_left c.args.rows.rows)
+    let all = c.args.rows.rows in (first_none (λ q. Fills (rows_in all q)) c.args.outlets.now, all_left all)
 
 pub take-requires : goal.take-requires
 take-requires g c =
@@ -25,37 +25,39 @@ take-requires g c =
 
 pub put_one-requires-clause-fit : goal.put_one-requires-clause-fit
 put_one-requires-clause-fit g c =
+    let all = c.args.rows.rows in
     let within : c.loop-output.output < length c.args.outlets.now =
     omega (arith, c.loop-output-test.true, c.loop-output.invariant.0.count) in
-    let same = rows_taken c.loop-output.output c.args.rows.rows c.loop-output.rows.rows c.take.result.items
+    let same = rows_taken c.loop-output.output all c.loop-output.rows.rows c.take.result.items
     c.loop-output.invariant.1 c.take.ensures.rows in
     subst (All RowFits) (sym same) (c.requires.fit c.loop-output.output within)
 
 pub loop-output-preserved : goal.loop-output-preserved
 loop-output-preserved g c =
-    let k = c.loop-output.output in
-    let same = rows_taken k c.args.rows.rows c.loop-output.rows.rows c.take.result.items c.loop-output.invariant.1
+    let k = c.loop-output.output in let all = c.args.rows.rows in
+    let same = rows_taken k all c.loop-output.rows.rows c.take.result.items c.loop-output.invariant.1
     c.take.ensures.rows in (
-      first_more (λ q. Fills (rows_in c.args.rows.rows q)) k c.args.outlets.now c.loop-output.outlets c.put_one.new.outlets
+      first_more (λ q. Fills (rows_in all q)) k c.args.outlets.now c.loop-output.outlets c.put_one.new.outlets
           (Fills c.take.result.items) c.loop-output.invariant.0 c.in_ok-put_one.ensures
           (λ x y h. subst (λ (rs : List Row). Fills rs x y) same h),
-      fewer_left k c.args.rows.rows c.loop-output.rows.rows c.take.new.self.rows c.loop-output.invariant.1 c.take.ensures.left,
+      fewer_left k all c.loop-output.rows.rows c.take.new.self.rows c.loop-output.invariant.1 c.take.ensures.left,
     )
 
 pub returns-in_err-put_one : goal.returns-in_err-put_one
 returns-in_err-put_one g c =
-    let k = c.loop-output.output in
-    let same = rows_taken k c.args.rows.rows c.loop-output.rows.rows c.take.result.items c.loop-output.invariant.1
+    let k = c.loop-output.output in let all = c.args.rows.rows in
+    let same = rows_taken k all c.loop-output.rows.rows c.take.result.items c.loop-output.invariant.1
     c.take.ensures.rows in
     let is : c.from_residual.result ≡ Err c.in_err-put_one.field-0.0 = search rules in
-    subst (λ (r : Result (Unit {0}) TransformFault). PutsEach c.args.rows.rows c.args.outlets.now r c.put_one.new.outlets)
+    subst (λ (r : Result (Unit {0}) TransformFault). PutsEach all c.args.outlets.now r c.put_one.new.outlets)
     (sym is)
-    (put_stopped k c.args.rows.rows c.take.result.items c.args.outlets.now c.loop-output.outlets c.put_one.new.outlets
+    (put_stopped k all c.take.result.items c.args.outlets.now c.loop-output.outlets c.put_one.new.outlets
     c.in_err-put_one.field-0.0 same c.loop-output.invariant.0 c.in_err-put_one.ensures)
 
 pub returns : goal.returns
 returns g c =
-    let all : length c.args.outlets.now ≤ c.loop-output.output =
+    let all = c.args.rows.rows in
+    let each : length c.args.outlets.now ≤ c.loop-output.output =
     omega (arith, c.loop-output-test.false, c.loop-output.invariant.0.count) in
-    first_all (λ q. Fills (rows_in c.args.rows.rows q)) c.loop-output.output c.args.outlets.now c.loop-output.outlets
-    c.loop-output.invariant.0 all
+    first_all (λ q. Fills (rows_in all q)) c.loop-output.output c.args.outlets.now c.loop-output.outlets
+    c.loop-output.invariant.0 each
