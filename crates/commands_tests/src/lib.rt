@@ -4,6 +4,8 @@
 #[cfg(test)]
 mod batches;
 #[cfg(test)]
+mod failures;
+#[cfg(test)]
 mod images;
 #[cfg(test)]
 mod scripts;

@@ -22,6 +22,7 @@ impl Model for Place {
 }
 
 impl Place {
+    /// A place of nothing.
     fn empty(alloc: Global) -> Place
         ensures { result.object ≡ None }
     {
@@ -31,6 +32,7 @@ impl Place {
         }
     }
 
+    /// The place of an object in a box.
     fn of_parts(parts: Parts<Object, Global>) -> Place
         ensures { result.object ≡ Some parts.value }
     {
@@ -50,6 +52,7 @@ impl Place {
         alloc
     }
 
+    /// The box's parts, of a place of an object.
     fn into_parts(self) -> Parts<Object, Global>
         requires { IsSome self.object }
         ensures { self.object ≡ Some result.value }
@@ -115,7 +118,7 @@ impl Handle {
     }
 }
 
-/// A place goes to another thread with its object.
+// A place goes to another thread with its object, which may go there.
 unsafe impl Send for Place {}
 
 fn sent<T: Send>(x: T) -> T

@@ -38,6 +38,7 @@ fn is_in_range(asked: &Asked) -> bool
         && asked.nulls <= 3
 }
 
+/// Whether the key is null.
 fn is_key_null(nulls: u32) -> bool
     ensures { result ≡ definitions.is_key_null nulls }
 {

@@ -23,6 +23,7 @@ impl Model for Shared {
 }
 
 impl Shared {
+    /// The first owner of a program. It fails only where memory runs out.
     pub(crate) fn new(alloc: Global, program: Program) -> Result<Shared, AllocError>
         ensures { IfOk result (λ shared. shared ≡ program) }
     {
@@ -30,6 +31,7 @@ impl Shared {
         Ok(Shared { program })
     }
 
+    /// The program.
     pub(crate) fn program(&self) -> &Program
         ensures { result.now ≡ self.now }
     {

@@ -1,0 +1,264 @@
+//! Readers that fail at each of their calls, and writers that fail after each number of bytes.
+
+use crate::shelf::{BATCHES, FORWARD};
+use commands::{Files, command};
+use std::alloc::Global;
+use std::io;
+use std::io::{Cursor, Read, Write};
+use std::process::Abort;
+use std::sync::Wait;
+use std::test::Fail;
+use std::thread::Threads;
+
+/// Gives one byte at each call, and fails at one call, which is counted from 1.
+#[derive(Drop)]
+struct Breaking {
+    bytes: Cursor<Vec<u8>>,
+    calls: usize,
+    fails: usize,
+}
+
+impl Read for Breaking {
+    fn read(&mut self, buffer: &mut [u8]) -> io::Result<usize> {
+        self.calls = self.calls.saturating_add(1);
+        if self.calls == self.fails {
+            return Err(io::Error::from(io::ErrorKind::Other));
+        }
+        let most = buffer.len().min(1);
+        self.bytes.read(&mut buffer[..most])
+    }
+}
+
+fn reader_of(alloc: Global, bytes: &[u8], fails: usize) -> io::Result<Breaking> {
+    Ok(Breaking {
+        bytes: Cursor::new(Vec::from_slice(alloc, bytes)?),
+        calls: 0,
+        fails,
+    })
+}
+
+/// Files of two batches and of an image, each of whose readers fails at that call.
+#[derive(Drop)]
+struct Torn {
+    alloc: Global,
+    fails: usize,
+}
+
+impl Files for Torn {
+    type Reader = Breaking;
+
+    type Writer = Narrow;
+
+    fn open(&mut self, name: &str) -> io::Result<Breaking> {
+        match name {
+            "batches" => reader_of(self.alloc, &BATCHES, self.fails),
+            "image" => reader_of(self.alloc, &FORWARD, self.fails),
+            _ => Err(io::Error::from(io::ErrorKind::NotFound)),
+        }
+    }
+
+    fn write(&mut self, _name: &str, _content: &[u8]) -> io::Result<()> {
+        Err(io::Error::from(io::ErrorKind::PermissionDenied))
+    }
+
+    fn create(&mut self, _name: &str) -> io::Result<Narrow> {
+        Err(io::Error::from(io::ErrorKind::PermissionDenied))
+    }
+
+    fn close(&mut self, _name: &str, _writer: Narrow) -> io::Result<()> {
+        Err(io::Error::from(io::ErrorKind::PermissionDenied))
+    }
+}
+
+/// Takes `room` bytes and then fails.
+#[derive(Drop)]
+struct Narrow {
+    taken: Vec<u8>,
+    room: usize,
+}
+
+impl Write for Narrow {
+    fn write(&mut self, bytes: &[u8]) -> io::Result<usize> {
+        if self.room == 0 {
+            return Err(io::Error::from(io::ErrorKind::BrokenPipe));
+        }
+        let count = bytes.len().min(self.room);
+        self.taken.extend_from_slice(&bytes[..count])?;
+        self.room -= count;
+        Ok(count)
+    }
+
+    fn flush(&mut self) -> io::Result<()> {
+        Ok(())
+    }
+}
+
+fn words_of(alloc: Global, words: &[&str]) -> Result<Vec<String>, Fail> {
+    let mut all = Vec::new(alloc);
+    for word in words {
+        all.push(String::from_str(alloc, word)?)?;
+    }
+    Ok(all)
+}
+
+/// A call with files that fail at one call and a standard output that takes so many bytes: its status,
+/// what it wrote there and what to standard error.
+fn called<R: Threads + Wait + Sync>(
+    rt: &R,
+    alloc: Global,
+    words: &[&str],
+    script: &str,
+    fails: usize,
+    room: usize,
+) -> Result<(u8, Vec<u8>, String), Fail> {
+    let words = words_of(alloc, words)?;
+    let mut files = Torn { alloc, fails };
+    let mut stdin = Cursor::new(Vec::from_slice(alloc, script.as_bytes())?);
+    let mut stdout = Narrow {
+        taken: Vec::new(alloc),
+        room,
+    };
+    let mut stderr = Vec::new(alloc);
+    let status = command(
+        rt,
+        alloc,
+        &words,
+        &mut files,
+        &mut stdin,
+        &mut stdout,
+        &mut stderr,
+    );
+    let error = String::from_utf8(stderr).ok().ok_or("text")?;
+    Ok((status, stdout.taken, error))
+}
+
+/// Room for all that a call writes.
+const ALL: usize = 10_000;
+
+/// Prints a row, a report and a fetched batch.
+const SCRIPT: &str =
+    "partitions 1 2 8\nload f image\ndeploy 0 f\nput 0 1000 6b 76\ngo\nfetch 0 0 9\n\
+    fetch 1 0 9\n";
+
+/// What calls with files that don't fail write to standard output.
+const TEXTS: [(&[&str], &str); 4] = [
+    (
+        &["run", "stdin"],
+        "load f version 1\ndeploy 0 index 0 f version 1\nappend 0 index 1 base 0\n\
+        row 0 0 0 0 1000 6b 76 0\nout 0 in 0 done 2 rows 1\nout 1 in 0 done 2 rows 0\n\
+        in 0 items 2 records 1 unprogrammed 0 kept 1\n\
+        00000000000000000000003a0000000002716a618900000000000000000000000003e8\
+        00000000000003e8ffffffffffffffffffffffffffff0000000110000000026b027600\n\
+        none\n",
+    ),
+    (&["check", "image"], "accepted 3 instructions\n"),
+    (&["dis", "image"], "mov64 r1, 0\ncall 3\nexit\n"),
+    (
+        &["explain", "image"],
+        "0 slot 0: mov64 r1, 0\n\x20 r1: value+0  r2: length of value  r3: key+0  r4: length of key  \
+        r5: 0 to 3  r10: stack+512\n1 slot 1: call 3\n\x20 r1: 0  r2: length of value  r3: key+0  \
+        r4: length of key  r5: 0 to 3  r10: stack+512\n2 slot 2: exit\n\x20 r0: 0 to 3  r10: stack+512\n\
+        ok\n",
+    ),
+];
+
+/// A call whose standard output takes each number of bytes has written a beginning of the text.
+fn each_beginning<R: Threads + Wait + Abort + Sync>(
+    rt: &R,
+    alloc: Global,
+    words: &[&str],
+    text: &str,
+) -> Result<(), Fail> {
+    let all = text.as_bytes();
+    for room in 0..all.len() {
+        let (status, taken, error) = called(rt, alloc, words, SCRIPT, 0, room)?;
+        assert_eq!(rt;
+            (status, error.as_str()),
+            (3, "file stdout\n"),
+            "{words:?} after {room}"
+        );
+        assert!(rt; taken.as_slice() == &all[..room], "{words:?} after {room}");
+    }
+    let (status, taken, error) = called(rt, alloc, words, SCRIPT, 0, all.len())?;
+    assert_eq!(rt; (status, error.as_str()), (0, ""), "{words:?}");
+    assert!(rt;
+        taken.as_slice() == all,
+        "{words:?}: {:?}",
+        taken.as_slice()
+    );
+    Ok(())
+}
+
+fn all_beginnings<R: Threads + Wait + Abort + Sync>(
+    rt: &R,
+    alloc: Global,
+    rows: &[(&[&str], &str)],
+) -> Result<(), Fail> {
+    for (words, text) in rows {
+        each_beginning(rt, alloc, words, text)?;
+    }
+    Ok(())
+}
+
+#[test]
+fn a_failed_output_has_a_beginning(rt: HostRuntime) -> Result<(), Fail> {
+    all_beginnings(&rt, rt.alloc(), &TEXTS)
+}
+
+/// What is printed of batches whose reader fails at a call.
+fn appended_before(fails: usize) -> &'static str {
+    match fails {
+        1..=70 => "",
+        71..=263 => "append 0 index 0 base 0\n",
+        _ => "append 0 index 0 base 0\nappend 0 index 1 base 1\n",
+    }
+}
+
+/// Each batch that was read whole before a reader fails is appended.
+fn each_read_of_batches<R: Threads + Wait + Abort + Sync>(
+    rt: &R,
+    alloc: Global,
+) -> Result<(), Fail> {
+    let script = "partitions 1 1 8\nappend 0 batches\n";
+    for fails in 1..=264 {
+        let (status, taken, error) = called(rt, alloc, &["run", "stdin"], script, fails, ALL)?;
+        assert_eq!(rt;
+            (status, error.as_str()),
+            (3, "file batches\n"),
+            "read {fails}"
+        );
+        assert!(rt;
+            taken.as_slice() == appended_before(fails).as_bytes(),
+            "read {fails}"
+        );
+    }
+    Ok(())
+}
+
+/// Nothing is said of an image whose reader fails.
+fn each_read_of_an_image<R: Threads + Wait + Abort + Sync>(
+    rt: &R,
+    alloc: Global,
+    word: &str,
+) -> Result<(), Fail> {
+    for fails in 1..=25 {
+        let (status, taken, error) = called(rt, alloc, &[word, "image"], "", fails, ALL)?;
+        assert_eq!(rt;
+            (status, error.as_str()),
+            (3, "file image\n"),
+            "{word}, read {fails}"
+        );
+        assert!(rt; taken.is_empty(), "{word}, read {fails}");
+    }
+    Ok(())
+}
+
+#[test]
+fn a_failed_input_leaves_what_was_read_before(rt: HostRuntime) -> Result<(), Fail> {
+    let alloc = rt.alloc();
+    each_read_of_batches(&rt, alloc)?;
+    for word in ["check", "dis", "explain"] {
+        each_read_of_an_image(&rt, alloc, word)?;
+    }
+    Ok(())
+}

@@ -1,0 +1,91 @@
+#!/usr/bin/env python3
+"""Compares the C library with the second implementation (second_machine.py) on random programs and records.
+
+Not part of the build. With a folder that tools/build_library.sh made:
+
+    tools/compare_library.py FOLDER/libklog.so [COUNT [SEED]]
+
+Each program is loaded, and run on ten records. It prints the first image on which the fault's text or an outcome
+differs, and ends with status 1; else how many were compared.
+"""
+import os
+import random
+import sys
+
+sys.path.insert(0, os.path.join(os.path.dirname(os.path.abspath(__file__)), "..", "examples", "library"))
+
+from compare import accepted_image, some_bytes, some_image
+from lines import Engine, Fault, Program
+from second_broker import Record
+from second_machine import Refused, decode, run, verify
+
+
+def verdict(image):
+    """The code of an image, and its fault, if it is refused."""
+    try:
+        code = decode(image)
+    except Refused as refused:
+        return None, str(refused)
+    return code, verify(code)
+
+
+def some_place(rng):
+    offset, timestamp = (rng.choice([0, 1, 999, (1 << 62) - 1, rng.randrange(1 << 62)]) for _ in range(2))
+    return offset, timestamp, rng.choice([0, 1, 63])
+
+
+def expected(code, key, value, place, outputs):
+    end = run(code, Record(0, key, value, []), outputs, place)
+    if isinstance(end, int):
+        return end, []
+    return 0, [(output, key, value) for output, key, value, _ in end]
+
+
+def compare_runs(rng, program, code):
+    """How many records were kept, of ten; None where an outcome differs."""
+    kept = 0
+    for _ in range(10):
+        key, value, place, outputs = some_bytes(rng), some_bytes(rng), some_place(rng), rng.choice([1, 2, 64])
+        found = program.run(key, value, *place, outputs)
+        wanted = expected(code, key, value, place, outputs)
+        if found != wanted:
+            print("key %r value %r place %r outputs %d: %r, not %r" % (key, value, place, outputs, found, wanted))
+            return None
+        kept += found[0] == 0
+    return kept
+
+
+def compare(rng, engine, image):
+    """Whether an image was accepted, and how many records it kept; None where something differs."""
+    code, fault = verdict(image)
+    try:
+        with Program(engine, image) as program:
+            if fault is not None:
+                print("accepted, not %s" % fault)
+                return None
+            kept = compare_runs(rng, program, code)
+            return None if kept is None else (1, kept)
+    except Fault as told:
+        if str(told) != fault:
+            print("%s, not %s" % (told, fault))
+            return None
+        return 0, 0
+
+
+def main():
+    if not 2 <= len(sys.argv) <= 4:
+        sys.exit("usage: tools/compare_library.py LIBRARY [COUNT [SEED]]")
+    count = int(sys.argv[2]) if len(sys.argv) > 2 else 1000
+    rng, engine = random.Random(int(sys.argv[3]) if len(sys.argv) > 3 else 1), Engine(sys.argv[1])
+    accepted = kept = 0
+    for _ in range(count):
+        image = accepted_image(rng) if rng.random() < 0.5 else some_image(rng)
+        answer = compare(rng, engine, image)
+        if answer is None:
+            sys.exit("image %s" % image.hex())
+        accepted, kept = accepted + answer[0], kept + answer[1]
+    print("%d programs, %d of them accepted, %d of their records kept" % (count, accepted, kept))
+
+
+if __name__ == "__main__":
+    main()
