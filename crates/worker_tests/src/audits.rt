@@ -11,59 +11,32 @@ use part_log::{Names, Receipt};
 use std::alloc::Global;
 use std::marker::Brand;
 use std::process::Abort;
-use std::sync::{Mutex, Wait};
+use std::sync::Wait;
 use std::test::Fail;
 use std::thread::Threads;
-use std::{mem, thread};
 use worker::Open;
 
-const TURNS: usize = 100_000_000;
-
 #[test]
-fn receipts_are_audited_from_another_thread(rt: HostRuntime) -> Result<(), Fail> {
+fn receipts_are_audited_in_order(rt: HostRuntime) -> Result<(), Fail> {
     let alloc = rt.alloc();
-    hand_over::<Brand, _>(&rt, alloc, Parts::new(&rt, alloc, 2, 2, 8)?)
+    audit_five::<Brand, _>(&rt, alloc, Parts::new(&rt, alloc, 2, 2, 8)?)
 }
 
-/// One thread appends records and hands their receipts to another one, which audits them in each
-/// book in turn.
-fn hand_over<Id: Names + Send + Sync, R: Threads + Wait + Abort + Sync>(
+/// Each audit of receipts finds the rows of its own item, in each book.
+fn audit_five<Id: Names + Send + Sync, R: Threads + Wait + Abort + Sync>(
     rt: &R,
     alloc: Global,
     parts: Parts<Catalogue<&R>>,
 ) -> Result<(), Fail>
     requires { IsNamed Id.cells Id.inputs Id.outputs parts }
 {
-    let made: Broker<Id, Catalogue<&R>> = Broker::new(alloc, parts)?;
+    let broker: Broker<Id, Catalogue<&R>> = Broker::new(alloc, parts)?;
     for input in 0..2 {
-        assert_eq!(rt; deploy(rt, alloc, &made, input, &BOTH), Some(0));
+        assert_eq!(rt; deploy(rt, alloc, &broker, input, &BOTH), Some(0));
     }
-    let (broker, handed) = (&made, &Mutex::new(Vec::new(alloc)));
-    let one = move |number: usize| -> bool {
-        if number == 0 {
-            produce(rt, alloc, broker, handed)
-        } else {
-            audit(rt, alloc, broker, handed)
-        }
-    };
-    for is_right in &thread::map_indices(rt, alloc, 2, &one)? {
-        assert!(rt; *is_right);
-    }
+    let receipts = append_five(rt, alloc, &broker).ok_or("receipts")?;
+    assert!(rt; are_right(rt, alloc, &broker, &receipts));
     Ok(())
-}
-
-/// Hands over the receipts of five records; whether it could.
-fn produce<Id: Names + Send + Sync, C: Send, R: Threads + Wait + Sync>(
-    rt: &R,
-    alloc: Global,
-    broker: &Broker<Id, C>,
-    handed: &Mutex<Vec<Receipt<Id>>>,
-) -> bool {
-    let Some(receipts) = append_five(rt, alloc, broker) else {
-        return false;
-    };
-    let _none = mem::replace(&mut *handed.lock(rt), receipts);
-    true
 }
 
 /// The receipts of two records of each input, which are processed, and of one that isn't.
@@ -82,23 +55,6 @@ fn append_five<Id: Names + Send + Sync, C: Send, R: Threads + Wait + Sync>(
     }
     receipts.push(put(rt, alloc, broker, 1, b'C')?).ok()?;
     Some(receipts)
-}
-
-/// Waits for receipts, but not for ever; whether each audit of them is right.
-fn audit<Id: Names, C, R: Wait>(
-    rt: &R,
-    alloc: Global,
-    broker: &Broker<Id, C>,
-    handed: &Mutex<Vec<Receipt<Id>>>,
-) -> bool {
-    for _ in 0..TURNS {
-        let taken = mem::replace(&mut *handed.lock(rt), Vec::new(alloc));
-        if !taken.is_empty() {
-            return are_right(rt, alloc, broker, &taken);
-        }
-        thread::yield_now();
-    }
-    false
 }
 
 /// Whether the five receipts have their own rows in both books.
