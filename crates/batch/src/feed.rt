@@ -7,13 +7,13 @@ ghost use Rattle.wire_spec.specs.BatchSpelling.{BatchFits};
 ghost use Rattle.batch.specs.Streams.{Open, pending_bytes, with_piece, after_fault, Gives, Cuts, IsReady};
 
 use crate::fields::i32_at;
-use crate::limits::{FRONT, MAX_BATCH};
+use crate::limits::FRONT;
 use crate::reading::{batch_size, decode};
 use bytes::Bytes;
 use std::alloc::{AllocError, Global};
 use std::marker::Model;
 use std::mem;
-use wire_spec::{Batch, BatchFault};
+use wire_spec::{Batch, BatchFault, MAX_BATCH};
 
 /// The bytes that were fed of a stream of record batches and not given yet. Contracts see those, or
 /// the fault that ended the stream.

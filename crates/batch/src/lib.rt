@@ -10,8 +10,8 @@ mod times;
 mod writing;
 
 pub use feed::Feed;
-pub use limits::{HEADER, MAX_BATCH, MAX_RECORDS, fits, record_len};
+pub use limits::{HEADER, fits, record_len};
 pub use reading::{decode, one_spelling};
 pub use sharing::share;
-pub use wire_spec::{Batch, BatchFault, Headers, Records};
+pub use wire_spec::{Batch, BatchFault, Headers, MAX_BATCH, MAX_RECORDS, Records};
 pub use writing::encode;

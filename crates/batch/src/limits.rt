@@ -4,19 +4,13 @@ ghost use Rattle.wire_spec.specs.RecordSpelling.{RecordFits, record_spelling};
 ghost use Rattle.wire_spec.specs.BatchSpelling.{IsTimestamp, BatchFits, timestamps, records_spelling};
 
 use crate::times::{base_of, is_timestamp, latest};
-use wire_spec::{Batch, Record};
+use wire_spec::{Batch, MAX_BATCH, MAX_RECORD_SIZE, MAX_RECORDS, Record};
 
 /// The bytes up to the end of batchLength, which it does not count.
 pub(crate) const FRONT: usize = 12;
 
 /// The bytes of the header, before the records.
 pub const HEADER: usize = 61;
-
-/// The most bytes of a batch.
-pub const MAX_BATCH: usize = 1_048_576;
-
-/// The most records of a batch.
-pub const MAX_RECORDS: u32 = 10_000;
 
 /// Whether each record is within its limits.
 fn records_fit(records: &[Record]) -> bool
@@ -33,20 +27,20 @@ fn records_fit(records: &[Record]) -> bool
 /// How many bytes the record with this place in its batch takes; the place, from 0, is its offset
 /// delta.
 pub fn record_len(record: &Record, place: usize) -> usize
-    requires place { place < 10000 }
+    requires place { place < MAX_RECORDS }
     requires fits { RecordFits «record».now }
     ensures size { result ≡ length (record_spelling (pos place) «record».now) }
-    ensures small { result ≤ 139444 }
+    ensures small { result ≤ MAX_RECORD_SIZE }
 {
     kafka_record::size(record, place as i32)
 }
 
 /// How many bytes the records of a batch take, one after the other.
 pub fn records_len(records: &[Record]) -> usize
-    requires few { length records.now ≤ 10000 }
+    requires few { length records.now ≤ MAX_RECORDS }
     requires fit { All RecordFits records.now }
     ensures size { result ≡ length (records_spelling 0 records.now) }
-    ensures small { result ≤ 139444 * length records.now }
+    ensures small { result ≤ MAX_RECORD_SIZE * length records.now }
 {
     let mut len = 0;
     for (place, record) in records.iter().enumerate() {
@@ -68,8 +62,8 @@ fn in_time(base: i64, records: &[Record]) -> bool
     }
 }
 
-/// Whether the batch has a spelling: 1 to 10,000 records, each within its limits, timestamps from 0 to
-/// 2^62 - 1 milliseconds, and at most 1,048,576 bytes in all.
+/// Whether the batch has a spelling: 1 to `MAX_RECORDS` records, each within its limits, timestamps from 0 to
+/// 2^62 - 1 milliseconds, and at most `MAX_BATCH` bytes in all.
 pub fn fits(batch: &Batch) -> bool
     ensures { IsTrue result ↔ BatchFits «batch».now }
 {

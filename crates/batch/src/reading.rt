@@ -7,12 +7,12 @@ ghost use Rattle.wire_spec.specs.Memory.{AnswersAs};
 ghost use Rattle.wire_spec.specs.declared.fault.BatchFault.TheVariants.{Memory};
 
 use crate::fields::{i16_at, i32_at, i64_at, u16_at, u32_at};
-use crate::limits::{FRONT, HEADER, MAX_BATCH, MAX_RECORDS};
+use crate::limits::{FRONT, HEADER};
 use crate::times::{is_same, is_timestamp, latest};
 use bytes::Bytes;
 use kafka_record::RecordFault;
 use std::alloc::Global;
-use wire_spec::{Batch, BatchFault, Record, Records};
+use wire_spec::{Batch, BatchFault, MAX_BATCH, MAX_RECORDS, Record, Records};
 
 // What batchLength counts at least: the rest of the header.
 const MIN_LENGTH: i32 = 49;
@@ -67,7 +67,7 @@ fn miscounted(bytes: &[u8]) -> bool
 fn count_of(bytes: &[u8]) -> Result<u32, BatchFault>
     requires { 61 ≤ length bytes.now }
     ensures gives { result ≡ count_at bytes.now }
-    ensures within { IfOk result (λ n. n ≤ 10000) }
+    ensures within { IfOk result (λ n. n ≤ MAX_RECORDS) }
 {
     if bytes[16] != 2 {
         return Err(BatchFault::Magic);
@@ -112,7 +112,7 @@ fn room_for(count: u32, bytes: usize) -> usize {
 /// That many records, which fill the bytes after the header.
 fn records_of(alloc: Global, bytes: &Bytes, count: u32) -> Result<Records, BatchFault>
     requires header { 61 ≤ length bytes.now }
-    requires few { count ≤ 10000 }
+    requires few { count ≤ MAX_RECORDS }
     ensures { AnswersAs Memory (λ rs. rs) result (records_at count 0 (drop 61 bytes.now)) }
 {
     let mut list = Vec::with_capacity(alloc, room_for(count, bytes.len()))?;

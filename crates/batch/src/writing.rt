@@ -10,7 +10,7 @@ use crate::limits::{FRONT, HEADER, records_len};
 use crate::times::{base_of, latest};
 use byteorder::{BigEndian, ByteOrder};
 use std::alloc::{AllocError, Global};
-use wire_spec::{Batch, Record};
+use wire_spec::{Batch, MAX_BATCH, MAX_RECORDS, Record};
 
 // The place of the checksum, and where what it covers begins.
 const CRC: usize = 17;
@@ -19,7 +19,7 @@ const COVERED: usize = 21;
 
 /// Writes the record of this place at the end.
 fn put_record(out: &mut Vec<u8>, record: &Record, place: usize) -> Result<(), AllocError>
-    requires place { place < 10000 }
+    requires place { place < MAX_RECORDS }
     requires fits { RecordFits «record».now }
     ensures { OnOk result (out.new.items ≡ out.old.items ++ record_spelling (pos place) «record».now) }
 {
@@ -27,7 +27,7 @@ fn put_record(out: &mut Vec<u8>, record: &Record, place: usize) -> Result<(), Al
 }
 
 fn put_records(out: &mut Vec<u8>, records: &[Record]) -> Result<(), AllocError>
-    requires few { length records.now ≤ 10000 }
+    requires few { length records.now ≤ MAX_RECORDS }
     requires fit { All RecordFits records.now }
     ensures { OnOk result (out.new.items ≡ out.old.items ++ records_spelling 0 records.now) }
 {
@@ -49,7 +49,7 @@ fn greatest_of(base: i64, records: &[Record]) -> i64
 /// partitionLeaderEpoch, magic, crc.
 fn put_front(out: &mut Vec<u8>, batch: &Batch, size: usize) -> Result<(), AllocError>
     requires least { 12 ≤ size }
-    requires most { size ≤ 1048576 }
+    requires most { size ≤ MAX_BATCH }
     ensures { OnOk result (out.new.items ≡ out.old.items ++ (signed w64 «batch».now.base_offset ++ (to_be_bytes w32 (size - 12)
         ++ (signed w32 «batch».now.leader_epoch ++ (2 ∷ to_be_bytes w32 0))))) }
 {

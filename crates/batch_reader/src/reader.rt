@@ -10,7 +10,7 @@ use std::io;
 use std::io::Read;
 use std::marker::Model;
 use thiserror::Error;
-use wire_spec::{Batch, BatchFault};
+use wire_spec::{Batch, BatchFault, MAX_PIECE};
 
 /// Why no batch is read.
 #[derive(Clone, Copy, Debug, PartialEq, Eq, Drop, Error)]
@@ -65,10 +65,10 @@ impl<R: Read> Model for BatchReader<R> {
 }
 
 impl<R: Read + Drop> BatchReader<R> {
-    /// A reader before its first batch, of which at most `piece` bytes, 1 to 65,536, are read at once. It
+    /// A reader before its first batch, of which at most `piece` bytes, 1 to `MAX_PIECE`, are read at once. It
     /// fails only where memory runs out.
     pub fn new(alloc: Global, reader: R, piece: usize) -> Result<BatchReader<R>, AllocError>
-        requires { (1 ≤ piece) × (piece ≤ 65536) }
+        requires { (1 ≤ piece) × (piece ≤ MAX_PIECE) }
         ensures { IfOk result (λ r. r ≡ inlet (Open []) (R.remaining reader)) }
     {
         Ok(BatchReader {

@@ -5,6 +5,7 @@ use Rattle.std.specs.Prelude.{slice_get}
 use Rattle.std.specs.List.{slice_split}
 use Rattle.std.proofs.lemmas.{Bool.le-leb, List.length-append}
 use Rattle.machine_spec.specs.declared.{instruction.Instruction.Instruction, instruction.Placed.Placed}
+use Rattle.machine_spec.specs.declared.limits.TheConstants.{MAX_SLOTS}
 use Rattle.machine_spec.specs.Image.{IsCodeOf}
 use Rattle.bpf_isa.specs.{Code.AreBytes, Spelling.spelling, Spelling.image_bytes}
 use Rattle.bpf_isa.proofs.{Bytes.form_read, Slots.sized, Walk.code_spelled, Walk.placed_registers}
@@ -32,7 +33,7 @@ lines_of p code is =
     ap (slice_split is_line_feed) (append_assoc line (10 ∷ []) (text_of code))
     ∙ split_at is_line_feed line 10 (text_of code) (line_feeds p.instruction is.registers is.held) refl
 
-lines_again : (code : List Placed) (number size : ℕ) → AreSaid code → size + length (image_bytes code) ≤ 32768 →
+lines_again : (code : List Placed) (number size : ℕ) → AreSaid code → size + length (image_bytes code) ≤ 8 * MAX_SLOTS →
     lines_image number size (slice_split is_line_feed (text_of code)) ≡ Ok (image_bytes code)
 unfolding read_line
 lines_again [] number size are fits = refl
@@ -41,7 +42,7 @@ lines_again (p ∷ code) number size are fits =
     let is = are 0 p refl in
     let all : length (image_bytes (p ∷ code)) ≡ length (spelling i) + length (image_bytes code) =
     length-append (spelling i) (image_bytes code) in
-    let here : leb (size + length (spelling i)) 32768 ≡ true = le-leb _ _ (omega (arith, all)) in
+    let here : leb (size + length (spelling i)) (8 * MAX_SLOTS) ≡ true = le-leb _ _ (omega (arith, all)) in
     let later = lines_again code (number + 1) (size + length (spelling i)) (λ k. are (suc k)) (omega (arith, all)) in
     ap (lines_image number size) (lines_of p code is)
     ∙ ap (λ (r : Result (Option Instruction) LineFault). with_line number size r

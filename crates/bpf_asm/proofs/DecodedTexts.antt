@@ -3,7 +3,7 @@ use Rattle.std.proofs.Common.{◌≡◌, ℕ, ◌+◌, ◌<◌, ◌≤◌, leb, 
 use Rattle.std.proofs.Common.{Err, refl, ap, subst, ◌∙◌, arith}
 use Rattle.std.specs.{List.cons_option, List.slice_split}
 use Rattle.std.proofs.lemmas.{Bool.leb-true, List.length-append}
-use Rattle.machine_spec.specs.declared.instruction.Instruction.{Instruction}
+use Rattle.machine_spec.specs.declared.{instruction.Instruction.Instruction, limits.TheConstants.MAX_SLOTS}
 use Rattle.bpf_isa.specs.Spelling.{spelling}
 use Rattle.bpf_isa.proofs.Cases.{on_choice}
 use Rattle.bpf_asm.specs.declared.{fault.LineFault.LineFault, fault.AsmFault.AsmFault}
@@ -18,7 +18,7 @@ use Rattle.bpf_asm.proofs.SlotsRead.{AllSaid, spellings, placed_instructions, im
 record AreSpelled (instructions : List Instruction) (size : ℕ) (bytes : List ℕ) : Type 0 where
   said : AllSaid instructions
   spelled : bytes ≡ spellings instructions
-  few : size + length bytes ≤ 32768
+  few : size + length bytes ≤ 8 * MAX_SLOTS
 
 abbrev all_bytes : List ℕ → Result (List ℕ) AsmFault
 all_bytes bytes = Ok bytes
@@ -41,8 +41,8 @@ spelled_before i others size bytes (Ok later) said rest e =
     })
 
 line_spelled : (line : List ℕ) (lines : List (List ℕ)) (number size : ℕ) (bytes : List ℕ)
-    (r : Result (Option Instruction) LineFault) → read_line line ≡ r → size ≤ 32768 →
-    ((size : ℕ) (bytes : List ℕ) → size ≤ 32768 → lines_image (number + 1) size lines ≡ Ok bytes →
+    (r : Result (Option Instruction) LineFault) → read_line line ≡ r → size ≤ 8 * MAX_SLOTS →
+    ((size : ℕ) (bytes : List ℕ) → size ≤ 8 * MAX_SLOTS → lines_image (number + 1) size lines ≡ Ok bytes →
     AreSpelled (said_by lines) size bytes) →
     with_line number size r (λ size. lines_image (number + 1) size lines) ≡ Ok bytes →
     AreSpelled (cons_option (if_said r) (said_by lines)) size bytes
@@ -50,14 +50,14 @@ line_spelled line lines number size bytes (Err f) is small rest e = absurd cc
 line_spelled line lines number size bytes (Ok None) is small rest e = rest size bytes small e
 line_spelled line lines number size bytes (Ok (Some i)) is small rest e =
     let after = size + length (spelling i) in
-    on_choice (leb after 32768) (before_bytes (spelling i) (lines_image (number + 1) after lines))
+    on_choice (leb after (8 * MAX_SLOTS)) (before_bytes (spelling i) (lines_image (number + 1) after lines))
     (Err (asm.Size number)) (all_bytes bytes)
     (AreSpelled (i ∷ said_by lines) size bytes) e
     (λ within. spelled_before i (said_by lines) size bytes (lines_image (number + 1) after lines) (line_said line i is)
-    (λ later. rest after later (leb-true after 32768 within)))
+    (λ later. rest after later (leb-true after (8 * MAX_SLOTS) within)))
     (λ _. λ e. absurd cc)
 
-lines_spelled : (lines : List (List ℕ)) (number size : ℕ) (bytes : List ℕ) → size ≤ 32768 →
+lines_spelled : (lines : List (List ℕ)) (number size : ℕ) (bytes : List ℕ) → size ≤ 8 * MAX_SLOTS →
     lines_image number size lines ≡ Ok bytes → AreSpelled (said_by lines) size bytes
 lines_spelled [] number size bytes small e =
     let none : [] ≡ bytes = cc in

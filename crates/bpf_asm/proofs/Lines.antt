@@ -4,7 +4,7 @@ use Rattle.std.proofs.Common.{Some, Result, Ok, Err, refl, sym, ap, subst, ◌�
 use Rattle.std.proofs.lemmas.List.{drop-drop, length-append, length-drop, take_all, append-nil}
 use Rattle.std.proofs.lemmas.{Bool.ltb-true, Bool.ltb-false, Bool.le-leb, Bool.lt-leb, List.Splits.slice_split_first}
 use Rattle.std.specs.{List.slice_split, List.position_or_len}
-use Rattle.machine_spec.specs.declared.instruction.Instruction.{Instruction}
+use Rattle.machine_spec.specs.declared.{instruction.Instruction.Instruction, limits.TheConstants.MAX_SLOTS}
 use Rattle.bpf_isa.specs.Spelling.{spelling}
 use Rattle.bpf_asm.specs.declared.fault.AsmFault.{AsmFault}
 use Rattle.bpf_asm.specs.{Reading.is_line_feed, Reading.read_line, Steps.IsAdded, Steps.IsRefused, Images.before_bytes}
@@ -111,11 +111,12 @@ abbrev pub if_fits : ℕ → ℕ → Instruction → (ℕ → Result (List ℕ) 
 if_fits number size i later fits =
     cond fits (before_bytes (spelling i) (later (size + length (spelling i)))) (Err (asm.Size number))
 
-pub added_fits : (number : ℕ) (i : Instruction) (old new : List ℕ) → new ≡ old ++ spelling i → length new ≤ 32768 →
+pub added_fits : (number : ℕ) (i : Instruction) (old new : List ℕ) → new ≡ old ++ spelling i →
+    length new ≤ 8 * MAX_SLOTS →
     IsAdded number (Ok (Some i)) old new
 added_fits number i old new is fits =
     let size : length new ≡ length old + length (spelling i) = ap length is ∙ length-append old (spelling i) in
-    let small : leb (length old + length (spelling i)) 32768 ≡ true = le-leb _ _ (omega arith) in
+    let small : leb (length old + length (spelling i)) (8 * MAX_SLOTS) ≡ true = le-leb _ _ (omega arith) in
     record {
       whatever = λ later. ap (λ (b : Bool). before_bytes old (if_fits number (length old) i later b)) small
           ∙ twice old (spelling i) (later (length old + length (spelling i)))
@@ -123,9 +124,10 @@ added_fits number i old new is fits =
           ∙ ap (λ (n : ℕ). before_bytes new (later n)) (sym size);
     }
 
-pub refused_past : (number : ℕ) (i : Instruction) (old new : List ℕ) → new ≡ old ++ spelling i → 32768 < length new →
+pub refused_past : (number : ℕ) (i : Instruction) (old new : List ℕ) → new ≡ old ++ spelling i →
+    8 * MAX_SLOTS < length new →
     IsRefused number (Ok (Some i)) old (asm.Size number)
 refused_past number i old new is past =
     let size : length new ≡ length old + length (spelling i) = ap length is ∙ length-append old (spelling i) in
-    let large : leb (length old + length (spelling i)) 32768 ≡ false = lt-leb _ _ (omega arith) in
+    let large : leb (length old + length (spelling i)) (8 * MAX_SLOTS) ≡ false = lt-leb _ _ (omega arith) in
     record { whatever = λ later. ap (if_fits number (length old) i later) large }

@@ -8,7 +8,7 @@ use Rattle.std.proofs.lemmas.{Nat.from_le_bytes-to_le_bytes_2, Nat.from_le_bytes
 use Rattle.std.proofs.lemmas.{List.length-append, List.get_or-append-add}
 use Rattle.std.proofs.lemmas.Bool.{and_from, lt-ltb, le-ltb, le-leb, eq-eqb}
 use Rattle.machine_spec.specs.declared.{instruction.Instruction.Instruction, instruction.Placed.Placed}
-use Rattle.machine_spec.specs.declared.{instruction.IsaFault.IsaFault}
+use Rattle.machine_spec.specs.declared.{instruction.IsaFault.IsaFault, limits.TheConstants.MAX_SLOTS}
 use Rattle.machine_spec.specs.declared.instruction.Distance.TheVariants.{Short, Long}
 use Rattle.machine_spec.specs.declared.instruction.IsaFault.TheVariants as fault
 use Rattle.machine_spec.specs.declared.instruction.Instruction.TheVariants.{Move, Compute, Load, Unary, Store, JumpIf}
@@ -228,14 +228,14 @@ slots_read front (i ∷ is) (suc steps) slot said long enough =
     (placed_from (slot + slots_of i) is)) regroup later)
 
 -- bytes of 1 to 4,096 slots read as the instructions that are spelled there
-pub image_read : (is : List Instruction) → AllSaid is → 0 < length (spellings is) → length (spellings is) ≤ 32768
-    → read_image (spellings is) ≡ Ok (placed_from 0 is)
+pub image_read : (is : List Instruction) → AllSaid is → 0 < length (spellings is) →
+    length (spellings is) ≤ 8 * MAX_SLOTS → read_image (spellings is) ≡ Ok (placed_from 0 is)
 unfolding read_image first_slots
 image_read is said some few =
     let image = spellings is in
     let rest = whole is in
     let size : has_size image ≡ true =
-    and_from ((length image % 8 == 0) && nat_le 1 (slot_count image)) (nat_le (slot_count image) 4096)
+    and_from ((length image % 8 == 0) && nat_le 1 (slot_count image)) (nat_le (slot_count image) MAX_SLOTS)
     (and_from (length image % 8 == 0) (nat_le 1 (slot_count image)) (eq-eqb _ _ rest)
     (le-leb _ _ (omega (arith, rest, some))))
     (le-leb _ _ (omega (arith, few))) in

@@ -61,7 +61,7 @@ fn add_lines(image: &mut Vec<u8>, text: &[u8]) -> Result<(), AsmFault>
     Ok(())
 }
 
-/// The image that a text says, of 1 to 4,096 slots. It fails with the fault of the lowest faulty
+/// The image that a text says, of 1 to `MAX_SLOTS` slots. It fails with the fault of the lowest faulty
 /// line, or as `Memory` where memory runs out.
 #[tactic(auto, unfolding(crate::specs::Images::image_of), using(crate::proofs::DecodedTexts::image_decodes))]
 pub fn assemble(alloc: Global, text: &str) -> Result<Vec<u8>, AsmFault>

@@ -20,7 +20,7 @@ pub enum AsmFault {
     /// A register is none of r0 to r10.
     #[error("A4 Register")]
     Register(usize),
-    /// The instruction passes 4,096 slots, or no line says one.
+    /// The instruction passes `MAX_SLOTS` slots, or no line says one.
     #[error("A5 Size")]
     Size(usize),
     /// Memory ran out.

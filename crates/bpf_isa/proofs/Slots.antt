@@ -3,18 +3,18 @@ use Rattle.std.proofs.Common.{◌≡◌, ℕ, zero, suc, ◌*◌, ◌%◌, ◌<�
 use Rattle.std.proofs.Common.{sym, ap, ◌∙◌, arith}
 use Rattle.std.proofs.lemmas.Bool.{eqb-true, leb-true, lt-ltb, and_parts, cond_both}
 use Rattle.std.proofs.lemmas.List.{length-map}
-use Rattle.machine_spec.specs.declared.instruction.Placed.{Placed}
+use Rattle.machine_spec.specs.declared.{instruction.Placed.Placed, limits.TheConstants.MAX_SLOTS}
 use Rattle.machine_spec.specs.Image.{slot_count, slot_after, first_slots_from, first_slots, has_size, IsCodeOf}
 
 -- what the test of an image's size says
 pub record IsSized (image : List ℕ) : Type 0 where
   pub whole : length image ≡ 8 * slot_count image
   pub some : 1 ≤ slot_count image
-  pub few : slot_count image ≤ 4096
+  pub few : slot_count image ≤ MAX_SLOTS
 
 pub sized : (image : List ℕ) → has_size image ≡ true → IsSized image
 sized image h =
-    let both = and_parts (eqb (length image % 8) 0 && leb 1 (slot_count image)) (leb (slot_count image) 4096) h in
+    let both = and_parts (eqb (length image % 8) 0 && leb 1 (slot_count image)) (leb (slot_count image) MAX_SLOTS) h in
     let first = and_parts (eqb (length image % 8) 0) (leb 1 (slot_count image)) both.0 in
     let rest : length image % 8 ≡ 0 = eqb-true _ _ first.0 in
     record { whole = omega arith; some = leb-true _ _ first.1; few = leb-true _ _ both.1 }
@@ -43,7 +43,7 @@ code_some image code is =
     let some = slots_some image (slot_count image) size.some size.some in
     omega (arith, code_slots image code is)
 
-pub code_few : (image : List ℕ) (code : List Placed) → IsCodeOf image code → length code ≤ 4096
+pub code_few : (image : List ℕ) (code : List Placed) → IsCodeOf image code → length code ≤ MAX_SLOTS
 unfolding first_slots
 code_few image code is =
     let size = sized image is.size in

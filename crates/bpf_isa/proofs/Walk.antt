@@ -6,7 +6,7 @@ use Rattle.std.proofs.lemmas.Bool.{ltb-true, ltb-false}
 use Rattle.std.proofs.lemmas.List.{drop_all}
 use Rattle.std.proofs.lemmas.List.Concat.{flat_map-cons}
 use Rattle.std.proofs.lemmas.Option.{same_Some, slice_get-map}
-use Rattle.machine_spec.specs.declared.instruction.Placed.{Placed}
+use Rattle.machine_spec.specs.declared.{instruction.Placed.Placed, limits.TheConstants.MAX_SLOTS}
 use Rattle.machine_spec.specs.Image.{slot_count, slot_after, first_slots_from, first_slots, read_slot, form_at}
 use Rattle.machine_spec.specs.Image.{slots_of, number_from, number_at, IsCodeOf}
 use Rattle.bpf_isa.specs.Code.{AreBytes}
@@ -105,7 +105,7 @@ slots_below image (suc steps) slot k s e =
     within (ltb slot (slot_count image)) refl e
 
 pub placed_small : (image : List ℕ) (code : List Placed) (k : ℕ) (p : Placed) → IsCodeOf image code →
-    slice_get code k ≡ Some p → p.slot < 4096
+    slice_get code k ≡ Some p → p.slot < MAX_SLOTS
 unfolding first_slots
 placed_small image code k p is at =
     let slot : slice_get (firsts_of code) k ≡ Some p.slot = slice_get-map (λ placed. placed.slot) code k

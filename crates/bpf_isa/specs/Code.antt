@@ -2,6 +2,7 @@
 use Rattle.std.specs.Prelude.{◌≡◌, ℕ, ◌<◌, List, [], ◌∷◌, slice_index, slice_get, Option, option_and_then, map, Some}
 use Rattle.std.specs.Prelude.{None, ◌==◌, if◌then◌else◌}
 use Rattle.machine_spec.specs.declared.{instruction.Instruction.Instruction, instruction.Placed.Placed}
+use Rattle.machine_spec.specs.declared.limits.TheConstants.{MAX_SLOTS}
 use Rattle.machine_spec.specs.Image.{IsCodeOf, number_at}
 
 -- each instruction with its slot, of two lists of one length
@@ -21,9 +22,9 @@ pub record HasImage (code : List Placed) : Type 0 where
   pub bytes : AreBytes image
   pub is_code : IsCodeOf image code
 
--- the instruction number that an entry of a slot's table has; 65,535 is none
+-- the instruction number that an entry of a slot's table has; MAX_SLOTS is none
 abbrev pub entry_number : ℕ → Option ℕ
-entry_number n = if n == 65535 then None else Some n
+entry_number n = if n == MAX_SLOTS then None else Some n
 
 -- the same of each entry, in order
 abbrev pub entry_numbers : List ℕ → List (Option ℕ)

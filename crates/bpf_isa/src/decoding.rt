@@ -13,7 +13,7 @@ use crate::slot_table::SlotTable;
 use machine_spec::{Instruction, IsaFault, MAX_SLOTS, Placed};
 use std::alloc::{AllocError, Global};
 
-/// Whether an image has 1 to 4,096 slots and nothing after them.
+/// Whether an image has 1 to `MAX_SLOTS` slots and nothing after them.
 fn has_size(image: &[u8]) -> bool
     ensures { result ≡ definitions.has_size image.now }
 {

@@ -5,8 +5,8 @@ use machine_spec::MAX_SLOTS;
 use std::alloc::{AllocError, Global};
 use std::marker::Model;
 
-/// Stands for no instruction; the numbers of instructions are below `MAX_SLOTS`.
-const NO_NUMBER: u16 = 65535;
+/// Stands for no instruction, since the numbers of instructions are below it.
+const NO_NUMBER: u16 = MAX_SLOTS as u16;
 
 /// For each slot of an image the number of the instruction that begins there, if one does, in two
 /// bytes. A clause sees the list of them.

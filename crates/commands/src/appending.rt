@@ -16,9 +16,7 @@ use script::{FileName, Source, append_text};
 use std::alloc::Global;
 use std::io::{Read, Write};
 use std::sync::Wait;
-
-/// How many bytes are read at once of batches that are appended.
-const PIECE: usize = 65_536;
+use wire_spec::MAX_PIECE;
 
 /// Appends the batches of a command's bytes.
 pub fn append_source<Id: Names, C, W: Wait, F: Files>(
@@ -81,7 +79,7 @@ fn append_file<Id: Names, C, W: Wait, F: Files>(
     }
 }
 
-/// Appends the batches of a reader's bytes, of which at most `PIECE` are read at once.
+/// Appends the batches of a reader's bytes, of which at most `MAX_PIECE` are read at once.
 fn append_from<Id: Names, C, W: Wait, R: Read>(
     rt: &W,
     alloc: Global,
@@ -94,7 +92,7 @@ fn append_from<Id: Names, C, W: Wait, R: Read>(
     requires { IsUnread unread }
     ensures { AppendsOf broker.now input (R.remaining reader.old) unread receipts.old.items receipts.new.items result }
 {
-    let appended = broker.append_from(rt, alloc, input as usize, reader, PIECE, receipts);
+    let appended = broker.append_from(rt, alloc, input as usize, reader, MAX_PIECE, receipts);
     end_of_stream(appended, unread)
 }
 

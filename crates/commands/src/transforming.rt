@@ -16,9 +16,7 @@ use std::io;
 use std::io::{Read, Write};
 use transform::{Outlet, OutletFault, StreamFault, Transform, TransformFault, transform_all};
 use verifier_spec::LoadFault;
-
-/// How many bytes are read at once of batches.
-const PIECE: usize = 65_536;
+use wire_spec::MAX_PIECE;
 
 /// The place of the file of the batches among the words of a call, after the image.
 const INPUT: usize = 1;
@@ -161,7 +159,7 @@ fn write_files<F: Files, R: Read + Drop, E: Write>(
     requires some { 1 ≤ length names.now }
     requires few { length names.now ≤ MAX_PARTITIONS }
 {
-    let mut batches = BatchReader::new(alloc, reader, PIECE)?;
+    let mut batches = BatchReader::new(alloc, reader, MAX_PIECE)?;
     let outlets = create_all(alloc, files, names)?;
     let mut stream = Transform::new(alloc, 0, 0, outlets);
     let ended = transform_all(program, &mut batches, &mut stream);

@@ -49,7 +49,7 @@ size_text n =
     if n == 0 then codes "the image is empty" ++ 10 ∷ [] else
     if nat_le n (8 * MAX_SLOTS) then codes "the image ends "
     ++ (decimal (n % 8) ++ (codes " bytes into a slot of 8 bytes" ++ 10 ∷ [])) else
-    codes "the image has more than 4096 slots of 8 bytes" ++ 10 ∷ []
+    codes "the image has more than " ++ (decimal MAX_SLOTS ++ (codes " slots of 8 bytes" ++ 10 ∷ []))
 
 abbrev pub opcode_text : ℕ → List ℕ
 opcode_text opcode =

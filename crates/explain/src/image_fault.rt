@@ -105,7 +105,8 @@ fn push_size(text: &mut String, length: usize) -> Result<(), AllocError>
         let more = length % 8;
         write!(text, "the image ends {more} bytes into a slot of 8 bytes\n")
     } else {
-        text.push_str("the image has more than 4096 slots of 8 bytes\n")
+        let most = MAX_SLOTS;
+        write!(text, "the image has more than {most} slots of 8 bytes\n")
     }
 }
 

@@ -1,6 +1,6 @@
 -- The rows of an item in every output partition.
 use Rattle.std.specs.Prelude.{◌≡◌, ℕ, ◌+◌, ◌<◌, ◌≤◌, ◌++◌, List, [], length, All, Option, get_or}
-use Rattle.wire_spec.specs.declared.limits.TheConstants.{TIMESTAMP_END}
+use Rattle.wire_spec.specs.declared.limits.TheConstants.{TIMESTAMP_END, MAX_RECORDS}
 use Rattle.machine_spec.specs.Image.{Program}
 use Rattle.log_spec.specs.declared.row.Row.{Row}
 use Rattle.log_spec.specs.Logs.{Item as LogItem, IsItemRows, RowFits}
@@ -10,7 +10,7 @@ use Rattle.item_rows.specs.declared.origin.Origin.{Origin}
 -- An origin is in the ranges of a broker: each record of an item there has an offset below 2^62.
 pub record IsOrigin (origin : Origin) : Type 0 where
   pub input : origin.input < 64
-  pub offset : origin.offset + 10000 ≤ TIMESTAMP_END
+  pub offset : origin.offset + MAX_RECORDS ≤ TIMESTAMP_END
   pub some_output : 1 ≤ origin.outputs
   pub outputs : origin.outputs ≤ 64
 

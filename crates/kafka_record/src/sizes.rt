@@ -6,7 +6,9 @@ ghost use Rattle.wire_spec.specs.RecordSpelling.{HeaderFits, RecordFits, nullabl
 use crate::limits::slice_of;
 use bytes::Bytes;
 use varint::{len32, len64};
-use wire_spec::{Header, MAX_HEADERS, MAX_VALUE, Record};
+use wire_spec::{
+    Header, MAX_BODY_SIZE, MAX_HEADER_SIZE, MAX_HEADERS, MAX_RECORD_SIZE, MAX_VALUE, Record,
+};
 
 /// How many bytes a length takes, and what it is the length of.
 fn string_len(len: usize) -> usize
@@ -30,7 +32,7 @@ fn nullable_len(part: &Option<Bytes>) -> usize
 fn header_len(one: &Header) -> usize
     requires { HeaderFits one.now }
     ensures size { result ≡ length (header one.now) }
-    ensures small { result ≤ 4361 }
+    ensures small { result ≤ MAX_HEADER_SIZE }
 {
     string_len(one.key.len()) + nullable_len(&one.value)
 }
@@ -39,7 +41,7 @@ fn headers_len(headers: &[Header]) -> usize
     requires few { length headers.now ≤ MAX_HEADERS }
     requires fit { All HeaderFits headers.now }
     ensures size { result ≡ length (flat_map header headers.now) }
-    ensures small { result ≤ 4361 * length headers.now }
+    ensures small { result ≤ MAX_HEADER_SIZE * length headers.now }
 {
     let mut len = 0;
     for one in headers {
@@ -52,7 +54,7 @@ fn headers_len(headers: &[Header]) -> usize
 pub fn body_len(record: &Record, delta: i32) -> usize
     requires { RecordFits «record».now }
     ensures size { result ≡ length (record_body delta «record».now) }
-    ensures small { result ≤ 139439 }
+    ensures small { result ≤ MAX_BODY_SIZE }
 {
     let timestamp = len64(record.timestamp_delta);
     let offset = len32(delta);
@@ -68,7 +70,7 @@ pub fn body_len(record: &Record, delta: i32) -> usize
 pub fn size(record: &Record, delta: i32) -> usize
     requires { RecordFits «record».now }
     ensures size { result ≡ length (record_spelling delta «record».now) }
-    ensures small { result ≤ 139444 }
+    ensures small { result ≤ MAX_RECORD_SIZE }
 {
     string_len(body_len(record, delta))
 }

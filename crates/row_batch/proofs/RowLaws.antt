@@ -12,7 +12,8 @@ use Rattle.std.proofs.lemmas.List.Elements.{All-take}
 use Rattle.wire_spec.specs.declared.{limits.TheConstants.TIMESTAMP_END, record.Record.Record, record.Batch.Batch}
 use Rattle.wire_spec.specs.Varint.{varint}
 use Rattle.wire_spec.specs.RecordSpelling.{RecordFits, record_body, record_spelling}
-use Rattle.wire_spec.specs.BatchSpelling.{max_batch, max_records, IsTimestamp, timestamps, records_spelling}
+use Rattle.wire_spec.specs.BatchSpelling.{IsTimestamp, timestamps, records_spelling}
+use Rattle.wire_spec.specs.declared.limits.TheConstants.{MAX_BATCH, MAX_RECORDS, MAX_RECORD_SIZE}
 use Rattle.wire_spec.specs.BatchSpelling.{batch_spelling, BatchFits}
 use Rattle.wire_spec.proofs.Varints.{length-varint}
 use Rattle.wire_spec.proofs.RecordLaws.{length-record_body}
@@ -120,7 +121,7 @@ first_size place count rows some =
 
 -- ---- a batch that fits
 
-record_small : (delta : ℤ) (given : Record) → RecordFits given → length (record_spelling delta given) ≤ 139444
+record_small : (delta : ℤ) (given : Record) → RecordFits given → length (record_spelling delta given) ≤ MAX_RECORD_SIZE
 record_small delta given fits =
     let body = record_body delta given in
     omega (
@@ -133,7 +134,7 @@ record_small delta given fits =
 
 -- one record has room
 pub one_small : (base : ℕ) (rows : List Row) → base < TIMESTAMP_END → All RowFits rows →
-    size_with (map (record_of base) (take 1 rows)) ≤ max_batch
+    size_with (map (record_of base) (take 1 rows)) ≤ MAX_BATCH
 one_small base [] low fit = omega arith
 one_small base (row ∷ rows) low fit =
     let given = record_of base row in
@@ -142,8 +143,8 @@ one_small base (row ∷ rows) low fit =
     ap length (append-nil (record_spelling (pos 0) given)) in
     omega (arith, small, same)
 
-pub batch_fits : (place : ℕ) (rows : List Row) → place < 2 ^ 63 → 1 ≤ length rows → length rows ≤ max_records →
-    All RowFits rows → length (batch_spelling (batch_of place rows)) ≤ max_batch → BatchFits (batch_of place rows)
+pub batch_fits : (place : ℕ) (rows : List Row) → place < 2 ^ 63 → 1 ≤ length rows → length rows ≤ MAX_RECORDS →
+    All RowFits rows → length (batch_spelling (batch_of place rows)) ≤ MAX_BATCH → BatchFits (batch_of place rows)
 batch_fits place rows low some few fit small =
     let base = first_timestamp rows in
     let count = length-map rows (record_of base) in
@@ -178,7 +179,7 @@ one_row place row rows low fits =
 pub record UpTo (base : ℕ) (rows : List Row) (count : ℕ) (records : List Record) (size : ℕ) : Type 0 where
   pub are : records ≡ map (record_of base) (take count rows)
   pub size_is : size ≡ size_with records
-  pub small : size ≤ max_batch
+  pub small : size ≤ MAX_BATCH
 
 pub none_yet : (base : ℕ) (rows : List Row) → UpTo base rows 0 [] 61
 none_yet base rows = record { are = refl; size_is = refl; small = omega arith }
@@ -211,15 +212,15 @@ module _ (base : ℕ) (rows : List Row) (count size len : ℕ) (records : List R
       let more = ap length pushed ∙ length-append (records_spelling 0 records) (record_spelling (pos count) given) in
       omega (arith, so_far.size_is, len_is, more)
 
-  pub next_up_to : size + len ≤ max_batch → UpTo base rows (count + 1) (records ++ given ∷ []) (size + len)
+  pub next_up_to : size + len ≤ MAX_BATCH → UpTo base rows (count + 1) (records ++ given ∷ []) (size + len)
   next_up_to small = record { are = sym longer; size_is = grown; small = small }
 
-  pub ends_before : max_batch < size + len → AreFirst base rows records
+  pub ends_before : MAX_BATCH < size + len → AreFirst base rows records
   ends_before large = record {
     are = so_far.are ∙ ap (λ (n : ℕ). map (record_of base) (take n rows)) (sym count_is);
     there = omega (arith, count_is, lt);
     few_bytes = omega (arith, so_far.size_is, so_far.small);
-    full = λ some. subst (λ (n : ℕ). max_batch < size_with (map (record_of base) (take (n + 1) rows))) (sym count_is)
+    full = λ some. subst (λ (n : ℕ). MAX_BATCH < size_with (map (record_of base) (take (n + 1) rows))) (sym count_is)
         (omega (arith, grown, large, ap size_with longer));
   }
 
@@ -238,7 +239,7 @@ ends_after base rows count size records so_far whole =
 -- ---- the batch of the first rows
 
 pub first_batch_is : (place : ℕ) (rows : List Row) (records : List Record) → place < 2 ^ 63 → 0 < length rows →
-    length rows ≤ max_records → All RowFits rows
+    length rows ≤ MAX_RECORDS → All RowFits rows
     → AreFirst (first_timestamp rows) rows records
     → IsFirst place rows (length records) (record {
       base_offset = pos place;
@@ -267,7 +268,7 @@ first_batch_is place rows records low some few fit first =
     } in
     let is : with base records ≡ batch_of place (take count rows) =
     ap (with base) first.are ∙ ap (λ (b : ℕ). with b (map (record_of b) (take count rows))) (sym same) in
-    let small : length (batch_spelling (batch_of place (take count rows))) ≤ max_batch =
+    let small : length (batch_spelling (batch_of place (take count rows))) ≤ MAX_BATCH =
     omega (arith, first_size place count rows more, ap size_with first.are, first.few_bytes) in
     let fits = batch_fits place (take count rows) low (omega (arith, taken, more))
     (omega (arith, taken, first.there, few)) (All-take RowFits count rows fit) small in
@@ -280,9 +281,9 @@ first_batch_is place rows records low some few fit first =
     }
   where
     by_count : (n : ℕ) → (n < length rows →
-        max_batch < size_with (map (record_of (first_timestamp rows)) (take (n + 1) rows))) → 1 ≤ n
+        MAX_BATCH < size_with (map (record_of (first_timestamp rows)) (take (n + 1) rows))) → 1 ≤ n
     by_count zero full =
-        let one : size_with (map (record_of (first_timestamp rows)) (take (0 + 1) rows)) ≤ max_batch =
+        let one : size_with (map (record_of (first_timestamp rows)) (take (0 + 1) rows)) ≤ MAX_BATCH =
         one_small (first_timestamp rows) rows (first_fits rows fit) fit in
         absurd (omega (arith, one, full some))
     by_count (suc n) full = omega arith
@@ -295,7 +296,7 @@ first_is (first ∷ rows) row some = refl
 -- the same by other names of its numbers
 pub first_batch_as : (place : ℕ) (rows : List Row) (records : List Record) (offset stamp : ℤ) → offset ≡ pos place →
     stamp ≡ pos (first_timestamp rows) → place < 2 ^ 63
-    → 0 < length rows → length rows ≤ max_records → All RowFits rows → AreFirst (first_timestamp rows) rows records
+    → 0 < length rows → length rows ≤ MAX_RECORDS → All RowFits rows → AreFirst (first_timestamp rows) rows records
     → IsFirst place rows (length records) (record {
       base_offset = offset;
       leader_epoch = pos 0;
@@ -351,7 +352,7 @@ batch_longer place fewer more rows some le =
 -- no greater number of rows is in one batch
 none_greater : (left : List Row) (place most count more : ℕ) (batch : Batch) →
     IsFirst place (take most left) count batch → most ≤ length left → more ≤ most →
-    length (batch_spelling (batch_of place (take more left))) ≤ max_batch → count < more → ⊥
+    length (batch_spelling (batch_of place (take more left))) ≤ MAX_BATCH → count < more → ⊥
 none_greater left place most count more batch first there within small lt =
     let long : length (take most left) ≡ most = length-take-le most left there in
     let full = first.full (omega (arith, long, lt, within)) in
@@ -361,9 +362,9 @@ none_greater left place most count more batch first there within small lt =
     let longer = batch_longer place (count + 1) more left (omega arith) (omega (arith, lt)) in
     omega (arith, full, size, longer, small)
 
-pub most_taken : (rows : List Row) (place max most count : ℕ) (batch : Batch) → most ≤ max → most ≤ max_records →
+pub most_taken : (rows : List Row) (place max most count : ℕ) (batch : Batch) → most ≤ max → most ≤ MAX_RECORDS →
     most ≤ length (drop place rows) →
-    ((more : ℕ) → more ≤ max → more ≤ max_records → more ≤ length (drop place rows) → more ≤ most) →
+    ((more : ℕ) → more ≤ max → more ≤ MAX_RECORDS → more ≤ length (drop place rows) → more ≤ most) →
     IsFirst place (take most (drop place rows)) count batch →
     TakesMost rows place max count × (batch ≡ batch_of place (take count (drop place rows)))
 most_taken rows place max most count batch wanted few there greatest first =
@@ -378,7 +379,7 @@ most_taken rows place max most count batch wanted few there greatest first =
           wanted = omega (arith, below, wanted);
           there = omega (arith, below, there);
           few_records = omega (arith, below, few);
-          few_bytes = subst (λ (b : Batch). length (batch_spelling b) ≤ max_batch) is first.fits.few_bytes;
+          few_bytes = subst (λ (b : Batch). length (batch_spelling b) ≤ MAX_BATCH) is first.fits.few_bytes;
         };
         most = λ more may. ⊎_elim
             (λ lt. absurd (none_greater left place most count more batch first there

@@ -2,7 +2,8 @@
 use Rattle.std.specs.Prelude.{◌≡◌, ℕ, ◌≤◌, pos, negsuc, ◌-ℤ◌, List, [], ◌∷◌, length, map, take, drop, Option}
 use Rattle.std.specs.Prelude.{Some, None, ◌⊎◌}
 use Rattle.wire_spec.specs.declared.{record.Record.Record, record.Batch.Batch}
-use Rattle.wire_spec.specs.BatchSpelling.{max_batch, max_records, batch_spelling, BatchFits}
+use Rattle.wire_spec.specs.BatchSpelling.{batch_spelling, BatchFits}
+use Rattle.wire_spec.specs.declared.limits.TheConstants.{MAX_BATCH, MAX_RECORDS}
 use Rattle.log_spec.specs.declared.row.Row.{Row}
 
 -- a row as a record of a batch with this base timestamp
@@ -38,8 +39,8 @@ pub record MayTake (rows : List Row) (place max count : ℕ) : Type 0 where
   pub some : 1 ≤ count
   pub wanted : count ≤ max
   pub there : count ≤ length (drop place rows)
-  pub few_records : count ≤ max_records
-  pub few_bytes : length (batch_spelling (batch_of place (take count (drop place rows)))) ≤ max_batch
+  pub few_records : count ≤ MAX_RECORDS
+  pub few_bytes : length (batch_spelling (batch_of place (take count (drop place rows)))) ≤ MAX_BATCH
 
 -- this is the greatest number of rows that may be in one batch
 pub record TakesMost (rows : List Row) (place max count : ℕ) : Type 0 where

@@ -7,7 +7,7 @@ ghost use Rattle.row_batch.specs.RowBatches.{record_of};
 ghost use Rattle.row_batch.specs.FirstRows.{AreFirst};
 
 use crate::list::RowList;
-use batch::{HEADER, MAX_BATCH, record_len};
+use batch::{HEADER, MAX_BATCH, MAX_RECORDS, record_len};
 use kafka_record::{share_bytes, share_headers};
 use log_spec::Row;
 use std::alloc::{AllocError, Global};
@@ -50,7 +50,7 @@ pub fn first_records<L: RowList>(
     requires base { base < TIMESTAMP_END }
     requires there { first + most ≤ length (L.rows rows.now) }
     requires small { first + most < 2 ^ 63 }
-    requires few { most ≤ 10000 }
+    requires few { most ≤ MAX_RECORDS }
     requires fit { All RowFits (take most (drop first (L.rows rows.now))) }
     ensures { IfOk result (λ records. AreFirst base (take most (drop first (L.rows rows.now))) records) }
 {

@@ -27,7 +27,7 @@ pub fn first_batch<L: RowList>(
     requires there { first + most ≤ length (L.rows rows.now) }
     requires small { first + most < 2 ^ 63 }
     requires some { 1 ≤ most }
-    requires few { most ≤ 10000 }
+    requires few { most ≤ MAX_RECORDS }
     requires fit { All RowFits (take most (drop first (L.rows rows.now))) }
     ensures { IfOk result (λ batch. IsFirst place (take most (drop first (L.rows rows.now))) (length batch.records) batch) }
 {
@@ -44,7 +44,7 @@ pub fn first_batch<L: RowList>(
 }
 
 /// The bytes of a record batch of the rows from a place on: as many as are there, at most `max` and
-/// 10,000, with which the batch has at most 1,048,576 bytes. None where no row has that place, or
+/// `MAX_RECORDS`, with which the batch has at most `MAX_BATCH` bytes. None where no row has that place, or
 /// where `max` is 0. The batch's base offset is the place, and its base timestamp the first row's.
 /// The rows' bytes are copied once, and the time does not depend on the rows before the place. It
 /// fails only where memory runs out.

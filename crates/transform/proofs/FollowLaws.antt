@@ -7,7 +7,8 @@ use Rattle.std.proofs.KnownBytes.{Appends-trans}
 use Rattle.std.proofs.lemmas.List.{take-append-le, drop-append-le, length-append}
 use Rattle.std.proofs.lemmas.List.Folds.{concat-append}
 use Rattle.wire_spec.specs.declared.record.Batch.{Batch}
-use Rattle.wire_spec.specs.BatchSpelling.{max_batch, batch_spelling, BatchFits}
+use Rattle.wire_spec.specs.BatchSpelling.{batch_spelling, BatchFits}
+use Rattle.wire_spec.specs.declared.limits.TheConstants.{MAX_BATCH}
 use Rattle.machine_spec.specs.Image.{Program}
 use Rattle.log_spec.specs.declared.row.Row.{Row}
 use Rattle.row_batch.specs.RowBatches.{batch_of}
@@ -46,7 +47,7 @@ full_with w more count full = ⊎_elim (λ many. inl many) (λ large.
     let same = same_first w.rows more (count + 1) (omega (arith, large.0)) in
     inr (
       omega (arith, large.0, length-append w.rows more),
-      subst (λ (rs : List Row). max_batch < length (batch_spelling (batch_of w.place rs))) same large.1,
+      subst (λ (rs : List Row). MAX_BATCH < length (batch_spelling (batch_of w.place rs))) same large.1,
     )) full
 
 rest_with : (w : Waiting) (more : List Row) (count : ℕ) → count ≤ length w.rows →

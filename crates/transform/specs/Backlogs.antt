@@ -1,7 +1,8 @@
 -- Rows of an output partition that become record batches, one after the other.
 use Rattle.std.specs.Prelude.{◌≡◌, ℕ, ◌+◌, ◌<◌, ◌≤◌, ◌^◌, ◌⊎◌, List, [], length, take, drop, All, Option, Some, None}
 use Rattle.wire_spec.specs.declared.record.Batch.{Batch}
-use Rattle.wire_spec.specs.BatchSpelling.{max_batch, max_records, batch_spelling, BatchFits}
+use Rattle.wire_spec.specs.BatchSpelling.{batch_spelling, BatchFits}
+use Rattle.wire_spec.specs.declared.limits.TheConstants.{MAX_BATCH, MAX_RECORDS}
 use Rattle.log_spec.specs.declared.row.Row.{Row}
 use Rattle.log_spec.specs.Logs.{RowFits}
 use Rattle.row_batch.specs.RowBatches.{batch_of}
@@ -27,8 +28,8 @@ pub record IsBatchOf (w : Waiting) (count : ℕ) (bytes : List ℕ) : Type 0 whe
 
 -- With one row more than the first `count` that wait, a batch would have more records or more bytes than one may have.
 abbrev pub IsFull : Waiting → ℕ → Type 0
-IsFull w count = (count ≡ max_records)
-    ⊎ ((count < length w.rows) × (max_batch < length (batch_spelling (batch_of w.place (take (count + 1) w.rows)))))
+IsFull w count = (count ≡ MAX_RECORDS)
+    ⊎ ((count < length w.rows) × (MAX_BATCH < length (batch_spelling (batch_of w.place (take (count + 1) w.rows)))))
 
 -- A full batch of the rows that wait was given, or nothing.
 abbrev pub GivesFull : Waiting → Option (List ℕ) → Waiting → Type 0

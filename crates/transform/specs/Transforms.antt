@@ -1,7 +1,8 @@
 -- A stream of record batches through a program, into output partitions.
 use Rattle.std.specs.Prelude.{◌≡◌, ◌≢◌, ℕ, ◌+◌, ◌<◌, ◌≤◌, List, [], ◌∷◌, ◌++◌, length, map, Some, None, Result, Ok}
 use Rattle.std.specs.Prelude.{Err, get_or}
-use Rattle.wire_spec.specs.declared.{record.Batch.Batch, limits.TheConstants.TIMESTAMP_END}
+use Rattle.wire_spec.specs.declared.record.Batch.{Batch}
+use Rattle.wire_spec.specs.declared.limits.TheConstants.{TIMESTAMP_END, MAX_RECORDS}
 use Rattle.machine_spec.specs.Image.{Program}
 use Rattle.log_spec.specs.declared.row.Row.{Row}
 use Rattle.log_spec.specs.Logs.{Item as LogItem, Records, Marked, IsItemRows, IsRowsOf}
@@ -104,7 +105,7 @@ Pushes program batch old (Ok done) new =
 Pushes program batch old (Err (fault.Output output why)) new =
     (all : List (List Row)) × AreItemRows (origin_of old) (Some program) (Records batch) all
     × PutsEach all old.outputs (Err (fault.Output output why)) new.outputs
-Pushes program batch old (Err fault.Full) new = (TIMESTAMP_END < old.offset + 10000) × (new ≡ old)
+Pushes program batch old (Err fault.Full) new = (TIMESTAMP_END < old.offset + MAX_RECORDS) × (new ≡ old)
 Pushes program batch old (Err fault.Memory) new = new ≡ old
 
 -- ---- the end

@@ -15,10 +15,7 @@ use std::alloc::{AllocError, Global};
 use std::io::Write;
 use std::marker::Model;
 use thiserror::Error;
-use wire_spec::{Batch, TIMESTAMP_END};
-
-/// How many records a batch has at most.
-const MOST_RECORDS: u64 = 10_000;
+use wire_spec::{Batch, MAX_RECORDS, TIMESTAMP_END};
 
 /// How many bytes of batches rows share while they wait, at most: 8 MiB and those of one batch.
 const MOST_SHARED: usize = 8_388_608;
@@ -128,7 +125,7 @@ impl<W: Write> Transform<W> {
         requires { FitsLog batch }
         ensures { Pushes program.now batch self.old result self.new }
     {
-        if self.offset > TIMESTAMP_END - MOST_RECORDS {
+        if self.offset > TIMESTAMP_END - MAX_RECORDS as u64 {
             return Err(TransformFault::Full);
         }
         let origin = Origin {

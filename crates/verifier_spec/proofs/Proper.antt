@@ -109,7 +109,7 @@ pub length_range_order : (a : Abstract) (at : Region) → is_proper a ≡ true �
     (length_range a at).min ≤ (length_range a at).max
 length_range_order a at h = (length_range_proper a at h).order
 
-pub length_range_limit : (a : Abstract) (at : Region) → is_proper a ≡ true → (length_range a at).max ≤ 65536
+pub length_range_limit : (a : Abstract) (at : Region) → is_proper a ≡ true → (length_range a at).max ≤ MAX_VALUE
 length_range_limit a at h = (length_range_proper a at h).limited
 
 -- a range in the limits that is no longer than the old one

@@ -1,5 +1,6 @@
 -- Joins of kinds, worked.
 use Rattle.std.proofs.Common.{◌≡◌, pos, refl}
+use Rattle.wire_spec.specs.declared.limits.TheConstants.{MAX_VALUE}
 use Rattle.machine_spec.specs.declared.instruction.Region.TheVariants as region
 use Rattle.verifier_spec.specs.declared.state.Abs.TheVariants as abs
 use Rattle.verifier_spec.specs.declared.state.Abstract.{Abstract}
@@ -14,7 +15,7 @@ five_to_nine = record entry_state { value = lengths_from_to 5 9 }
 two_intervals : joined_kind entry_state entry_state (abs.Num 1 2) (abs.Num 5 9) ≡ abs.Num 1 9
 two_intervals = refl
 
-length_and_number : joined_kind entry_state entry_state (abs.Len region.Value) (abs.Num 3 7) ≡ abs.Num 0 65_536
+length_and_number : joined_kind entry_state entry_state (abs.Len region.Value) (abs.Num 3 7) ≡ abs.Num 0 MAX_VALUE
 length_and_number = refl
 
 number_and_length : joined_kind five_to_nine five_to_nine (abs.Num 3 7) (abs.Len region.Value) ≡ abs.Num 3 9
@@ -27,7 +28,7 @@ narrower_length = refl
 views_of_two_states : joined_kind five_to_nine entry_state (abs.Len region.Value) (abs.Num 3 7) ≡ abs.Num 3 9
 views_of_two_states = refl
 
-two_lengths : joined_kind entry_state entry_state (abs.Len region.Key) (abs.Len region.Value) ≡ abs.Num 0 65_536
+two_lengths : joined_kind entry_state entry_state (abs.Len region.Key) (abs.Len region.Value) ≡ abs.Num 0 MAX_VALUE
 two_lengths = refl
 
 same_length : joined_kind five_to_nine entry_state (abs.Len region.Value) (abs.Len region.Value) ≡ abs.Len region.Value

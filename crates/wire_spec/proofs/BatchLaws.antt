@@ -22,7 +22,8 @@ use Rattle.wire_spec.specs.declared.fault.BatchFault.TheVariants as faults
 use Rattle.wire_spec.specs.Checksum.{checksum}
 use Rattle.wire_spec.specs.RecordSpelling.{RecordFits, record_spelling}
 use Rattle.wire_spec.specs.RecordReading.{record_at}
-use Rattle.wire_spec.specs.BatchSpelling.{max_batch, max_records, timestamps, greatest, IsTimestamp, signed}
+use Rattle.wire_spec.specs.BatchSpelling.{timestamps, greatest, IsTimestamp, signed}
+use Rattle.wire_spec.specs.declared.limits.TheConstants.{MAX_BATCH, MAX_RECORDS}
 use Rattle.wire_spec.specs.BatchSpelling.{records_spelling, checksummed_bytes, bytes_from_epoch, batch_spelling}
 use Rattle.wire_spec.specs.BatchSpelling.{BatchFits}
 use Rattle.wire_spec.specs.BatchReading.{◌>>=◌, number_at, signed_at, base_offset, batch_length, leader_epoch, magic}
@@ -330,7 +331,7 @@ record Counted (bytes : List ℕ) (n : ℕ) : Type 0 where
   pub crc : crc bytes ≡ checksum (drop 21 bytes)
   pub attributes : attributes bytes ≡ 0
   pub some : 0 < n
-  pub few : n ≤ max_records
+  pub few : n ≤ MAX_RECORDS
   pub last : last_offset_delta bytes + 1 ≡ n
   pub count : record_count bytes ≡ n
 
@@ -341,13 +342,13 @@ count_taken bytes n e =
     let c = guard_ok (not (eqb (crc bytes) (checksum (drop 21 bytes)))) faults.Crc _ n m.1 in
     let a = guard_ok (not (eqb (attributes bytes) 0)) faults.Attributes _ n c.1 in
     let k = guard_ok (is_miscounted bytes) faults.Count (done (record_count bytes)) n a.1 in
-    let none = from_or (eqb (record_count bytes) 0) (ltb max_records (record_count bytes) || not
+    let none = from_or (eqb (record_count bytes) 0) (ltb MAX_RECORDS (record_count bytes) || not
     (eqb (last_offset_delta bytes + 1) (record_count bytes))) k.0 in
-    let many = from_or (ltb max_records (record_count bytes))
+    let many = from_or (ltb MAX_RECORDS (record_count bytes))
     (not (eqb (last_offset_delta bytes + 1) (record_count bytes))) none.1 in
     let same : record_count bytes ≡ n = ok_is (record_count bytes) n k.1 in
     let least : 0 < record_count bytes = not_zero (record_count bytes) none.0 in
-    let most : record_count bytes ≤ max_records = ltb-false max_records (record_count bytes) many.0 in
+    let most : record_count bytes ≤ MAX_RECORDS = ltb-false MAX_RECORDS (record_count bytes) many.0 in
     let last : last_offset_delta bytes + 1 ≡ record_count bytes =
     eqb-true (last_offset_delta bytes + 1) (record_count bytes) (from_not _ many.1) in
     record {
@@ -355,14 +356,14 @@ count_taken bytes n e =
       crc = eqb-true (crc bytes) (checksum (drop 21 bytes)) (from_not _ c.0);
       attributes = eqb-true (attributes bytes) 0 (from_not _ a.0);
       some = subst (λ (k : ℕ). 0 < k) same least;
-      few = subst (λ (k : ℕ). k ≤ max_records) same most;
+      few = subst (λ (k : ℕ). k ≤ MAX_RECORDS) same most;
       last = last ∙ same;
       count = same;
     }
 
-counted_ok : (n last : ℕ) → 0 < n → n ≤ max_records → last + 1 ≡ n →
-    (eqb n 0 || (ltb max_records n || not (eqb (last + 1) n))) ≡ false
-counted_ok n last some few e = rw (not_none n some, le-ltb max_records n few, eq-eqb (last + 1) n e) refl
+counted_ok : (n last : ℕ) → 0 < n → n ≤ MAX_RECORDS → last + 1 ≡ n →
+    (eqb n 0 || (ltb MAX_RECORDS n || not (eqb (last + 1) n))) ≡ false
+counted_ok n last some few e = rw (not_none n some, le-ltb MAX_RECORDS n few, eq-eqb (last + 1) n e) refl
 
 count_again : (bytes : List ℕ) (n : ℕ) → Counted bytes n → count_at bytes ≡ Ok n
 unfolding count_at
@@ -379,7 +380,7 @@ count_again bytes n h =
 pub record Sized (bytes : List ℕ) (n : ℕ) : Type 0 where
   pub size : number_at w32 8 bytes + 12 ≡ n
   pub least : 61 ≤ n
-  pub most : n ≤ max_batch
+  pub most : n ≤ MAX_BATCH
   pub there : n ≤ length bytes
 
 more_by_12 : (m : ℕ) → 49 ≤ m → 61 ≤ m + 12
@@ -403,23 +404,23 @@ unfolding size_at
 size_taken bytes n e =
     let a = guard_ok (ltb (length bytes) 12) faults.Short _ n e in
     let b = guard_ok (int_lt (batch_length bytes) (pos 49)) faults.Length _ n a.1 in
-    let c = guard_ok (ltb max_batch (batch_size bytes)) faults.TooLarge _ n b.1 in
+    let c = guard_ok (ltb MAX_BATCH (batch_size bytes)) faults.TooLarge _ n b.1 in
     let d = guard_ok (ltb (length bytes) (batch_size bytes)) faults.Short (done (batch_size bytes)) n c.1 in
     let long = long_enough (number_at w32 8 bytes) b.0 in
     let size : batch_size bytes ≡ number_at w32 8 bytes + 12 = ap with_front long.0 in
     let same : batch_size bytes ≡ n = ok_is (batch_size bytes) n d.1 in
-    let most : batch_size bytes ≤ max_batch = ltb-false max_batch (batch_size bytes) c.0 in
+    let most : batch_size bytes ≤ MAX_BATCH = ltb-false MAX_BATCH (batch_size bytes) c.0 in
     let there : batch_size bytes ≤ length bytes = ltb-false (length bytes) (batch_size bytes) d.0 in
     let whole : number_at w32 8 bytes + 12 ≡ n = sym size ∙ same in
     let least : 49 ≤ number_at w32 8 bytes = long.1 in
     record {
       size = whole;
       least = subst (λ (k : ℕ). 61 ≤ k) whole (more_by_12 (number_at w32 8 bytes) least);
-      most = subst (λ (k : ℕ). k ≤ max_batch) same most;
+      most = subst (λ (k : ℕ). k ≤ MAX_BATCH) same most;
       there = subst (λ (k : ℕ). k ≤ length bytes) same there;
     }
 
-sized_by : (bytes : List ℕ) (n m : ℕ) → number_at w32 8 bytes ≡ m → m + 12 ≡ n → 61 ≤ n → n ≤ max_batch →
+sized_by : (bytes : List ℕ) (n m : ℕ) → number_at w32 8 bytes ≡ m → m + 12 ≡ n → 61 ≤ n → n ≤ MAX_BATCH →
     n ≤ length bytes → size_at bytes ≡ Ok n
 unfolding size_at
 sized_by bytes n m number size least most there =
@@ -427,7 +428,7 @@ sized_by bytes n m number size least most there =
     let len : batch_length bytes ≡ pos m = ap (cast_signed w32) number ∙ to_z_pos w32 m low in
     let front : ltb (length bytes) 12 ≡ false = le-ltb (length bytes) 12 (omega arith) in
     let enough : ltb m 49 ≡ false = le-ltb m 49 (omega arith) in
-    let small : ltb max_batch n ≡ false = le-ltb max_batch n most in
+    let small : ltb MAX_BATCH n ≡ false = le-ltb MAX_BATCH n most in
     let whole : ltb (length bytes) n ≡ false = le-ltb (length bytes) n there in
     rw (front, len, enough, size, small, whole) refl
 
@@ -540,7 +541,7 @@ timed_taken bytes rs b e =
       ok_is (made_of bytes rs) b t.1,
     )
 
-made_fits : (bytes : List ℕ) (rs : List Record) → IsBytes bytes → length bytes ≤ max_batch → Counted bytes (length rs) →
+made_fits : (bytes : List ℕ) (rs : List Record) → IsBytes bytes → length bytes ≤ MAX_BATCH → Counted bytes (length rs) →
     Timed bytes rs → AllByRecursion RecordFits rs → bytes ≡ batch_spelling (made_of bytes rs) →
     BatchFits (made_of bytes rs)
 unfolding made_of
@@ -555,10 +556,10 @@ made_fits bytes rs fits small counted timed records spelled = record {
   records = records;
   base_timestamp = IsTimestamp-from (base_timestamp bytes) timed.base;
   each_timestamp = AllByRecursion-from (timestamps (base_timestamp bytes) rs) timed.each;
-  few_bytes = subst (λ (s : List ℕ). length s ≤ max_batch) spelled small;
+  few_bytes = subst (λ (s : List ℕ). length s ≤ MAX_BATCH) spelled small;
 }
 
-pub whole_takes : (bytes : List ℕ) (b : Batch) → IsBytes bytes → 61 ≤ length bytes → length bytes ≤ max_batch →
+pub whole_takes : (bytes : List ℕ) (b : Batch) → IsBytes bytes → 61 ≤ length bytes → length bytes ≤ MAX_BATCH →
     number_at w32 8 bytes + 12 ≡ length bytes → whole_at bytes ≡ Ok b → BatchFits b × (bytes ≡ batch_spelling b)
 unfolding whole_at
 whole_takes bytes b fits long small size e =

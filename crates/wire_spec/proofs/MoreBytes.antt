@@ -9,7 +9,7 @@ use Rattle.wire_spec.specs.declared.{fault.BatchFault.BatchFault, record.Batch.B
 use Rattle.wire_spec.specs.declared.fault.BatchFault.TheVariants as faults
 use Rattle.wire_spec.specs.Checksum.{checksum}
 use Rattle.wire_spec.specs.RecordReading.{record_at}
-use Rattle.wire_spec.specs.BatchSpelling.{max_batch}
+use Rattle.wire_spec.specs.declared.limits.TheConstants.{MAX_BATCH}
 use Rattle.wire_spec.specs.BatchReading.{◌>>=◌, number_at, batch_length, magic, crc, attributes, with_front, batch_size}
 use Rattle.wire_spec.specs.BatchReading.{is_miscounted, is_mistimed, record_or, records_at, count_at, timed_at}
 use Rattle.wire_spec.specs.BatchReading.{whole_at, size_at, IsPart, batch_at}
@@ -48,10 +48,10 @@ size_of_long bytes more long whole =
     let front : number_at w32 8 all ≡ number_at w32 8 bytes =
     sym (length_alone (length bytes) all long) ∙ ap (number_at w32 8) (take_at bytes more (length bytes) refl) in
     let same : batch_length all ≡ batch_length bytes = ap (cast_signed w32) front in
-    ap (λ (l : ℤ). size_by (ltb (length all) 12) (int_lt l (pos 49)) (ltb max_batch (with_front l))
+    ap (λ (l : ℤ). size_by (ltb (length all) 12) (int_lt l (pos 49)) (ltb MAX_BATCH (with_front l))
     (ltb (length all) (with_front l)) (with_front l)) same
     ∙ same_size (ltb (length bytes) 12) (ltb (length all) 12) (int_lt (batch_length bytes) (pos 49))
-    (ltb max_batch (batch_size bytes))
+    (ltb MAX_BATCH (batch_size bytes))
     (ltb (length bytes) (batch_size bytes)) (ltb (length all) (batch_size bytes)) (batch_size bytes)
     (still_no_less (length bytes) (length all) 12 longer)
     (still_no_less (length bytes) (length all) (batch_size bytes) longer) whole

@@ -14,7 +14,7 @@ use Rattle.std.proofs.lemmas.Str.{is_utf8-from_IsUtf8, IsUtf8-from_is_utf8}
 use Rattle.wire_spec.specs.declared.{fault.VarintFault.VarintFault, record.Header.Header, record.Record.Record}
 use Rattle.wire_spec.specs.Varint.{varint, varlong, read_varint, read_varlong}
 use Rattle.wire_spec.specs.declared.limits.TheConstants.{MAX_KEY, MAX_VALUE, MAX_HEADERS, MAX_HEADER_KEY}
-use Rattle.wire_spec.specs.declared.limits.TheConstants.{MAX_HEADER_VALUE}
+use Rattle.wire_spec.specs.declared.limits.TheConstants.{MAX_HEADER_VALUE, MAX_HEADER_SIZE, MAX_BODY_SIZE}
 use Rattle.wire_spec.specs.RecordSpelling.{HeaderFits, RecordFits, string, nullable, header, record_body}
 use Rattle.wire_spec.specs.RecordSpelling.{record_spelling}
 use Rattle.wire_spec.specs.RecordReading.{◌>>=◌, with_rest, varint_at, varlong_at, bytes_at, nullable_bytes_at}
@@ -392,7 +392,7 @@ length-nullable limit None h = omega (arith, length-varint (negsuc 0))
 length-nullable limit (Some s) h =
     omega (arith, h, length-append (varint (pos (length s))) s, length-varint (pos (length s)))
 
-pub length-header : (h : Header) → HeaderFits h → length (header h) ≤ 4361
+pub length-header : (h : Header) → HeaderFits h → length (header h) ≤ MAX_HEADER_SIZE
 length-header h fits = omega (
   arith,
   fits.key,
@@ -404,7 +404,8 @@ length-header h fits = omega (
       h.value fits.value,
 )
 
-pub length-headers : (hs : List Header) → AllByRecursion HeaderFits hs → length (flat_map header hs) ≤ 4361 * length hs
+pub length-headers : (hs : List Header) → AllByRecursion HeaderFits hs →
+    length (flat_map header hs) ≤ MAX_HEADER_SIZE * length hs
 length-headers [] fits = omega arith
 length-headers (h ∷ hs) fits =
     rw flat_map-cons (omega (
@@ -414,8 +415,8 @@ length-headers (h ∷ hs) fits =
       length-headers hs fits.1,
     ))
 
--- a record has at most 139,439 bytes after its length
-pub length-record_body : (delta : ℤ) (r : Record) → RecordFits r → length (record_body delta r) ≤ 139439
+-- the bytes of a record after its length
+pub length-record_body : (delta : ℤ) (r : Record) → RecordFits r → length (record_body delta r) ≤ MAX_BODY_SIZE
 length-record_body delta r fits =
     let hs = flat_map header r.headers in
     let n = varint (pos (length r.headers)) in

@@ -9,7 +9,8 @@ use Rattle.wire_spec.specs.declared.{limits.TheConstants.TIMESTAMP_END, fault.Ba
 use Rattle.wire_spec.specs.declared.{record.Record.Record, record.Batch.Batch}
 use Rattle.wire_spec.specs.Checksum.{checksum}
 use Rattle.wire_spec.specs.RecordReading.{record_at}
-use Rattle.wire_spec.specs.BatchSpelling.{max_batch, max_records, timestamps, greatest}
+use Rattle.wire_spec.specs.BatchSpelling.{timestamps, greatest}
+use Rattle.wire_spec.specs.declared.limits.TheConstants.{MAX_BATCH, MAX_RECORDS}
 
 -- the unsigned number that begins at a place of the bytes, counted from 0; bytes past the end count as 0
 abbrev pub number_at : Width → ℕ → List ℕ → ℕ
@@ -89,7 +90,7 @@ batch_size bytes = with_front (batch_length bytes)
 -- 10,000)
 abbrev pub is_miscounted : List ℕ → Bool
 is_miscounted bytes =
-    record_count bytes == 0 || (nat_lt max_records (record_count bytes) || not
+    record_count bytes == 0 || (nat_lt MAX_RECORDS (record_count bytes) || not
     (last_offset_delta bytes + 1 == record_count bytes))
 
 -- a whole number of milliseconds from 0 to 2^62 - 1
@@ -161,7 +162,7 @@ unfoldable pub size_at : List ℕ → Result ℕ BatchFault
 size_at bytes =
     if nat_lt (length bytes) 12 then Err BatchFault.Short
     else if int_lt (batch_length bytes) (pos 49) then Err BatchFault.Length
-    else if nat_lt max_batch (batch_size bytes) then Err BatchFault.TooLarge
+    else if nat_lt MAX_BATCH (batch_size bytes) then Err BatchFault.TooLarge
     else if nat_lt (length bytes) (batch_size bytes) then Err BatchFault.Short
     else Ok (batch_size bytes)
 

@@ -4,17 +4,10 @@ use Rattle.std.specs.Prelude.{ℕ, suc, ◌+◌, ◌-◌, ◌^◌, ◌<◌, ◌�
 use Rattle.std.specs.Prelude.{map, fold, FitsSigned}
 use Rattle.std.specs.{List.AllByRecursion, Int.Width, Int.w16, Int.w32, Int.w64, Int.to_be_bytes, Int.cast_unsigned}
 use Rattle.std.specs.{Int.int_max}
-use Rattle.wire_spec.specs.declared.{limits.TheConstants.TIMESTAMP_END, record.Record.Record, record.Batch.Batch}
+use Rattle.wire_spec.specs.declared.{record.Record.Record, record.Batch.Batch}
+use Rattle.wire_spec.specs.declared.limits.TheConstants.{TIMESTAMP_END, MAX_BATCH, MAX_RECORDS}
 use Rattle.wire_spec.specs.Checksum.{checksum}
 use Rattle.wire_spec.specs.RecordSpelling.{RecordFits, record_spelling}
-
--- the most bytes of a batch, its header among them: 1 MiB
-abbrev pub max_batch : ℕ
-max_batch = 1048576
-
--- the most records of a batch
-abbrev pub max_records : ℕ
-max_records = 10000
 
 -- ---- Timestamps
 
@@ -62,8 +55,8 @@ bytes_from_epoch b rest =
 unfoldable pub batch_spelling : Batch → List ℕ
 batch_spelling b = bytes_from_epoch b (checksummed_bytes b)
 
--- A batch that has a spelling: its fields are in their widths, it has 1 to 10,000 records, each of which has a
--- spelling, its timestamps are in range, and it has at most 1 MiB.
+-- A batch that has a spelling: its fields are in their widths, it has 1 to MAX_RECORDS records, each of which has a
+-- spelling, its timestamps are in range, and it has at most MAX_BATCH bytes.
 pub record BatchFits (b : Batch) : Type 0 where
   pub base_offset : FitsSigned w64 b.base_offset
   pub leader_epoch : FitsSigned w32 b.leader_epoch
@@ -71,8 +64,8 @@ pub record BatchFits (b : Batch) : Type 0 where
   pub producer_epoch : FitsSigned w16 b.producer_epoch
   pub base_sequence : FitsSigned w32 b.base_sequence
   pub some_records : 0 < length b.records
-  pub few_records : length b.records ≤ max_records
+  pub few_records : length b.records ≤ MAX_RECORDS
   pub records : AllByRecursion RecordFits b.records
   pub base_timestamp : IsTimestamp b.base_timestamp
   pub each_timestamp : AllByRecursion IsTimestamp (timestamps b.base_timestamp b.records)
-  pub few_bytes : length (batch_spelling b) ≤ max_batch
+  pub few_bytes : length (batch_spelling b) ≤ MAX_BATCH

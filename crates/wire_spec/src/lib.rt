@@ -10,6 +10,7 @@ mod record;
 
 pub use fault::{BatchFault, VarintFault};
 pub use limits::{
-    MAX_HEADER_KEY, MAX_HEADER_VALUE, MAX_HEADERS, MAX_KEY, MAX_VALUE, TIMESTAMP_END,
+    MAX_BATCH, MAX_BODY_SIZE, MAX_HEADER_KEY, MAX_HEADER_SIZE, MAX_HEADER_VALUE, MAX_HEADERS,
+    MAX_KEY, MAX_PIECE, MAX_RECORD_SIZE, MAX_RECORDS, MAX_VALUE, TIMESTAMP_END,
 };
 pub use record::{Batch, Header, Headers, Record, Records};

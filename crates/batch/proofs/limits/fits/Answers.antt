@@ -3,6 +3,7 @@ use Rattle.std.specs.Int.{w16, w32, w64}
 use Rattle.std.specs.List.{AllByRecursion}
 use Rattle.std.proofs.lemmas.Int.{to_z-of_z}
 use Rattle.wire_spec.specs.BatchSpelling.{IsTimestamp, timestamps}
+use Rattle.wire_spec.specs.declared.limits.TheConstants.{MAX_RECORDS}
 use Rattle.batch.proofs.WithinLimits.{fits_iff}
 use Rattle.batch.proofs.limits.fits.Goals as goal
 
@@ -20,7 +21,7 @@ returns c =
     let base : to_z w64 (of_z w64 c.base_of-base.result) ≡ b.base_timestamp = to_z-of_z w64 c.base_of-base.result f6
     ∙ c.base_of-base.ensures in
     let some : 0 < length rs = search rules in
-    let few : length rs ≤ 10000 = omega arith in
+    let few : length rs ≤ MAX_RECORDS = omega arith in
     let times = c.if-not-in_time.ensures.0 refl in
     let times' = subst (λ (t : ℤ). IsTimestamp t × AllByRecursion IsTimestamp (timestamps t rs)) base times in
     fits_iff b rs c.records_len.result same f1 f2 f3 f4 f5 some few (c.if-not-records_fit.ensures.0 refl) times'

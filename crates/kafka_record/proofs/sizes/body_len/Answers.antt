@@ -5,6 +5,7 @@ use Rattle.std.specs.List.{flat_map}
 use Rattle.std.proofs.lemmas.Int.{to_z-of_z, to_z_pos}
 use Rattle.std.proofs.lemmas.List.Elements.{All-from_recursion}
 use Rattle.wire_spec.specs.declared.record.Header.{Header}
+use Rattle.wire_spec.specs.declared.limits.TheConstants.{MAX_BODY_SIZE}
 use Rattle.wire_spec.specs.Varint.{varint, varlong}
 use Rattle.wire_spec.specs.RecordSpelling.{HeaderFits, header, record_body}
 use Rattle.wire_spec.proofs.RecordLaws.{length-record_body}
@@ -17,7 +18,8 @@ headers_len-headers-requires-clause-fit c =
     (All-from_recursion HeaderFits c.args.record.now.headers c.requires.headers)
 
 sum_is : (c : goal.After-headers_len-headers) →
-    1 + c.len64-timestamp.result + c.len32-offset.result + (c.nullable_len-key.result + c.nullable_len-value.result) + c.len32-count.result + c.headers_len-headers.result ≡ length (record_body c.args.delta c.args.record.now)
+    1 + c.len64-timestamp.result + c.len32-offset.result + (c.nullable_len-key.result + c.nullable_len-value.result)
+    + c.len32-count.result + c.headers_len-headers.result ≡ length (record_body c.args.delta c.args.record.now)
 sum_is c =
     let list = c.slice_of-list.result.now in
     let same : list ≡ c.args.record.now.headers = c.slice_of-list.ensures in
@@ -34,7 +36,8 @@ sum_is c =
     c.nullable_len-value.ensures n h
 
 small : (c : goal.After-headers_len-headers) →
-    1 + c.len64-timestamp.result + c.len32-offset.result + (c.nullable_len-key.result + c.nullable_len-value.result) + c.len32-count.result + c.headers_len-headers.result ≤ 139439
+    1 + c.len64-timestamp.result + c.len32-offset.result + (c.nullable_len-key.result + c.nullable_len-value.result)
+    + c.len32-count.result + c.headers_len-headers.result ≤ MAX_BODY_SIZE
 small c = omega (arith, sum_is c, length-record_body c.args.delta c.args.record.now c.requires)
 
 pub overflow_add-result-3 : goal.overflow_add-result-3

@@ -1,9 +1,9 @@
 use Rattle.std.proofs.Common.{◌+◌, ◌≤◌, arith}
-use Rattle.wire_spec.specs.declared.limits.TheConstants.{MAX_HEADER_VALUE}
+use Rattle.wire_spec.specs.declared.limits.TheConstants.{MAX_HEADER_VALUE, MAX_HEADER_SIZE}
 use Rattle.wire_spec.proofs.RecordLaws.{length-nullable}
 use Rattle.kafka_record.proofs.sizes.header_len.Goals as goal
 
-small : (c : goal.After-nullable_len) → c.string_len.result + c.nullable_len.result ≤ 4361
+small : (c : goal.After-nullable_len) → c.string_len.result + c.nullable_len.result ≤ MAX_HEADER_SIZE
 small c = omega (
   arith,
   c.requires.key,

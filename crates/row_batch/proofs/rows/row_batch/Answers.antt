@@ -1,5 +1,6 @@
 use Rattle.std.proofs.Common.{◌≤◌, length, drop, ap, subst, ◌∙◌, length-drop, arith}
-use Rattle.wire_spec.specs.BatchSpelling.{max_records, batch_spelling, BatchFits}
+use Rattle.wire_spec.specs.BatchSpelling.{batch_spelling, BatchFits}
+use Rattle.wire_spec.specs.declared.limits.TheConstants.{MAX_RECORDS}
 use Rattle.row_batch.proofs.RowLaws.{most_taken}
 use Rattle.row_batch.proofs.Places.{part_fits}
 use Rattle.row_batch.proofs.rows.row_batch.Goals as goal
@@ -16,7 +17,7 @@ returns c =
     let few = c.min-most.ensures in
     let least = c.min.ensures in
     let wanted : most ≤ c.args.max = omega (arith, least, few) in
-    let small : most ≤ max_records = omega (arith, few) in
+    let small : most ≤ MAX_RECORDS = omega (arith, few) in
     let there : most ≤ length left = omega (arith, least, few, long, c.len.ensures.count, c.len-2.ensures.count) in
     let taken = most_taken rows place c.args.max most count batch wanted small there
     (λ more a b d. omega (arith, least, few, long, c.len.ensures.count, c.len-2.ensures.count)) c.in_ok-batch.ensures in
