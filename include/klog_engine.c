@@ -26,8 +26,8 @@ uint32_t klog_c_explain(const uint8_t *image, size_t length, bool is_refused_alo
 uint32_t klog_c_text(klog_handle *text, uint8_t *buffer, size_t room, size_t *length);
 void klog_c_free(klog_handle *handle);
 
-/* The longest image: 4,096 slots of 8 bytes. */
-static const size_t longest_image = 32768;
+/* The longest image: 16,384 slots of 8 bytes. */
+static const size_t longest_image = 131072;
 
 /* The longest file that is explained, an image or not. */
 static const size_t longest_file = 1048576;

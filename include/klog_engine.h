@@ -61,7 +61,7 @@ typedef struct klog_record {
 	const uint8_t *key; /* NULL for a null key, with the length 0 */
 	size_t key_length;  /* 0 to 4,096 bytes */
 	const uint8_t *value; /* NULL for a null value, with the length 0 */
-	size_t value_length;  /* 0 to 65,536 bytes */
+	size_t value_length;  /* 0 to 1,048,576 bytes */
 	uint64_t offset;      /* in its input partition, below 2^62 */
 	uint64_t timestamp;   /* in milliseconds, below 2^62 */
 	size_t partition;     /* the input partition, below 64 */
@@ -79,7 +79,7 @@ typedef struct klog_emission {
 /* Loads the image of `length` bytes into `program`, which holds nothing or a program; that one is freed.
  * A refused image is 101 to 106 or 201 to 213, and `*place` is then its slot or its instruction; else `*place`
  * is as it was. KLOG_KIND: `program` holds something else. KLOG_NULL: `program` or `place` is null, or `image` is
- * null and `length` is not 0. KLOG_MEMORY. An image of more than 32,768 bytes is 101, and is not read. */
+ * null and `length` is not 0. KLOG_MEMORY. An image of more than 131,072 bytes is 101, and is not read. */
 uint32_t klog_load(const uint8_t *image, size_t length, klog_handle *program, size_t *place);
 
 /* Writes the text of a fault as `klog` prints it ("I3 Register slot 0", "V7 RecordBounds at 2") to the front of a

@@ -144,7 +144,7 @@ def assembled(text):
     for n, line in enumerate(text.split("\n"), 1):
         try:
             image += line_bytes(line)
-            if len(image) > 8 * 4096:
+            if len(image) > 8 * 16384:
                 raise Refused("A5 Size")
         except Refused as fault:
             raise Refused("line %d: %s" % (n, fault))
@@ -231,7 +231,7 @@ def some_line(rng):
 
 def some_text(rng):
     if rng.random() < 0.01:
-        return "mov64 r0, 0\n" * rng.choice([4094, 4095]) + rng.choice(["exit\n", "imm64 r1, 5\n", "imm64 r1, 5\nexit\n", "exit\nexit\nexit\n"])
+        return "mov64 r0, 0\n" * rng.choice([16382, 16383]) + rng.choice(["exit\n", "imm64 r1, 5\n", "imm64 r1, 5\nexit\n", "exit\nexit\nexit\n"])
     lines = [some_line(rng) for _ in range(rng.choice([0, 1, 2, 3, 5, 20]))]
     return "\n".join(lines) + rng.choice(["", "\n"])
 
@@ -253,7 +253,7 @@ def some_bytes(rng):
             image[rng.randrange(len(image))] ^= 1 << rng.randrange(8)
         return bytes(image)
     if chance < 0.92:
-        return slot(0x95) * 4096 + bytes(rng.choice([0, 1, 8]))
+        return slot(0x95) * 16384 + bytes(rng.choice([0, 1, 8]))
     return bytes(rng.randrange(256) for _ in range(rng.choice([0, 8, 12, 16])))
 
 

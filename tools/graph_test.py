@@ -116,7 +116,7 @@ NEVER = "mov64 r0, 5\njeq64 r0, 4, +1\nexit\nja +0\nexit\n"
 def test_known(drawing):
     boxes, edges, _ = drawing.of(assembled(GUARDED))
     check(edges == [("b0", "b1", "r2 ≥ 1"), ("b0", "b2", "r2 < 1"), ("b1", "b2", "")], edges)
-    check("value: 1 to 65536 bytes" in boxes["b1"] and "r0: 0 to 255" in boxes["b2"] and "red" not in "".join(boxes.values()), boxes)
+    check("value: 1 to 1048576 bytes" in boxes["b1"] and "r0: 0 to 255" in boxes["b2"] and "red" not in "".join(boxes.values()), boxes)
     boxes, edges, _ = drawing.of(assembled(UNGUARDED))
     check(edges[:2] == [("b0", "b1", "r2 ≥ 1 (32 bits)"), ("b0", "b2", "r2 < 1 (32 bits)")], edges)
     check(("b1", "b2", "") in edges and ("b2", "b4", "r0 > -1 (signed)") in edges and ("b2", "b3", "r0 ≤ -1 (signed)") in edges, edges)

@@ -59,7 +59,7 @@ static bool one_in(struct worker *w, uint64_t n)
 /* A number near one of the limits, or any. */
 static uint64_t number(struct worker *w)
 {
-	static const uint64_t ends[] = {0, 1, 2, 15, 16, 63, 64, 65, 4096, 65536, 1ull << 62, 1ull << 63, ~0ull};
+	static const uint64_t ends[] = {0, 1, 2, 15, 16, 63, 64, 65, 4096, 1048576, 1ull << 62, 1ull << 63, ~0ull};
 	uint64_t x = ends[below(w, sizeof ends / sizeof ends[0])] + below(w, 3) - 1;
 	return one_in(w, 4) ? below(w, ~0ull) : x;
 }
@@ -117,7 +117,7 @@ static void load(struct worker *w)
 	look("load", fault, &before, to);
 	if (fault > KLOG_KIND && fault != KLOG_NULL && !is_image_fault(fault))
 		fail("load", fault);
-	if (is_image_fault(fault) && place > 4096)
+	if (is_image_fault(fault) && place > 16384)
 		fail("load's place", fault);
 	free(bytes);
 }
@@ -159,7 +159,7 @@ static klog_record record(struct worker *w, bool is_fine)
 {
 	klog_record r = {0};
 	r.key_length = length_below(w, is_fine ? 4097 : 9000);
-	r.value_length = length_below(w, is_fine ? 65537 : 80000);
+	r.value_length = length_below(w, one_in(w, 20) ? (is_fine ? 1048577 : 1100000) : 65537);
 	r.key = block(w, r.key_length);
 	r.value = block(w, r.value_length);
 	r.offset = is_fine ? below(w, 1ull << 62) : number(w);
@@ -226,7 +226,7 @@ static void emissions(struct worker *w)
 		fail("emission_at", found);
 	if (found)
 		return;
-	if (told.output >= 64 || told.key_length > 4096 || told.value_length > 65536 || told.nulls > 3)
+	if (told.output >= 64 || told.key_length > 4096 || told.value_length > 1048576 || told.nulls > 3)
 		fail("emission_at's answer", found);
 	copy(w, outcome, at, told.key_length, true);
 	copy(w, outcome, at, told.value_length, false);

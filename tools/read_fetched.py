@@ -20,7 +20,7 @@ from kafka.record.default_records import DefaultRecordBatchBuilder
 
 # the image of a program that emits each record to output 0
 FORWARD = "b70100000000000085000000030000009500000000000000"
-MOST_BYTES, MOST_RECORDS = 1048576, 10000
+MOST_BYTES, MOST_RECORDS = 4194304, 10000
 
 
 def some_bytes(rng):
@@ -84,8 +84,8 @@ def compared(program, groups, fetches):
 def main():
     program, count, seed = sys.argv[1], int(sys.argv[2]) if len(sys.argv) > 2 else 200, int(sys.argv[3]) if len(sys.argv) > 3 else 1
     rng, batches, records = random.Random(seed), 0, 0
-    large = [[(1000, None, b"v" * 65536, [])] for _ in range(40)]
-    scripts = [(large, [(0, 16), (15, 16), (15, 100), (30, 100), (40, 1)])]
+    large = [[(1000, None, b"v" * 65536, [])] for _ in range(80)]
+    scripts = [(large, [(0, 16), (0, 100), (15, 100), (63, 100), (80, 1)])]
     for _ in range(count):
         groups = [[some_record(rng) for _ in range(rng.choice([1, 1, 2, 5, 40]))] for _ in range(rng.choice([1, 2, 4]))]
         total = sum(map(len, groups))

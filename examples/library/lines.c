@@ -4,7 +4,7 @@
 #include <stdio.h>
 #include <string.h>
 
-enum { LONGEST_IMAGE = 32768, LONGEST_KEY = 4096, LONGEST_VALUE = 65536 };
+enum { LONGEST_IMAGE = 131072, LONGEST_KEY = 4096, LONGEST_VALUE = 1048576 };
 
 /* Prints the text of a fault, and is the program's status. */
 static int print_fault(const char *call, uint32_t fault, size_t place)

@@ -111,18 +111,30 @@ fn the_lowest_line(rt: HostRuntime) -> Result<(), Fail> {
         fault_of(alloc, "foo\nmov64 r11, 0\n"),
         Some(AsmFault::Word(1))
     );
-    let mut text = lines(alloc, 4095)?;
+    let mut text = lines(alloc, 16_383)?;
     text.push_str("imm64 r0, 0\nfoo\n")?;
-    assert_eq!(rt; fault_of(alloc, text.as_str()), Some(AsmFault::Size(4096)));
-    let mut text = lines(alloc, 4096)?;
+    assert_eq!(rt;
+        fault_of(alloc, text.as_str()),
+        Some(AsmFault::Size(16_384))
+    );
+    let mut text = lines(alloc, 16_384)?;
     let image = assemble(alloc, text.as_str())?;
-    assert_eq!(rt; image.len(), 32768);
+    assert_eq!(rt; image.len(), 131_072);
     text.push_str("foo\n")?;
-    assert_eq!(rt; fault_of(alloc, text.as_str()), Some(AsmFault::Word(4097)));
-    let mut text = lines(alloc, 4097)?;
-    assert_eq!(rt; fault_of(alloc, text.as_str()), Some(AsmFault::Size(4097)));
+    assert_eq!(rt;
+        fault_of(alloc, text.as_str()),
+        Some(AsmFault::Word(16_385))
+    );
+    let mut text = lines(alloc, 16_385)?;
+    assert_eq!(rt;
+        fault_of(alloc, text.as_str()),
+        Some(AsmFault::Size(16_385))
+    );
     text.push_str("foo\n")?;
-    assert_eq!(rt; fault_of(alloc, text.as_str()), Some(AsmFault::Size(4097)));
+    assert_eq!(rt;
+        fault_of(alloc, text.as_str()),
+        Some(AsmFault::Size(16_385))
+    );
     Ok(())
 }
 

@@ -58,7 +58,7 @@ fn any_state(random: &mut Random) -> State {
     registers[10] = Abs::Addr(Region::Stack, 512, 512);
     let set = StackSet { words: [0; 8] };
     let value_min = random.below(20) as u32;
-    match State::new(registers, 0, 4096, value_min, 65_536, set) {
+    match State::new(registers, 0, 4096, value_min, 1_048_576, set) {
         Some(state) => state,
         None => State::entry(),
     }

@@ -227,7 +227,7 @@ slots_read front (i ∷ is) (suc steps) slot said long enough =
     (first_slots_from bytes steps (slot + slots_of i)) ≡ Ok
     (placed_from (slot + slots_of i) is)) regroup later)
 
--- bytes of 1 to 4,096 slots read as the instructions that are spelled there
+-- bytes of 1 to MAX_SLOTS slots read as the instructions that are spelled there
 pub image_read : (is : List Instruction) → AllSaid is → 0 < length (spellings is) →
     length (spellings is) ≤ 8 * MAX_SLOTS → read_image (spellings is) ≡ Ok (placed_from 0 is)
 unfolding read_image first_slots

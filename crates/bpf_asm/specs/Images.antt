@@ -14,7 +14,7 @@ before_bytes bytes (Ok others) = Ok (bytes ++ others)
 before_bytes bytes (Err f) = Err f
 
 -- A line after lines whose image has `size` bytes: its own bytes and those of the lines after it. An image has 8 bytes
--- a slot, and at most 4,096 slots.
+-- a slot, and at most MAX_SLOTS slots.
 abbrev pub with_line : ℕ → ℕ → Result (Option Instruction) LineFault → (ℕ → Result (List ℕ) AsmFault) →
     Result (List ℕ) AsmFault
 with_line number size (Err f) later = Err (at_line number f)

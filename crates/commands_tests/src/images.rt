@@ -127,17 +127,17 @@ fn explains_images(rt: HostRuntime) -> Result<(), Fail> {
     Ok(())
 }
 
-/// An image of 4,096 slots and a byte is not distinguished from one of which no end is read, and
-/// one of 4,096 slots is.
+/// An image of 16,384 slots and a byte is not distinguished from one of which no end is read, and
+/// one of 16,384 slots is.
 #[test]
 fn reads_one_byte_past_the_greatest_image(rt: HostRuntime) -> Result<(), Fail> {
     let alloc = rt.alloc();
     let script = "partitions 1 1 8\nload a endless";
     for (count, words, want_err, want) in [
-        (32_769, ["check", "endless"], "I1 Size\n", 1),
-        (32_769, ["run", "stdin"], "line 2: I1 Size\n", 1),
-        (32_768, ["check", "endless"], "file endless\n", 3),
-        (32_768, ["run", "stdin"], "file endless\n", 3),
+        (131_073, ["check", "endless"], "I1 Size\n", 1),
+        (131_073, ["run", "stdin"], "line 2: I1 Size\n", 1),
+        (131_072, ["check", "endless"], "file endless\n", 3),
+        (131_072, ["run", "stdin"], "file endless\n", 3),
     ] {
         let mut files = empty_shelf(alloc);
         let bytes = vec![in alloc; 0; count]?;

@@ -178,8 +178,8 @@ fn limits_keys_and_values(rt: HostRuntime) -> Result<(), Fail> {
     for (key, value, err) in [
         (4096, 0, ""),
         (4097, 0, "line 2: S3 Range\n"),
-        (0, 65_536, ""),
-        (0, 65_537, "line 2: S3 Range\n"),
+        (0, 1_048_576, ""),
+        (0, 1_048_577, "line 2: S3 Range\n"),
     ] {
         let key = bytes_word(alloc, key)?;
         let value = bytes_word(alloc, value)?;

@@ -72,7 +72,7 @@ fn stated_length(bytes: &[u8]) -> i64 {
 fn fault_of_length(length: i64, there: i64) -> BatchFault {
     if length < 49 {
         BatchFault::Length
-    } else if length > 1_048_564 {
+    } else if length > 4_194_292 {
         BatchFault::TooLarge
     } else if length.wrapping_add(12) > there {
         BatchFault::Short
@@ -160,8 +160,8 @@ fn cut_each(rt: &impl Abort, alloc: Global, whole: &[u8]) -> Result<(), Fail> {
 
 /// A batch, and how many of those with one changed byte are read or refused as B1 to B5.
 const DAMAGED: [(&[u8], [u32; 6]); 2] = [
-    (ONE, [3060, 467, 177, 367, 255, 13524]),
-    (THREE, [3060, 433, 177, 367, 255, 22228]),
+    (ONE, [3060, 515, 177, 319, 255, 13524]),
+    (THREE, [3060, 481, 177, 319, 255, 22228]),
 ];
 
 fn damage_each(rt: &impl Abort, alloc: Global, rows: &[(&[u8], [u32; 6])]) -> Result<(), Fail> {

@@ -49,7 +49,7 @@ registers_text s = texts_below 11 (λ r. register_text r (kind_at s r)) ++ 10 �
 
 -- ---- lengths and the stack
 
--- `  value: 1 to 65536 bytes`, left out where it says no more than at the entry
+-- `  value: 1 to 1048576 bytes`, left out where it says no more than at the entry
 abbrev pub length_text : Region → ℕ → ℕ → ℕ → List ℕ
 length_text region low high limit =
     if (low == 0) && (high == limit) then [] else codes "  "

@@ -139,8 +139,8 @@ bytes up to 4999 of the key may be reached: bound the index (index_below of klog
     (
         "mov64 r3, r2\nmov64 r2, r1\nmov64 r0, 1\njlt64 r3, 5, +4\nsub64 r3, 5\nadd64 r2, 5\nmov64 r1, 0\ncall 4\nexit\n",
         "V12 HelperArg at 7
-r2 (value+5) and r3 (0 to 65531) name bytes that may be outside what is known to be there, or not set
-bytes up to 65535 of the value may be reached: bound the index (index_below of klog.h), or emit a part of it by emit_cut, emit_rest or copy_value",
+r2 (value+5) and r3 (0 to 1048571) name bytes that may be outside what is known to be there, or not set
+bytes up to 1048575 of the value may be reached: bound the index (index_below of klog.h), or emit a part of it by emit_cut, emit_rest or copy_value",
     ),
     (
         "mov64 r1, 0\nmov64 r2, r10\nadd64 r2, -8\nmov64 r3, 9\ncall 4\nexit\n",

@@ -163,11 +163,11 @@ fn says_why_an_image_has_no_code(rt: HostRuntime) -> Result<(), Fail> {
 #[test]
 fn says_that_an_image_is_too_long(rt: HostRuntime) -> Result<(), Fail> {
     let alloc = rt.alloc();
-    let image = vec![in alloc; 0x95; 32769]?;
+    let image = vec![in alloc; 0x95; 131_073]?;
     let lines = fault_lines(alloc, &image)?;
     assert_eq!(rt;
         lines.as_str(),
-        "I1 Size\nthe image has more than 4096 slots of 8 bytes\n"
+        "I1 Size\nthe image has more than 16384 slots of 8 bytes\n"
     );
     Ok(())
 }

@@ -16,7 +16,7 @@ const PROGRAMS: [(&str, &str, &str); 5] = [
   r0: 0  r1: value+0  r2: length of value  r3: key+0  r4: length of key  r5: 0 to 3  r6: 4294967296  r10: stack+512
 3 slot 4: ld32 r0, [r1+1]
   r0: 0  r1: value+0  r2: length of value  r3: key+0  r4: length of key  r5: 0 to 3  r6: 4294967296  r10: stack+512
-  value: 4 to 65536 bytes
+  value: 4 to 1048576 bytes
 refused: V7 RecordBounds at 3
 ",
         "V7 RecordBounds at 3
@@ -80,7 +80,7 @@ r1 is read and may hold nothing
 3 slot 3: ld8 r0, [r1+0]
   r0: 0  r1: value+0  r2: length of value  r3: key+0  r4: length of key  r5: 0 to 3  r10: stack+512
   key: 5 bytes
-  value: 1 to 65536 bytes
+  value: 1 to 1048576 bytes
 4 slot 4: exit
   r0: 0 to 255  r1: value+0  r2: length of value  r3: key+0  r4: length of key  r5: 0 to 3  r10: stack+512
 ok

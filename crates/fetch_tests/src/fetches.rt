@@ -63,7 +63,7 @@ fn a_batch_takes_as_many_rows_as_it_may(rt: HostRuntime) -> Result<(), Fail> {
     fetch_many::<Brand, _>(&rt, alloc, Parts::new(&rt, alloc, 1, 1, 32)?)
 }
 
-/// Sixteen rows of 65,536 bytes are more than a batch may have, and 10,001 short ones after them too.
+/// Ten thousand rows are as many as a batch may have, and three of 1,048,576 bytes.
 fn fetch_many<Id: Names + Send + Sync, R: Threads + Wait + Sync + Abort>(
     rt: &R,
     alloc: Global,
@@ -81,14 +81,20 @@ fn fetch_many<Id: Names + Send + Sync, R: Threads + Wait + Sync + Abort>(
         let batch = batch_of(alloc, count, 1000).ok_or("a batch")?;
         broker.append(rt, alloc, 0, batch)?;
     }
-    let done = [Ended::Done(19)];
+    for _ in 0..4 {
+        let batch = one_long(alloc, 1_048_576).ok_or("a batch")?;
+        broker.append(rt, alloc, 0, batch)?;
+    }
+    let done = [Ended::Done(23)];
     assert!(rt; ends(rt, alloc, &broker, Until::Drained, &Open, &done));
-    assert_eq!(rt; sizes(rt, alloc, &broker, 0, 16), Some((983_266, 15)));
+    assert_eq!(rt; sizes(rt, alloc, &broker, 0, 16), Some((1_048_813, 16)));
     assert_eq!(rt; sizes(rt, alloc, &broker, 15, 1), Some((65_608, 1)));
     assert_eq!(rt;
         sizes(rt, alloc, &broker, 16, 20_000),
         Some((81_805, 10_000))
     );
-    assert_eq!(rt; sizes(rt, alloc, &broker, 10_016, 20_000), Some((68, 1)));
+    assert_eq!(rt; sizes(rt, alloc, &broker, 10_016, 1), Some((68, 1)));
+    assert_eq!(rt; sizes(rt, alloc, &broker, 10_017, 4), Some((3_145_828, 3)));
+    assert_eq!(rt; sizes(rt, alloc, &broker, 10_020, 4), Some((1_048_650, 1)));
     Ok(())
 }

@@ -388,9 +388,9 @@ fn moves(alloc: Global, count: usize) -> Result<Vec<u8>, AllocError> {
 fn sizes(rt: HostRuntime) -> Result<(), Fail> {
     let alloc = rt.alloc();
     have_no_size(&rt, alloc, &ODD_IMAGES);
-    let mut image = moves(alloc, 4096)?;
-    let starts = [(4095, Some(4095)), (4096, None)];
-    has_starts(&rt, alloc, &image, 4096, &starts)?;
+    let mut image = moves(alloc, 16_384)?;
+    let starts = [(16_383, Some(16_383)), (16_384, None)];
+    has_starts(&rt, alloc, &image, 16_384, &starts)?;
     image.extend_from_slice(&MOVE)?;
     have_no_size(&rt, alloc, &[&image]);
     Ok(())
@@ -398,7 +398,7 @@ fn sizes(rt: HostRuntime) -> Result<(), Fail> {
 
 const TEXTS: [(IsaFault, &str); 7] = [
     (IsaFault::Size, "I1 Size"),
-    (IsaFault::Opcode(4095), "I2 Opcode slot 4095"),
+    (IsaFault::Opcode(16_383), "I2 Opcode slot 16383"),
     (IsaFault::Register(0), "I3 Register slot 0"),
     (IsaFault::Unused(7), "I4 Unused slot 7"),
     (IsaFault::Wide(1), "I5 Wide slot 1"),

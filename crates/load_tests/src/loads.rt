@@ -123,7 +123,7 @@ fn branches_that_meet(rt: HostRuntime) -> Result<(), Fail> {
     const KEEP_LENGTH: u64 = 0xbf26_0000_0000_0000; // mov64 r6, r2
     const SHIFT: u64 = 0x6706_0000_1400_0000; // lsh64 r6, 20
     const MOVE_ON: u64 = 0x0f61_0000_0000_0000; // add64 r1, r6
-    let cases: [(&[u64], &str); 7] = [
+    let cases: [(&[u64], &str); 9] = [
         // jlt64 r2, 1, +1; ld8 r0, [r1+0]
         (
             &[ZERO, 0xa502_0100_0100_0000, 0x7110_0000_0000_0000, EXIT],
@@ -179,6 +179,15 @@ fn branches_that_meet(rt: HostRuntime) -> Result<(), Fail> {
                 EXIT,
             ],
             "V5 Type at 4",
+        ),
+        // the value's length, shifted by 12, may be 2^32, and by 16 more
+        (
+            &[KEEP_LENGTH, 0x6706_0000_0c00_0000, MOVE_ON, ZERO, EXIT],
+            "accepted 5",
+        ),
+        (
+            &[KEEP_LENGTH, 0x6706_0000_1000_0000, MOVE_ON, ZERO, EXIT],
+            "V5 Type at 2",
         ),
     ];
     check_answers(rt.alloc(), &rt, &cases)

@@ -154,7 +154,7 @@ pub enum Trap {
 /// Why an image is refused. A slot is one of 8 bytes, from 0.
 #[derive(Clone, Copy, Debug, PartialEq, Eq, Drop, Error)]
 pub enum IsaFault {
-    /// The image is empty, has over 4,096 slots or ends within one.
+    /// The image is empty, has over `MAX_SLOTS` slots or ends within one.
     #[error("I1 Size")]
     Size,
     /// No table has the opcode.

@@ -1,7 +1,7 @@
 //! The limits of the machine.
 
 /// The most slots of an image.
-pub const MAX_SLOTS: usize = 4096;
+pub const MAX_SLOTS: usize = 16_384;
 
 /// How many bytes the stack has.
 pub const STACK_SIZE: usize = 512;

@@ -28,7 +28,7 @@ abbrev pub is_count : (number most : ℕ) → Bool
 is_count number most = nat_le 1 number && nat_le number most
 
 -- the numbers of a command are in range: 1 to 64 input and output partitions, 1 to 65,536 cells; timestamps below 2^62,
--- keys of at most 4,096 bytes and values of at most 65,536
+-- keys of at most 4,096 bytes and values of at most 1,048,576
 abbrev pub is_in_range : Command → Bool
 is_in_range (Partitions inputs outputs cells) = is_count inputs MAX_PARTITIONS
     && (is_count outputs MAX_PARTITIONS && is_count cells MAX_CELLS)

@@ -47,7 +47,7 @@ fn reported(alloc: Global, image: &[u8], claims: &[Option<State>]) -> Result<Str
 
 #[test]
 fn accepts_a_constant(rt: HostRuntime) -> Result<(), Fail> {
-    let zero = state(Abs::Num(0, 0), 0, 65_536)?;
+    let zero = state(Abs::Num(0, 0), 0, 1_048_576)?;
     let claims = vec![in rt.alloc(); Some(State::entry()), Some(zero)]?;
     let verified = check(rt.alloc(), decode(rt.alloc(), &ZERO)?, claims)?;
     assert_eq!(rt; verified.code().len(), 2);
@@ -60,9 +60,9 @@ fn accepts_a_constant(rt: HostRuntime) -> Result<(), Fail> {
 fn accepts_a_guarded_load(rt: HostRuntime) -> Result<(), Fail> {
     let claims = vec![in rt.alloc();
         Some(State::entry()),
-        Some(state(Abs::Num(0, 0), 0, 65_536)?),
-        Some(state(Abs::Num(0, 0), 1, 65_536)?),
-        Some(state(Abs::Num(0, 255), 0, 65_536)?),
+        Some(state(Abs::Num(0, 0), 0, 1_048_576)?),
+        Some(state(Abs::Num(0, 0), 1, 1_048_576)?),
+        Some(state(Abs::Num(0, 255), 0, 1_048_576)?),
     ]?;
     let verified = check(rt.alloc(), decode(rt.alloc(), &FIRST_BYTE)?, claims)?;
     assert_eq!(rt; verified.code().len(), 4);
@@ -87,11 +87,11 @@ const EXIT: [u8; 8] = [0x95, 0, 0, 0, 0, 0, 0, 0];
 fn refuses_lists(rt: HostRuntime) -> Result<(), Fail> {
     let alloc = rt.alloc();
     let entry = Some(State::entry());
-    let zero = Some(state(Abs::Num(0, 0), 0, 65_536)?);
-    let some = Some(state(Abs::Num(0, 0), 1, 65_536)?);
-    let more = Some(state(Abs::Num(0, 0), 2, 65_536)?);
-    let byte = Some(state(Abs::Num(0, 255), 0, 65_536)?);
-    let narrow = Some(state(Abs::Num(0, 255), 1, 65_536)?);
+    let zero = Some(state(Abs::Num(0, 0), 0, 1_048_576)?);
+    let some = Some(state(Abs::Num(0, 0), 1, 1_048_576)?);
+    let more = Some(state(Abs::Num(0, 0), 2, 1_048_576)?);
+    let byte = Some(state(Abs::Num(0, 255), 0, 1_048_576)?);
+    let narrow = Some(state(Abs::Num(0, 255), 1, 1_048_576)?);
     let cases: [(&[u8], &[Option<State>], &str); 8] = [
         // another length than the code's, reported before the missing exit
         (&ZERO, &[entry], "V15 Notes at 0"),
@@ -124,8 +124,8 @@ fn image_of(alloc: Global, forms: &[&[u8]]) -> Result<Vec<u8>, Fail> {
 fn refuses_instructions(rt: HostRuntime) -> Result<(), Fail> {
     let alloc = rt.alloc();
     let entry = Some(State::entry());
-    let zero = Some(state(Abs::Num(0, 0), 0, 65_536)?);
-    let byte = Some(state(Abs::Num(0, 255), 0, 65_536)?);
+    let zero = Some(state(Abs::Num(0, 0), 0, 1_048_576)?);
+    let byte = Some(state(Abs::Num(0, 255), 0, 1_048_576)?);
     let cases: [(&[&[u8]], &[Option<State>], &str); 9] = [
         // where jumps lead and how the code ends, reported before an instruction's other checks
         (&[&FORWARD, &EXIT], &[entry, zero], "V1 JumpTarget at 0"),

@@ -39,7 +39,7 @@ fn with_two(first: Abs, second: Abs) -> Option<State> {
         Abs::None,
         Abs::Addr(Region::Stack, 512, 512),
     ];
-    State::new(kinds, 0, 4096, 0, 65536, no_bytes())
+    State::new(kinds, 0, 4096, 0, 1_048_576, no_bytes())
 }
 
 /// The state of the start with other lengths.
@@ -101,7 +101,7 @@ fn begins_with_the_arguments(rt: HostRuntime) {
         assert_eq!(rt; entry.kind(register), kinds[register], "r{register}");
     }
     assert_eq!(rt; entry.kind(11), Abs::None);
-    let same = with_lengths(0, 4096, 0, 65536).expect(&rt, "in range");
+    let same = with_lengths(0, 4096, 0, 1_048_576).expect(&rt, "in range");
     assert!(rt; are_same(&entry, &same));
 }
 
@@ -128,8 +128,8 @@ fn refuses_what_is_out_of_range(rt: HostRuntime) {
     assert!(rt; with_lengths(5, 4, 0, 0).is_none());
     assert!(rt; with_lengths(0, 4097, 0, 0).is_none());
     assert!(rt; with_lengths(0, 0, 5, 4).is_none());
-    assert!(rt; with_lengths(0, 0, 0, 65537).is_none());
-    assert!(rt; with_lengths(4096, 4096, 65536, 65536).is_some());
+    assert!(rt; with_lengths(0, 0, 0, 1_048_577).is_none());
+    assert!(rt; with_lengths(4096, 4096, 1_048_576, 1_048_576).is_some());
 }
 
 #[test]
@@ -143,7 +143,11 @@ fn adds_intervals(rt: HostRuntime) {
         (Abs::Num(1, top - 1), Abs::Num(1, 2), any),
         (any, Abs::Num(1, 1), any),
         (Abs::Len(Region::Key), Abs::Num(1, 2), Abs::Num(1, 4098)),
-        (Abs::Num(0, 0), Abs::Len(Region::Value), Abs::Num(0, 65536)),
+        (
+            Abs::Num(0, 0),
+            Abs::Len(Region::Value),
+            Abs::Num(0, 1_048_576),
+        ),
         (
             Abs::Addr(Region::Value, 0, 4),
             Abs::Num(1, 3),
@@ -282,13 +286,13 @@ fn bounds_lengths(rt: HostRuntime) {
             2,
             16,
             with_lengths(0, 4096, 0, 15),
-            with_lengths(0, 4096, 16, 65536),
+            with_lengths(0, 4096, 16, 1_048_576),
         ),
         (
             4,
             4,
-            with_lengths(0, 3, 0, 65536),
-            with_lengths(4, 4096, 0, 65536),
+            with_lengths(0, 3, 0, 1_048_576),
+            with_lengths(4, 4096, 0, 1_048_576),
         ),
     ] {
         let (next, target) = edges(&entry, jump(Test::Less, register, constant));
@@ -419,8 +423,8 @@ fn reads_what_is_known_to_be_there(rt: HostRuntime) {
     let load = |size: Size, base: u8, offset: i16| {
         Instruction::Load(size, Extension::Zero, 0, base, offset)
     };
-    let sixteen = with_lengths(4, 4096, 16, 65536).expect(&rt, "in range");
-    let fifteen = with_lengths(4, 4096, 15, 65536).expect(&rt, "in range");
+    let sixteen = with_lengths(4, 4096, 16, 1_048_576).expect(&rt, "in range");
+    let fifteen = with_lengths(4, 4096, 15, 1_048_576).expect(&rt, "in range");
     let refused = Some(Check::RecordBounds);
     assert_eq!(rt; sixteen.check(load(Size::Double, 1, 8)), None);
     assert_eq!(rt; fifteen.check(load(Size::Double, 1, 8)), refused);
@@ -429,7 +433,7 @@ fn reads_what_is_known_to_be_there(rt: HostRuntime) {
     let last_eight = StackSet {
         words: [0, 0, 0, 0, 0, 0, 0, 0xff00_0000_0000_0000],
     };
-    let set = State::new(first_kinds(), 0, 4096, 0, 65536, last_eight).expect(&rt, "in range");
+    let set = State::new(first_kinds(), 0, 4096, 0, 1_048_576, last_eight).expect(&rt, "in range");
     assert_eq!(rt; set.check(load(Size::Double, 10, -8)), None);
     assert_eq!(rt;
         set.check(load(Size::Double, 10, -9)),
@@ -468,7 +472,7 @@ fn orders_states(rt: HostRuntime) {
         (Abs::Num(3, 7), Abs::Num(3, 6), false),
         (Abs::Len(Region::Key), Abs::Num(0, 4096), true),
         (Abs::Len(Region::Key), Abs::Num(0, 4095), false),
-        (Abs::Len(Region::Value), Abs::Num(0, 65536), true),
+        (Abs::Len(Region::Value), Abs::Num(0, 1_048_576), true),
         (Abs::Len(Region::Key), Abs::Len(Region::Value), false),
         (Abs::Num(0, 0), Abs::Len(Region::Value), false),
         (address(1, 2), address(0, 2), true),
@@ -509,8 +513,8 @@ fn orders_lengths_and_bytes(rt: HostRuntime) {
         words: [0, 0, 0, 0, 0, 0, 0, last],
     };
     for (inner, outer, want) in [(0, 0, true), (3, 1, true), (1, 3, false), (2, 1, false)] {
-        let inner_state = State::new(first_kinds(), 0, 4096, 0, 65536, bytes(inner));
-        let outer_state = State::new(first_kinds(), 0, 4096, 0, 65536, bytes(outer));
+        let inner_state = State::new(first_kinds(), 0, 4096, 0, 1_048_576, bytes(inner));
+        let outer_state = State::new(first_kinds(), 0, 4096, 0, 1_048_576, bytes(outer));
         let inner_state = inner_state.expect(&rt, "in range");
         let outer_state = outer_state.expect(&rt, "in range");
         assert_eq!(rt; inner_state.within(&outer_state), want, "{inner} {outer}");

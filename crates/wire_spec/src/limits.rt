@@ -4,7 +4,7 @@
 pub const MAX_KEY: usize = 4096;
 
 /// The longest value of a record, in bytes.
-pub const MAX_VALUE: usize = 65_536;
+pub const MAX_VALUE: usize = 1_048_576;
 
 /// The most headers of a record.
 pub const MAX_HEADERS: usize = 16;
@@ -16,7 +16,7 @@ pub const MAX_HEADER_KEY: usize = 255;
 pub const MAX_HEADER_VALUE: usize = 4096;
 
 /// The most bytes of a batch, its header among them.
-pub const MAX_BATCH: usize = 1_048_576;
+pub const MAX_BATCH: usize = 4_194_304;
 
 /// The most records of a batch.
 pub const MAX_RECORDS: u32 = 10_000;

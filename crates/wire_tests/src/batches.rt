@@ -140,7 +140,12 @@ const OLD: &[u8] = &[
 
 /// batchLength is one more than it may be.
 const LARGE: &[u8] = &[
-    0x00, 0x00, 0x00, 0x00, 0x00, 0x00, 0x00, 0x00, 0x00, 0x0f, 0xff, 0xf5,
+    0x00, 0x00, 0x00, 0x00, 0x00, 0x00, 0x00, 0x00, 0x00, 0x3f, 0xff, 0xf5,
+];
+
+/// batchLength is the greatest that it may be.
+const LARGEST: &[u8] = &[
+    0x00, 0x00, 0x00, 0x00, 0x00, 0x00, 0x00, 0x00, 0x00, 0x3f, 0xff, 0xf4,
 ];
 
 /// The batch is written as these bytes.
@@ -334,7 +339,7 @@ fn changed_bytes(rt: HostRuntime) -> Result<(), Fail> {
     Ok(())
 }
 
-const REFUSED: [(&[u8], BatchFault); 11] = [
+const REFUSED: [(&[u8], BatchFault); 12] = [
     (SAME_DELTA, BatchFault::Record(1)),
     (LEFT_OVER, BatchFault::Record(1)),
     (MISSING, BatchFault::Record(2)),
@@ -346,6 +351,7 @@ const REFUSED: [(&[u8], BatchFault); 11] = [
     (NO_RECORD, BatchFault::Count),
     (OLD, BatchFault::Magic),
     (LARGE, BatchFault::TooLarge),
+    (LARGEST, BatchFault::Short),
 ];
 
 fn are_refused(

@@ -10,4 +10,6 @@ mod feeds;
 #[cfg(test)]
 mod records;
 #[cfg(test)]
+mod values;
+#[cfg(test)]
 mod varints;
