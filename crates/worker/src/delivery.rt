@@ -74,16 +74,6 @@ impl<Id: Names> Delivery<Id> {
         &self.counts
     }
 
-    /// The rows, by value.
-    pub fn into_rows(self) -> Vec<Row>
-        ensures rows { result.items ≡ self.rows }
-        ensures are { IsRowsAt self.walk.partition self.output Id.outputs self.walk.items (last self.walk.items) result.items }
-        ensures fit { All RowFits result.items }
-    {
-        let Delivery { rows, .. } = self;
-        rows
-    }
-
     /// The rows, by value, and what became of the item's records.
     pub fn into_parts(self) -> (Vec<Row>, Arc<Counts>)
         ensures rows { result.0.items ≡ self.rows }
