@@ -1,4 +1,4 @@
-ghost use Rattle.std.specs.Prelude.{◌≡◌, ◌<◌, All};
+ghost use Rattle.std.specs.Prelude.{◌≡◌, ◌<◌, All, length};
 ghost use Rattle.std.specs.Arc.{arc_value};
 ghost use Rattle.fates.specs.Totals.{AreCountsAt};
 ghost use Rattle.log_spec.specs.Logs.{IsRowsAt, RowFits};
@@ -57,6 +57,13 @@ impl<Id: Names> Delivery<Id> {
         ensures within { result < Id.outputs }
     {
         self.output
+    }
+
+    /// How many rows there are.
+    pub fn len(&self) -> usize
+        ensures { result ≡ length self.now.rows }
+    {
+        self.rows.len()
     }
 
     /// The items up to the one that the rows are of.
