@@ -10,6 +10,7 @@ use std::thread::Threads;
 
 /// How many items of 100 rows a short book has, and a long one.
 const FEW: usize = 10;
+
 const MANY: usize = 10_000;
 
 /// Prints what a call took in a short book and in a long one, and how many times that is.
@@ -24,7 +25,10 @@ fn show_reads<R: Print>(rt: &R, few: Reads, many: Reads) -> io::Result<()> {
     show(rt, "an audit that finds 100 rows", few.audit, many.audit)?;
     show(rt, "a fetch of 100 rows         ", few.fetch, many.fetch)?;
     show(rt, "a search for an offset      ", few.since, many.since)?;
-    println!(rt; "a search looks at {} places, and at {}", few.looks, many.looks)
+    println!(rt;
+        "a search looks at {} places, and at {}",
+        few.looks, many.looks
+    )
 }
 
 /// Prints the least of some turns for each call.

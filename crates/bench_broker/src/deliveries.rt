@@ -21,11 +21,7 @@ const DELIVERIES: usize = 100;
 
 /// The rows of the item at a walk's position, by value. None where it has no item, the log is of another
 /// partition, or memory ran out.
-fn delivery_of<Id: Names>(
-    alloc: Global,
-    log: &PartLog<Id>,
-    walk: &Walk<Id>,
-) -> Option<Delivery<Id>>
+fn delivery_of<Id: Names>(alloc: Global, log: &PartLog<Id>, walk: &Walk<Id>) -> Option<Delivery<Id>>
     requires { Id.outputs ≡ 1 }
 {
     if walk.partition() != log.partition() || walk.partition() >= 64 || walk.is_empty() {

@@ -89,11 +89,7 @@ fn audits<Id: Names, C, R: Wait + Clock>(
 }
 
 /// What a fetch took. None where one found no rows.
-fn fetches<Id: Names, R: Clock>(
-    rt: &R,
-    book: &Book<Id>,
-    receipts: &[Receipt<Id>],
-) -> Option<f64> {
+fn fetches<Id: Names, R: Clock>(rt: &R, book: &Book<Id>, receipts: &[Receipt<Id>]) -> Option<f64> {
     let start = Instant::now(rt).ok()?;
     for _ in 0..ROUNDS {
         for receipt in receipts {

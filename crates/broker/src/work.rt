@@ -92,12 +92,7 @@ impl<'a, Id: Names, C, R: Wait, G: Gate> Worker<'a, Id, C, R, G> {
     }
 
     /// Takes the items of a log as they come, up to its end or its last cell.
-    fn follow(
-        &self,
-        log: &PartLog<Id>,
-        walk: &mut Walk<Id>,
-        room: &mut Room,
-    ) -> Result<(), Ended>
+    fn follow(&self, log: &PartLog<Id>, walk: &mut Walk<Id>, room: &mut Room) -> Result<(), Ended>
         requires walk { walk.old.partition ≡ log.now }
         requires few { log.now < 64 }
     {
