@@ -24,7 +24,7 @@ use wire_spec::{Batch, Records};
 const SIZE: usize = 64;
 
 /// How many records a batch has in most measures.
-pub(crate) const RECORDS: usize = 100;
+const RECORDS: usize = 100;
 
 /// call 9; mov64 r1, r0; call 3; exit: each record goes to the output of its input's number as it is.
 const TO_OWN: [u8; 32] = [
@@ -79,8 +79,7 @@ fn records(alloc: Global, count: usize) -> Result<Records, AllocError> {
     Ok(Records { list })
 }
 
-/// A batch of that number of records. None where memory ran out.
-pub(crate) fn batch_of(alloc: Global, count: usize) -> Option<Batch>
+fn batch_of(alloc: Global, count: usize) -> Option<Batch>
     ensures { IfSome result (λ batch. FitsLog batch) }
 {
     batch_at(1000, records(alloc, count).ok()?)

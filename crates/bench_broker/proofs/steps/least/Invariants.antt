@@ -1,5 +1,5 @@
 use Rattle.std.proofs.Common.{[], get_or, length}
-use Rattle.bench_broker.proofs.reads.least.Given as goal
+use Rattle.bench_broker.proofs.steps.least.Given as goal
 
 -- the names of the cells that were just made
 abbrev pub ghosts-after : goal.ghosts-after
