@@ -8,7 +8,7 @@ ghost use Rattle.worker.specs.Walks.{AreRowsOfLast};
 use crate::broker::Broker;
 use crate::ended::{Ended, Until};
 use crate::fault::BrokerFault;
-use out_book::BookFault;
+use out_book::{BookFault, Room};
 use part_log::{Names, PartLog, Trail};
 use std::alloc::{AllocError, Global};
 use std::sync::Wait;
@@ -59,16 +59,23 @@ impl<'a, Id: Names, C, R: Wait, G: Gate> Worker<'a, Id, C, R, G> {
             .broker
             .trail(self.rt, self.input)
             .map_err(Ended::Fault)?;
-        self.drain(log, &trail, &mut walk)?;
+        let mut room = Room::new(self.alloc);
+        self.drain(log, &trail, &mut walk, &mut room)?;
         match until {
             Until::Drained => {}
-            Until::Closed => self.follow(log, &mut walk)?,
+            Until::Closed => self.follow(log, &mut walk, &mut room)?,
         }
         Ok(walk.len())
     }
 
     /// Takes the items of a trail.
-    fn drain(&self, log: &PartLog<Id>, trail: &Trail<Id>, walk: &mut Walk<Id>) -> Result<(), Ended>
+    fn drain(
+        &self,
+        log: &PartLog<Id>,
+        trail: &Trail<Id>,
+        walk: &mut Walk<Id>,
+        room: &mut Room,
+    ) -> Result<(), Ended>
         requires trail { trail.now.partition ≡ log.now }
         requires walk { walk.old.partition ≡ log.now }
         requires few { log.now < 64 }
@@ -79,13 +86,13 @@ impl<'a, Id: Names, C, R: Wait, G: Gate> Worker<'a, Id, C, R, G> {
             if !walk.next(log, &mut note) {
                 unreachable!();
             }
-            self.offer(log, walk)?;
+            self.offer(log, walk, room)?;
         }
         Ok(())
     }
 
     /// Takes the items of a log as they come, up to its end or its last cell.
-    fn follow(&self, log: &PartLog<Id>, walk: &mut Walk<Id>) -> Result<(), Ended>
+    fn follow(&self, log: &PartLog<Id>, walk: &mut Walk<Id>, room: &mut Room) -> Result<(), Ended>
         requires walk { walk.old.partition ≡ log.now }
         requires few { log.now < 64 }
     {
@@ -94,7 +101,7 @@ impl<'a, Id: Names, C, R: Wait, G: Gate> Worker<'a, Id, C, R, G> {
                 break;
             }
             self.wait_for_next(log, walk);
-            self.offer(log, walk)?;
+            self.offer(log, walk, room)?;
         }
         Ok(())
     }
@@ -117,7 +124,7 @@ impl<'a, Id: Names, C, R: Wait, G: Gate> Worker<'a, Id, C, R, G> {
     }
 
     /// Processes the walk's last item, and offers its rows to every output partition.
-    fn offer(&self, log: &PartLog<Id>, walk: &Walk<Id>) -> Result<(), Ended>
+    fn offer(&self, log: &PartLog<Id>, walk: &Walk<Id>, room: &mut Room) -> Result<(), Ended>
         requires walk { walk.now.partition ≡ log.now }
         requires few { log.now < 64 }
         requires item { 0 < length walk.now.items }
@@ -131,7 +138,7 @@ impl<'a, Id: Names, C, R: Wait, G: Gate> Worker<'a, Id, C, R, G> {
             if !self.gate.pass(walk.partition(), index, output) {
                 return Err(Ended::Stopped(index, output));
             }
-            self.deliver(walk, delivery).map_err(Ended::Fault)?;
+            self.deliver(walk, delivery, room).map_err(Ended::Fault)?;
         }
         Ok(())
     }
@@ -151,14 +158,23 @@ impl<'a, Id: Names, C, R: Wait, G: Gate> Worker<'a, Id, C, R, G> {
         results.into_deliveries(self.alloc)
     }
 
-    /// Offers an item's rows to their output partition.
-    fn deliver(&self, walk: &Walk<Id>, delivery: Delivery<Id>) -> Result<(), BrokerFault> {
+    /// Offers an item's rows to their output partition. Room for them is made before the book is locked;
+    /// what the book doesn't take of it is there for the next offer.
+    fn deliver(
+        &self,
+        walk: &Walk<Id>,
+        delivery: Delivery<Id>,
+        room: &mut Room,
+    ) -> Result<(), BrokerFault> {
+        if room.prepare(delivery.len()).is_err() {
+            return Err(BrokerFault::Memory);
+        }
         let output = delivery.output();
         let mut book = self.broker.book(output).lock(self.rt);
         if book.output() != output {
             return Err(BrokerFault::Book(BookFault::Partition));
         }
-        match book.receive(walk, delivery) {
+        match book.receive(walk, delivery, room) {
             Ok(_) => Ok(()),
             Err(fault) => Err(BrokerFault::Book(fault)),
         }

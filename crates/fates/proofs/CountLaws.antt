@@ -3,13 +3,13 @@ use Rattle.std.proofs.Common.{◌≡◌, ℕ, zero, suc, ◌+◌, ◌<◌, Bool,
 use Rattle.std.proofs.Common.{refl, sym, ap, subst, ◌∙◌, arith, add-one}
 use Rattle.std.specs.Prelude.{◌==◌, count_by, unwrap_or}
 use Rattle.std.specs.List.Sorted.{IsStrictlySortedBy}
-use Rattle.std.proofs.lemmas.List.{length_push, length-append, append-nil}
+use Rattle.std.proofs.lemmas.List.{length_push, length-append}
 use Rattle.std.proofs.lemmas.List.Sums.{sum_by_push, sum_by-append, count_by-le-length}
 use Rattle.std.proofs.lemmas.Bool.Decides.{nat_tests}
 use Rattle.fates.specs.declared.fate.Fate.{Fate}
 use Rattle.fates.specs.declared.fate.Fate.TheVariants.{Unprogrammed, Kept, Rejected}
 use Rattle.fates.specs.Totals.{Totals, totals, is_unprogrammed, is_kept, is_rejected_by, rejected_by, listed_count}
-use Rattle.fates.specs.Totals.{rejects_of, AreCounts, AreCounted}
+use Rattle.fates.specs.Totals.{rejects_of, AreCounts}
 use Rattle.fates.specs.Rejects.{IsSet, ListsSome, AreSummed}
 
 -- ---- one more fate in a count
@@ -31,11 +31,6 @@ counted_both : (p : Fate → Bool) (before here : List Fate) →
 counted_both p before here = sum_by-append (λ f. cond (p f) 1 0) before here
 
 -- ---- counts
-
-pub none_counted : (rejects : List (ℕ × ℕ)) → rejects ≡ [] → AreCounts [] (totals 0 0 0 rejects)
-unfolding IsStrictlySortedBy
-none_counted rejects e = subst (λ (rs : List (ℕ × ℕ)). AreCounts [] (totals 0 0 0 rs)) (sym e)
-    (record { records_are = refl; unprogrammed_are = refl; kept_are = refl; rising = tt; rejects_are = λ code. refl })
 
 pub unprogrammed_more : (fates : List Fate) (r u k : ℕ) (rejects : List (ℕ × ℕ)) →
     AreCounts fates (totals r u k rejects) → AreCounts (fates ++ Unprogrammed ∷ []) (totals (r + 1) (u + 1) k rejects)
@@ -149,13 +144,4 @@ both_counted before here r u k r' u' k' one other both was more sums = record {
         counted_both (is_rejected_by code) before here,
       ) in
       sums.sums code ∙ ap listed_count all;
-}
-
--- ---- fates that are counted
-
-pub counted_none : (Holds : List Fate → Type 0) (c : Totals) → Holds [] → AreCounted Holds c c
-counted_none Holds c h = record {
-  here = [];
-  holds = h;
-  counted = λ before are. subst (λ (fs : List Fate). AreCounts fs c) (sym (append-nil before)) are;
 }

@@ -1,6 +1,6 @@
 -- How many records met which fate.
-use Rattle.std.specs.Prelude.{◌≡◌, ℕ, zero, suc, ◌+◌, ◌==◌, Bool, true, false, List, ◌++◌, length, count_by, Option}
-use Rattle.std.specs.Prelude.{Some, None, unwrap_or, slice_get}
+use Rattle.std.specs.Prelude.{◌≡◌, ℕ, zero, suc, ◌+◌, ◌==◌, Bool, true, false, List, length, count_by, Option, unwrap_or}
+use Rattle.std.specs.Prelude.{Some, None, slice_get}
 use Rattle.std.specs.Ordering.{nat_cmp, is_eq}
 use Rattle.std.specs.Map.{keys_of, lookup}
 use Rattle.std.specs.List.Sorted.{IsStrictlySortedBy}
@@ -83,15 +83,3 @@ pub record AreCountsOf (input outputs : ℕ) (items : List Item) (n : ℕ) (coun
   pub fates : List Fate
   pub fates_are : AreFatesOf input outputs items n fates
   pub counts_are : AreCounts fates counts
-
--- Fates of which a fact holds are counted beside those before.
-pub record AreCounted (Holds : List Fate → Type 0) (old new : Totals) : Type 0 where
-  pub here : List Fate
-  pub holds : Holds here
-  pub counted : (before : List Fate) → AreCounts before old → AreCounts (before ++ here) new
-
--- One more record is listed at a code, and nothing else changes.
-pub record IsOneMore (code : ℕ) (old new : List (ℕ × ℕ)) : Type 0 where
-  pub rising : IsStrictlySortedBy nat_cmp (keys_of new)
-  pub here : rejected_by code new ≡ Some (unwrap_or (rejected_by code old) 0 + 1)
-  pub others : (other : ℕ) → (code == other) ≡ false → rejected_by other new ≡ rejected_by other old

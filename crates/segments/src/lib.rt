@@ -3,5 +3,7 @@
 #![tactic(auto)]
 
 mod segments;
+mod spares;
 
 pub use crate::segments::{SEGMENT, Segments};
+pub use crate::spares::Spares;

@@ -1,4 +1,4 @@
-ghost use Rattle.std.specs.Prelude.{◌≡◌, ◌<◌, All};
+ghost use Rattle.std.specs.Prelude.{◌≡◌, ◌<◌, All, length};
 ghost use Rattle.std.specs.Arc.{arc_value};
 ghost use Rattle.fates.specs.Totals.{AreCountsAt};
 ghost use Rattle.log_spec.specs.Logs.{IsRowsAt, RowFits};
@@ -59,6 +59,13 @@ impl<Id: Names> Delivery<Id> {
         self.output
     }
 
+    /// How many rows there are.
+    pub fn len(&self) -> usize
+        ensures { result ≡ length self.now.rows }
+    {
+        self.rows.len()
+    }
+
     /// The items up to the one that the rows are of.
     pub fn trail(&self) -> &Trail<Id>
         ensures { result.now ≡ self.now.walk }
@@ -72,16 +79,6 @@ impl<Id: Names> Delivery<Id> {
         ensures are { AreCountsAt self.now.walk.partition Id.outputs self.now.walk.items (last self.now.walk.items) result.now }
     {
         &self.counts
-    }
-
-    /// The rows, by value.
-    pub fn into_rows(self) -> Vec<Row>
-        ensures rows { result.items ≡ self.rows }
-        ensures are { IsRowsAt self.walk.partition self.output Id.outputs self.walk.items (last self.walk.items) result.items }
-        ensures fit { All RowFits result.items }
-    {
-        let Delivery { rows, .. } = self;
-        rows
     }
 
     /// The rows, by value, and what became of the item's records.

@@ -2,7 +2,7 @@ ghost use Rattle.std.specs.Prelude.{◌≡◌};
 
 use broker_fixtures::{advance, results_of};
 use fixtures::batch_of_value;
-use out_book::{Book, BookFault, Delivered};
+use out_book::{Book, BookFault, Delivered, Room};
 use part_log::{Cells, Names, PartLog};
 use std::alloc::Global;
 use std::marker::Brand;
@@ -60,7 +60,7 @@ fn hand_over<Id: Names>(
     let deliveries = results.into_deliveries(alloc).ok()?;
     for delivery in deliveries {
         if delivery.output() == book.output() {
-            return Some(book.receive(walk, delivery));
+            return Some(book.receive(walk, delivery, &mut Room::new(alloc)));
         }
     }
     None
