@@ -74,11 +74,15 @@ class Image:
             image = file.read()
         self.stamp = stamp
         try:
-            self.program, self.digest = Program(self.engine, image), hashlib.sha256(image).hexdigest()[:16]
+            program = Program(self.engine, image)
         except Fault as fault:
             if self.program is None:
                 raise
             say(f"{self.name} refused: {fault}; program {self.digest} goes on")
+            return
+        if self.program is not None:
+            self.program.free()
+        self.program, self.digest = program, hashlib.sha256(image).hexdigest()[:16]
 
 
 class Member:
@@ -139,13 +143,14 @@ class Member:
         """Runs the program on what was polled; its outputs and the offsets after it are committed together or not."""
         try:
             self.producer.begin_transaction()
-            ends = {}
+            counts, ends = Counter(records=len(polled)), {}
             for message in polled:
-                self.run_on(message)
+                self.run_on(message, counts)
                 ends[message.partition()] = message.offset() + 1
             places = [TopicPartition(self.input, partition, offset) for partition, offset in ends.items()]
             until_done(self.producer.send_offsets_to_transaction, places, self.consumer.consumer_group_metadata(), WAIT)
             until_done(self.producer.commit_transaction, WAIT)
+            self.counts += counts
         except KafkaException as fault:
             if not fault.args[0].txn_requires_abort():
                 raise
@@ -153,7 +158,7 @@ class Member:
             until_done(self.producer.abort_transaction, WAIT)
             self.rewind()
 
-    def run_on(self, message):
+    def run_on(self, message, counts):
         partition, offset, timestamp = message.partition(), message.offset(), message.timestamp()[1]
         if self.said.get(partition) != self.image.digest:
             say(f"{self.input} {partition} from offset {offset} on: program {self.image.digest}")
@@ -163,10 +168,9 @@ class Member:
                 message.key(), message.value(), offset, timestamp, partition % PARTITIONS, len(self.outputs))
         except Fault as fault:
             raise Fault(f"{self.input} {partition} offset {offset}: {fault}") from None
-        self.counts["records"] += 1
-        self.counts["outputs"] += len(emissions)
+        counts["outputs"] += len(emissions)
         if code:
-            self.counts[f"rejected with code {code}"] += 1
+            counts[f"rejected with code {code}"] += 1
         for output, key, value in emissions:
             self.produce(self.outputs[output], value, key, partition, timestamp)
 

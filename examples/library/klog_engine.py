@@ -80,6 +80,9 @@ class Program:
         return self
 
     def __exit__(self, *_):
+        self.free()
+
+    def free(self):
         self.library.klog_free(byref(self.outcome))
         self.library.klog_free(byref(self.program))
 
