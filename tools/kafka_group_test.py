@@ -10,7 +10,7 @@ The cluster is librdkafka's mock cluster behind the front of mock_kafka.py, whic
 topic of four partitions. One is killed (SIGKILL) and started again at each of four moments of a transaction: its first
 records are written; its offsets are sent; its commit is asked and not done; its commit is done and not answered. The
 other is stopped (SIGSTOP) for longer than the group waits, so that its partitions are given away meanwhile, before and
-after it sent its offsets. On the way the program's file is replaced by one that is refused, and then by another
+after it sent its offsets; and once its offsets are refused with nothing else changed. On the way the program's file is replaced by one that is refused, and then by another
 program. The outputs are read by a consumer of committed records, and compared, partition by partition, with what
 plain Python makes of the records, by the programs that the members said and the offsets from which on.
 """
@@ -30,11 +30,12 @@ from mock_kafka import Front, MockCluster
 
 TOP = os.path.join(os.path.dirname(os.path.abspath(__file__)), "..")
 PARTITIONS, OUTPUTS = 4, ["out0", "out1", "out2", "out3"]
-SESSION, PAUSE = 6, 14  # seconds: the group waits for a member, and it is stopped
+SESSION, PAUSE, LIMIT = 6, 14, 300  # seconds: the group waits for a member; it is stopped; all wait for anything
 
-# Who, the moment of a transaction (Front), and what happens then.
+# Who, the moment of a transaction (Front), and the signal that is sent then; with none, the offsets are refused.
 PLAN = [("a", "produced", signal.SIGKILL), ("b", "produced", signal.SIGSTOP), ("a", "offsets sent", signal.SIGKILL),
-        ("b", "offsets sent", signal.SIGSTOP), ("a", "commit asked", signal.SIGKILL), ("a", "commit done", signal.SIGKILL)]
+        ("b", "offsets sent", signal.SIGSTOP), ("b", "offsets asked", None), ("a", "commit asked", signal.SIGKILL),
+        ("a", "commit done", signal.SIGKILL)]
 
 
 def image(name):
@@ -100,13 +101,16 @@ class Run:
         """Is called by the front at each moment of a transaction, before it answers."""
         step, member = self.step, self.members[name[-1]]
         if step is None or self.is_over.is_set() or (name[-1], word) != step[:2]:
-            return
+            return None
         self.number -= 1
-        if self.number == 0:
+        if self.number > 0:
+            return None
+        if step[2]:
             os.kill(member.process.pid, step[2])
-            if step[2] == signal.SIGKILL:
-                member.process.wait()
-            self.is_over.set()
+        if step[2] == signal.SIGKILL:
+            member.process.wait()
+        self.is_over.set()
+        return step[2] is None
 
     def feed(self, producer, first, last):
         """Sends a part of the records, slowly until the step's moment has come."""
@@ -147,12 +151,12 @@ class Run:
         if number == signal.SIGSTOP:
             time.sleep(PAUSE)
             member.process.send_signal(signal.SIGCONT)
-        else:
+        elif number == signal.SIGKILL:
             time.sleep(self.rng.uniform(0, 2))
             member.start()
 
-    def await_(self, test, what, seconds=90):
-        end = time.monotonic() + seconds
+    def await_(self, test, what):
+        end = time.monotonic() + LIMIT
         while not test():
             time.sleep(0.05)
             for member in self.members.values():
@@ -163,7 +167,6 @@ class Run:
 
     def fail(self, what):
         for member in self.members.values():
-            member.process.kill()
             print(f"--- {member.name}", member.text(), sep="\n")
         sys.exit(f"{what}; {self.front.committed} {dict(self.front.ends)}")
 
@@ -223,8 +226,12 @@ def main():
         begun = time.monotonic()
         with tempfile.TemporaryDirectory() as folder:
             run = Run(os.path.abspath(sys.argv[1]), count, seed, folder)
-            run.go()
-            outputs, written = run.compare()
+            try:
+                run.go()
+                outputs, written = run.compare()
+            finally:
+                for member in run.members.values():
+                    member.process.kill()
             refused = sum("refused: " in member.text() for member in run.members.values())
             print(f"run {seed}, {time.monotonic() - begun:.0f} s: {count} records, {outputs} outputs, each once and in order; "
                   f"{written} written; " + ", ".join(f"{what} {number}" for what, number in sorted(run.front.ends.items()))

@@ -161,8 +161,9 @@ class Owner:
 
 class Front:
     """The proxy. `moment` is called with a transactional id and a word at these moments of a transaction, each before the
-    answer: "produced" when records are written and no offsets were sent yet, "offsets sent", "commit asked" before
-    anything is done, and "commit done"."""
+    answer: "produced" when records are written and no offsets were sent yet, "offsets asked" before anything is done,
+    "offsets sent", "commit asked" before anything is done, and "commit done". Where it returns true at "offsets asked",
+    the offsets are refused."""
 
     def __init__(self, mock, moment=lambda name, word: None):
         self.mock, self.lock, self.moment = mock, threading.RLock(), moment
@@ -318,6 +319,7 @@ class Front:
         fields = Flexible(request, fields.at)
         fields.tags()
         name, group = fields.text(), fields.text()
+        is_refused = self.moment(name, "offsets asked")
         with self.lock:
             owner = self.owner_of(name, fields.take("q"), fields.take("h"))
             generation, member = fields.take("i"), fields.text()
@@ -326,7 +328,7 @@ class Front:
             fault = 0
             if owner is None or owner.open is None:
                 fault = INVALID_EPOCH
-            elif generation != known[0] or member not in known[1]:
+            elif is_refused or generation != known[0] or member not in known[1]:
                 fault = UNKNOWN_MEMBER
             self.ends["requests refused"] += fault != 0
             topics = fields.length()
