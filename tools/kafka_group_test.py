@@ -30,7 +30,7 @@ from mock_kafka import Front, MockCluster
 
 TOP = os.path.join(os.path.dirname(os.path.abspath(__file__)), "..")
 PARTITIONS, OUTPUTS = 4, ["out0", "out1", "out2", "out3"]
-SESSION, PAUSE, LIMIT = 6, 14, 300  # seconds: the group waits for a member; it is stopped; all wait for anything
+SESSION, PAUSE, LIMIT = 10, 20, 300  # seconds: the group waits for a member; it is stopped; all wait for anything
 
 # Who, the moment of a transaction (Front), and the signal that is sent then; with none, the offsets are refused.
 PLAN = [("a", "produced", signal.SIGKILL), ("b", "produced", signal.SIGSTOP), ("a", "offsets sent", signal.SIGKILL),

@@ -16,6 +16,7 @@ that is not in the group's generation is refused. A producer is refused after th
 came, or after its time. A fetch of offsets waits while an open transaction has some.
 """
 import ctypes
+import select
 import socket
 import struct
 import threading
@@ -47,15 +48,19 @@ def frame(stream):
 
 
 class Connection:
-    """A connection to a broker."""
+    """A connection to a broker, for a client or for oneself."""
 
-    def __init__(self, *place):
-        self.socket = socket.create_connection(place)
+    def __init__(self, host, port, client=None):
+        self.socket, self.client = socket.create_connection((host, port)), client
         self.socket.setsockopt(socket.IPPROTO_TCP, socket.TCP_NODELAY, 1)
         self.stream = self.socket.makefile("rb")
 
     def ask(self, request):
+        """The answer to a request; a fault as soon as the client has gone, so that the broker sees it too."""
         self.socket.sendall(framed(request))
+        if self.client and self.socket not in select.select([self.socket, self.client], [], [])[0]:
+            if not self.client.recv(1, socket.MSG_PEEK):
+                raise ConnectionError
         return frame(self.stream)
 
 
@@ -76,9 +81,9 @@ class MockCluster:
         self.servers = self.call("rd_kafka_mock_cluster_bootstraps", ctypes.c_char_p, self.cluster).decode()
         self.own = self.connection()
 
-    def connection(self):
+    def connection(self, client=None):
         host, port = self.servers.split(",")[0].rsplit(":", 1)
-        return Connection(host, int(port))
+        return Connection(host, int(port), client)
 
     def append(self, topic, partition, batch):
         """Appends a batch, as it is, to a partition; its offset."""
@@ -186,7 +191,7 @@ class Front:
             threading.Thread(target=self.serve, args=(client,), daemon=True).start()
 
     def serve(self, client):
-        behind, stream = self.mock.connection(), client.makefile("rb")
+        behind, stream = self.mock.connection(client), client.makefile("rb")
         try:
             while (request := frame(stream)) is not None:
                 client.sendall(framed(self.answer(request, behind)))
