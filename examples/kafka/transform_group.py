@@ -97,6 +97,7 @@ class Member:
         self.is_ended = self.is_shared_anew = False
 
     def run(self):
+        self.image.renew()
         until_done(self.producer.init_transactions, WAIT)
         self.consumer.subscribe([self.input], on_assign=self.assigned, on_revoke=self.revoked)
         reported = time.monotonic()
