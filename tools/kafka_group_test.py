@@ -10,9 +10,10 @@ The cluster is librdkafka's mock cluster behind the front of mock_kafka.py, whic
 topic of four partitions. One is killed (SIGKILL) and started again at each of four moments of a transaction: its first
 records are written; its offsets are sent; its commit is asked and not done; its commit is done and not answered. The
 other is stopped (SIGSTOP) for longer than the group waits, so that its partitions are given away meanwhile, before and
-after it sent its offsets; and once its offsets are refused with nothing else changed. On the way the program's file is replaced by one that is refused, and then by another
-program. The outputs are read by a consumer of committed records, and compared, partition by partition, with what
-plain Python makes of the records, by the programs that the members said and the offsets from which on.
+after it sent its offsets; and once its offsets are refused with nothing else changed. On the way the program's file is
+replaced by one that is refused, and then by another program. The outputs are read by a consumer of committed records,
+and compared, partition by partition, with what plain Python makes of the records, by the programs that the members said
+and the offsets from which on. A run takes some two minutes, most of them waiting.
 """
 import os
 import random
@@ -63,6 +64,7 @@ class Member:
 
     def start(self):
         with open(self.log, "a") as log:
+            self.begun = log.tell()
             self.process = subprocess.Popen(self.words, stdout=log, stderr=log)
 
     def text(self):
@@ -71,7 +73,7 @@ class Member:
 
     def partitions(self):
         """The partitions that it was given last, as it says; none before."""
-        said = re.findall(r"^\S+ in (assigned|revoked) \[(.*)\]$", self.text(), re.M)
+        said = re.findall(r"^\S+ in (assigned|revoked) \[(.*)\]$", self.text()[self.begun:], re.M)
         return said[-1][1] if said and said[-1][0] == "assigned" and self.process.poll() is None else ""
 
 
@@ -127,9 +129,9 @@ class Run:
         fed, each = 0, self.count // PARTITIONS
         for place, step in enumerate(PLAN):
             self.await_(lambda: all(member.partitions() for member in self.members.values()), "members")
-            if place == 2:
-                self.replace(b"\0" * 8)
             if place == 3:
+                self.replace(b"\0" * 8)
+            if place == 4:
                 self.replace(image("filter_first_byte"))
             self.number, self.step = self.rng.randrange(1, 6), step
             last = each * (place + 1) // len(PLAN)

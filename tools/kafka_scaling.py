@@ -126,7 +126,7 @@ def rest(library, partitions):
 
 
 def shares(library):
-    """A member joins another, leaves, joins again, and dies: how long the partitions have nobody."""
+    """A member joins another, leaves, joins again, and dies: when the partitions are shared anew."""
     ends = {"leaves (SIGTERM)": signal.SIGTERM, "dies (SIGKILL), session.timeout.ms=6000": signal.SIGKILL}
     with tempfile.TemporaryDirectory() as folder:
         cluster = Front(MockCluster({"in": PARTITIONS, "out": PARTITIONS}))
@@ -135,17 +135,17 @@ def shares(library):
             waited(lambda: group.said(0, GIVEN))
             for what, number in ends.items():
                 group.start()
-                tell("joins", group, time.time())
-                time.sleep(3)
+                tell("joins", group, [0, len(group.members) - 1])
+                time.sleep(10)
                 group.members[-1].send_signal(number)
-                tell(what, group, time.time())
+                tell(what, group, [0])
 
 
-def tell(what, group, since):
-    waited(lambda: group.said(0, GIVEN)[-1][0] > since)
-    again = group.said(0, GIVEN)[-1][0]
-    gap = again - group.said(0, r"in revoked .*")[-1][0]
-    print(f"a member {what}: {again - since:.1f} s later all is shared anew; the first had no partitions for {gap:.1f} s", flush=True)
+def tell(what, group, numbers):
+    """How long it takes from now on until these members have partitions anew."""
+    since = time.time()
+    waited(lambda: all(any(said[0] > since for said in group.said(k, GIVEN)) for k in numbers))
+    print(f"a member {what}: {max(group.said(k, GIVEN)[-1][0] for k in numbers) - since:.1f} s later all is shared anew", flush=True)
 
 
 def record(library):

@@ -55,10 +55,10 @@ class Connection:
         self.socket.setsockopt(socket.IPPROTO_TCP, socket.TCP_NODELAY, 1)
         self.stream = self.socket.makefile("rb")
 
-    def ask(self, request):
-        """The answer to a request; a fault as soon as the client has gone, so that the broker sees it too."""
+    def ask(self, request, may_wait=False):
+        """The answer to a request. Where it may take long, a fault as soon as the client has gone: the broker sees it too."""
         self.socket.sendall(framed(request))
-        if self.client and self.socket not in select.select([self.socket, self.client], [], [])[0]:
+        if may_wait and self.socket not in select.select([self.socket, self.client], [], [])[0]:
             if not self.client.recv(1, socket.MSG_PEEK):
                 raise ConnectionError
         return frame(self.stream)
@@ -209,7 +209,7 @@ class Front:
             rows = b"".join(struct.pack(">hhh", *row) for row in VERSIONS)
             return request[4:8] + struct.pack(">hi", UNSUPPORTED_VERSION if version > 0 else 0, len(VERSIONS)) + rows
         change = self.changes.get(key)
-        return change(request, fields, version, behind) if change else behind.ask(request)
+        return change(request, fields, version, behind) if change else behind.ask(request, True)
 
     def metadata(self, request, _, version, behind):
         answer = bytearray(behind.ask(request))
@@ -231,7 +231,7 @@ class Front:
 
     def join_group(self, request, fields, version, behind):
         group = fields.text()
-        answer = behind.ask(request)
+        answer = behind.ask(request, True)
         fields = Reader(answer)
         fields.take("i" if version < 2 else "ii")
         if fields.take("h") == 0:
@@ -441,7 +441,7 @@ class Front:
                 partition = fields.take("i")
                 wanted[topic, partition] = fields.take("q")
                 fields.take("i")
-        answer = behind.ask(request)
+        answer = behind.ask(request, True)
         return self.cut(answer, wanted) if is_committed_alone else answer
 
     def cut(self, answer, wanted):

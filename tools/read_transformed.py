@@ -106,7 +106,8 @@ def main():
         reader = Reader(f"{program}{q}" for program in ("forward", "route_by_hash") for q in range(4))
         for program, image, route in (("forward", "forward.bin", lambda key: 0), ("route_by_hash", "c/route_by_hash.bin", routed)):
             names = outs[:1] if program == "forward" else outs
-            subprocess.run([sys.argv[1], "transform", f"{TOOLS}/../examples/{image}", segment, *names], check=True, stderr=subprocess.DEVNULL)
+            words = [sys.argv[1], "transform", f"{TOOLS}/../examples/{image}", segment, *names]
+            subprocess.run(words, check=True, stderr=subprocess.DEVNULL)
             for q, name in enumerate(names):
                 found = {"python3-kafka": by_python(name), "librdkafka": reader.read(f"{program}{q}", name)}
                 for client, rows in found.items():

@@ -8,8 +8,9 @@ Not part of the build. On Debian, and Linux:
 
 Each round runs each program once, in turn, on a file of make_segment.py in FOLDER, which needs three times its size. A
 row has the least processor seconds (user and system) and the least seconds of a program's rounds, the records a second
-of processor time, and the most memory that it had. Then klog's and Go's outputs are compared: the Go program keeps
-the batches as they came and klog fills them, so their numbers of records must agree.
+of processor time, and the most memory that it had, where the 12 MB of this script, which starts it, are the least that
+is seen. Then klog's and Go's outputs are compared: the Go program keeps the batches as they came and klog fills them,
+so their numbers of records must agree.
 """
 import os
 import shutil
