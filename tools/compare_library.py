@@ -15,7 +15,7 @@ import sys
 sys.path.insert(0, os.path.join(os.path.dirname(os.path.abspath(__file__)), "..", "examples", "library"))
 
 from compare import accepted_image, some_bytes, some_image
-from lines import Engine, Fault, Program
+from klog_engine import Engine, Fault, Program
 from second_broker import Record
 from second_machine import Refused, decode, run, verify
 

@@ -29,8 +29,8 @@ UNSUPPORTED_VERSION = 35
 class Reader:
     """The fields of a request, in order."""
 
-    def __init__(self, data):
-        self.data, self.at = data, 0
+    def __init__(self, data, at=0):
+        self.data, self.at = data, at
 
     def take(self, form):
         values = struct.unpack_from(">" + form, self.data, self.at)
@@ -225,4 +225,5 @@ def main():
             print(f"{client} | {setting} | {sizes} bytes | {answer_of(sys.argv[1], broker.kept)}", flush=True)
 
 
-main()
+if __name__ == "__main__":
+    main()

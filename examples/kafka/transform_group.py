@@ -1,0 +1,211 @@
+#!/usr/bin/env python3
+"""Runs a klog program on the records of a Kafka topic, each exactly once, as a member of a consumer group.
+
+    transform_group.py --servers HOST:PORT --group GROUP --name NAME --library libklog.so --image IMAGE
+                       --input TOPIC --outputs TOPIC [TOPIC ..] [--records N] [--seconds S]
+                       [--set KEY=VALUE ..] [--set-consumer KEY=VALUE ..] [--set-producer KEY=VALUE ..]
+
+It needs confluent-kafka (Debian: python3-confluent-kafka) and libklog.so (tools/build_library.sh). Start as many
+members as there are cores to use, on one machine or on many: the group shares the partitions out.
+
+- What the program emits to its output Q goes to the Q-th of the outputs, to the partition that the record came from. So
+  each output topic has as many partitions as the input, and a partition keeps its order.
+- The outputs of a poll and its offsets are one transaction. A consumer that reads committed records alone (with
+  librdkafka the default) sees each output once, whichever member dies, and whenever.
+- Each member has a NAME of its own, and the same one after a restart: by it Kafka ends the transaction that a killed
+  member left open, and refuses one that only seemed dead.
+- IMAGE is looked at between two polls. A new one is taken up, and each partition's first offset that it is run on is
+  said. One that the verifier refuses is said too, and the program before it goes on. Replace the file by a rename.
+- Headers are not carried over. A program sees the number of the partition modulo 64. A record that klog does not take
+  (a key above 4,096 bytes, a value above 65,536, no timestamp) ends the member, with its place.
+
+What fails for good ends the process with status 1: let a supervisor start it again. SIGTERM ends it after the
+transaction that is under way.
+"""
+import argparse
+import hashlib
+import os
+import signal
+import sys
+import time
+from collections import Counter
+
+from confluent_kafka import Consumer, KafkaException, Producer, TopicPartition
+
+sys.path.insert(0, os.path.join(os.path.dirname(os.path.abspath(__file__)), "..", "library"))
+from klog_engine import Engine, Fault, Program  # noqa: E402
+
+PARTITIONS = 64  # of klog; a topic may have more
+WAIT = 30  # seconds for one answer of the cluster
+REPORT = 5  # seconds between two reports
+
+
+def say(text):
+    print(f"{time.time():.6f} {text}", flush=True)
+
+
+def pairs(words):
+    return dict(word.split("=", 1) for word in words)
+
+
+def until_done(call, *words):
+    """Calls again where the cluster says that it may be tried again."""
+    while True:
+        try:
+            return call(*words)
+        except KafkaException as fault:
+            if not fault.args[0].retriable():
+                raise
+
+
+class Image:
+    """A program that stands in a file, which may be replaced."""
+
+    def __init__(self, engine, name):
+        self.engine, self.name, self.stamp, self.program = engine, name, None, None
+
+    def renew(self):
+        """Loads the file where it has changed. Before the first program is there, a refused one is a fault."""
+        found = os.stat(self.name)
+        stamp = found.st_mtime_ns, found.st_size, found.st_ino
+        if stamp == self.stamp:
+            return
+        with open(self.name, "rb") as file:
+            image = file.read()
+        self.stamp = stamp
+        try:
+            program = Program(self.engine, image)
+        except Fault as fault:
+            if self.program is None:
+                raise
+            say(f"{self.name} refused: {fault}; program {self.digest} goes on")
+            return
+        if self.program is not None:
+            self.program.free()
+        self.program, self.digest = program, hashlib.sha256(image).hexdigest()[:16]
+
+
+class Member:
+    def __init__(self, given):
+        self.input, self.outputs, self.records, self.seconds = given.input, given.outputs, given.records, given.seconds
+        self.image, self.counts, self.said = Image(Engine(given.library), given.image), Counter(), {}
+        settings = {"bootstrap.servers": given.servers, **pairs(given.set)}
+        self.consumer = Consumer({"group.id": given.group, "auto.offset.reset": "earliest", "enable.auto.commit": False,
+                                  "isolation.level": "read_committed", **settings, **pairs(given.set_consumer)})
+        self.producer = Producer({"transactional.id": f"{given.group}-{given.name}", "linger.ms": 20,
+                                  **settings, **pairs(given.set_producer)})
+        self.is_ended = self.is_shared_anew = False
+
+    def run(self):
+        self.image.renew()
+        until_done(self.producer.init_transactions, WAIT)
+        self.consumer.subscribe([self.input], on_assign=self.assigned, on_revoke=self.revoked)
+        reported = time.monotonic()
+        while not self.is_ended:
+            self.image.renew()
+            polled = self.polled()
+            if polled:
+                self.transact(polled)
+            if time.monotonic() > reported + REPORT:
+                self.report()
+                reported = time.monotonic()
+        self.report()
+        self.consumer.close()
+
+    # The group shares the partitions out anew. The client calls these within a poll alone, so in no transaction.
+
+    def assigned(self, _, places):
+        self.is_shared_anew = True
+        say(f"{self.input} assigned {sorted(place.partition for place in places)}")
+
+    def revoked(self, _, places):
+        self.is_shared_anew = True
+        say(f"{self.input} revoked {sorted(place.partition for place in places)}")
+
+    def polled(self):
+        """The next records. Where the partitions were shared anew meanwhile, they may be another's: none of them."""
+        self.is_shared_anew = False
+        polled = self.consumer.consume(self.records, self.seconds)
+        for message in polled:
+            if message.error():
+                raise KafkaException(message.error())
+        if self.is_shared_anew:
+            self.rewind()
+            return []
+        return polled
+
+    def rewind(self):
+        """Goes on where the group's committed offsets are."""
+        places = self.consumer.assignment()
+        self.consumer.assign(until_done(self.consumer.committed, places, WAIT) if places else [])
+        self.said = {}
+
+    def transact(self, polled):
+        """Runs the program on what was polled; its outputs and the offsets after it are committed together or not."""
+        try:
+            self.producer.begin_transaction()
+            counts, ends = Counter(records=len(polled)), {}
+            for message in polled:
+                self.run_on(message, counts)
+                ends[message.partition()] = message.offset() + 1
+            places = [TopicPartition(self.input, partition, offset) for partition, offset in ends.items()]
+            until_done(self.producer.send_offsets_to_transaction, places, self.consumer.consumer_group_metadata(), WAIT)
+            until_done(self.producer.commit_transaction, WAIT)
+            self.counts += counts
+        except KafkaException as fault:
+            if not fault.args[0].txn_requires_abort():
+                raise
+            say(f"transaction aborted: {fault.args[0].str()}")
+            until_done(self.producer.abort_transaction, WAIT)
+            self.rewind()
+
+    def run_on(self, message, counts):
+        partition, offset, timestamp = message.partition(), message.offset(), message.timestamp()[1]
+        if self.said.get(partition) != self.image.digest:
+            say(f"{self.input} {partition} from offset {offset} on: program {self.image.digest}")
+            self.said[partition] = self.image.digest
+        try:
+            code, emissions = self.image.program.run(
+                message.key(), message.value(), offset, timestamp, partition % PARTITIONS, len(self.outputs))
+        except Fault as fault:
+            raise Fault(f"{self.input} {partition} offset {offset}: {fault}") from None
+        counts["outputs"] += len(emissions)
+        if code:
+            counts[f"rejected with code {code}"] += 1
+        for output, key, value in emissions:
+            self.produce(self.outputs[output], value, key, partition, timestamp)
+
+    def produce(self, topic, value, key, partition, timestamp):
+        while True:
+            try:
+                return self.producer.produce(topic, value, key, partition, timestamp=timestamp)
+            except BufferError:  # the client's queue is full: send some of it
+                self.producer.poll(1)
+
+    def report(self):
+        say("so far " + ", ".join(f"{what} {count}" for what, count in sorted(self.counts.items())))
+
+    def end(self, *_):
+        self.is_ended = True
+
+
+def main():
+    words = argparse.ArgumentParser(description=__doc__, formatter_class=argparse.RawDescriptionHelpFormatter)
+    for word in ("servers", "group", "name", "library", "image", "input"):
+        words.add_argument(f"--{word}", required=True)
+    words.add_argument("--outputs", required=True, nargs="+", metavar="TOPIC", help="1 to 64, the first for output 0")
+    words.add_argument("--records", type=int, default=5000, help="the most of one transaction")
+    words.add_argument("--seconds", type=float, default=0.5, help="the longest wait for as many")
+    for word, client in (("--set", "clients"), ("--set-consumer", "consumer"), ("--set-producer", "producer")):
+        words.add_argument(word, action="append", default=[], metavar="KEY=VALUE", help=f"a setting of the {client}")
+    member = Member(words.parse_args())
+    for number in (signal.SIGTERM, signal.SIGINT):
+        signal.signal(number, member.end)
+    try:
+        member.run()
+    except (Fault, KafkaException, OSError) as fault:
+        sys.exit(f"ended: {fault}")
+
+
+if __name__ == "__main__":
+    main()

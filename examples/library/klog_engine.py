@@ -1,0 +1,109 @@
+"""klog's engine in Python: the calls of libklog.so (include/klog_engine.h), without packages.
+
+    with Program(Engine("libklog.so"), image) as program:
+        code, emissions = program.run(key, value)
+"""
+import ctypes
+from ctypes import POINTER, byref, c_size_t, c_uint32, c_uint64
+
+BYTES = ctypes.c_char_p
+NULL_KEY, NULL_VALUE = 1, 2
+MOST_KEY, MOST_VALUE = 4096, 65536
+
+
+class Handle(ctypes.Structure):
+    _fields_ = [("at", ctypes.c_void_p), ("full", ctypes.c_ubyte)]
+
+
+class Record(ctypes.Structure):
+    _fields_ = [("key", BYTES), ("key_length", c_size_t), ("value", BYTES), ("value_length", c_size_t),
+                ("offset", c_uint64), ("timestamp", c_uint64), ("partition", c_size_t), ("outputs", c_size_t)]
+
+
+class Emission(ctypes.Structure):
+    _fields_ = [("output", c_size_t), ("key_length", c_size_t), ("value_length", c_size_t), ("nulls", c_uint32)]
+
+
+class Fault(Exception):
+    """What the engine refuses, as `klog` prints it."""
+
+
+class Engine:
+    """The functions of libklog.so."""
+
+    def __init__(self, name):
+        self.library = ctypes.CDLL(name)
+        handle = POINTER(Handle)
+        self.declare("klog_load", BYTES, c_size_t, handle, POINTER(c_size_t))
+        self.declare("klog_fault_text", c_uint32, c_size_t, BYTES, c_size_t, POINTER(c_size_t))
+        self.declare("klog_share", handle, handle)
+        self.declare("klog_run", handle, POINTER(Record), handle)
+        self.declare("klog_outcome", handle, POINTER(c_uint64), POINTER(c_size_t))
+        self.declare("klog_emission_at", handle, c_size_t, POINTER(Emission))
+        self.declare("klog_emission_key", handle, c_size_t, BYTES, c_size_t)
+        self.declare("klog_emission_value", handle, c_size_t, BYTES, c_size_t)
+        self.declare("klog_free", handle)
+        self.library.klog_free.restype = None
+
+    def declare(self, name, *parameters):
+        function = getattr(self.library, name)
+        function.argtypes, function.restype = parameters, c_uint32
+
+    def text(self, fault, place=0):
+        room, length = ctypes.create_string_buffer(64), c_size_t()
+        self.library.klog_fault_text(fault, place, room, len(room), byref(length))
+        return room.raw[:length.value].decode()
+
+    def check(self, fault, place=0):
+        if fault:
+            raise Fault(self.text(fault, place))
+
+
+class Program:
+    """A loaded program, for one thread, which a `with` statement frees."""
+
+    def __init__(self, engine, image):
+        self.engine, self.library = engine, engine.library
+        self.program, self.outcome, self.record, self.emission = Handle(), Handle(), Record(), Emission()
+        self.code, self.count = c_uint64(), c_size_t()
+        self.key, self.value = ctypes.create_string_buffer(MOST_KEY), ctypes.create_string_buffer(MOST_VALUE)
+        self.key_bytes, self.value_bytes = memoryview(self.key), memoryview(self.value)
+        # what the calls of each run are given, made once
+        self.run_words = byref(self.program), byref(self.record), byref(self.outcome)
+        self.outcome_words = byref(self.outcome), byref(self.code), byref(self.count)
+        self.outcome_at, self.emission_at = byref(self.outcome), byref(self.emission)
+        place = c_size_t()
+        fault = engine.library.klog_load(image, len(image), byref(self.program), byref(place))
+        engine.check(fault, place.value)
+
+    def __enter__(self):
+        return self
+
+    def __exit__(self, *_):
+        self.free()
+
+    def free(self):
+        self.library.klog_free(byref(self.outcome))
+        self.library.klog_free(byref(self.program))
+
+    def run(self, key, value, offset=0, timestamp=0, partition=0, outputs=1):
+        """The reject code, 0 where the record is kept, and the emissions: output, key and value, None for null."""
+        record = self.record
+        record.key, record.key_length = key, len(key or b"")
+        record.value, record.value_length = value, len(value or b"")
+        record.offset, record.timestamp, record.partition, record.outputs = offset, timestamp, partition, outputs
+        fault = self.library.klog_run(*self.run_words) or self.library.klog_outcome(*self.outcome_words)
+        if fault:
+            self.engine.check(fault)
+        return self.code.value, [self.emitted(number) for number in range(self.count.value)]
+
+    def emitted(self, number):
+        library, emission = self.library, self.emission
+        fault = (library.klog_emission_at(self.outcome_at, number, self.emission_at)
+                 or library.klog_emission_key(self.outcome_at, number, self.key, MOST_KEY)
+                 or library.klog_emission_value(self.outcome_at, number, self.value, MOST_VALUE))
+        if fault:
+            self.engine.check(fault)
+        key = None if emission.nulls & NULL_KEY else bytes(self.key_bytes[:emission.key_length])
+        value = None if emission.nulls & NULL_VALUE else bytes(self.value_bytes[:emission.value_length])
+        return emission.output, key, value

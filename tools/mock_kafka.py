@@ -1,0 +1,473 @@
+"""A Kafka cluster for tests: the mock cluster of librdkafka, and what it lacks of transactions in front of it.
+
+Not called: kafka_group.py imports it. It needs librdkafka (Debian's librdkafka1, which python3-confluent-kafka brings).
+
+The mock cluster has the protocol of records, groups and rebalances. Of transactions it has the answers alone: of
+version 2.0.2 it was seen, and its source says, that
+
+- EndTxn does nothing: records of an aborted or an open transaction are read like others, also by read_committed;
+- TxnOffsetCommit keeps no offset, and takes no generation (version 2);
+- a second InitProducerId of a transactional id leaves the first producer its rights.
+
+`Front` is a proxy on ports of its own that does these three, by the rules of KIP-98 and KIP-447, and hands on the rest.
+A transaction's end is a control batch in each of its partitions, and a fetch of committed records ends before the first
+open transaction and names the aborted ones. An offset is committed with its transaction alone, and one of a member
+that is not in the group's generation is refused. A producer is refused after the next one of its transactional id
+came, or after its time. A fetch of offsets waits while an open transaction has some.
+"""
+import ctypes
+import select
+import socket
+import struct
+import threading
+import time
+from collections import Counter
+
+from kafka_clients import Reader, text
+
+PRODUCE, FETCH, LIST_OFFSETS, METADATA, OFFSET_COMMIT, OFFSET_FETCH, FIND_COORDINATOR = 0, 1, 2, 3, 8, 9, 10
+JOIN_GROUP, HEARTBEAT, LEAVE_GROUP, SYNC_GROUP, API_VERSIONS = 11, 12, 13, 14, 18
+INIT_PRODUCER_ID, ADD_PARTITIONS, ADD_OFFSETS, END_TRANSACTION, TRANSACTION_OFFSETS = 22, 24, 25, 26, 28
+UNKNOWN_MEMBER, UNSUPPORTED_VERSION, INVALID_EPOCH, INVALID_STATE = 25, 35, 47, 48
+
+# The versions that the front offers: those whose fields it reads.
+VERSIONS = [(PRODUCE, 0, 3), (FETCH, 0, 4), (LIST_OFFSETS, 0, 1), (METADATA, 0, 1), (OFFSET_COMMIT, 0, 2), (OFFSET_FETCH, 0, 1),
+            (FIND_COORDINATOR, 0, 1), (JOIN_GROUP, 0, 2), (HEARTBEAT, 0, 1), (LEAVE_GROUP, 0, 1), (SYNC_GROUP, 0, 1),
+            (API_VERSIONS, 0, 0), (INIT_PRODUCER_ID, 0, 1), (ADD_PARTITIONS, 0, 0), (ADD_OFFSETS, 0, 0),
+            (END_TRANSACTION, 0, 1), (TRANSACTION_OFFSETS, 3, 3)]
+
+
+def framed(body):
+    return struct.pack(">i", len(body)) + body
+
+
+def frame(stream):
+    """The next frame of a stream, None at its end."""
+    head = stream.read(4)
+    return stream.read(struct.unpack(">i", head)[0]) if len(head) == 4 else None
+
+
+class Connection:
+    """A connection to a broker, for a client or for oneself."""
+
+    def __init__(self, host, port, client=None):
+        self.socket, self.client = socket.create_connection((host, port)), client
+        self.socket.setsockopt(socket.IPPROTO_TCP, socket.TCP_NODELAY, 1)
+        self.stream = self.socket.makefile("rb")
+
+    def ask(self, request, may_wait=False):
+        """The answer to a request. Where it may take long, a fault as soon as the client has gone: the broker sees it too."""
+        self.socket.sendall(framed(request))
+        if may_wait and self.socket not in select.select([self.socket, self.client], [], [])[0]:
+            if not self.client.recv(1, socket.MSG_PEEK):
+                raise ConnectionError
+        return frame(self.stream)
+
+
+class MockCluster:
+    """librdkafka's mock cluster, with one broker, in this process."""
+
+    def __init__(self, topics):
+        """`topics` has the number of partitions of each topic."""
+        self.library = ctypes.CDLL("librdkafka.so.1")
+        pointer = ctypes.c_void_p
+        problem = ctypes.create_string_buffer(512)
+        settings = self.call("rd_kafka_conf_new", pointer)
+        client = self.call("rd_kafka_new", pointer, ctypes.c_int(0), pointer(settings), problem, ctypes.c_size_t(512))
+        self.cluster = pointer(self.call("rd_kafka_mock_cluster_new", pointer, pointer(client), ctypes.c_int(1)))
+        for name, partitions in topics.items():
+            if self.call("rd_kafka_mock_topic_create", ctypes.c_int, self.cluster, name.encode(), partitions, 1):
+                raise ValueError(name)
+        self.servers = self.call("rd_kafka_mock_cluster_bootstraps", ctypes.c_char_p, self.cluster).decode()
+        self.own = self.connection()
+
+    def connection(self, client=None):
+        host, port = self.servers.split(",")[0].rsplit(":", 1)
+        return Connection(host, int(port), client)
+
+    def append(self, topic, partition, batch):
+        """Appends a batch, as it is, to a partition; its offset."""
+        body = struct.pack(">hhi", PRODUCE, 3, 0) + text("front") + struct.pack(">hhii", -1, -1, 1000, 1) + text(topic)
+        fields = Reader(self.own.ask(body + struct.pack(">iii", 1, partition, len(batch)) + batch))
+        fields.take("ii"), fields.text(), fields.take("ii")
+        if fields.take("h"):
+            raise ValueError(topic)
+        return fields.take("q")
+
+    def call(self, name, result, *words):
+        function = getattr(self.library, name)
+        function.restype = result
+        return function(*words)
+
+
+def crc32c(data):
+    value = 0xFFFFFFFF
+    for byte in data:
+        value ^= byte
+        for _ in range(8):
+            value = value >> 1 ^ (0x82F63B78 if value & 1 else 0)
+    return value ^ 0xFFFFFFFF
+
+
+def control_batch(producer, epoch, is_commit):
+    """The batch that ends a transaction in a partition."""
+    key, value = struct.pack(">hh", 0, is_commit), struct.pack(">hi", 0, 0)
+    record = bytes([0, 0, 0, 2 * len(key)]) + key + bytes([2 * len(value)]) + value + b"\0"
+    now = int(time.time() * 1000)
+    body = struct.pack(">hiqqqhii", 0x30, 0, now, now, producer, epoch, -1, 1) + bytes([2 * len(record)]) + record
+    return struct.pack(">qiibI", 0, 9 + len(body), 0, 2, crc32c(body)) + body
+
+
+def producer_of(batch):
+    return struct.unpack_from(">qh", batch, 43)
+
+
+class Flexible(Reader):
+    """The fields of a flexible version."""
+
+    def length(self):
+        value = shift = 0
+        while True:
+            byte = self.take("B")
+            value |= (byte & 127) << shift
+            shift += 7
+            if byte < 128:
+                return value - 1
+
+    def text(self):
+        length = self.length()
+        if length < 0:
+            return None
+        self.at += length
+        return self.data[self.at - length:self.at].decode()
+
+    def tags(self):
+        if self.take("B"):
+            raise ValueError("tagged fields")
+
+
+def compact(value):
+    return bytes([len(value) + 1]) + value.encode()
+
+
+class Transaction:
+    """An open transaction: the first offset in each of its partitions, None before a record is there, and its offsets."""
+
+    def __init__(self, deadline):
+        self.deadline, self.firsts, self.offsets = deadline, {}, {}
+
+
+class Owner:
+    """Who has a transactional id now."""
+
+    def __init__(self, producer, epoch, seconds):
+        self.producer, self.epoch, self.seconds, self.open = producer, epoch, seconds, None
+
+
+class Front:
+    """The proxy. `moment` is called with a transactional id and a word at these moments of a transaction, each before the
+    answer: "produced" when records are written and no offsets were sent yet, "offsets asked" before anything is done,
+    "offsets sent", "commit asked" before anything is done, and "commit done". Where it returns true at "offsets asked",
+    the offsets are refused."""
+
+    def __init__(self, mock, moment=lambda name, word: None):
+        self.mock, self.lock, self.moment = mock, threading.RLock(), moment
+        self.owners, self.aborted, self.committed, self.groups = {}, {}, {}, {}
+        self.ends = Counter()
+        self.server = socket.create_server(("127.0.0.1", 0))
+        self.port = self.server.getsockname()[1]
+        self.servers = f"127.0.0.1:{self.port}"
+        self.changes = {PRODUCE: self.produce, FETCH: self.fetch, METADATA: self.metadata, OFFSET_FETCH: self.fetch_offsets,
+                        FIND_COORDINATOR: self.find_coordinator, JOIN_GROUP: self.join_group, INIT_PRODUCER_ID: self.begin_producer,
+                        ADD_PARTITIONS: self.add_partitions, ADD_OFFSETS: self.add_offsets, END_TRANSACTION: self.end_transaction,
+                        TRANSACTION_OFFSETS: self.take_offsets}
+        threading.Thread(target=self.accept, daemon=True).start()
+        threading.Thread(target=self.watch, daemon=True).start()
+
+    def accept(self):
+        while True:
+            client, _ = self.server.accept()
+            client.setsockopt(socket.IPPROTO_TCP, socket.TCP_NODELAY, 1)
+            threading.Thread(target=self.serve, args=(client,), daemon=True).start()
+
+    def serve(self, client):
+        behind, stream = self.mock.connection(client), client.makefile("rb")
+        try:
+            while (request := frame(stream)) is not None:
+                client.sendall(framed(self.answer(request, behind)))
+        except OSError:
+            pass  # a client that was killed
+        finally:
+            client.close()
+            behind.socket.close()
+
+    def answer(self, request, behind):
+        fields = Reader(request)
+        key, version, _ = fields.take("h"), fields.take("h"), fields.take("i")
+        fields.text()
+        if key == API_VERSIONS:
+            rows = b"".join(struct.pack(">hhh", *row) for row in VERSIONS)
+            return request[4:8] + struct.pack(">hi", UNSUPPORTED_VERSION if version > 0 else 0, len(VERSIONS)) + rows
+        change = self.changes.get(key)
+        return change(request, fields, version, behind) if change else behind.ask(request, True)
+
+    def metadata(self, request, _, version, behind):
+        answer = bytearray(behind.ask(request))
+        fields = Reader(answer)
+        fields.take("i")
+        for _ in range(fields.take("i")):
+            fields.take("i")
+            fields.text()
+            struct.pack_into(">i", answer, fields.at, self.port)
+            fields.take("i")
+            if version > 0:
+                fields.text()
+        return bytes(answer)
+
+    def find_coordinator(self, request, _, version, behind):
+        return behind.ask(request)[:-4] + struct.pack(">i", self.port)
+
+    # Groups
+
+    def join_group(self, request, fields, version, behind):
+        group = fields.text()
+        answer = behind.ask(request, True)
+        fields = Reader(answer)
+        fields.take("i" if version < 2 else "ii")
+        if fields.take("h") == 0:
+            generation = fields.take("i")
+            fields.text(), fields.text()
+            with self.lock:
+                if self.groups.get(group, (None,))[0] != generation:
+                    self.groups[group] = generation, set()
+                self.groups[group][1].add(fields.text())
+        return answer
+
+    def fetch_offsets(self, request, fields, version, behind):
+        group, places = fields.text(), []
+        for _ in range(fields.take("i")):
+            topic = fields.text()
+            places.append((topic, [fields.take("i") for _ in range(fields.take("i"))]))
+        while self.is_awaited({(group, topic, partition) for topic, partitions in places for partition in partitions}):
+            time.sleep(0.02)
+        answer = request[4:8] + struct.pack(">i", len(places))
+        with self.lock:
+            for topic, partitions in places:
+                answer += text(topic) + struct.pack(">i", len(partitions))
+                for partition in partitions:
+                    answer += struct.pack(">iqhh", partition, self.committed.get((group, topic, partition), -1), -1, 0)
+        return answer
+
+    def is_awaited(self, places):
+        with self.lock:
+            return any(owner.open and places & set(owner.open.offsets) for owner in self.owners.values())
+
+    # Transactions
+
+    def owner_of(self, name, producer, epoch):
+        owner = self.owners.get(name)
+        return owner if owner and (owner.producer, owner.epoch) == (producer, epoch) else None
+
+    def begin_producer(self, request, fields, version, behind):
+        name, milliseconds = fields.text(), fields.take("i")
+        answer = behind.ask(request)
+        if name is not None:
+            with self.lock:
+                self.drop(name, "aborted as the next producer came")
+                self.owners[name] = Owner(*struct.unpack_from(">qh", answer, 10), milliseconds / 1000)
+        return answer
+
+    def drop(self, name, reason):
+        """Aborts the open transaction of a producer that is none any more."""
+        owner = self.owners.pop(name, None)
+        if owner and owner.open:
+            self.end(owner, False, reason)
+
+    def watch(self):
+        while True:
+            time.sleep(0.2)
+            with self.lock:
+                for name, owner in list(self.owners.items()):
+                    if owner.open and time.monotonic() > owner.open.deadline:
+                        self.drop(name, "aborted as its time ended")
+
+    def begun(self, name, fields):
+        """The open transaction of a request's producer, begun if there was none; None if it is refused."""
+        owner = self.owner_of(name, fields.take("q"), fields.take("h"))
+        if owner is None:
+            self.ends["requests refused"] += 1
+            return None
+        owner.open = owner.open or Transaction(time.monotonic() + owner.seconds)
+        return owner.open
+
+    def add_partitions(self, request, fields, version, behind):
+        with self.lock:
+            transaction, rows = self.begun(fields.text(), fields), b""
+            fault = 0 if transaction else INVALID_EPOCH
+            topics = fields.take("i")
+            for _ in range(topics):
+                topic, partitions = fields.text(), fields.take("i")
+                rows += text(topic) + struct.pack(">i", partitions)
+                for _ in range(partitions):
+                    partition = fields.take("i")
+                    rows += struct.pack(">ih", partition, fault)
+                    if transaction:
+                        transaction.firsts.setdefault((topic, partition))
+        return request[4:8] + struct.pack(">ii", 0, topics) + rows
+
+    def add_offsets(self, request, fields, version, behind):
+        with self.lock:
+            fault = 0 if self.begun(fields.text(), fields) else INVALID_EPOCH
+        return request[4:8] + struct.pack(">ih", 0, fault)
+
+    def take_offsets(self, request, fields, version, behind):
+        fields = Flexible(request, fields.at)
+        fields.tags()
+        name, group = fields.text(), fields.text()
+        is_refused = self.moment(name, "offsets asked")
+        with self.lock:
+            owner = self.owner_of(name, fields.take("q"), fields.take("h"))
+            generation, member = fields.take("i"), fields.text()
+            fields.text()
+            known = self.groups.get(group, (None, ()))
+            fault = 0
+            if owner is None or owner.open is None:
+                fault = INVALID_EPOCH
+            elif is_refused or generation != known[0] or member not in known[1]:
+                fault = UNKNOWN_MEMBER
+            self.ends["requests refused"] += fault != 0
+            topics = fields.length()
+            answer = request[4:8] + struct.pack(">bib", 0, 0, topics + 1)
+            for _ in range(topics):
+                topic, partitions = fields.text(), fields.length()
+                answer += compact(topic) + bytes([partitions + 1])
+                for _ in range(partitions):
+                    partition, offset, _ = fields.take("i"), fields.take("q"), fields.take("i")
+                    fields.text()
+                    fields.tags()
+                    if not fault:
+                        owner.open.offsets[group, topic, partition] = offset
+                    answer += struct.pack(">ihb", partition, fault, 0)
+                fields.tags()
+                answer += b"\0"
+        self.moment(name, "offsets sent")
+        return answer + b"\0"
+
+    def end_transaction(self, request, fields, version, behind):
+        name = fields.text()
+        self.moment(name, "commit asked")
+        with self.lock:
+            owner = self.owner_of(name, fields.take("q"), fields.take("h"))
+            is_commit = fields.take("b") != 0
+            fault = INVALID_EPOCH if owner is None else INVALID_STATE if owner.open is None else 0
+            if fault:
+                self.ends["requests refused"] += 1
+            else:
+                self.end(owner, is_commit, "committed" if is_commit else "aborted by its producer")
+        self.moment(name, "commit done")
+        return request[4:8] + struct.pack(">ih", 0, fault)
+
+    def end(self, owner, is_commit, reason):
+        """Ends an open transaction in its partitions, and commits its offsets or forgets them."""
+        for place, first in owner.open.firsts.items():
+            if first is not None:
+                marker = self.mock.append(*place, control_batch(owner.producer, owner.epoch, is_commit))
+                if not is_commit:
+                    self.aborted.setdefault(place, []).append((owner.producer, first, marker))
+        if is_commit:
+            self.committed.update(owner.open.offsets)
+        self.ends[reason] += 1
+        owner.open = None
+
+    # Records
+
+    def produce(self, request, fields, version, behind):
+        name = fields.text() if version >= 3 else None
+        if name is None:
+            return behind.ask(request)
+        fields.take("hi")
+        with self.lock:
+            transaction = self.transaction_of(name, Reader(request, fields.at))
+            if transaction is None:
+                self.ends["requests refused"] += 1
+                return self.refused(request, fields)
+            answer = behind.ask(request)
+            self.note(transaction, Reader(answer, 4))
+            is_first = not transaction.offsets
+        if is_first:
+            self.moment(name, "produced")
+        return answer
+
+    def transaction_of(self, name, fields):
+        """The open transaction of a producer, whose partitions these are; None if a batch is another's."""
+        owner = self.owners.get(name)
+        for place, batch in self.batches(fields):
+            if owner is None or owner.open is None or producer_of(batch) != (owner.producer, owner.epoch):
+                return None
+            if place not in owner.open.firsts:
+                return None
+        return owner.open
+
+    @staticmethod
+    def batches(fields):
+        for _ in range(fields.take("i")):
+            topic = fields.text()
+            for _ in range(fields.take("i")):
+                yield (topic, fields.take("i")), fields.bytes()
+
+    def refused(self, request, fields):
+        places = [place for place, _ in self.batches(fields)]
+        rows = b"".join(text(topic) + struct.pack(">iihqq", 1, partition, INVALID_EPOCH, -1, -1) for topic, partition in places)
+        return request[4:8] + struct.pack(">i", len(places)) + rows + struct.pack(">i", 0)
+
+    @staticmethod
+    def note(transaction, fields):
+        """Notes the first offset of a transaction in each partition, from the answer to its batches."""
+        for _ in range(fields.take("i")):
+            topic = fields.text()
+            for _ in range(fields.take("i")):
+                partition, fault, offset = fields.take("i"), fields.take("h"), fields.take("q")
+                fields.take("q")
+                if fault == 0 and transaction.firsts[topic, partition] is None:
+                    transaction.firsts[topic, partition] = offset
+
+    def fetch(self, request, fields, version, behind):
+        fields.take("iiii")
+        is_committed_alone = fields.take("b") == 1
+        wanted = {}
+        for _ in range(fields.take("i")):
+            topic = fields.text()
+            for _ in range(fields.take("i")):
+                partition = fields.take("i")
+                wanted[topic, partition] = fields.take("q")
+                fields.take("i")
+        answer = behind.ask(request, True)
+        return self.cut(answer, wanted) if is_committed_alone else answer
+
+    def cut(self, answer, wanted):
+        """An answer to a fetch without what is not committed yet, and with what was aborted named."""
+        fields, cut_off = Reader(answer, 8), False
+        topics = fields.take("i")
+        made = answer[:8] + struct.pack(">i", topics)
+        with self.lock:
+            for _ in range(topics):
+                topic, partitions = fields.text(), fields.take("i")
+                made += text(topic) + struct.pack(">i", partitions)
+                for _ in range(partitions):
+                    partition, fault, high, _ = fields.take("i"), fields.take("h"), fields.take("q"), fields.take("q")
+                    fields.take("i")
+                    records, place = fields.bytes(), (topic, partition)
+                    stable = self.stable(place, high)
+                    if records and struct.unpack_from(">q", records)[0] >= stable:
+                        records, cut_off = b"", True
+                    aborted = [row[:2] for row in self.aborted.get(place, []) if row[2] >= wanted[place]]
+                    made += struct.pack(">ihqqi", partition, fault, high, stable, len(aborted))
+                    made += b"".join(struct.pack(">qq", *row) for row in aborted) + framed(records)
+        if cut_off:
+            time.sleep(0.01)
+        return made
+
+    def stable(self, place, high):
+        """The first offset that an open transaction has in a partition, or its end."""
+        firsts = [owner.open.firsts.get(place) for owner in self.owners.values() if owner.open]
+        return min([high] + [first for first in firsts if first is not None])

@@ -1,0 +1,106 @@
+// What a user would write instead of a klog program and `klog transform`: record batches in, a native filter or router,
+// record batches out, by sarama's codec, on one core. transform_speed.py builds it, with the codec's entries exported.
+//
+// transform_peer forward|route IN OUT ..
+package main
+
+import (
+	"bufio"
+	"encoding/binary"
+	"fmt"
+	"io"
+	"os"
+	"runtime"
+
+	"github.com/Shopify/sarama"
+)
+
+// An output: its file, and the next offset.
+type output struct {
+	file *bufio.Writer
+	next int64
+}
+
+func check(err error) {
+	if err != nil {
+		fmt.Fprintln(os.Stderr, err)
+		os.Exit(1)
+	}
+}
+
+// write makes a batch of records of one batch.
+func (o *output) write(from *sarama.RecordBatch, records []*sarama.Record) {
+	if len(records) == 0 {
+		return
+	}
+	batch := &sarama.RecordBatch{FirstOffset: o.next, Version: 2, FirstTimestamp: from.FirstTimestamp,
+		MaxTimestamp: from.MaxTimestamp, ProducerID: -1, ProducerEpoch: -1, FirstSequence: -1,
+		LastOffsetDelta: int32(len(records) - 1), Records: records}
+	for i, r := range records {
+		r.OffsetDelta = int64(i)
+	}
+	raw, err := sarama.EncodeBatch(batch)
+	check(err)
+	_, err = o.file.Write(raw)
+	check(err)
+	o.next += int64(len(records))
+}
+
+// routed is what examples/c/route_by_hash.c does: FNV-1a of the first 16 bytes of the key.
+func routed(key []byte) int {
+	hash := uint64(0xcbf29ce484222325)
+	if len(key) > 16 {
+		key = key[:16]
+	}
+	for _, c := range key {
+		hash = (hash ^ uint64(c)) * 0x100000001b3
+	}
+	return int((hash ^ hash>>32) % 4)
+}
+
+// next reads a batch; nil at the end.
+func next(in io.Reader) *sarama.RecordBatch {
+	head := make([]byte, 12)
+	if _, err := io.ReadFull(in, head); err == io.EOF {
+		return nil
+	} else {
+		check(err)
+	}
+	raw := make([]byte, 12+binary.BigEndian.Uint32(head[8:]))
+	copy(raw, head)
+	_, err := io.ReadFull(in, raw[12:])
+	check(err)
+	batch, err := sarama.DecodeBatch(raw)
+	check(err)
+	return batch
+}
+
+func main() {
+	runtime.GOMAXPROCS(1)
+	file, err := os.Open(os.Args[2])
+	check(err)
+	in := bufio.NewReaderSize(file, 65536)
+	outs := []*output{}
+	for _, name := range os.Args[3:] {
+		file, err := os.Create(name)
+		check(err)
+		outs = append(outs, &output{bufio.NewWriterSize(file, 65536), 0})
+	}
+	for batch := next(in); batch != nil; batch = next(in) {
+		if os.Args[1] == "forward" {
+			outs[0].write(batch, batch.Records)
+			continue
+		}
+		var parts [4][]*sarama.Record
+		for _, r := range batch.Records {
+			q := routed(r.Key)
+			parts[q] = append(parts[q], r)
+		}
+		for q, records := range parts {
+			outs[q].write(batch, records)
+		}
+	}
+	for _, o := range outs {
+		check(o.file.Flush())
+	}
+}
