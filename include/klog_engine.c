@@ -13,7 +13,7 @@ struct asked {
 	uint32_t nulls;
 };
 
-uint32_t klog_c_load(const uint8_t *image, size_t length, klog_handle *program, size_t *place);
+uint32_t klog_c_load(const uint8_t *image, size_t length, uint32_t table, klog_handle *program, size_t *place);
 uint32_t klog_c_fault_text(uint32_t fault, size_t place, uint8_t *buffer, size_t room, size_t *length);
 uint32_t klog_c_share(klog_handle *program, klog_handle *other);
 uint32_t klog_c_run(klog_handle *program, const struct asked *asked, const uint8_t *key, size_t key_length,
@@ -22,7 +22,8 @@ uint32_t klog_c_outcome(klog_handle *outcome, uint64_t *code, size_t *count);
 uint32_t klog_c_emission(klog_handle *outcome, size_t number, klog_emission *emission);
 uint32_t klog_c_emission_key(klog_handle *outcome, size_t number, uint8_t *buffer, size_t room);
 uint32_t klog_c_emission_value(klog_handle *outcome, size_t number, uint8_t *buffer, size_t room);
-uint32_t klog_c_explain(const uint8_t *image, size_t length, bool is_refused_alone, klog_handle *text);
+uint32_t klog_c_explain(const uint8_t *image, size_t length, uint32_t table, bool is_refused_alone,
+			klog_handle *text);
 uint32_t klog_c_text(klog_handle *text, uint8_t *buffer, size_t room, size_t *length);
 void klog_c_free(klog_handle *handle);
 
@@ -47,6 +48,11 @@ static bool is_foreign(const klog_handle *handle)
 	return handle->full > 1 || (handle->full == 1 && !handle->at);
 }
 
+static bool is_table(uint32_t table)
+{
+	return table == KLOG_TABLE_ONE || table == KLOG_TABLE_TWO;
+}
+
 static bool is_no_buffer(const void *bytes, size_t length)
 {
 	return !bytes && length != 0;
@@ -60,17 +66,19 @@ static uint32_t buffer_fault(const void *buffer, size_t room)
 	return room > longest_buffer ? KLOG_RANGE : KLOG_OK;
 }
 
-uint32_t klog_load(const uint8_t *image, size_t length, klog_handle *program, size_t *place)
+uint32_t klog_load(const uint8_t *image, size_t length, uint32_t table, klog_handle *program, size_t *place)
 {
 	if (!program || !place || is_no_buffer(image, length))
 		return KLOG_NULL;
 	if (is_foreign(program))
 		return KLOG_KIND;
+	if (!is_table(table))
+		return KLOG_RANGE;
 	if (length > longest_image) {
 		*place = 0;
 		return size_fault;
 	}
-	return klog_c_load(image ? image : no_bytes, length, program, place);
+	return klog_c_load(image ? image : no_bytes, length, table, program, place);
 }
 
 uint32_t klog_fault_text(uint32_t fault, size_t place, char *buffer, size_t room, size_t *length)
@@ -152,7 +160,7 @@ uint32_t klog_emission_value(klog_handle *outcome, size_t number, uint8_t *buffe
 	return fault ? fault : klog_c_emission_value(outcome, number, buffer ? buffer : no_bytes, room);
 }
 
-uint32_t klog_explain(const uint8_t *image, size_t length, int is_refused_alone, klog_handle *text)
+uint32_t klog_explain(const uint8_t *image, size_t length, uint32_t table, int is_refused_alone, klog_handle *text)
 {
 	if (!text || is_no_buffer(image, length))
 		return KLOG_NULL;
@@ -160,7 +168,7 @@ uint32_t klog_explain(const uint8_t *image, size_t length, int is_refused_alone,
 		return KLOG_KIND;
 	if (length > longest_file)
 		return KLOG_RANGE;
-	return klog_c_explain(image ? image : no_bytes, length, is_refused_alone != 0, text);
+	return klog_c_explain(image ? image : no_bytes, length, table, is_refused_alone != 0, text);
 }
 
 uint32_t klog_text(klog_handle *text, char *buffer, size_t room, size_t *length)

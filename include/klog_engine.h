@@ -45,6 +45,10 @@ enum {
 /* Bits of klog_emission.nulls. */
 enum { KLOG_NULL_KEY = 1, KLOG_NULL_VALUE = 2 };
 
+/* The helper tables of programs: what a program calls by number is a helper of its table. Table 1 has the helpers 1
+ * to 9, table 2 those and 10 to 12, which read headers. */
+enum { KLOG_TABLE_ONE = 1, KLOG_TABLE_TWO = 2 };
+
 /* The most emissions of one record. */
 enum { KLOG_EMISSIONS = 16 };
 
@@ -76,11 +80,12 @@ typedef struct klog_emission {
 	uint32_t nulls;      /* KLOG_NULL_KEY, KLOG_NULL_VALUE */
 } klog_emission;
 
-/* Loads the image of `length` bytes into `program`, which holds nothing or a program; that one is freed.
- * A refused image is 101 to 106 or 201 to 213, and `*place` is then its slot or its instruction; else `*place`
- * is as it was. KLOG_KIND: `program` holds something else. KLOG_NULL: `program` or `place` is null, or `image` is
- * null and `length` is not 0. KLOG_MEMORY. An image of more than 131,072 bytes is 101, and is not read. */
-uint32_t klog_load(const uint8_t *image, size_t length, klog_handle *program, size_t *place);
+/* Loads the image of `length` bytes, by a helper table, into `program`, which holds nothing or a program; that one
+ * is freed. A refused image is 101 to 106 or 201 to 213, and `*place` is then its slot or its instruction; else
+ * `*place` is as it was. KLOG_KIND: `program` holds something else. KLOG_RANGE: there is no such table. KLOG_NULL:
+ * `program` or `place` is null, or `image` is null and `length` is not 0. KLOG_MEMORY. An image of more than 131,072
+ * bytes is 101, and is not read. */
+uint32_t klog_load(const uint8_t *image, size_t length, uint32_t table, klog_handle *program, size_t *place);
 
 /* Writes the text of a fault as `klog` prints it ("I3 Register slot 0", "V7 RecordBounds at 2") to the front of a
  * buffer of `room` bytes, with no zero byte at its end, and its length to `*length`. `place` is what klog_load
@@ -93,7 +98,7 @@ uint32_t klog_fault_text(uint32_t fault, size_t place, char *buffer, size_t room
  * null, or both are one handle. KLOG_MEMORY. */
 uint32_t klog_share(klog_handle *program, klog_handle *other);
 
-/* Runs a program on one record with no headers, into `outcome`, which holds nothing or an outcome; that one is
+/* Runs a program on one record with no headers (header_count answers 0 there), into `outcome`, which holds nothing or an outcome; that one is
  * freed. KLOG_KIND: `program` holds no program, or `outcome` something else. KLOG_RANGE: a number of the record
  * is out of its range. KLOG_LENGTH: the key or the value is too long. KLOG_NULL: a pointer is null, one handle is
  * given twice, or a null key or value has a length. KLOG_MEMORY. */
@@ -113,11 +118,11 @@ uint32_t klog_emission_at(klog_handle *outcome, size_t number, klog_emission *em
 uint32_t klog_emission_key(klog_handle *outcome, size_t number, uint8_t *buffer, size_t room);
 uint32_t klog_emission_value(klog_handle *outcome, size_t number, uint8_t *buffer, size_t room);
 
-/* Explains why the verifier accepts or refuses an image, as `klog explain` prints it, into `text`, which holds
- * nothing or a text; that one is freed. Where `is_refused_alone` is not 0, only the instructions that lead to the
- * refused one are listed. KLOG_KIND: `text` holds something else. KLOG_NULL: `text` is null, or `image` is null and
- * `length` is not 0. KLOG_RANGE: `length` is above 1,048,576. KLOG_MEMORY. */
-uint32_t klog_explain(const uint8_t *image, size_t length, int is_refused_alone, klog_handle *text);
+/* Explains why the verifier accepts or refuses an image by a helper table, as `klog explain` prints it, into `text`,
+ * which holds nothing or a text; that one is freed. Where `is_refused_alone` is not 0, only the instructions that
+ * lead to the refused one are listed. KLOG_KIND: `text` holds something else. KLOG_NULL: `text` is null, or `image`
+ * is null and `length` is not 0. KLOG_RANGE: there is no such table, or `length` is above 1,048,576. KLOG_MEMORY. */
+uint32_t klog_explain(const uint8_t *image, size_t length, uint32_t table, int is_refused_alone, klog_handle *text);
 
 /* Copies a text to the front of a buffer of `room` bytes, with no zero byte at its end, and its length to `*length`.
  * KLOG_ROOM: the buffer is too short; `*length` is what it needs. KLOG_KIND: `text` holds no text. KLOG_NULL: `text`

@@ -51,6 +51,19 @@ def some_copy(rng):
     return code
 
 
+def some_header(rng):
+    """Copies the front of a header's key or value to the stack, or counts the headers, and often answers what it found."""
+    slot = lambda opcode, dst, src, offset, imm: struct.pack("<BBhi", opcode, dst | src << 4, offset, imm)
+    if rng.random() < 0.2:
+        return slot(0x85, 0, 0, 0, 10)
+    code = slot(0xBF, 1, 10, 0, 0) + slot(0x07, 1, 0, 0, rng.choice([-8, -8, -8, -16, -4, -512, 0]))
+    code += slot(0xB7, 2, 0, 0, rng.choice([0, 0, 0, 1, 2, 15, 16, -1])) if rng.random() < 0.9 else slot(0xBF, 2, rng.choice([0, 4, 5, 10]), 0, 0)
+    code += slot(0xB7, 3, 0, 0, rng.choice([1, 2, 4, 8, 8, 8, 9, 0, 512, 513])) + slot(0x85, 0, 0, 0, rng.choice([11, 12, 12]))
+    if rng.random() < 0.4:
+        code += slot(rng.choice([0x71, 0x69, 0x61, 0x79, 0x91]), rng.choice([0, 0, 6]), 10, rng.choice([-8, -8, -8, -16, -4, -1]), 0)
+    return code
+
+
 def some_slot(rng, left):
     r = lambda: rng.choice([0, 0, 1, 2, 3, 4, 5, 6, 6, 7, 9, 10])
     small = lambda: rng.choice([0, 0, 1, 2, 4, 7, 8, 15, 16, 255, 4096, 65535, 65536, 1 << 20, -1, -2, -8, 2147483647, -2147483648])
@@ -92,11 +105,11 @@ def some_slot(rng, left):
         klass, code, by_register = rng.choice([5, 5, 5, 6]), rng.choice([1, 2, 3, 5, 10, 11] * 3 + list(TESTS)), rng.random() < 0.15
         fields = (code << 4 | 8 * by_register | klass, rng.choice([2, 2, 2, 4, 5, r()]), r() if by_register else 0, jump(), 0 if by_register else small())
     elif kind < 0.87:
-        return some_call_by_address(rng) if rng.random() < 0.5 else some_copy(rng)
+        return rng.choice([some_call_by_address, some_copy, some_header])(rng)
     elif kind < 0.95:
         return struct.pack("<BBhi", 0xB7, 1, 0, rng.choice([0, 0, 0, 1, 2, 9])) + struct.pack("<BBhi", 0x85, 0, 0, rng.choice([3, 3, 3, 6, 6, 7, 8, 9, 99]))
     elif kind < 0.97:
-        fields = (0x85, 0, 0, 0, rng.choice([1, 2, 3, 4, 5, 6, 7, 8, 9, 0, 10, -1]))
+        fields = (0x85, 0, 0, 0, rng.choice([1, 2, 3, 4, 5, 6, 7, 8, 9, 10, 11, 12, 0, 13, -1]))
     else:
         fields = (0x95, 0, 0, 0, 0)
     opcode, dst, src, offset, imm = fields
@@ -121,12 +134,12 @@ def some_image(rng):
     return image
 
 
-def accepted_image(rng):
+def accepted_image(rng, table=1):
     """An image that is accepted, if one is found soon."""
     for _ in range(200):
         image = some_image(rng)
         try:
-            if verify(decode(image)) is None and len(image) > 16:
+            if verify(decode(image), table) is None and len(image) > 16:
                 return image
         except Refused:
             pass
@@ -177,7 +190,10 @@ def some_line(rng, names, inputs):
     known = [str(i) for i in range(inputs)]
     given = rng.choice(known) if rng.random() < 0.97 else rng.choice([str(inputs), "64", "1180591620717411303424", "00", "-1", "x"])
     if kind < 0.3:
-        return "load %s hex:%s" % (name, (some_image(rng) if rng.random() < 0.15 else accepted_image(rng)).hex())
+        table = rng.choice([1, 2])
+        image = some_image(rng) if rng.random() < 0.15 else accepted_image(rng, table)
+        word = "" if table == 1 else " 2"
+        return "load %s hex:%s%s" % (name, image.hex(), word if rng.random() < 0.96 else rng.choice(["", " 1", " 2", " 3", " 02", " 2 2"]))
     if kind < 0.5:
         return "deploy %s %s" % (given, name)
     if kind < 0.75:
@@ -224,7 +240,9 @@ def some_script(rng):
     head = rng.choice(["partitions %d %d %s" % (inputs, outputs, cells)] * 60 + ["partitions 64 64 8", "partitions 65 1 8", "partitions 1 65 8", "go",
                       "# c\npartitions 1 1 8", "partitions 0 1 8"])
     names = ["a"] if rng.random() < 0.7 else ["a", "b-1", "Long-name-of-thirty-two-letters1"]
-    good = "load a hex:%s\ndeploy %d a\n" % (accepted_image(rng).hex() if rng.random() < 0.7 else FORWARD, rng.randrange(inputs)) if rng.random() < 0.8 else ""
+    table = rng.choice([1, 2])
+    image = accepted_image(rng, table).hex() if rng.random() < 0.7 else FORWARD
+    good = "load a hex:%s%s\ndeploy %d a\n" % (image, "" if table == 1 else " 2", rng.randrange(inputs)) if rng.random() < 0.8 else ""
     lines = [some_line(rng, names, inputs) for _ in range(rng.choice([1, 2, 3, 5, 8, 12, 20]))]
     end = rng.choice(["", "\n", "\ngo", "\ngo\n"])
     if rng.random() < 0.4:

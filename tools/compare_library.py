@@ -20,13 +20,13 @@ from second_broker import Record
 from second_machine import Refused, decode, run, verify
 
 
-def verdict(image):
-    """The code of an image, and its fault, if it is refused."""
+def verdict(image, table):
+    """The code of an image, and its fault, if it is refused by a helper table."""
     try:
         code = decode(image)
     except Refused as refused:
         return None, str(refused)
-    return code, verify(code)
+    return code, verify(code, table)
 
 
 def some_place(rng):
@@ -55,11 +55,11 @@ def compare_runs(rng, program, code):
     return kept
 
 
-def compare(rng, engine, image):
+def compare(rng, engine, image, table):
     """Whether an image was accepted, and how many records it kept; None where something differs."""
-    code, fault = verdict(image)
+    code, fault = verdict(image, table)
     try:
-        with Program(engine, image) as program:
+        with Program(engine, image, table) as program:
             if fault is not None:
                 print("accepted, not %s" % fault)
                 return None
@@ -79,10 +79,11 @@ def main():
     rng, engine = random.Random(int(sys.argv[3]) if len(sys.argv) > 3 else 1), Engine(sys.argv[1])
     accepted = kept = 0
     for _ in range(count):
-        image = accepted_image(rng) if rng.random() < 0.5 else some_image(rng)
-        answer = compare(rng, engine, image)
+        table = rng.choice([1, 2])
+        image = accepted_image(rng, table) if rng.random() < 0.5 else some_image(rng)
+        answer = compare(rng, engine, image, table)
         if answer is None:
-            sys.exit("image %s" % image.hex())
+            sys.exit("table %d image %s" % (table, image.hex()))
         accepted, kept = accepted + answer[0], kept + answer[1]
     print("%d programs, %d of them accepted, %d of their records kept" % (count, accepted, kept))
 

@@ -285,9 +285,9 @@ def answer(work):
         return 1, b"", ("%s\n" % fault).encode()
 
 
-def checked(image):
+def checked(image, table):
     code = decode(image)
-    fault = verify(code)
+    fault = verify(code, table)
     if fault:
         raise Refused(fault)
     return "accepted %d instructions\n" % len(code)
@@ -314,10 +314,18 @@ def compare_text(program, folder, rng):
     return "asm", data, (want, image), (called(program, "asm", source, target), read_if_there(target))
 
 
-def compare_image(program, folder, rng, command, work):
+def compare_disassembly(program, folder, rng):
     image = some_bytes(rng)
     name = written(os.path.join(folder, "image"), image)
-    return command, image, answer(lambda: work(image)), called(program, command, name)
+    return "dis", image, answer(lambda: disassembled(image)), called(program, "dis", name)
+
+
+def compare_check(program, folder, rng):
+    """A check by a helper table, which may be left out where it is the first."""
+    image, table = some_bytes(rng), rng.choice([1, 2])
+    name = written(os.path.join(folder, "image"), image)
+    words = [] if table == 1 and rng.random() < 0.5 else [str(table)]
+    return "check", image, answer(lambda: checked(image, table)), called(program, "check", name, *words)
 
 
 def little_memory():
@@ -329,7 +337,7 @@ def fixed_calls(folder):
     place = lambda name: os.path.join(folder, name)
     good, image = written(place("good"), b"mov64 r0, 0\nexit\n"), written(place("zero.bin"), slot(0xB7) + slot(0x95))
     long, none, inside = written(place("long"), b"#" * (100 << 20)), place("none"), place("none/image")
-    for words in ((), ("frob", good), ("asm", good), ("asm", good, none, none), ("dis",), ("dis", image, image), ("check",), ("check", image, image), ("check", "--help"), ("--help",), ("--version",), ("dis", "-x"), ("asm", "--", none)):
+    for words in ((), ("frob", good), ("asm", good), ("asm", good, none, none), ("dis",), ("dis", image, image), ("check",), ("check", image, image), ("check", image, "3"), ("check", image, "01"), ("check", image, "2", "2"), ("explain", image, "refused", "2"), ("check", "--help"), ("--help",), ("--version",), ("dis", "-x"), ("asm", "--", none)):
         yield words, {}, 2, "usage: klog COMMAND FILE ..."
     for name in (none, folder, "-"):
         yield ("check", name), {}, 3, "file " + name
@@ -367,8 +375,7 @@ def main():
                 command, given, want, got = compare_text(program, folder, rng)
                 status, reported = want[0][0], want[0][2]
             else:
-                command, work = ("dis", disassembled) if kind == 1 else ("check", checked)
-                command, given, want, got = compare_image(program, folder, rng, command, work)
+                command, given, want, got = (compare_disassembly if kind == 1 else compare_check)(program, folder, rng)
                 status, reported = want[0], want[2]
             if want != got:
                 print("call %d of seed %d: %s of %r\nexpected %r\nbut      %r" % (n, seed, command, given, want, got))

@@ -1,14 +1,14 @@
 #!/usr/bin/env python3
 """Draws what the verifier knows of a program, as Graphviz text.
 
-    tools/graph.py IMAGE [--klog KLOG] > graph.dot
+    tools/graph.py IMAGE [--table 2] [--klog KLOG] > graph.dot
     dot -Tsvg graph.dot -o graph.svg
 
 Each block of instructions that run one after the other is a box: what is known at its head, then the instructions. An edge has
 the test by which it is taken. The refused instruction is red, with what the fault is about below it. Blocks that nothing reaches are
 grey; those that the verifier did not come to, since it refused an instruction before them, have a dashed border.
 
-It runs `klog explain IMAGE` and `klog dis IMAGE`, by KLOG, `klog` on the path, or crates/klog/out/klog. Where the image is no program,
+It runs `klog explain IMAGE`, by helper table 1 or the one that is named, and `klog dis IMAGE`, by KLOG, `klog` on the path, or crates/klog/out/klog. Where the image is no program,
 it prints the fault and ends with status 1.
 """
 import argparse
@@ -48,9 +48,9 @@ def program(given):
     return found
 
 
-def call(klog, command, image):
+def call(klog, *words):
     try:
-        return subprocess.run([klog, command, image], capture_output=True, text=True, check=False)
+        return subprocess.run([klog, *words], capture_output=True, text=True, check=False)
     except OSError as fault:
         raise NoProgram(f"{klog}: {fault.strerror}") from None
 
@@ -80,9 +80,10 @@ def verdict(printed):
     return None
 
 
-def read_program(klog, image):
-    """The instructions of an image, and why it is refused, if it is."""
-    text, explained = call(klog, "dis", image), call(klog, "explain", image)
+def read_program(klog, image, table):
+    """The instructions of an image, and why it is refused by a helper table, if it is."""
+    words = ["2"] if table == 2 else []
+    text, explained = call(klog, "dis", image), call(klog, "explain", image, *words)
     if text.returncode or explained.returncode and not verdict(explained.stderr):
         raise NoProgram((text.stderr or explained.stderr).strip() or f"{klog} ended with status {explained.returncode}")
     known, listed, slot = states(explained.stdout), [], 0
@@ -191,10 +192,11 @@ def graph(listed, refused):
 def main():
     words = argparse.ArgumentParser(description="Draws what the verifier knows of a program, as Graphviz text.")
     words.add_argument("image", metavar="IMAGE")
+    words.add_argument("--table", type=int, choices=[1, 2], default=1, help="the program's helper table")
     words.add_argument("--klog", help="the program, if it is neither on the path nor in crates/klog/out")
     given = words.parse_args()
     try:
-        print(graph(*read_program(program(given.klog), given.image)), end="")
+        print(graph(*read_program(program(given.klog), given.image, given.table)), end="")
     except NoProgram as fault:
         sys.exit(str(fault))
 

@@ -19,7 +19,8 @@ from transforms import Example, Transforms, judge
 
 COMPILERS = [("clang", ("v2", "v3")), ("clang-19", ("v2", "v3", "v4"))]
 
-# A name, what the function has, what is wanted of records as (key, value, wanted), and what does the same in plain C.
+# A name, what the function has, what is wanted of records as (key, value, wanted), or with their headers at the end, and what does
+# the same in plain C.
 Form = collections.namedtuple("Form", "name lines cases plain", defaults=[None])
 
 FORMS = [
@@ -62,6 +63,29 @@ u64 all[3] = {record_offset(), record_timestamp(), record_partition()};
 return emit_value(0, all, sizeof all);
 """,
          [(b'k', b'v', [(0, b'k', bytes(8) + b'\xe8\x03' + bytes(14))])]),
+    Form('header_count', """
+return header_count();
+""",
+         [(b'k', b'v', []), (b'k', b'v', 2, [(b'a', b''), (b'b', None)]), (b'k', b'v', 16, [(b'a', b'1')] * 16)]),
+    Form('header_key', """
+u8 name[4];
+u64 found = header_key(name, 1, sizeof name);
+if (!found)
+	return 300;
+emit_value(found > 5 ? 1 : 0, name, sizeof name);
+return 0;
+""",
+         [(b'k', b'v', 300, [(b'a', b'')]), (b'k', b'v', [(0, b'k', b'bc\0\0')], [(b'a', b''), (b'bc', None)]),
+          (b'k', b'v', [(1, b'k', b'long')], [(b'a', b''), (b'longer', b'x')])]),
+    Form('header_value', """
+u8 part[4];
+u64 found = header_value(part, 0, sizeof part);
+if (found < 2)
+	return 300 + found;
+return emit_value(found - 2 > sizeof part ? 1 : 0, part, sizeof part);
+""",
+         [(b'k', b'v', 300), (b'k', b'v', 301, [(b'a', None)]), (b'k', b'v', [(0, b'k', bytes(4))], [(b'a', b'')]),
+          (b'k', b'v', [(0, b'k', b'abcd')], [(b'a', b'abcd')]), (b'k', b'v', [(1, b'k', b'abcd')], [(b'a', b'abcde')])]),
     Form('at_least and at_most', """
 u8 copy[16] = {0};
 if (!at_least(value_length, 1) || !at_most(value_length, 16))
@@ -252,7 +276,7 @@ def main():
                 continue
             count, refused, before = 0, 0, len(wrong)
             for form in FORMS:
-                cases = [Example(key, value, 1000, wanted) for key, value, wanted in form.cases]
+                cases = [Example(key, value, 1000, wanted, *headers) for key, value, wanted, *headers in form.cases]
                 for options in ([level, f"-mcpu={version}"] for level in ("-O1", "-O2", "-Os") for version in versions):
                     tried = Transforms([compiler, "-target", "bpf", *options], folder, judging)
                     instructions, fault = tried.tried(written(folder, form.lines), cases)

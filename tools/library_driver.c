@@ -98,6 +98,17 @@ static void look(const char *call, uint32_t fault, const klog_handle *before, co
 		fail(call, fault);
 }
 
+static bool is_table(uint32_t table)
+{
+	return table == KLOG_TABLE_ONE || table == KLOG_TABLE_TWO;
+}
+
+/* Mostly the number of a helper table. */
+static uint32_t table(struct worker *w)
+{
+	return one_in(w, 20) ? (uint32_t)number(w) : KLOG_TABLE_ONE + (uint32_t)below(w, 2);
+}
+
 static bool is_image_fault(uint32_t fault)
 {
 	return (fault >= 101 && fault <= 106) || (fault >= 201 && fault <= 213);
@@ -113,9 +124,10 @@ static void load(struct worker *w)
 	for (uint64_t k = below(w, 3); k && length; k--)
 		bytes[below(w, length)] ^= (uint8_t)(1u << below(w, 8));
 	klog_handle *to = handle(w, PROGRAMS), before = to ? *to : (klog_handle)KLOG_NOTHING;
-	uint32_t fault = klog_load(one_in(w, 40) ? NULL : bytes, length, to, one_in(w, 40) ? NULL : &place);
+	uint32_t of = table(w);
+	uint32_t fault = klog_load(one_in(w, 40) ? NULL : bytes, length, of, to, one_in(w, 40) ? NULL : &place);
 	look("load", fault, &before, to);
-	if (fault > KLOG_KIND && fault != KLOG_NULL && !is_image_fault(fault))
+	if (fault == KLOG_RANGE ? is_table(of) : fault > KLOG_KIND && fault != KLOG_NULL && !is_image_fault(fault))
 		fail("load", fault);
 	if (is_image_fault(fault) && place > 16384)
 		fail("load's place", fault);
@@ -243,9 +255,10 @@ static void explain(struct worker *w)
 	if (length && one_in(w, 2))
 		bytes[below(w, length)] ^= (uint8_t)(1u << below(w, 8));
 	klog_handle *text = handle(w, TEXTS), before = text ? *text : (klog_handle)KLOG_NOTHING;
-	uint32_t fault = klog_explain(bytes, length, (int)below(w, 2), text);
+	uint32_t of = table(w);
+	uint32_t fault = klog_explain(bytes, length, of, (int)below(w, 2), text);
 	look("explain", fault, &before, text);
-	if (fault != KLOG_OK && fault != (text ? KLOG_KIND : KLOG_NULL))
+	if (fault == KLOG_RANGE ? is_table(of) : fault != KLOG_OK && fault != (text ? KLOG_KIND : KLOG_NULL))
 		fail("explain", fault);
 	size_t room = below(w, 8000);
 	char *buffer = (char *)block(w, room);
@@ -325,7 +338,8 @@ int main(int argc, char **argv)
 	unsigned long calls = 0, runs = 0;
 	for (int k = 4; k < argc; k++)
 		read_image(argv[k]);
-	if (threads < 1 || threads > MOST_THREADS || klog_load(images[0].bytes, images[0].length, &shared, &place))
+	if (threads < 1 || threads > MOST_THREADS ||
+	    klog_load(images[0].bytes, images[0].length, KLOG_TABLE_ONE, &shared, &place))
 		fail("start", 0);
 	end = time(NULL) + (time_t)strtoul(argv[1], NULL, 10);
 	for (size_t k = 0; k < threads; k++) {

@@ -6,8 +6,8 @@
 FOLDER is examples/c/transforms, if it is not given; docs/transforms.md has what is printed of it, and of examples/c/tried.
 
 NAME.c is a transform as anyone would write it who has read the head of klog.h. Where it is refused, NAME_klog.c is one that is
-accepted, and its comment says why and what is changed. The comment of NAME.c has examples: a record's key and value, and what is
-emitted of it. Both are run on them. KLOG is `klog` on the path or crates/klog/out/klog, if it is not given; without any, the second
+accepted, and its comment says why and what is changed. The comment of NAME.c has examples: a record's key and value, after `with` its
+headers, and what is emitted of it. Both are run on them, by helper table 2 where the source calls a helper of headers. KLOG is `klog` on the path or crates/klog/out/klog, if it is not given; without any, the second
 implementation (tools/second_machine.py) says what klog would. The status is 1 where a transform has no accepted form, or an example gives
 something else.
 """
@@ -21,7 +21,7 @@ import subprocess
 import sys
 import tempfile
 
-from second_broker import Record
+from second_broker import Record, spell
 from second_machine import Refused as Fault, decode, run, verify
 from image import Refused, image_of
 
@@ -29,7 +29,7 @@ TOP = os.path.dirname(os.path.dirname(os.path.abspath(__file__)))
 FOLDER = os.path.join(TOP, "examples", "c", "transforms")
 OUTPUTS = 4
 
-Example = collections.namedtuple("Example", "key value time wanted")
+Example = collections.namedtuple("Example", "key value time wanted headers", defaults=[()])
 
 
 # ---- sources
@@ -53,6 +53,11 @@ def some_bytes(text):
     return text.encode("latin-1", "backslashreplace").decode("unicode_escape").encode("latin-1")
 
 
+def some_headers(text):
+    pairs = (each.strip().split("=", 1) for each in text.split(","))
+    return tuple((some_bytes(name), some_bytes(value)) for name, value in pairs)
+
+
 def emission(text):
     output, rest = text.strip().split(" ", 1)
     key, value = rest.split("|", 1)
@@ -71,8 +76,16 @@ def examples(path):
     for line in (line for paragraph in comment(path)[1:] for line in paragraph if " -> " in line):
         record, rest = line.split(" -> ", 1)
         key, value = record.split("|", 1)
+        value, *headers = value.split(" with ", 1)
         time = re.search(r" at (\d+)$", value.rstrip())
-        yield Example(some_bytes(key), some_bytes(value[:time.start()] if time else value), int(time[1]) if time else 1000, wanted(rest))
+        value = some_bytes(value[:time.start()] if time else value)
+        yield Example(some_bytes(key), value, int(time[1]) if time else 1000, wanted(rest), some_headers(headers[0]) if headers else ())
+
+
+def table_of(path):
+    """The helper table of a source."""
+    with open(path, encoding="utf-8") as it:
+        return 2 if re.search(r"\bheader_(count|key|value)\(", it.read()) else 1
 
 
 # ---- klog, and what says the same without it
@@ -82,16 +95,16 @@ class Model:
 
     name = "tools/second_machine.py"
 
-    def check(self, image):
+    def check(self, image, table):
         try:
             code = decode(image)
-            fault = verify(code)
+            fault = verify(code, table)
         except Fault as refused:
             return str(refused), 0
         return fault, len(code)
 
-    def run(self, image, example):
-        return emitted(run(decode(image), Record(0, example.key, example.value, []), OUTPUTS, (0, example.time, 0)))
+    def run(self, image, table, example):
+        return emitted(run(decode(image), Record(0, example.key, example.value, example.headers), OUTPUTS, (0, example.time, 0)))
 
 
 def emitted(outcome):
@@ -107,17 +120,17 @@ class Klog:
     def call(self, *words, given=None):
         return subprocess.run([self.program, *words], input=given, capture_output=True, text=True, check=False)
 
-    def check(self, image):
+    def check(self, image, table):
         with open(self.path, "wb") as it:
             it.write(image)
-        done = self.call("check", self.path)
+        done = self.call("check", self.path, str(table))
         accepted = re.fullmatch(r"accepted (\d+) instructions\n", done.stdout)
         return (None, int(accepted[1])) if accepted else (done.stderr.strip(), 0)
 
-    def run(self, image, example):
-        word = lambda part: "-" if part is None else part.hex() or "."
-        record = f"put 0 {example.time} {word(example.key)} {word(example.value)}"
-        done = self.call("run", "stdin", given=f"partitions 1 {OUTPUTS} 8\nload t hex:{image.hex()}\ndeploy 0 t\n{record}\ngo\n")
+    def run(self, image, table, example):
+        record = f"append 0 hex:{spell([Record(0, example.key, example.value, example.headers)], example.time, -1, 0).hex()}"
+        load = f"load t hex:{image.hex()}" + (" 2" if table == 2 else "")
+        done = self.call("run", "stdin", given=f"partitions 1 {OUTPUTS} 8\n{load}\ndeploy 0 t\n{record}\ngo\n")
         if done.returncode:
             return done.stderr
         rejected = re.search(r"^in 0 reject (\d+) count 1$", done.stdout, re.M)
@@ -165,11 +178,12 @@ class Transforms:
             image = self.image(path)
         except Refused as fault:
             return None, str(fault).split(": klog ")[0]
-        fault, count = self.judging.check(image)
+        table = table_of(path)
+        fault, count = self.judging.check(image, table)
         if fault:
             return None, fault
         for case in cases:
-            got = self.judging.run(image, case)
+            got = self.judging.run(image, table, case)
             if got != case.wanted:
                 self.wrong.append(f"{os.path.basename(path)}: of {case.key} and {case.value} {case.wanted} is wanted, and {got} came")
         return count, None

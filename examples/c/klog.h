@@ -68,7 +68,18 @@ HELPER(7, record_offset, void);
 HELPER(8, record_timestamp, void);
 HELPER(9, record_partition, void);
 
-/* The helpers of headers (header_count, header_key, header_value) have their place here. */
+/* The helpers of headers are those of table two alone: a program that calls one is checked by `klog check IMAGE 2` and
+ * loaded by `load NAME FILE 2`; without the 2 it is refused, V11 Helper. */
+
+/* How many headers the record has, 0 to 16. */
+HELPER(10, header_count, void);
+
+/* Copies the first bytes of the key, or of the value, of the header at a position, from 0, to a variable of 1 to 512 bytes,
+ * which is then set: what is over is zeros, and all of it where there is no such header. The result of header_key is the key's
+ * length plus 1, or 0 where there is no such header; that of header_value the value's length plus 2, or 1 where the value is
+ * null and 0 where there is no such header. It may be more than the variable has. */
+HELPER(11, header_key, void *room, u64 position, u64 length);
+HELPER(12, header_value, void *room, u64 position, u64 length);
 
 /* ---- Forms that the verifier follows, where a compiler would make others of plain C */
 

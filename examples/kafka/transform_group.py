@@ -17,7 +17,7 @@ members as there are cores to use, on one machine or on many: the group shares t
 - IMAGE is looked at between two polls. A new one is taken up, and each partition's first offset that it is run on is
   said. One that the verifier refuses is said too, and the program before it goes on. Replace the file by a rename.
 - Headers are not carried over. A program sees the number of the partition modulo 64. A record that klog does not take
-  (a key above 4,096 bytes, a value above 65,536, no timestamp) ends the member, with its place.
+  (a key above 4,096 bytes, a value above 1,048,576, no timestamp) ends the member, with its place.
 
 What fails for good ends the process with status 1: let a supervisor start it again. SIGTERM ends it after the
 transaction that is under way.

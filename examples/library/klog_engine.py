@@ -8,7 +8,7 @@ from ctypes import POINTER, byref, c_size_t, c_uint32, c_uint64
 
 BYTES = ctypes.c_char_p
 NULL_KEY, NULL_VALUE = 1, 2
-MOST_KEY, MOST_VALUE = 4096, 65536
+MOST_KEY, MOST_VALUE = 4096, 1048576
 
 
 class Handle(ctypes.Structure):
@@ -34,7 +34,7 @@ class Engine:
     def __init__(self, name):
         self.library = ctypes.CDLL(name)
         handle = POINTER(Handle)
-        self.declare("klog_load", BYTES, c_size_t, handle, POINTER(c_size_t))
+        self.declare("klog_load", BYTES, c_size_t, c_uint32, handle, POINTER(c_size_t))
         self.declare("klog_fault_text", c_uint32, c_size_t, BYTES, c_size_t, POINTER(c_size_t))
         self.declare("klog_share", handle, handle)
         self.declare("klog_run", handle, POINTER(Record), handle)
@@ -60,9 +60,9 @@ class Engine:
 
 
 class Program:
-    """A loaded program, for one thread, which a `with` statement frees."""
+    """A loaded program of a helper table, for one thread, which a `with` statement frees."""
 
-    def __init__(self, engine, image):
+    def __init__(self, engine, image, table=1):
         self.engine, self.library = engine, engine.library
         self.program, self.outcome, self.record, self.emission = Handle(), Handle(), Record(), Emission()
         self.code, self.count = c_uint64(), c_size_t()
@@ -73,7 +73,7 @@ class Program:
         self.outcome_words = byref(self.outcome), byref(self.code), byref(self.count)
         self.outcome_at, self.emission_at = byref(self.outcome), byref(self.emission)
         place = c_size_t()
-        fault = engine.library.klog_load(image, len(image), byref(self.program), byref(place))
+        fault = engine.library.klog_load(image, len(image), table, byref(self.program), byref(place))
         engine.check(fault, place.value)
 
     def __enter__(self):

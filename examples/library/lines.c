@@ -26,7 +26,7 @@ static int load(const char *name, klog_handle *program)
 	}
 	size_t length = fread(image, 1, sizeof image, file), place = 0;
 	fclose(file);
-	uint32_t fault = klog_load(image, length, program, &place);
+	uint32_t fault = klog_load(image, length, KLOG_TABLE_ONE, program, &place);
 	return fault ? print_fault(name, fault, place) : 0;
 }
 

@@ -4,11 +4,11 @@ ghost use Rattle.machine_spec.specs.Arithmetic.{signed};
 ghost use Rattle.machine_spec.specs.Traps.{source_registers, operand_registers, base_registers, condition_registers, argument_registers, arguments_of};
 ghost use Rattle.verifier_spec.specs.Kinds.{kind_at, is_unknown, furthest};
 ghost use Rattle.verifier_spec.specs.Checks.{reads_unknown, is_one_sign, least_displacement, greatest_displacement, can_move, can_compute_kinds, has_wrong_kinds, has_wrong_base_kind, has_wrong_condition_kind, reach_at, reach_of, may_write_record, may_leave_record, may_leave_stack, may_read_unset, named_reach, may_name_wrongly, may_be_wrong_room, is_whole, is_wrong_argument_kind, may_exit_wrongly, failed_check};
-ghost use Rattle.machine_spec.specs.declared.helper.TheConstants.{HELPERS};
+ghost use Rattle.machine_spec.specs.Image.{helpers_of};
 
 use machine_spec::{
     Argument, Condition, Direction, Helper, Instruction, MemoryOperand, Operands, Operation,
-    Region, STACK_SIZE, Source, Summary, Width,
+    Region, STACK_SIZE, Source, Summary, Table, Width,
 };
 use stack_bytes::contains_all;
 use state_order::{kinds, same_region};
@@ -525,15 +525,16 @@ fn may_exit_wrongly(exits: bool, state: &Abstract) -> bool
 
 // ---- the first check that fails
 
-/// The first check of an instruction that fails in a state, if one does.
+/// The first check of an instruction of a program with a helper table that fails in a state, if one
+/// does.
 #[tactic(auto, unfolding(verifier_spec::specs::Checks::failed_check))]
-pub fn failed_check(instruction: Instruction, state: &Abstract) -> Option<Check>
-    ensures { result ≡ failed_check HELPERS instruction state.now }
+pub fn failed_check(instruction: Instruction, state: &Abstract, table: Table) -> Option<Check>
+    ensures { result ≡ failed_check (helpers_of table) instruction state.now }
 {
     let summary = Summary::of(instruction);
     if summary.writes_frame() {
         Some(Check::Frame)
-    } else if summary.calls_no_helper() {
+    } else if summary.calls_no_helper(table) {
         Some(Check::Helper)
     } else if reads_unknown(summary, state) {
         Some(Check::Unset)

@@ -1,4 +1,4 @@
-ghost use Rattle.std.specs.Prelude.{◌≡◌, true, if◌then◌else◌, Some, None, IfSome};
+ghost use Rattle.std.specs.Prelude.{◌≡◌, true, if◌then◌else◌, Some, None, IfSome, IfNone};
 ghost use Rattle.verifier_spec.specs.declared.state.Abstract.{Abstract};
 ghost use Rattle.verifier_spec.specs.Ranges.{lengths_from_to};
 ghost use Rattle.verifier_spec.specs.Kinds.{kind_at};
@@ -6,10 +6,11 @@ ghost use Rattle.verifier_spec.specs.States.{is_proper, is_within, entry_state};
 ghost use Rattle.verifier_spec.specs.Joins.{joined_state};
 ghost use Rattle.verifier_spec.specs.Checks.{failed_check};
 ghost use Rattle.verifier_spec.specs.Transfer.{falls_to, jumps_to};
+ghost use Rattle.machine_spec.specs.Image.{helpers_of};
 ghost use Rattle.machine_spec.specs.declared.helper.TheConstants.{HELPERS};
 
 use crate::{checks, transfer};
-use machine_spec::{Instruction, Region, STACK_SIZE};
+use machine_spec::{Instruction, Region, STACK_SIZE, Table};
 use state_order::kinds;
 use std::marker::Model;
 use verifier_spec::{Abs, Abstract, Check, Range, StackSet};
@@ -147,12 +148,15 @@ impl State {
         }
     }
 
-    /// The first check of an instruction that fails here, if one does.
-    pub fn check(&self, instruction: Instruction) -> Option<Check>
-        ensures failed { result ≡ failed_check HELPERS instruction self.now }
+    /// The first check of an instruction of a program with a helper table that fails here, if one
+    /// does. Where none does, none does in a program that may call every helper.
+    #[tactic(auto, using(verifier_spec::proofs::Tables::passes_all))]
+    pub fn check(&self, instruction: Instruction, table: Table) -> Option<Check>
+        ensures failed { result ≡ failed_check (helpers_of table) instruction self.now }
+        ensures passed { IfNone result (failed_check HELPERS instruction self.now ≡ None) }
         ensures proper { is_proper self.now ≡ true }
     {
-        checks::failed_check(instruction, &self.inner)
+        checks::failed_check(instruction, &self.inner, table)
     }
 
     /// What an instruction whose checks pass makes of this state, along each of its edges.

@@ -3,8 +3,8 @@ use Rattle.std.proofs.Common.{◌≡◌, ◌≢◌, ℕ, zero, suc, ◌<◌, ◌
 use Rattle.std.proofs.Common.{refl, sym, ap, ◌∙◌, subst, inl, inr, arith}
 use Rattle.std.proofs.lemmas.Bool.{cases_lt}
 use Rattle.std.proofs.lemmas.Option.{none-some}
-use Rattle.machine_spec.specs.declared.{helper.TheConstants.HELPERS, instruction.Placed.Placed}
-use Rattle.machine_spec.specs.Image.{program_of, read_image, IsCodeOf}
+use Rattle.machine_spec.specs.declared.{helper.Helper.Helper, instruction.Placed.Placed}
+use Rattle.machine_spec.specs.Image.{Program, helpers_of, read_image, IsCodeOf}
 use Rattle.machine_spec.proofs.Slots.{number_of_zero, number_below}
 use Rattle.verifier_spec.specs.declared.{state.Abstract.Abstract, fault.VerifyFault.VerifyFault}
 use Rattle.verifier_spec.specs.declared.fault.Check.TheVariants as check
@@ -22,45 +22,49 @@ claim_past (first ∷ claims) zero le = absurd (omega arith)
 claim_past (first ∷ claims) (suc k) le = claim_past claims k (omega arith)
 
 -- within every annotation's
-pub joined_best : (code : List Placed) (claims : Claims) → claims ≡ joined_states HELPERS code →
-    AreJoinedProper HELPERS code → (other : Claims) → IsAnnotation HELPERS code other → (k : ℕ) →
+pub joined_best : (helpers : List Helper) (code : List Placed) (claims : Claims) → claims ≡ joined_states helpers code →
+    AreJoinedProper helpers code → (other : Claims) → IsAnnotation helpers code other → (k : ℕ) →
     is_edge_covered (claim_at claims k) (claim_at other k) ≡ true
-joined_best code claims is proper other annotation k =
+joined_best helpers code claims is proper other annotation k =
     let P : Option Abstract → Type 0 = λ o. is_edge_covered o (claim_at other k) ≡ true in
     let Q : Claims → Type 0 = λ ns. is_edge_covered (claim_at ns k) (claim_at other k) ≡ true in
     subst Q (sym is) (elim (cases_lt k (length code)) [
-      | inl below ↦ subst P (sym (claim_joined HELPERS code k below))
-          (known_below HELPERS code other annotation proper k k)
+      | inl below ↦ subst P (sym (claim_joined helpers code k below))
+          (known_below helpers code other annotation proper k k)
       | inr past ↦
-          let le : length (joined_states HELPERS code) ≤ k = omega (arith, past, length-joined_states HELPERS code) in
-          subst P (sym (claim_past (joined_states HELPERS code) k le)) refl
+          let le : length (joined_states helpers code) ≤ k = omega (arith, past, length-joined_states helpers code) in
+          subst P (sym (claim_past (joined_states helpers code) k le)) refl
     ])
 
-module _ (image : List ℕ) (code : List Placed) (is_code : IsCodeOf image code) where
-  some_instruction : 0 < length code
-  some_instruction = number_below code 0 0 (number_of_zero image code is_code)
+module _ (program : Program) (code : List Placed) (is_code : IsCodeOf program.image code) where
+  abbrev helpers : List Helper
+  helpers = helpers_of program.table
 
-  -- an image whose joined states have a fault is not accepted
-  has_none : (claims : Claims) (f : VerifyFault) → read_image image ≡ Ok code → claims ≡ joined_states HELPERS code →
-      AreJoinedProper HELPERS code → fault_of HELPERS code claims ≡ Some f → ¬ IsAccepted (program_of image)
+  some_instruction : 0 < length code
+  some_instruction = number_below code 0 0 (number_of_zero program.image code is_code)
+
+  -- a program whose joined states have a fault is not accepted
+  has_none : (claims : Claims) (f : VerifyFault) → read_image program.image ≡ Ok code →
+      claims ≡ joined_states helpers code → AreJoinedProper helpers code → fault_of helpers code claims ≡ Some f →
+      ¬ IsAccepted program
   has_none claims f read is proper fault accepted =
       let both = sym read ∙ accepted.read in
       let same : accepted.code ≡ code = cc in
-      let P : List Placed → Type 0 = λ c. IsAnnotation HELPERS c accepted.claims in
-      let none = no_fault HELPERS image code is_code accepted.claims (subst P same accepted.annotation) proper
+      let P : List Placed → Type 0 = λ c. IsAnnotation helpers c accepted.claims in
+      let none = no_fault helpers program.image code is_code accepted.claims (subst P same accepted.annotation) proper
       some_instruction in
-      none-some f (sym none ∙ ap (λ (ns : Claims). fault_of HELPERS code ns) (sym is) ∙ fault)
+      none-some f (sym none ∙ ap (λ (ns : Claims). fault_of helpers code ns) (sym is) ∙ fault)
 
-  pub claimed_refused : (claims : Claims) (f : VerifyFault) → read_image image ≡ Ok code →
-      claims ≡ joined_states HELPERS code → AreJoinedProper HELPERS code → fault_of HELPERS code claims ≡ Some f →
-      IsRefusedWith (program_of image) (Verify f)
+  pub claimed_refused : (claims : Claims) (f : VerifyFault) → read_image program.image ≡ Ok code →
+      claims ≡ joined_states helpers code → AreJoinedProper helpers code → fault_of helpers code claims ≡ Some f →
+      IsRefusedWith program (Verify f)
   claimed_refused claims f read is proper fault = record {
     not_accepted = has_none claims f read is proper fault;
-    fault_is = claimed_fault image code claims (Some f) read is fault;
+    fault_is = claimed_fault program code claims (Some f) read is fault;
   }
 
-  pub no_claims_fault : (claims : Claims) (f : VerifyFault) → claims ≡ joined_states HELPERS code →
-      fault_of HELPERS code claims ≡ Some f → f.kind ≢ check.Notes
+  pub no_claims_fault : (claims : Claims) (f : VerifyFault) → claims ≡ joined_states helpers code →
+      fault_of helpers code claims ≡ Some f → f.kind ≢ check.Notes
   no_claims_fault claims f is fault =
-      fault_is_other HELPERS image code is_code f some_instruction
-      (ap (λ (ns : Claims). fault_of HELPERS code ns) (sym is) ∙ fault)
+      fault_is_other helpers program.image code is_code f some_instruction
+      (ap (λ (ns : Claims). fault_of helpers code ns) (sym is) ∙ fault)

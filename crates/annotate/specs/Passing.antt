@@ -1,6 +1,6 @@
 -- What a pass over the first instructions leaves.
 use Rattle.std.specs.Prelude.{◌≡◌, ℕ, ◌<◌, min, true, List, length, Option, Some}
-use Rattle.machine_spec.specs.declared.{helper.TheConstants.HELPERS, instruction.Placed.Placed}
+use Rattle.machine_spec.specs.declared.{helper.Helper.Helper, instruction.Placed.Placed}
 use Rattle.notes.specs.Derived.{HasEachClaim}
 use Rattle.verifier_spec.specs.declared.state.Abstract.{Abstract}
 use Rattle.verifier_spec.specs.States.{is_proper}
@@ -9,7 +9,7 @@ use Rattle.verifier_spec.specs.JoinedStates.{known_after}
 
 -- After the first k instructions those have their joined states, which are in their ranges, and each later one has what
 -- they propagate.
-pub record IsPassed (code : List Placed) (claims : Claims) (k : ℕ) : Type 0 where
+pub record IsPassed (helpers : List Helper) (code : List Placed) (claims : Claims) (k : ℕ) : Type 0 where
   pub long : length claims ≡ length code
-  pub each : HasEachClaim claims (λ j. known_after HELPERS code (min k j) j)
-  pub proper : (i : ℕ) (s : Abstract) → i < k → known_after HELPERS code i i ≡ Some s → is_proper s ≡ true
+  pub each : HasEachClaim claims (λ j. known_after helpers code (min k j) j)
+  pub proper : (i : ℕ) (s : Abstract) → i < k → known_after helpers code i i ≡ Some s → is_proper s ≡ true

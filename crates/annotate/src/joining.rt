@@ -6,11 +6,12 @@ ghost use Rattle.verifier_spec.specs.Checks.{failed_check};
 ghost use Rattle.verifier_spec.proofs.BestAnnotation.{AreJoinedProper};
 ghost use Rattle.notes.specs.Derived.{HasEachClaim};
 ghost use Rattle.annotate.specs.Passing.{IsPassed};
+ghost use Rattle.machine_spec.specs.Image.{helpers_of};
 ghost use Rattle.machine_spec.specs.declared.helper.TheConstants.{HELPERS};
 
 use abstract_regs::State;
 use bpf_isa::Code;
-use machine_spec::{MAX_SLOTS, Placed, Summary};
+use machine_spec::{MAX_SLOTS, Placed, Summary, Table};
 use std::alloc::{AllocError, Global};
 
 /// The state of an instruction, if it is reached.
@@ -71,6 +72,7 @@ fn propagate_both(code: &Code, states: &mut [Option<State>], k: usize, placed: P
 /// a check.
 fn pass_one(
     code: &Code,
+    table: Table,
     states: &mut [Option<State>],
     k: usize,
     placed: Placed,
@@ -79,11 +81,11 @@ fn pass_one(
     requires slot { placed.slot < MAX_SLOTS }
     requires number { k < MAX_SLOTS }
     ensures length { length states.new ≡ length states.old }
-    ensures each { HasEachClaim states.new (λ j. with_instruction HELPERS code.now j k (Some placed) claim (claim_at states.old j)) }
+    ensures each { HasEachClaim states.new (λ j. with_instruction (helpers_of table) code.now j k (Some placed) claim (claim_at states.old j)) }
     ensures proper { IfSome claim (λ s. is_proper s ≡ true) }
 {
     if let Some(state) = claim {
-        if state.check(placed.instruction).is_none() {
+        if state.check(placed.instruction, table).is_none() {
             propagate_both(code, states, k, placed, state);
         }
     }
@@ -100,24 +102,28 @@ fn first_states(alloc: Global, len: usize) -> Result<Vec<Option<State>>, AllocEr
 }
 
 /// One pass in code order, which begins with the entry state alone.
-fn pass(code: &Code, states: &mut [Option<State>])
+fn pass(code: &Code, table: Table, states: &mut [Option<State>])
     requires { states.old ≡ slice_set (replicate (length code.now) None) 0 (Some entry_state) }
-    ensures states { states.new ≡ joined_states HELPERS code.now }
-    ensures proper { AreJoinedProper HELPERS code.now }
+    ensures states { states.new ≡ joined_states (helpers_of table) code.now }
+    ensures proper { AreJoinedProper (helpers_of table) code.now }
 {
     for k in 0..code.len() {
         let claim = claim_of(states, k);
-        pass_one(code, states, k, code.get(k), claim);
+        pass_one(code, table, states, k, code.get(k), claim);
     }
 }
 
-/// The joined states of code: at each instruction the least state above all that the edges of
-/// reached instructions before it propagate.
-pub fn joined_states(alloc: Global, code: &Code) -> Result<Vec<Option<State>>, AllocError>
-    ensures states { IfOk result (λ states. states.items ≡ joined_states HELPERS code.now) }
-    ensures proper { IfOk result (λ _. AreJoinedProper HELPERS code.now) }
+/// The joined states of code that may call the helpers of a table: at each instruction the least
+/// state above all that the edges of reached instructions before it propagate.
+pub fn joined_states(
+    alloc: Global,
+    code: &Code,
+    table: Table,
+) -> Result<Vec<Option<State>>, AllocError>
+    ensures states { IfOk result (λ states. states.items ≡ joined_states (helpers_of table) code.now) }
+    ensures proper { IfOk result (λ _. AreJoinedProper (helpers_of table) code.now) }
 {
     let mut states = first_states(alloc, code.len())?;
-    pass(code, &mut states);
+    pass(code, table, &mut states);
     Ok(states)
 }

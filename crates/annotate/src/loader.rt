@@ -1,32 +1,35 @@
 ghost use Rattle.std.specs.Prelude.{IfErr};
+ghost use Rattle.machine_spec.specs.Image.{program_of};
 ghost use Rattle.annotate.specs.Loads.{Loads, IsOfImage, IsAtStart};
 
 use crate::joining::joined_states;
 use bpf_isa::decode;
+use machine_spec::Table;
 use notes::{Check, Verified, VerifyFault};
 use std::alloc::Global;
 use verifier_spec::LoadFault;
 
-/// The verified program of an image: its instructions, each with the least abstract state above all
-/// that the edges of reached instructions before it propagate. Every image that has an annotation
-/// is accepted, memory aside, and the states are then within those of every annotation.
+/// The verified program of an image that may call the helpers of a table: its instructions, each with
+/// the least abstract state above all that the edges of reached instructions before it propagate.
+/// Every image that has an annotation under the table is accepted, memory aside, and the states are
+/// then within those of every annotation.
 ///
 /// It fails with the image's first refusal, and then, where there is no annotation, with the first
 /// check that the lowest faulty instruction fails in its joined state; where memory runs out, as
 /// `IsaFault::Memory` or as `Check::Memory` at 0.
-pub fn load(alloc: Global, image: &[u8]) -> Result<Verified, LoadFault>
-    ensures answer { Loads image.now result }
+pub fn load(alloc: Global, image: &[u8], table: Table) -> Result<Verified, LoadFault>
+    ensures answer { Loads (program_of image.now table) result }
     ensures other { IfErr result IsOfImage }
     ensures memory { IfErr result IsAtStart }
 {
     match decode(alloc, image) {
         Err(fault) => Err(LoadFault::Isa(fault)),
-        Ok(code) => match joined_states(alloc, &code) {
+        Ok(code) => match joined_states(alloc, &code, table) {
             Err(_) => Err(LoadFault::Verify(VerifyFault {
                 pc: 0,
                 kind: Check::Memory,
             })),
-            Ok(states) => match notes::check(alloc, code, states) {
+            Ok(states) => match notes::check(alloc, code, table, states) {
                 Err(fault) => Err(LoadFault::Verify(fault)),
                 Ok(verified) => Ok(verified),
             },

@@ -7,6 +7,7 @@ use broker_fixtures::{NAME, load};
 use bytes::Bytes;
 use catalogue::{Catalogue, Known};
 use fixtures::FORWARD;
+use machine_spec::Table;
 use part_log::Names;
 use std::alloc::{AllocError, Global};
 use std::marker::Brand;
@@ -66,7 +67,7 @@ fn load_all<Id: Names, H: Wait + Drop, R: Wait + Clock>(
         if ended.load(Ordering::SeqCst) >= readers {
             break;
         }
-        broker.load(rt, alloc, NAME, &image).ok()?;
+        broker.load(rt, alloc, NAME, &image, Table::One).ok()?;
         count = count.wrapping_add(1);
     }
     let seconds = start.elapsed(rt).ok()?.as_secs_f64();

@@ -5,6 +5,7 @@ use broker_fixtures::NAME;
 use bytes::Bytes;
 use catalogue::Catalogue;
 use fixtures::FORWARD;
+use machine_spec::Table;
 use std::alloc::{Alloc, AllocError, Global};
 use std::fs::{self, Files};
 use std::io;
@@ -48,7 +49,7 @@ fn load<W: Wait + Drop, R: Clock>(
     let image = Bytes::copy_from_slice(alloc, &FORWARD)?;
     let start = Instant::now(rt)?;
     for _ in 0..count {
-        let loaded = catalogue.load(alloc, NAME, &image);
+        let loaded = catalogue.load(alloc, NAME, &image, Table::One);
         loaded.map_err(|_| AllocError)?;
     }
     let took = start.elapsed(rt)?.as_secs_f64();

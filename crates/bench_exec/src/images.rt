@@ -2,6 +2,7 @@
 
 use crate::{Fitting, records_of, time};
 use bytes::Bytes;
+use machine_spec::Table;
 use std::alloc::Global;
 use std::io;
 use std::rt::Clock;
@@ -43,7 +44,7 @@ fn time_both<R: Print + Clock>(
     records: &[Fitting],
     rounds: u32,
 ) -> io::Result<()> {
-    let Ok(program) = annotate::load(alloc, image) else {
+    let Ok(program) = annotate::load(alloc, image, Table::Two) else {
         return println!(rt; "not a program");
     };
     for _ in 0..4 {

@@ -10,6 +10,7 @@ use crate::images::time_image;
 use crate::kinds::{ARITHMETIC, Kind, OTHERS, PLAIN};
 use bytes::Bytes;
 use exec::{Headers, Outcome, Place, Record, is_place, is_within_limits, run};
+use machine_spec::Table;
 use notes::Verified;
 use std::alloc::Global;
 use std::marker::Model;
@@ -39,7 +40,7 @@ fn text_of(alloc: Global, kind: &Kind) -> Option<String> {
 fn program_of(alloc: Global, kind: &Kind) -> Option<Verified> {
     let text = text_of(alloc, kind)?;
     let image = bpf_asm::assemble(alloc, text.as_str()).ok()?;
-    annotate::load(alloc, &image).ok()
+    annotate::load(alloc, &image, Table::One).ok()
 }
 
 /// A record that a run takes: it is tested once, when it is made.
@@ -49,16 +50,14 @@ struct Fitting {
 }
 
 impl Model for Fitting {
-    ghost use Rattle.std.specs.Prelude.{◌≤◌, length};
-    ghost use Rattle.machine_spec.specs.Machine.{bytes_of};
-    ghost use Rattle.wire_spec.specs.declared.limits.TheConstants.{MAX_KEY, MAX_VALUE};
     ghost use Rattle.wire_spec.specs.declared.record.Record.{Record};
+    ghost use Rattle.exec.specs.Records.{IsShortRecord};
 
     ghost Value = { Record };
 
     ghost view = { λ f. f.record };
 
-    ghost invariant = { λ f. (length (bytes_of f.record.key) ≤ MAX_KEY) × (length (bytes_of f.record.value) ≤ MAX_VALUE) };
+    ghost invariant = { λ f. IsShortRecord f.record };
 }
 
 fn record_of(alloc: Global, value: Bytes) -> Option<Fitting> {

@@ -10,7 +10,7 @@ use crate::random::Random;
 use abstract_regs::State;
 use annotate::{LoadFault, joined_states, load};
 use bpf_isa::{Code, Placed, decode};
-use machine_spec::{Region, Summary};
+use machine_spec::{Region, Summary, Table};
 use notes::{Check, Verified, VerifyFault, check};
 use std::alloc::Global;
 use verifier_spec::{Abs, StackSet};
@@ -95,7 +95,7 @@ fn pass_one(code: &Code, states: &mut [Option<State>], k: usize, placed: Placed,
     requires slot { placed.slot < MAX_SLOTS }
     ensures { length states.new ≡ length states.old }
 {
-    if state.check(placed.instruction).is_none() {
+    if state.check(placed.instruction, Table::One).is_none() {
         let edges = state.transfer(placed.instruction);
         join_at(states, Some(k + 1), edges.next);
         let jump = Summary::of(placed.instruction).jump;
@@ -137,7 +137,7 @@ fn fault_of(
 ) -> Option<Option<VerifyFault>> {
     let code = decode(alloc, image).ok()?;
     let states = list_of(alloc, &code, random, widens)?;
-    match check(alloc, code, states) {
+    match check(alloc, code, Table::One, states) {
         Ok(_) => Some(None),
         Err(fault) => Some(Some(fault)),
     }
@@ -152,10 +152,10 @@ fn agrees_accepted(
     verified: &Verified,
 ) -> Option<bool> {
     let code = decode(alloc, image).ok()?;
-    let states = joined_states(alloc, &code).ok()?;
+    let states = joined_states(alloc, &code, Table::One).ok()?;
     let kept = verified.kept();
     let again = fault_of(alloc, image, random, false)?;
-    match check(alloc, code, states) {
+    match check(alloc, code, Table::One, states) {
         Ok(same) => Some(same.kept() == kept && again.is_none()),
         Err(_) => Some(false),
     }
@@ -216,7 +216,7 @@ pub(crate) fn compare_one(alloc: Global, random: &mut Random, tally: &mut Tally)
         count(&mut tally.out_of_memory);
         return;
     };
-    match load(alloc, &image) {
+    match load(alloc, &image, Table::One) {
         Ok(verified) => {
             count(&mut tally.accepted);
             let agrees = agrees_accepted(alloc, &image, random, &verified);

@@ -1,5 +1,6 @@
 use crate::programs::{branching, straight};
 use annotate::load;
+use machine_spec::Table;
 use std::alloc::Global;
 
 /// What is kept of loaded programs: how many there are, and of how many instructions and states
@@ -26,7 +27,7 @@ pub(crate) fn keep_all(alloc: Global, branches: u32, count: u32) -> Option<KeptS
     let image = image_of(alloc, branches)?;
     let mut programs = Vec::new(alloc);
     for _ in 0..count {
-        let program = load(alloc, &image).ok()?;
+        let program = load(alloc, &image, Table::One).ok()?;
         programs.push(program).ok()?;
     }
     let first = programs.first()?;

@@ -1,4 +1,5 @@
 use annotate::load;
+use machine_spec::Table;
 use std::alloc::Global;
 use std::io;
 use std::rt::Clock;
@@ -8,7 +9,7 @@ use std::time::Instant;
 fn load_all(alloc: Global, image: &[u8], rounds: u32) -> usize {
     let mut instructions = 0;
     for _ in 0..rounds {
-        instructions = match load(alloc, image) {
+        instructions = match load(alloc, image, Table::One) {
             Ok(verified) => verified.code().len(),
             Err(_) => 0,
         };

@@ -1,5 +1,6 @@
 -- The image of lines, line after line.
-use Rattle.std.proofs.Common.{◌≡◌, ℕ, ◌+◌, ◌-◌, ◌<◌, ◌≤◌, Bool, true, false, List, [], ◌∷◌, ◌++◌, length, drop, take}
+use Rattle.std.proofs.Common.{◌*◌, ◌≡◌, ℕ, ◌+◌, ◌-◌, ◌<◌, ◌≤◌, Bool, true, false, List, [], ◌∷◌}
+use Rattle.std.proofs.Common.{◌++◌, length, drop, take}
 use Rattle.std.proofs.Common.{Some, Result, Ok, Err, refl, sym, ap, subst, ◌∙◌, arith, leb, ltb, cond, append_assoc}
 use Rattle.std.proofs.lemmas.List.{drop-drop, length-append, length-drop, take_all, append-nil}
 use Rattle.std.proofs.lemmas.{Bool.ltb-true, Bool.ltb-false, Bool.le-leb, Bool.lt-leb, List.Splits.slice_split_first}

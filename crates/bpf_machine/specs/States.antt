@@ -6,7 +6,7 @@ use Rattle.bpf_machine.specs.Views.{registers_of, stack_of}
 
 -- the program that is run
 abbrev pub program_run : Run → Program
-program_run run = program_of run.image.now
+program_run run = program_of run.image.now run.table
 
 -- the record and the place of a run
 abbrev pub input_of : Run → Input

@@ -16,6 +16,6 @@ mod tracing;
 mod traps;
 
 pub use helpers::{Emission, Emissions, Outcome, Place};
-pub use machine_spec::Trap;
+pub use machine_spec::{Table, Trap};
 pub use tracing::{End, trace};
 pub use wire_spec::{Header, Headers, Record};

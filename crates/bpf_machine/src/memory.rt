@@ -12,15 +12,16 @@ use crate::registers::{REGISTERS, get};
 use crate::stack::Stack;
 use crate::tagged::Tagged;
 use helpers::text;
-use machine_spec::{Direction, Extension, MemoryOperand, Place, Region, STACK_SIZE, Size};
+use machine_spec::{Direction, Extension, MemoryOperand, Place, Region, STACK_SIZE, Size, Table};
 use std::alloc::{AllocError, Global};
 use wire_spec::Record;
 
-/// What a run has at hand: the program's image, the record and its place.
+/// What a run has at hand: the program's image and helper table, the record and its place.
 #[derive(Drop)]
 pub struct Run<'a> {
     pub alloc: Global,
     pub image: &'a [u8],
+    pub table: Table,
     pub given: &'a Record,
     pub place: &'a Place,
 }

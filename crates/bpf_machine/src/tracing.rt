@@ -15,7 +15,7 @@ use crate::slots::slot_count;
 use crate::tagged::Tagged;
 use crate::traps::trap_of;
 use bpf_isa::form_at;
-use machine_spec::{Instruction, Outcome, Place, Summary, Trap};
+use machine_spec::{Instruction, Outcome, Place, Summary, Table, Trap};
 use std::alloc::{AllocError, Global};
 use wire_spec::Record;
 
@@ -85,21 +85,23 @@ impl Machine {
     }
 }
 
-/// Runs a program on a record, whatever bytes its image has. Returns what the run ends with, an
-/// outcome or the trap of its last state, and how many instructions were done, an exit among them.
-/// It fails only where memory runs out.
+/// Runs the program of an image and a helper table on a record, whatever bytes its image has. Returns
+/// what the run ends with, an outcome or the trap of its last state, and how many instructions were
+/// done, an exit among them. It fails only where memory runs out.
 pub fn trace(
     alloc: Global,
     image: &[u8],
     given: &Record,
     place: &Place,
+    table: Table,
 ) -> Result<(End, u64), AllocError>
-    ensures { IfOk result (λ answer. EndsOnlyIn (program_of image.now)
+    ensures { IfOk result (λ answer. EndsOnlyIn (program_of image.now table)
         (record { given = given.now; place = place.now }) answer.0 answer.1) }
 {
     let run = Run {
         alloc,
         image,
+        table,
         given,
         place,
     };

@@ -367,7 +367,7 @@ pub fn trap_of(run: &Run, summary: Summary, machine: &Machine) -> Option<Trap>
     let span = span_of(summary.memory, registers);
     if summary.writes_frame() {
         Some(Trap::Frame)
-    } else if summary.calls_no_helper() {
+    } else if summary.calls_no_helper(run.table) {
         Some(Trap::Helper)
     } else if reads_unset_register(summary, registers) {
         Some(Trap::Unset)

@@ -8,25 +8,27 @@ use crate::broker::Broker;
 use crate::fault::BrokerFault;
 use bytes::Bytes;
 use catalogue::{Catalogue, Finder, Known};
+use machine_spec::Table;
 use part_log::Names;
 use std::alloc::Global;
 use std::sync::Wait;
 
 impl<Id: Names, W: Wait + Drop> Broker<Id, Catalogue<W>> {
-    /// Loads an image under a name. Returns the name's version, from 1, and what is then known of
-    /// it. It fails as `Catalogue`, with the first refusal. What a load does to the catalogue,
-    /// which is locked meanwhile, is said by `Catalogue::load`.
+    /// Loads an image under a name, as a program of a helper table. Returns the name's version, from 1,
+    /// and what is then known of it. It fails as `Catalogue`, with the first refusal. What a load does
+    /// to the catalogue, which is locked meanwhile, is said by `Catalogue::load`.
     pub fn load<R: Wait>(
         &self,
         rt: &R,
         alloc: Global,
         name: &str,
         image: &Bytes,
+        table: Table,
     ) -> Result<(u32, Known), BrokerFault>
-        ensures { LoadIs name.now (program_of image.now) result }
+        ensures { LoadIs name.now (program_of image.now table) result }
     {
         let mut catalogue = self.catalogue().lock(rt);
-        match catalogue.load(alloc, name, image) {
+        match catalogue.load(alloc, name, image, table) {
             Ok(loaded) => Ok(loaded),
             Err(fault) => Err(BrokerFault::Catalogue(fault)),
         }

@@ -4,6 +4,7 @@ ghost use Rattle.std.specs.Prelude.{◌≡◌, ◌<◌, IfSome, Ok};
 ghost use Rattle.fixtures.specs.Plain.{value_batch};
 ghost use Rattle.log_spec.specs.Logs.{Records};
 ghost use Rattle.machine_spec.specs.Image.{program_of};
+ghost use Rattle.machine_spec.specs.declared.helper.Table.TheVariants as table;
 ghost use Rattle.broker.specs.Deployments.{LoadIs};
 
 use broker::{Broker, Ended, Until};
@@ -11,6 +12,7 @@ use bytes::Bytes;
 use catalogue::{Catalogue, Known};
 use fixtures::batch_of_value;
 use log_spec::MAX_CELLS;
+use machine_spec::Table;
 use part_log::{Names, Receipt};
 use std::alloc::Global;
 use std::sync::Wait;
@@ -20,7 +22,7 @@ use worker::{Gate, Open};
 /// The name that programs are loaded under.
 pub const NAME: &str = "program";
 
-/// Loads an image. Returns the version, from 1, and what is then known of the name; none where the load
+/// Loads an image as a program of helper table one. Returns the version, from 1, and what is then known of the name; none where the load
 /// is refused or memory ran out.
 pub fn load<Id: Names, H: Wait + Drop, R: Wait>(
     rt: &R,
@@ -28,13 +30,13 @@ pub fn load<Id: Names, H: Wait + Drop, R: Wait>(
     broker: &Broker<Id, Catalogue<H>>,
     image: &[u8],
 ) -> Option<(u32, Known)>
-    ensures { IfSome result (λ loaded. LoadIs NAME.now (program_of image.now) (Ok loaded)) }
+    ensures { IfSome result (λ loaded. LoadIs NAME.now (program_of image.now table.One) (Ok loaded)) }
 {
     let image = Bytes::copy_from_slice(alloc, image).ok()?;
-    broker.load(rt, alloc, NAME, &image).ok()
+    broker.load(rt, alloc, NAME, &image, Table::One).ok()
 }
 
-/// Loads an image and deploys it to an input partition. Returns the index of its mark; none where a
+/// Loads an image as `load` does and deploys it to an input partition. Returns the index of its mark; none where a
 /// call is refused.
 pub fn deploy<Id: Names, H: Wait + Drop, R: Wait>(
     rt: &R,

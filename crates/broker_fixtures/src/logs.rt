@@ -4,9 +4,12 @@ ghost use Rattle.std.specs.Prelude.{◌≡◌, ◌≤◌, IfSome, Ok, length};
 ghost use Rattle.std.specs.Arc.{arc_value};
 ghost use Rattle.log_spec.specs.Logs.{records_among};
 ghost use Rattle.log_item.specs.Programs.{ProgramIs};
+ghost use Rattle.machine_spec.specs.Image.{program_of};
+ghost use Rattle.machine_spec.specs.declared.helper.Table.TheVariants as table;
 ghost use Rattle.broker_fixtures.specs.Advances.{Advances};
 
 use bytes::Bytes;
+use machine_spec::Table;
 use part_log::{Names, PartLog, Program, Receipt};
 use std::alloc::Global;
 use std::sync::Arc;
@@ -21,9 +24,9 @@ pub fn place_of<Id: Names>(receipt: &Receipt<Id>) -> (usize, usize, u64)
     (receipt.partition(), receipt.index(), receipt.base())
 }
 
-/// The program of an image. None where the image is refused or memory ran out.
+/// The program of an image and helper table one. None where the image is refused or memory ran out.
 pub fn program_of(alloc: Global, image: &[u8]) -> Option<Arc<Program>>
-    ensures { IfSome result (λ program. ProgramIs image.now (Ok (arc_value program))) }
+    ensures { IfSome result (λ program. ProgramIs (program_of image.now table.One) (Ok (arc_value program))) }
 {
     match Bytes::copy_from_slice(alloc, image) {
         Ok(image) => program_in(alloc, &image),
@@ -32,9 +35,9 @@ pub fn program_of(alloc: Global, image: &[u8]) -> Option<Arc<Program>>
 }
 
 fn program_in(alloc: Global, image: &Bytes) -> Option<Arc<Program>>
-    ensures { IfSome result (λ program. ProgramIs image.now (Ok (arc_value program))) }
+    ensures { IfSome result (λ program. ProgramIs (program_of image.now table.One) (Ok (arc_value program))) }
 {
-    match Program::new(alloc, image) {
+    match Program::new(alloc, image, Table::One) {
         Ok(program) => Arc::new(alloc, program).ok(),
         Err(_) => None,
     }

@@ -4,12 +4,12 @@ use Rattle.std.proofs.Common.{inr, ◌∙◌, arith, length-append}
 use Rattle.std.specs.Prelude.{◌≢◌, Option, Some, None, Result, Ok, Err, is_none, not}
 use Rattle.std.specs.Str.{bytes_eq}
 use Rattle.std.proofs.lemmas.Bool.{cases_Bool}
-use Rattle.machine_spec.specs.Image.{Program, program_of}
+use Rattle.machine_spec.specs.{Image.Program, Image.program_of, declared.helper.Table.Table}
 use Rattle.log_spec.specs.declared.event.Reply.TheVariants.{Loaded}
 use Rattle.log_spec.specs.Worlds.{World}
 use Rattle.log_spec.specs.declared.event.Refusal.{Refusal}
 use Rattle.log_spec.specs.declared.event.Refusal.TheVariants as refusal
-use Rattle.log_spec.specs.Catalogue.{Table, Entry, Version, LiveTable, IsLast, IsLive, among, count_of, has_name}
+use Rattle.log_spec.specs.Catalogue.{ProgramTable, Entry, Version, LiveTable, IsLast, IsLive, among, count_of, has_name}
 use Rattle.log_spec.specs.Catalogue.{programs_of, with_program, with_version, name_refusal, live_refusal, first_refusal}
 use Rattle.log_spec.specs.Catalogue.{IsFirstRefusal, IsLoadRefusal, IsLiveRefusal}
 use Rattle.catalogue.specs.declared.fault.CatFault.{CatFault}
@@ -32,13 +32,13 @@ first_refusal_is table name program fault.Memory ne h = absurd (ne refl)
 
 -- ---- what both tables have in common
 
-same_length : (table : Table) (live : LiveTable) → IsLive table live → length live ≡ length table
+same_length : (table : ProgramTable) (live : LiveTable) → IsLive table live → length live ≡ length table
 same_length [] [] is = refl
 same_length [] (version ∷ live) is = absurd is
 same_length (entry ∷ table) [] is = absurd is
 same_length (entry ∷ table) (version ∷ live) is = omega (arith, same_length table live is.1)
 
-same_count : (table : Table) (live : LiveTable) (name : List ℕ) → IsLive table live →
+same_count : (table : ProgramTable) (live : LiveTable) (name : List ℕ) → IsLive table live →
     count_of (among live name) ≡ length (programs_of table name)
 same_count [] [] name is = refl
 same_count [] (version ∷ live) name is = absurd is
@@ -49,7 +49,7 @@ same_count (entry ∷ table) (version ∷ live) name is =
       | inr e ↦ rw (is.0.name_is, e) (same_count table live name is.1)
     ]
 
-same_name : (table : Table) (live : LiveTable) (name : List ℕ) → IsLive table live →
+same_name : (table : ProgramTable) (live : LiveTable) (name : List ℕ) → IsLive table live →
     not (is_none (among live name)) ≡ has_name table name
 same_name [] [] name is = refl
 same_name [] (version ∷ live) name is = absurd is
@@ -60,7 +60,7 @@ same_name (entry ∷ table) (version ∷ live) name is =
       | inr e ↦ rw (is.0.name_is, e) (same_name table live name is.1)
     ]
 
-same_refusal : (table : Table) (live : LiveTable) (name : List ℕ) → IsLive table live →
+same_refusal : (table : ProgramTable) (live : LiveTable) (name : List ℕ) → IsLive table live →
     live_refusal live name ≡ name_refusal table name
 same_refusal table live name is =
     ap (λ (b : Bool). first_refusal b (length live) (count_of (among live name)) name) (same_name table live name is)
@@ -68,18 +68,18 @@ same_refusal table live name is =
     (same_length table live is)
     ∙ ap (λ (n : ℕ). first_refusal (has_name table name) (length table) n name) (same_count table live name is))
 
-pub refused_alike : (table : Table) (live : LiveTable) (name : List ℕ) (program : Program) (first : Option Refusal) →
+pub refused_alike : (table : ProgramTable) (live : LiveTable) (name : List ℕ) (program : Program) (first : Option Refusal) →
     IsLive table live → IsLiveRefusal live name program first → IsLoadRefusal table name program first
 refused_alike table live name program first is h =
     subst (λ (early : Option Refusal). IsFirstRefusal early program first) (same_refusal table live name is) h
 
-pub next_number : (table : Table) (live : LiveTable) (name : List ℕ) → IsLive table live →
+pub next_number : (table : ProgramTable) (live : LiveTable) (name : List ℕ) → IsLive table live →
     count_of (among live name) + 1 ≡ length (programs_of table name) + 1
 next_number table live name is = ap (λ (n : ℕ). n + 1) (same_count table live name is)
 
 -- ---- what a load leaves
 
-in_place : (entry : Entry) (version : Version) (table : Table) (live : LiveTable) (name : List ℕ) (program : Program)
+in_place : (entry : Entry) (version : Version) (table : ProgramTable) (live : LiveTable) (name : List ℕ) (program : Program)
     (number : ℕ) → bytes_eq entry.name name ≡ true
     → IsLast entry version → IsLive table live → number ≡ length (programs_of (entry ∷ table) name) + 1
     → IsLive (with_program (entry ∷ table) name program)
@@ -93,7 +93,7 @@ in_place entry version table live name program number f last rest e =
     omega (arith, count, length-append entry.programs (program ∷ [])) in
     rw (f, same) (record { name_is = named; number_is = longer; earlier = entry.programs; program_is = refl }, rest)
 
-further : (entry : Entry) (version : Version) (table : Table) (live : LiveTable) (name : List ℕ) (program : Program)
+further : (entry : Entry) (version : Version) (table : ProgramTable) (live : LiveTable) (name : List ℕ) (program : Program)
     (number : ℕ) → bytes_eq entry.name name ≡ false
     → IsLast entry version → number ≡ length (programs_of (entry ∷ table) name) + 1
     → (number ≡ length (programs_of table name) + 1 →
@@ -106,7 +106,7 @@ further entry version table live name program number f last e rest =
     let other : bytes_eq version.name name ≡ false = ap (λ (n : List ℕ). bytes_eq n name) last.name_is ∙ f in
     rw (f, other) (last, rest (e ∙ ap (λ (list : List Program). length list + 1) programs))
 
-with_version-live : (table : Table) (live : LiveTable) (name : List ℕ) (program : Program) (number : ℕ) →
+with_version-live : (table : ProgramTable) (live : LiveTable) (name : List ℕ) (program : Program) (number : ℕ) →
     IsLive table live → number ≡ length (programs_of table name) + 1
     → IsLive (with_program table name program) (with_version live
     (record { name = name; number = number; program = program }))
@@ -123,22 +123,22 @@ with_version-live (entry ∷ table) (version ∷ live) name program number is e 
 
 -- ---- a load in the core
 
-pub does_in_core : (w : World) (name image : List ℕ) (table next : LiveTable) (result : Result (ℕ × Version) CatFault) →
-    IsLive w.table table → Publishes table name (program_of image) result next →
-    DoesInCore w name image table result next
-does_in_core w name image table next (Ok loaded) is h =
+pub does_in_core : (w : World) (name image : List ℕ) (table : Table) (live next : LiveTable)
+    (result : Result (ℕ × Version) CatFault) → IsLive w.table live →
+    Publishes live name (program_of image table) result next → DoesInCore w name image table live result next
+does_in_core w name image table live next (Ok loaded) is h =
     let numbered : loaded.0 ≡ length (programs_of w.table name) + 1 =
-    h.2 ∙ (ap (λ (v : Version). v.number) h.1 ∙ next_number w.table table name is) in
-    let live = with_version-live w.table table name (program_of image) (count_of (among table name) + 1) is
-    (next_number w.table table name is) in (
-      refused_alike w.table table name (program_of image) None is h.0,
+    h.2 ∙ (ap (λ (v : Version). v.number) h.1 ∙ next_number w.table live name is) in
+    let made = with_version-live w.table live name (program_of image table) (count_of (among live name) + 1) is
+    (next_number w.table live name is) in (
+      refused_alike w.table live name (program_of image table) None is h.0,
       (ap Loaded numbered, refl),
-      subst (λ (t : LiveTable). IsLive (with_program w.table name (program_of image)) t)
-          (sym (h.3 ∙ ap (λ (v : Version). with_version table v) h.1)) live,
+      subst (λ (t : LiveTable). IsLive (with_program w.table name (program_of image table)) t)
+          (sym (h.3 ∙ ap (λ (v : Version). with_version live v) h.1)) made,
     )
-does_in_core w name image table next (Err reported) is h = (
+does_in_core w name image table live next (Err reported) is h = (
   h.1,
   λ ne.
-      let first = first_refusal_is table name (program_of image) reported ne h.0 in
-      (first.0, first.1, refused_alike w.table table name (program_of image) (Some first.0) is first.2),
+      let first = first_refusal_is live name (program_of image table) reported ne h.0 in
+      (first.0, first.1, refused_alike w.table live name (program_of image table) (Some first.0) is first.2),
 )

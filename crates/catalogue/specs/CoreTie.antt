@@ -1,6 +1,6 @@
 -- What a load of the live catalogue is in the core.
 use Rattle.std.specs.Prelude.{◌≡◌, ◌≢◌, ℕ, List, Option, Some, None, Result, Ok, Err}
-use Rattle.machine_spec.specs.Image.{program_of}
+use Rattle.machine_spec.specs.{Image.program_of, declared.helper.Table.Table}
 use Rattle.log_spec.specs.declared.event.Event.TheVariants as event
 use Rattle.log_spec.specs.declared.event.Refusal.{Refusal}
 use Rattle.log_spec.specs.declared.event.Reply.TheVariants.{Loaded}
@@ -22,19 +22,20 @@ refusal_for fault.Memory = None
 
 -- The core doesn't refuse the event either, has its reply, and a table of which the next one is the live table. Or,
 -- unless memory ran out, it refuses the event with the same refusal, and both tables are as they were.
-abbrev pub DoesInCore : World → List ℕ → List ℕ → LiveTable → Result (ℕ × Version) CatFault → LiveTable → Type 0
-DoesInCore w name image table (Ok loaded) next =
-    IsRefusal w (event.Load name image) None
-    × Happens w (event.Load name image) (Loaded loaded.0)
-    (record w { table = with_program w.table name (program_of image) })
-    × IsLive (with_program w.table name (program_of image)) next
-DoesInCore w name image table (Err reported) next =
-    (next ≡ table) × (reported ≢ fault.Memory →
-    (first : Refusal) × (refusal_for reported ≡ Some first) × IsRefusal w (event.Load name image) (Some first))
+abbrev pub DoesInCore :
+    World → List ℕ → List ℕ → Table → LiveTable → Result (ℕ × Version) CatFault → LiveTable → Type 0
+DoesInCore w name image table live (Ok loaded) next =
+    IsRefusal w (event.Load name image table) None
+    × Happens w (event.Load name image table) (Loaded loaded.0)
+    (record w { table = with_program w.table name (program_of image table) })
+    × IsLive (with_program w.table name (program_of image table)) next
+DoesInCore w name image table live (Err reported) next =
+    (next ≡ live) × (reported ≢ fault.Memory →
+    (first : Refusal) × (refusal_for reported ≡ Some first) × IsRefusal w (event.Load name image table) (Some first))
 
 -- A load over the live table of a world does in the core what it does to this table.
 abbrev pub FollowsCore : Type 0
 FollowsCore =
-    (w : World) (name image : List ℕ) (table next : LiveTable) (result : Result (ℕ × Version) CatFault)
-    → IsLive w.table table → Publishes table name (program_of image) result next →
-    DoesInCore w name image table result next
+    (w : World) (name image : List ℕ) (table : Table) (live next : LiveTable)
+    (result : Result (ℕ × Version) CatFault) → IsLive w.table live →
+    Publishes live name (program_of image table) result next → DoesInCore w name image table live result next

@@ -17,6 +17,7 @@ use bytes::Bytes;
 use core::mem::replace_with;
 use left_right::writer::Writer;
 use log_spec::Name;
+use machine_spec::Table;
 use std::alloc::{AllocError, Global};
 use std::marker::Model;
 use std::sync::Wait;
@@ -68,22 +69,23 @@ impl<R: Wait + Drop> Catalogue<R> {
         Ok(Catalogue { writer, rt })
     }
 
-    /// Loads an image under a name and publishes the table with it. Returns the name's version,
-    /// from 1, and what is then known of it. It waits for readers that still read the table before
-    /// the published one. It fails with the first refusal: of the name's form, of a full table (64
-    /// other names), of versions used up, of the image; or with `Memory`. An `Err` changes nothing.
+    /// Loads an image under a name, as a program of a helper table, and publishes the programs with
+    /// it. Returns the name's version, from 1, and what is then known of it. It waits for readers that
+    /// still read what was published before. It fails with the first refusal: of the name's form, of
+    /// 64 other names, of versions used up, of the program; or with `Memory`. An `Err` changes nothing.
     #[tactic(auto, using(log_spec::proofs::NameLaws::long_refused))]
     pub fn load(
         &mut self,
         alloc: Global,
         name: &str,
         image: &Bytes,
+        table: Table,
     ) -> Result<(u32, Known), CatFault>
-        ensures { Publishes self.old name.now (program_of image.now) result self.new }
+        ensures { Publishes self.old name.now (program_of image.now table) result self.new }
     {
         match Name::new(name) {
             None => Err(CatFault::Name),
-            Some(name) => self.load_named(alloc, &name, image),
+            Some(name) => self.load_named(alloc, &name, image, table),
         }
     }
 
@@ -93,14 +95,15 @@ impl<R: Wait + Drop> Catalogue<R> {
         alloc: Global,
         name: &Name,
         image: &Bytes,
+        table: Table,
     ) -> Result<(u32, Known), CatFault>
-        ensures { Publishes self.old name.now (program_of image.now) result self.new }
+        ensures { Publishes self.old name.now (program_of image.now table) result self.new }
     {
-        let table = self.writer.published().table();
-        match next_version(alloc, table, name, image) {
+        let live = self.writer.published().table();
+        match next_version(alloc, live, name, image, table) {
             Err(refusal) => Err(fault_of(refusal)),
             Ok(known) => {
-                let Ok(next) = edition_with(alloc, table, &known) else {
+                let Ok(next) = edition_with(alloc, live, &known) else {
                     return Err(CatFault::Memory);
                 };
                 let Ok(()) = self.publish(next) else {

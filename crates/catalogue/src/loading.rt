@@ -8,6 +8,7 @@ use crate::known::Known;
 use crate::versions::Versions;
 use bytes::Bytes;
 use log_spec::{Name, Refusal};
+use machine_spec::Table;
 use program_table::{admit, has_name_form};
 use std::alloc::Global;
 
@@ -40,21 +41,23 @@ fn next_number(table: &Versions, name: &Name) -> Result<u32, Refusal>
     }
 }
 
-/// The version that a load makes of an image, or the load's first refusal.
+/// The version that a load makes of an image, as a program of a helper table, or the load's first
+/// refusal.
 pub(crate) fn next_version(
     alloc: Global,
-    table: &Versions,
+    live: &Versions,
     name: &Name,
     image: &Bytes,
+    table: Table,
 ) -> Result<Known, Refusal>
-    ensures { LoadsAs table.now name.now (program_of image.now) result }
+    ensures { LoadsAs live.now name.now (program_of image.now table) result }
 {
     if !has_name_form(name.text.as_str()) {
         return Err(Refusal::Name);
     }
-    match next_number(table, name) {
+    match next_number(live, name) {
         Err(refusal) => Err(refusal),
-        Ok(number) => match admit(alloc, image) {
+        Ok(number) => match admit(alloc, image, table) {
             Err(refusal) => Err(refusal),
             Ok(program) => Ok(Known::new(name.again(), number, program)),
         },

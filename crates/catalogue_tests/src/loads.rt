@@ -4,6 +4,7 @@ use broker::{Broker, Parts};
 use bytes::Bytes;
 use catalogue::{Catalogue, Finder, Known};
 use fixtures::FORWARD;
+use machine_spec::Table;
 use part_log::Names;
 use std::alloc::Global;
 use std::marker::Brand;
@@ -60,7 +61,7 @@ fn load_all<Id: Names, H: Wait + Drop, R: Wait>(
     };
     let mut count = 0usize;
     for _ in 0..LOADS {
-        let Ok((version, known)) = broker.load(rt, alloc, "fwd", &image) else {
+        let Ok((version, known)) = broker.load(rt, alloc, "fwd", &image, Table::One) else {
             return count;
         };
         count = count.wrapping_add(1);

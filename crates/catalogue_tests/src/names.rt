@@ -2,7 +2,7 @@ use bytes::Bytes;
 use catalogue::{CatFault, Catalogue, Finder, Known};
 use fixtures::FORWARD;
 use log_spec::Name;
-use machine_spec::IsaFault;
+use machine_spec::{IsaFault, Table};
 use std::alloc::Global;
 use std::process::Abort;
 use std::sync::{Arc, Wait};
@@ -31,7 +31,7 @@ fn version_of<R: Wait + Drop>(
     let Ok(image) = Bytes::copy_from_slice(alloc, image) else {
         return Err(CatFault::Memory);
     };
-    let (version, known) = catalogue.load(alloc, name, &image)?;
+    let (version, known) = catalogue.load(alloc, name, &image, Table::One)?;
     if known.version() == version {
         Ok(version)
     } else {
@@ -118,7 +118,7 @@ fn load<R: Wait + Drop>(alloc: Global, catalogue: &mut Catalogue<R>) -> Result<K
     let Ok(image) = Bytes::copy_from_slice(alloc, &FORWARD) else {
         return Err(CatFault::Memory);
     };
-    let (_version, known) = catalogue.load(alloc, "fwd", &image)?;
+    let (_version, known) = catalogue.load(alloc, "fwd", &image, Table::One)?;
     Ok(known)
 }
 

@@ -2,7 +2,7 @@
 use Rattle.std.proofs.Common.{◌≡◌, List, ℕ, sym, subst}
 use Rattle.std.specs.Prelude.{Option, Ok}
 use Rattle.std.specs.Io.KnownBytes.{Appends}
-use Rattle.machine_spec.specs.Image.{program_of}
+use Rattle.machine_spec.specs.{Image.program_of, declared.helper.Table.Table}
 use Rattle.script.specs.Texts.{load_line, fetch_line}
 use Rattle.catalogue.specs.Versions.{Version}
 use Rattle.broker.specs.Deployments.{LoadIs}
@@ -11,14 +11,14 @@ use Rattle.report.specs.Snapshots.{Gathered, IsGathered}
 use Rattle.report.specs.Texts.{report_text}
 use Rattle.commands.specs.Sessions.{Loads, Fetches, Reports}
 
-pub loads : (name text image : List ℕ) (loaded : ℕ × Version) (before after : Option (List ℕ)) →
-    LoadIs text (program_of image) (Ok loaded) → text ≡ name → Appends before after (load_line name loaded.0) →
-    Loads name image before after
-loads name text image loaded before after is same printed =
+pub loads : (name text image : List ℕ) (table : Table) (loaded : ℕ × Version) (before after : Option (List ℕ)) →
+    LoadIs text (program_of image table) (Ok loaded) → text ≡ name → Appends before after (load_line name loaded.0) →
+    Loads name image table before after
+loads name text image table loaded before after is same printed =
     record {
       version = loaded.0;
       known = loaded.1;
-      loaded = subst (λ (t : List ℕ). LoadIs t (program_of image) (Ok loaded)) same is;
+      loaded = subst (λ (t : List ℕ). LoadIs t (program_of image table) (Ok loaded)) same is;
       printed = printed;
     }
 

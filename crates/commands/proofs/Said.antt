@@ -21,7 +21,7 @@ none_done : (cells : ℕ → List ℕ) (inputs outputs : ℕ) (files : List ℕ 
     LineDoes cells inputs outputs files said old old before before (Err stop.Memory)
 none_done cells inputs outputs files None old before = ((refl, refl), tt)
 none_done cells inputs outputs files (Some (Partitions made outs size)) old before = ((refl, refl), tt)
-none_done cells inputs outputs files (Some (Load name source)) old before = (refl, tt)
+none_done cells inputs outputs files (Some (Load name source table)) old before = (refl, tt)
 none_done cells inputs outputs files (Some (Deploy input name)) old before = inl ((refl, refl), tt)
 none_done cells inputs outputs files (Some (Put input timestamp key value)) old before = inl ((refl, refl), tt)
 none_done cells inputs outputs files (Some (Append input source)) old before =

@@ -3,7 +3,7 @@ use Rattle.std.specs.Prelude.{◌≡◌, ℕ, ◌<◌, ◌≤◌, ◌⊎◌, Lis
 use Rattle.std.specs.Prelude.{Err, OnOk, ⊤}
 use Rattle.std.specs.Io.KnownBytes.{Appends}
 use Rattle.wire_spec.specs.declared.record.Batch.{Batch}
-use Rattle.machine_spec.specs.Image.{Program, program_of}
+use Rattle.machine_spec.specs.{Image.Program, Image.program_of, declared.helper.Table.Table}
 use Rattle.log_spec.specs.Logs.{Records, Marked, Closed}
 use Rattle.part_log.specs.Parts.{Received}
 use Rattle.catalogue.specs.Versions.{Version}
@@ -34,7 +34,7 @@ pub record IsMade (inputs outputs cells : ℕ) (parts : Layout) : Type 0 where
 -- The first command of a script makes the partitions that it names.
 abbrev pub Begins : Option Command → Layout → Type 0
 Begins (Some (Partitions inputs outputs cells)) parts = IsMade inputs outputs cells parts
-Begins (Some (Load name source)) parts = ⊥
+Begins (Some (Load name source table)) parts = ⊥
 Begins (Some (Deploy input name)) parts = ⊥
 Begins (Some (Put input timestamp key value)) parts = ⊥
 Begins (Some (Append input source)) parts = ⊥
@@ -52,12 +52,12 @@ abbrev pub IsImageIn : (List ℕ → Option (List ℕ)) → Source → List ℕ 
 IsImageIn files (Line bytes) image = image ≡ bytes
 IsImageIn files (File name) image = (bytes : List ℕ) → files name ≡ Some bytes → image ≡ first_bytes bytes
 
--- An image was loaded under a name, as the core's event of a load does it to a table, and its line was printed between
--- these contents of standard output.
-pub record Loads (name image : List ℕ) (before after : Option (List ℕ)) : Type 0 where
+-- An image was loaded under a name as a program of a helper table, as the core's event of a load does it, and its line
+-- was printed between these contents of standard output.
+pub record Loads (name image : List ℕ) (table : Table) (before after : Option (List ℕ)) : Type 0 where
   pub version : ℕ
   pub known : Version
-  pub loaded : LoadIs name (program_of image) (Ok (version, known))
+  pub loaded : LoadIs name (program_of image table) (Ok (version, known))
   pub printed : Appends before after (load_line name version)
 
 -- A mark of the name was appended to the log of the input partition, and its line was printed between these contents of
@@ -152,8 +152,8 @@ Does cells inputs outputs files (Close input) old new before after result =
     CloseDoes inputs input old new before after result
 Does cells inputs outputs files (Append input source) old new before after result =
     AppendDoes inputs files input source old new before after result
-Does cells inputs outputs files (Load name source) old new before after result = (new ≡ old)
-    × OnOk result ((image : List ℕ) × IsImageIn files source image × Loads name image before after)
+Does cells inputs outputs files (Load name source table) old new before after result = (new ≡ old)
+    × OnOk result ((image : List ℕ) × IsImageIn files source image × Loads name image table before after)
 Does cells inputs outputs files (Fetch output place max) old new before after result = (new ≡ old)
     × OnOk result (Fetches cells inputs outputs output place max before after)
 Does cells inputs outputs files Go old new before after result = (new ≡ old)

@@ -18,7 +18,8 @@ pub fn utf8(bytes: Vec<u8>) -> Result<String, Unread>
 
 /// The whole text of a named file.
 pub fn read_text<F: Files>(alloc: Global, files: &mut F, name: &str) -> Result<String, Unread>
-    ensures { (bytes : List ℕ) → F.bytes files.old name.now ≡ Some bytes → IfOk result (λ text. string_bytes text ≡ bytes) }
+    ensures read { (bytes : List ℕ) → F.bytes files.old name.now ≡ Some bytes → IfOk result (λ text. string_bytes text ≡ bytes) }
+    ensures kept { (other : List ℕ) → F.bytes files.new other ≡ F.bytes files.old other }
 {
     match read_file(alloc, files, name) {
         Ok(bytes) => utf8(bytes),

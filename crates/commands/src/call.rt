@@ -7,9 +7,10 @@ ghost use Rattle.std.specs.declared.io.ErrorKind.TheVariants.{OutOfMemory};
 ghost use Rattle.bpf_asm.specs.Images.{image_of};
 ghost use Rattle.commands.specs.Explanations as explanations;
 ghost use Rattle.commands.specs.Explanations.{PrintsExplanation};
+ghost use Rattle.machine_spec.specs.Image.{program_of};
 ghost use Rattle.machine_spec.specs.declared.instruction.IsaFault.TheVariants as isa;
 ghost use Rattle.commands.specs.Images.{first_bytes};
-ghost use Rattle.commands.specs.Stops.{status_of, status_of_refused};
+ghost use Rattle.commands.specs.Stops.{status_of, status_of_refused, IsUnwritten};
 ghost use Rattle.commands.specs.Texts as texts;
 
 use crate::asm::{read_text, utf8, write_image};
@@ -18,13 +19,14 @@ use crate::explaining::{no_code_text, refusal_text, status_of_explained};
 use crate::files::Files;
 use crate::image::{Refused, check, read_image};
 use crate::reading::{Unread, read_file, read_whole};
+use crate::rechecking::recheck;
 use crate::run::{Ended, run_script};
 use crate::stop::{Stop, status_of, unwritten};
 use crate::transforming::transform;
 use crate::words::{Call, Misuse, call_of};
 use bpf_asm::{AsmFault, assemble};
 use explain::{Explanation, Extent, explain_image};
-use machine_spec::IsaFault;
+use machine_spec::{IsaFault, Table};
 use std::alloc::{AllocError, Global};
 use std::io;
 use std::io::{Read, Write};
@@ -134,14 +136,14 @@ pub(crate) fn file_text(alloc: Global, name: &str) -> Result<String, AllocError>
 
 /// Reports why a script ended early, and answers the status. Where there is no memory for the text,
 /// that is reported.
-fn tell<E: Write>(alloc: Global, stderr: &mut E, ended: &Ended) -> u8
+pub(crate) fn tell<E: Write>(alloc: Global, stderr: &mut E, ended: &Ended) -> u8
     ensures { (result ≡ status_of ended.now.stop) ⊎ (result ≡ 3) }
 {
     tell_text(stderr, end_text(alloc, ended), status_of(&ended.stop))
 }
 
 /// Reports that a file can't be read or written, and answers the status.
-fn tell_unread<E: Write>(alloc: Global, stderr: &mut E, name: &str, unread: Unread) -> u8
+pub(crate) fn tell_unread<E: Write>(alloc: Global, stderr: &mut E, name: &str, unread: Unread) -> u8
     ensures { result ≡ 3 }
 {
     match unread {
@@ -174,9 +176,10 @@ fn run<R: Threads + Wait + Sync, F: Files, I: Read, O: Write, E: Write>(
 
 /// Writes all of a text to standard output.
 #[tactic(auto, using(crate::proofs::Written::appended_and_kept))]
-fn write_out<O: Write>(stdout: &mut O, text: &str) -> Result<(), Stop>
+pub(crate) fn write_out<O: Write>(stdout: &mut O, text: &str) -> Result<(), Stop>
     ensures written { OnOk result (Appends (O.contents stdout.old) (O.contents stdout.new) text.now) }
     ensures failed { IfErr result (λ stop. status_of stop ≡ 3) }
+    ensures is { IfErr result IsUnwritten }
 {
     match stdout.write_all(text.as_bytes()) {
         Err(error) => Err(unwritten(&error)),
@@ -224,19 +227,20 @@ fn print_answer<O: Write, E: Write>(
     }
 }
 
-/// Verifies the image in a file and prints how many instructions it has, or says why it is refused;
-/// answers the status.
+/// Verifies the image in a file by a helper table and prints how many instructions it has, or says why
+/// it is refused; answers the status.
 fn check_file<F: Files, O: Write, E: Write>(
     alloc: Global,
     files: &mut F,
     stdout: &mut O,
     stderr: &mut E,
     name: &str,
+    table: Table,
 ) -> u8
     ensures { result ≤ 3 }
 {
     match read_image(alloc, files, name) {
-        Ok(image) => print_answer(alloc, stdout, stderr, check(alloc, image.as_slice())),
+        Ok(image) => print_answer(alloc, stdout, stderr, check(alloc, image.as_slice(), table)),
         Err(unread) => tell_unread(alloc, stderr, name, unread),
     }
 }
@@ -301,37 +305,40 @@ fn tell_no_code<E: Write>(alloc: Global, stderr: &mut E, image: &[u8], fault: Is
     }
 }
 
-/// Prints what the verifier knows of an image's program, or says why it has none; answers the status.
+/// Prints what the verifier knows of the program of an image and a helper table, or says why there is
+/// none; answers the status.
 fn explain_bytes<O: Write, E: Write>(
     alloc: Global,
     stdout: &mut O,
     stderr: &mut E,
     image: &[u8],
+    table: Table,
     extent: Extent,
 ) -> u8
-    ensures { PrintsExplanation extent image.now result (O.contents stdout.old) (O.contents stdout.new) }
+    ensures { PrintsExplanation extent (program_of image.now table) result (O.contents stdout.old) (O.contents stdout.new) }
 {
-    match explain_image(alloc, image, extent) {
+    match explain_image(alloc, image, table, extent) {
         Ok(explanation) => print_explanation(alloc, stdout, stderr, &explanation),
         Err(fault) => tell_no_code(alloc, stderr, image, fault),
     }
 }
 
-/// Explains the image in a file; answers the status.
+/// Explains the program of the image in a file and a helper table; answers the status.
 fn explain_file<F: Files, O: Write, E: Write>(
     alloc: Global,
     files: &mut F,
     stdout: &mut O,
     stderr: &mut E,
     name: &str,
+    table: Table,
     extent: Extent,
 ) -> u8
     ensures small { result ≤ 3 }
     ensures printed { (bytes : List ℕ) → F.bytes files.old name.now ≡ Some bytes
-        → PrintsExplanation extent (first_bytes bytes) result (O.contents stdout.old) (O.contents stdout.new) }
+        → PrintsExplanation extent (program_of (first_bytes bytes) table) result (O.contents stdout.old) (O.contents stdout.new) }
 {
     match read_image(alloc, files, name) {
-        Ok(image) => explain_bytes(alloc, stdout, stderr, image.as_slice(), extent),
+        Ok(image) => explain_bytes(alloc, stdout, stderr, image.as_slice(), table, extent),
         Err(unread) => tell_unread(alloc, stderr, name, unread),
     }
 }
@@ -401,13 +408,14 @@ pub fn command<R: Threads + Wait + Sync, F: Files, I: Read, O: Write, E: Write>(
 {
     match call_of(alloc, words) {
         Ok(Call::Assemble(text, image)) => assemble_file(alloc, files, stderr, text, image),
-        Ok(Call::Check(image)) => check_file(alloc, files, stdout, stderr, image),
+        Ok(Call::Check(image, table)) => check_file(alloc, files, stdout, stderr, image, table),
         Ok(Call::Disassemble(image)) => disassemble_file(alloc, files, stdout, stderr, image),
-        Ok(Call::Explain(image, extent)) => {
-            explain_file(alloc, files, stdout, stderr, image, extent)
+        Ok(Call::Explain(image, table, extent)) => {
+            explain_file(alloc, files, stdout, stderr, image, table, extent)
         }
+        Ok(Call::Recheck(list)) => recheck(alloc, files, stdout, stderr, list),
         Ok(Call::Run(script)) => run(rt, alloc, files, stdin, stdout, stderr, script),
-        Ok(Call::Transform(words)) => transform(alloc, files, stdin, stderr, words),
+        Ok(Call::Transform(table, words)) => transform(alloc, files, stdin, stderr, table, words),
         Err(Misuse::Usage) => tell_usage(stderr),
         Err(Misuse::Memory) => tell_memory(stderr),
     }

@@ -13,10 +13,11 @@ pub trait Files {
     /// What an opened file is read by.
     type Reader: Read + Drop;
 
-    /// Opens a file to be read. An `OutOfMemory` is reported as want of memory, every other error
+    /// Opens a file to be read, and changes none. An `OutOfMemory` is reported as want of memory, every other error
     /// as that the file can't be read.
     fn open(&mut self, name: &str) -> io::Result<Self::Reader>
-        ensures { (known : List ℕ) → bytes self.old name.now ≡ Some known → IfOk result (λ reader. Self.Reader.remaining reader ≡ Some known) };
+        ensures read { (known : List ℕ) → bytes self.old name.now ≡ Some known → IfOk result (λ reader. Self.Reader.remaining reader ≡ Some known) }
+        ensures kept { (other : List ℕ) → bytes self.new other ≡ bytes self.old other };
 
     /// Makes a file hold these bytes and no others, or fails as `open` does.
     fn write(&mut self, name: &str, content: &[u8]) -> io::Result<()>

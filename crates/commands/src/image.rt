@@ -1,12 +1,13 @@
 //! Images of programs: how much of a file is read as one, and what `check` prints.
 
 ghost use Rattle.std.specs.Prelude.{◌≡◌, List, ℕ, Some, IfOk, string_bytes};
+ghost use Rattle.machine_spec.specs.Image.{Program, program_of};
 ghost use Rattle.annotate.specs.Loads.{FaultIs};
 ghost use Rattle.commands.specs.Images.{first_bytes, accepted_line, IsRefusal, ChecksAs};
 
 use crate::files::Files;
 use crate::reading::{Unread, cause_of, read_whole};
-use machine_spec::{IsaFault, MAX_SLOTS};
+use machine_spec::{IsaFault, MAX_SLOTS, Table};
 use std::alloc::{AllocError, Global};
 use std::io::Read;
 use verifier_spec::{Check, LoadFault};
@@ -34,7 +35,8 @@ fn read_first<R: Read + Drop>(alloc: Global, reader: R) -> Result<Vec<u8>, Unrea
 
 /// The image in a named file: its first bytes, as many as show whether it is too large.
 pub fn read_image<F: Files>(alloc: Global, files: &mut F, name: &str) -> Result<Vec<u8>, Unread>
-    ensures { (bytes : List ℕ) → F.bytes files.old name.now ≡ Some bytes → IfOk result (λ image. image.items ≡ first_bytes bytes) }
+    ensures read { (bytes : List ℕ) → F.bytes files.old name.now ≡ Some bytes → IfOk result (λ image. image.items ≡ first_bytes bytes) }
+    ensures kept { (other : List ℕ) → F.bytes files.new other ≡ F.bytes files.old other }
 {
     match files.open(name) {
         Ok(reader) => read_first(alloc, reader),
@@ -42,9 +44,9 @@ pub fn read_image<F: Files>(alloc: Global, files: &mut F, name: &str) -> Result<
     }
 }
 
-/// The refusal of an image that is not loaded.
+/// The refusal of a program that is not loaded.
 pub fn refusal_of(fault: LoadFault) -> Refused
-    ensures { (image : List ℕ) → FaultIs image fault → IsRefusal image result }
+    ensures { (program : Program) → FaultIs program fault → IsRefusal program result }
 {
     match fault {
         LoadFault::Isa(IsaFault::Memory) => Refused::Memory,
@@ -63,12 +65,12 @@ fn accepted(alloc: Global, count: usize) -> Result<String, AllocError>
     Ok(format!(in alloc; "accepted {count} instructions\n")?)
 }
 
-/// What `check` prints of an image: how many instructions the program has that the verifier
-/// accepts, or why it is refused.
-pub fn check(alloc: Global, image: &[u8]) -> Result<String, Refused>
-    ensures { ChecksAs image.now string_bytes result }
+/// What `check` prints of an image and a helper table: how many instructions the program has that the
+/// verifier accepts, or why it is refused.
+pub fn check(alloc: Global, image: &[u8], table: Table) -> Result<String, Refused>
+    ensures { ChecksAs (program_of image.now table) string_bytes result }
 {
-    let verified = match annotate::load(alloc, image) {
+    let verified = match annotate::load(alloc, image, table) {
         Err(fault) => return Err(refusal_of(fault)),
         Ok(verified) => verified,
     };

@@ -43,7 +43,8 @@ pub fn cause_of(error: &io::Error) -> Unread
 
 /// All bytes of a named file.
 pub fn read_file<F: Files>(alloc: Global, files: &mut F, name: &str) -> Result<Vec<u8>, Unread>
-    ensures { (bytes : List ℕ) → F.bytes files.old name.now ≡ Some bytes → IfOk result (λ read. read.items ≡ bytes) }
+    ensures read { (bytes : List ℕ) → F.bytes files.old name.now ≡ Some bytes → IfOk result (λ read. read.items ≡ bytes) }
+    ensures kept { (other : List ℕ) → F.bytes files.new other ≡ F.bytes files.old other }
 {
     match files.open(name) {
         Ok(mut reader) => read_whole(alloc, &mut reader),

@@ -21,6 +21,7 @@ use broker::{Broker, BrokerFault, Parts, Until};
 use bytes::Bytes;
 use catalogue::{Catalogue, Finder, Known};
 use log_spec::{Name, RawName};
+use machine_spec::Table;
 use part_log::{Names, Receipt};
 use report::gather;
 use script::{
@@ -126,13 +127,19 @@ impl<'a, Id: Names + Send + Sync, R: Threads + Wait + Sync> Session<'a, Id, R> {
         }
     }
 
-    /// Loads an image under a name, and prints its version.
+    /// Loads an image under a name, as a program of a helper table, and prints its version.
     #[tactic(auto, using(crate::proofs::Loaded::loads, crate::proofs::Written::same_text))]
-    fn load<O: Write>(&mut self, stdout: &mut O, name: RawName, image: Bytes) -> Result<(), Stop>
-        ensures { OnOk result (Loads name image (O.contents stdout.old) (O.contents stdout.new)) }
+    fn load<O: Write>(
+        &mut self,
+        stdout: &mut O,
+        name: RawName,
+        image: Bytes,
+        table: Table,
+    ) -> Result<(), Stop>
+        ensures { OnOk result (Loads name image table (O.contents stdout.old) (O.contents stdout.new)) }
     {
         let text = name.text.as_str();
-        let (version, known) = self.broker.load(self.rt, self.alloc, text, &image)?;
+        let (version, known) = self.broker.load(self.rt, self.alloc, text, &image, table)?;
         let line = load_text(self.alloc, text, version)?;
         print(stdout, line.as_str())?;
         self.keep(name, known)?;
@@ -342,9 +349,9 @@ impl<'a, Id: Names + Send + Sync, R: Threads + Wait + Sync> Session<'a, Id, R> {
     {
         match command {
             Command::Partitions(..) => Err(Stop::Line(ScriptFault::Order)),
-            Command::Load(name, source) => {
+            Command::Load(name, source, table) => {
                 let image = self.image(files, source)?;
-                self.load(stdout, name, image)
+                self.load(stdout, name, image, table)
             }
             Command::Deploy(input, name) => self.deploy(stdout, input, name, receipts),
             Command::Put(input, timestamp, key, value) => {

@@ -11,6 +11,7 @@ use batch_reader::{BatchReader, Position, ReadFault};
 use bytes::Bytes;
 use log_item::Program;
 use log_spec::MAX_PARTITIONS;
+use machine_spec::Table;
 use std::alloc::{AllocError, Global};
 use std::io;
 use std::io::{Read, Write};
@@ -53,8 +54,13 @@ fn unused(word: usize, error: &io::Error) -> Halt {
     }
 }
 
-/// The program of the image in a file.
-fn program_of<F: Files>(alloc: Global, files: &mut F, name: &str) -> Result<Program, Halt> {
+/// The program of the image in a file and a helper table.
+fn program_of<F: Files>(
+    alloc: Global,
+    files: &mut F,
+    name: &str,
+    table: Table,
+) -> Result<Program, Halt> {
     let image = match read_image(alloc, files, name) {
         Ok(image) => image,
         Err(Unread::File) => return Err(Halt::File(0)),
@@ -63,7 +69,7 @@ fn program_of<F: Files>(alloc: Global, files: &mut F, name: &str) -> Result<Prog
     let Ok(image) = Bytes::from_vec(image) else {
         return Err(Halt::Memory);
     };
-    match Program::new(alloc, &image) {
+    match Program::new(alloc, &image, table) {
         Ok(program) => Ok(program),
         Err(fault) => match refusal_of(fault) {
             Refused::Image(fault) => Err(Halt::Image(fault)),
@@ -181,12 +187,13 @@ fn transform_files<F: Files, I: Read, E: Write>(
     files: &mut F,
     stdin: &mut I,
     stderr: &mut E,
+    table: Table,
     words: &[String],
 ) -> Result<(), Halt>
     requires some { 3 ≤ length words.now }
     requires few { length words.now ≤ MAX_PARTITIONS + 2 }
 {
-    let program = program_of(alloc, files, words[0].as_str())?;
+    let program = program_of(alloc, files, words[0].as_str(), table)?;
     let names = &words[FIRST_OUTPUT..];
     let input = words[INPUT].as_str();
     if input == "stdin" {
@@ -198,14 +205,15 @@ fn transform_files<F: Files, I: Read, E: Write>(
     }
 }
 
-/// Runs a program on the batches of a file and writes each output partition's rows as batches to a file
-/// of its own; answers the status. The words are the image, the file of the batches and one file for
+/// Runs a program of a helper table on the batches of a file and writes each output partition's rows as
+/// batches to a file of its own; answers the status. The words are the image, the file of the batches and one file for
 /// each output partition. The input partition is 0, and its offsets begin at 0.
 pub fn transform<F: Files, I: Read, E: Write>(
     alloc: Global,
     files: &mut F,
     stdin: &mut I,
     stderr: &mut E,
+    table: Table,
     words: &[String],
 ) -> u8
     ensures { result ≤ 3 }
@@ -213,7 +221,7 @@ pub fn transform<F: Files, I: Read, E: Write>(
     if words.len() < 3 || words.len() > MAX_PARTITIONS + 2 {
         return tell_usage(stderr);
     }
-    match transform_files(alloc, files, stdin, stderr, words) {
+    match transform_files(alloc, files, stdin, stderr, table, words) {
         Ok(()) => DONE,
         Err(halt) => tell_halt(alloc, stderr, words, halt),
     }

@@ -8,6 +8,7 @@ ghost use Rattle.commands.specs.declared.words.Misuse.TheVariants.{Memory};
 use clap::error::ErrorKind;
 use clap::{Arg, ArgAction, ArgMatches};
 use explain::Extent;
+use machine_spec::Table;
 use std::alloc::{AllocError, Global};
 
 /// A call of the program, with the names of its files.
@@ -15,17 +16,20 @@ use std::alloc::{AllocError, Global};
 pub enum Call<'a> {
     /// Writes the image of a text. Fields: the text, the image.
     Assemble(&'a str, &'a str),
-    /// Verifies an image.
-    Check(&'a str),
+    /// Verifies the program of an image and a helper table.
+    Check(&'a str, Table),
     /// Prints the text of an image.
     Disassemble(&'a str),
-    /// Prints what the verifier knows of an image's program. Fields: the image, how much is listed.
-    Explain(&'a str, Extent),
+    /// Prints what the verifier knows of a program. Fields: the image, the helper table, how much is
+    /// listed.
+    Explain(&'a str, Table, Extent),
+    /// Verifies the programs that a list names anew.
+    Recheck(&'a str),
     /// Does the commands of a script.
     Run(&'a str),
-    /// Runs a program on record batches. The words: the image, the file of the batches, and one file
-    /// for each output partition, no two of them the same.
-    Transform(&'a [String]),
+    /// Runs a program of a helper table on record batches. The words: the image, the file of the
+    /// batches, and one file for each output partition, no two of them the same.
+    Transform(Table, &'a [String]),
 }
 
 /// Why words are no call.
@@ -76,10 +80,20 @@ fn of_files<'a>(
     of_file(alloc, name, first)?.arg(file(alloc, second))
 }
 
-/// The command that explains a file, with a word that may follow and says how much is listed.
+/// A command with an image and a word that may follow.
+fn of_program<'a>(
+    alloc: Global,
+    name: &'a str,
+    word: &'a str,
+) -> Result<clap::Command<'a>, AllocError> {
+    of_file(alloc, name, "IMAGE")?.arg(Arg::new(alloc, word).action(ArgAction::Set))
+}
+
+/// The command that explains an image, with two words that may follow: its helper table, and how much
+/// is listed.
 fn explain_command<'a>(alloc: Global) -> Result<clap::Command<'a>, AllocError> {
     let extent = Arg::new(alloc, "EXTENT").action(ArgAction::Set);
-    of_file(alloc, "explain", "IMAGE")?.arg(extent)
+    of_program(alloc, "explain", "TABLE")?.arg(extent)
 }
 
 /// All commands of the program.
@@ -87,9 +101,10 @@ fn commands<'a>(alloc: Global) -> Result<clap::Command<'a>, AllocError> {
     clap::Command::new(alloc, "klog")
         .no_binary_name(true)
         .subcommand(of_files(alloc, "asm", "TEXT", "IMAGE")?)?
-        .subcommand(of_file(alloc, "check", "IMAGE")?)?
+        .subcommand(of_program(alloc, "check", "TABLE")?)?
         .subcommand(of_file(alloc, "dis", "IMAGE")?)?
         .subcommand(explain_command(alloc)?)?
+        .subcommand(of_file(alloc, "recheck", "LIST")?)?
         .subcommand(of_file(alloc, "run", "SCRIPT")?)
 }
 
@@ -108,17 +123,26 @@ fn has_twice(words: &[String]) -> bool {
     false
 }
 
-/// The call of `transform`, if the first word is that. 3 to 66 words
-/// have to follow, no two of them the same.
+/// The helper table of a transform, and its files: the first word may be `table2`.
+fn table_and_files(words: &[String]) -> (Table, &[String]) {
+    if !words.is_empty() && words[0].as_str() == "table2" {
+        (Table::Two, &words[1..])
+    } else {
+        (Table::One, words)
+    }
+}
+
+/// The call of `transform`, if the first word is that. `table2` may follow, and then 3 to 66 files, no
+/// two of them the same.
 fn transform_of(words: &[String]) -> Option<Result<Call<'_>, Misuse>> {
     if words.is_empty() || words[0].as_str() != "transform" {
         return None;
     }
-    let files = &words[1..];
+    let (table, files) = table_and_files(&words[1..]);
     if files.len() < 3 || files.len() > 66 || has_twice(files) {
         return Some(Err(Misuse::Usage));
     }
-    Some(Ok(Call::Transform(files)))
+    Some(Ok(Call::Transform(table, files)))
 }
 
 /// The call that the words ask for.
@@ -136,7 +160,19 @@ pub fn call_of(alloc: Global, words: &[String]) -> Result<Call<'_>, Misuse> {
     }
 }
 
-/// How much is explained, by the word after the image, if there is one.
+/// The helper table that a word names, if there is one: else the first.
+fn table_of(word: Option<&str>) -> Option<Table>
+    ensures { result ≡ definitions.table_of (option_copied word.entry) }
+{
+    match word {
+        None => Some(Table::One),
+        Some(word) if word == "1" => Some(Table::One),
+        Some(word) if word == "2" => Some(Table::Two),
+        Some(_) => None,
+    }
+}
+
+/// How much is explained, by a word, if there is one.
 fn extent_of(word: Option<&str>) -> Option<Extent>
     ensures { result ≡ definitions.extent_of (option_copied word.entry) }
 {
@@ -147,19 +183,34 @@ fn extent_of(word: Option<&str>) -> Option<Extent>
     }
 }
 
+/// The helper table and how much is explained, by the words after an image. Either may be left out.
+fn shown_of(first: Option<&str>, second: Option<&str>) -> Option<(Table, Extent)>
+    ensures { result ≡ definitions.shown_of (option_copied first.entry) (option_copied second.entry) }
+{
+    match table_of(first) {
+        Some(table) => Some((table, extent_of(second)?)),
+        None if second.is_none() => Some((Table::One, extent_of(first)?)),
+        None => None,
+    }
+}
+
 fn asked<'a>(matches: &ArgMatches<'a>) -> Option<Call<'a>> {
     if let Some(asm) = matches.subcommand_matches("asm") {
         return Some(Call::Assemble(asm.get_str("TEXT")?, asm.get_str("IMAGE")?));
     }
     if let Some(check) = matches.subcommand_matches("check") {
-        return Some(Call::Check(check.get_str("IMAGE")?));
+        let table = table_of(check.get_str("TABLE"))?;
+        return Some(Call::Check(check.get_str("IMAGE")?, table));
     }
     if let Some(dis) = matches.subcommand_matches("dis") {
         return Some(Call::Disassemble(dis.get_str("IMAGE")?));
     }
     if let Some(explain) = matches.subcommand_matches("explain") {
-        let extent = extent_of(explain.get_str("EXTENT"))?;
-        return Some(Call::Explain(explain.get_str("IMAGE")?, extent));
+        let (table, extent) = shown_of(explain.get_str("TABLE"), explain.get_str("EXTENT"))?;
+        return Some(Call::Explain(explain.get_str("IMAGE")?, table, extent));
+    }
+    if let Some(recheck) = matches.subcommand_matches("recheck") {
+        return Some(Call::Recheck(recheck.get_str("LIST")?));
     }
     let run = matches.subcommand_matches("run")?;
     Some(Call::Run(run.get_str("SCRIPT")?))

@@ -37,7 +37,7 @@ fn reader_of(alloc: Global, bytes: &[u8], fails: usize) -> io::Result<Breaking> 
     })
 }
 
-/// Files of two batches and of an image, each of whose readers fails at that call.
+/// Files of two batches, an image and a list of images, each of whose readers fails at that call.
 #[derive(Drop)]
 struct Torn {
     alloc: Global,
@@ -53,6 +53,7 @@ impl Files for Torn {
         match name {
             "batches" => reader_of(self.alloc, &BATCHES, self.fails),
             "image" => reader_of(self.alloc, &FORWARD, self.fails),
+            "list" => reader_of(self.alloc, b"image\nimage 2\n", self.fails),
             _ => Err(io::Error::from(io::ErrorKind::NotFound)),
         }
     }
@@ -141,7 +142,7 @@ const SCRIPT: &str =
     fetch 1 0 9\n";
 
 /// What calls with files that don't fail write to standard output.
-const TEXTS: [(&[&str], &str); 4] = [
+const TEXTS: [(&[&str], &str); 5] = [
     (
         &["run", "stdin"],
         "load f version 1\ndeploy 0 index 0 f version 1\nappend 0 index 1 base 0\n\
@@ -153,6 +154,10 @@ const TEXTS: [(&[&str], &str); 4] = [
     ),
     (&["check", "image"], "accepted 3 instructions\n"),
     (&["dis", "image"], "mov64 r1, 0\ncall 3\nexit\n"),
+    (
+        &["recheck", "list"],
+        "image accepted 3 instructions\nimage accepted 3 instructions\n",
+    ),
     (
         &["explain", "image"],
         "0 slot 0: mov64 r1, 0\n\x20 r1: value+0  r2: length of value  r3: key+0  r4: length of key  \

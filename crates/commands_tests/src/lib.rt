@@ -8,11 +8,15 @@ mod failures;
 #[cfg(test)]
 mod images;
 #[cfg(test)]
+mod rechecks;
+#[cfg(test)]
 mod scripts;
 #[cfg(test)]
 mod sessions;
 #[cfg(test)]
 mod shelf;
+#[cfg(test)]
+mod tables;
 #[cfg(test)]
 mod texts;
 #[cfg(test)]

@@ -37,27 +37,39 @@ fn words_that_can_not_be_had(rt: HostRuntime) -> Result<(), Fail> {
     Ok(())
 }
 
+/// Words that are no call.
+const NO_CALLS: [&[&str]; 24] = [
+    &[],
+    &["run"],
+    &["run", "a", "b"],
+    &["frob", "script"],
+    &["explain"],
+    &["explain", "a", "b"],
+    &["explain", "a", "Refused"],
+    &["explain", "a", ""],
+    &["explain", "a", "refused", "refused"],
+    &["explain", "a", "refused", "2"],
+    &["explain", "a", "2", "2"],
+    &["explain", "a", "3"],
+    &["explain", "a", "2", "refused", "refused"],
+    &["check", "a", "0"],
+    &["check", "a", "02"],
+    &["check", "a", "refused"],
+    &["check", "a", "2", "2"],
+    &["recheck"],
+    &["recheck", "a", "2"],
+    &["help"],
+    &["help", "run"],
+    &["run", "--help"],
+    &["-h"],
+    &["run", "-x"],
+];
+
 #[test]
 fn refuses_words(rt: HostRuntime) -> Result<(), Fail> {
     let alloc = rt.alloc();
     let usage = "usage: klog COMMAND FILE ...\n";
-    let calls: [&[&str]; 14] = [
-        &[],
-        &["run"],
-        &["run", "a", "b"],
-        &["frob", "script"],
-        &["explain"],
-        &["explain", "a", "b"],
-        &["explain", "a", "Refused"],
-        &["explain", "a", ""],
-        &["explain", "a", "refused", "refused"],
-        &["help"],
-        &["help", "run"],
-        &["run", "--help"],
-        &["-h"],
-        &["run", "-x"],
-    ];
-    for words in calls {
+    for words in NO_CALLS {
         let (status, out, err) = called(&rt, alloc, words, "")?;
         assert!(rt; status == 2, "{words:?}: {status}");
         assert!(rt;

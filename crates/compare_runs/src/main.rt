@@ -6,7 +6,7 @@
 mod random;
 
 use annotate::load;
-use bpf_machine::{End, trace};
+use bpf_machine::{End, Table, trace};
 use exec::{Emissions, Outcome, Place, Record, is_place, is_within_limits, run};
 use random::Random;
 use std::alloc::{AllocError, Global};
@@ -45,21 +45,32 @@ fn is_same(end: &End, outcome: &Outcome) -> bool {
 }
 
 /// The interpreter's outcome, if the verifier accepts the program.
-fn outcome_of(alloc: Global, image: &[u8], record: &Record) -> Result<Option<Outcome>, AllocError> {
+fn outcome_of(
+    alloc: Global,
+    image: &[u8],
+    record: &Record,
+    table: Table,
+) -> Result<Option<Outcome>, AllocError> {
     if !is_within_limits(record) || !is_place(&PLACE) {
         return Ok(None);
     }
-    match load(alloc, image) {
+    match load(alloc, image, table) {
         Ok(verified) => Ok(Some(run(alloc, &verified, record, &PLACE)?)),
         Err(_) => Ok(None),
     }
 }
 
 impl Counts {
-    /// Runs a program on a record both ways.
-    fn compare(&mut self, alloc: Global, image: &[u8], record: &Record) -> Result<(), AllocError> {
-        let (end, count) = trace(alloc, image, record, &PLACE)?;
-        if let Some(outcome) = outcome_of(alloc, image, record)? {
+    /// Runs the program of an image and a table on a record both ways.
+    fn compare(
+        &mut self,
+        alloc: Global,
+        image: &[u8],
+        record: &Record,
+        table: Table,
+    ) -> Result<(), AllocError> {
+        let (end, count) = trace(alloc, image, record, &PLACE, table)?;
+        if let Some(outcome) = outcome_of(alloc, image, record, table)? {
             self.accepted = self.accepted.saturating_add(1);
             self.instructions = self.instructions.saturating_add(count);
             if !is_same(&end, &outcome) {
@@ -81,7 +92,8 @@ fn compared(alloc: Global, programs: u64, seed: u64) -> Result<Counts, AllocErro
     for _ in 0..programs {
         let image = random.program(alloc)?;
         let record = random.record(alloc)?;
-        counts.compare(alloc, &image, &record)?;
+        let table = random.table();
+        counts.compare(alloc, &image, &record, table)?;
     }
     Ok(counts)
 }

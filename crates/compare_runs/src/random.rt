@@ -3,11 +3,11 @@
 //! A program is made of pieces that mostly load: arithmetic, loads behind a test of the length,
 //! stores with loads of what they wrote, jumps over a piece, bytes of the value with a jump on them,
 //! 64-bit immediates and calls, some of which emit bytes of the record or the stack by address, or
-//! copy a part of the record to the stack.
+//! copy a part of the record or of a header to the stack. A record has any number of headers.
 
 ghost use Rattle.std.specs.Prelude.{◌<◌};
 
-use bpf_machine::{Headers, Record};
+use bpf_machine::{Header, Headers, Record, Table};
 use bytes::Bytes;
 use std::alloc::{AllocError, Global};
 
@@ -26,7 +26,7 @@ const TESTS: [u8; 11] = [
 ];
 
 /// The helpers that are called.
-const HELPERS: [u8; 5] = [3, 6, 7, 8, 9];
+const HELPERS: [u8; 6] = [3, 6, 7, 8, 9, 10];
 
 /// The registers that hold numbers from the beginning on.
 const NUMBERS: [u8; 5] = [0, 6, 7, 8, 9];
@@ -376,15 +376,50 @@ impl Random {
         Ok(())
     }
 
+    /// How long a copy of a header's bytes is: mostly short, and at times as long as the stack or one
+    /// byte longer.
+    fn copied_length(&mut self) -> u64
+        ensures { result < 514 }
+    {
+        match self.below(4) {
+            0 => self.below(514),
+            _ => 1 + self.below(10),
+        }
+    }
+
+    /// A copy of a header's key or value to the stack, a load of one of its bytes, and perhaps an
+    /// emission of them.
+    fn push_header(&mut self, image: &mut Vec<u8>) -> Result<(), AllocError> {
+        let length = self.copied_length();
+        let offset = -(length as i16) - self.below(4) as i16;
+        self.push_address(image, 1, offset)?;
+        self.push_place(image)?;
+        image.extend_from_slice(&slot(0xb7, 3, 0, 0, length as i32))?;
+        let number = 11 + self.below(2) as i32;
+        image.extend_from_slice(&slot(0x85, 0, 0, 0, number))?;
+        if self.below(2) == 0 {
+            let dst = self.register();
+            let place = offset + self.below(length + 1) as i16;
+            image.extend_from_slice(&slot(0x71, dst, 10, place, 0))?;
+        }
+        if self.below(2) == 0 {
+            self.push_address(image, 2, offset)?;
+            image.extend_from_slice(&slot(0xb7, 3, 0, 0, length as i32))?;
+            self.push_call(image, 4)?;
+        }
+        Ok(())
+    }
+
     /// Perhaps a call, then r0 and the exit.
     fn push_end(&mut self, image: &mut Vec<u8>) -> Result<(), AllocError> {
-        match self.below(5) {
+        match self.below(7) {
             0 => {
                 let number = i32::from(self.byte_of(&HELPERS));
                 self.push_call(image, number)?;
             }
             1 => self.push_emission(image)?,
             2 => self.push_copy(image)?,
+            3 | 4 => self.push_header(image)?,
             _ => {}
         }
         match self.below(4) {
@@ -424,17 +459,61 @@ impl Random {
         Ok(image)
     }
 
+    /// The helper table of a program, mostly the second.
+    pub(crate) fn table(&mut self) -> Table {
+        if self.below(4) == 0 {
+            Table::One
+        } else {
+            Table::Two
+        }
+    }
+
+    fn bytes(&mut self, alloc: Global, length: u64) -> Result<Bytes, AllocError> {
+        let mut bytes = Vec::new(alloc);
+        for _ in 0..length {
+            bytes.push((self.number() & 0xff) as u8)?;
+        }
+        Bytes::copy_from_slice(alloc, &bytes)
+    }
+
     /// A null key or value, or up to 24 bytes.
     fn text(&mut self, alloc: Global) -> Result<Option<Bytes>, AllocError> {
         if self.below(8) == 0 {
             return Ok(None);
         }
         let length = self.below(25);
-        let mut bytes = Vec::new(alloc);
-        for _ in 0..length {
-            bytes.push((self.number() & 0xff) as u8)?;
+        Ok(Some(self.bytes(alloc, length)?))
+    }
+
+    /// A length, mostly a short one, and at times any up to the greatest.
+    fn length(&mut self, greatest: u64) -> u64 {
+        match self.below(32) {
+            0 => self.below(greatest.saturating_add(1)),
+            1 => greatest,
+            _ => self.below(12),
         }
-        Ok(Some(Bytes::copy_from_slice(alloc, &bytes)?))
+    }
+
+    fn header(&mut self, alloc: Global) -> Result<Header, AllocError> {
+        let key_length = self.length(255);
+        let key = self.bytes(alloc, key_length)?;
+        if self.below(4) == 0 {
+            return Ok(Header { key, value: None });
+        }
+        let value_length = self.length(4096);
+        let value = Some(self.bytes(alloc, value_length)?);
+        Ok(Header { key, value })
+    }
+
+    /// None, or up to sixteen.
+    fn headers(&mut self, alloc: Global) -> Result<Headers, AllocError> {
+        let mut list = Vec::new(alloc);
+        let count = self.below(17);
+        for _ in 0..count {
+            let header = self.header(alloc)?;
+            list.push(header)?;
+        }
+        Ok(Headers { list })
     }
 
     pub(crate) fn record(&mut self, alloc: Global) -> Result<Record, AllocError> {
@@ -442,9 +521,7 @@ impl Random {
             timestamp_delta: 0,
             key: self.text(alloc)?,
             value: self.text(alloc)?,
-            headers: Headers {
-                list: Vec::new(alloc),
-            },
+            headers: self.headers(alloc)?,
         })
     }
 }

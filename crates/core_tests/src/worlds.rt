@@ -3,11 +3,12 @@ ghost use Rattle.log_spec.specs.Worlds.{FitsEvent};
 ghost use Rattle.log_spec.specs.Logs.{FitsLog};
 
 use bytes::Bytes;
-use fixtures::{FORWARD, batch_at, raw_name_of};
+use fixtures::{FORWARD, batch_at, copied, raw_name_of};
+use machine_spec::Table;
 use std::alloc::{AllocError, Global};
 use std::process::Abort;
 use std::test::Fail;
-use wire_spec::{Batch, Headers, Record, Records};
+use wire_spec::{Batch, Header, Headers, Record, Records};
 use world::{Event, Name, Row, World, run};
 
 /// mov64 r1, 0; call 3; mov64 r1, 1; call 3; exit: to output 0 and then to output 1.
@@ -25,54 +26,85 @@ const SECOND: &[u8] = &[
 /// The value's first byte into r0; exit: nothing is known of the value's length.
 const UNSAFE: &[u8] = &[0x71, 0x10, 0, 0, 0, 0, 0, 0, 0x95, 0, 0, 0, 0, 0, 0, 0];
 
+/// mov64 r1, r10; add64 r1, -8; mov64 r2, 0; mov64 r3, 8; call 12; mov64 r1, r0; call 3; mov64 r0, 0;
+/// exit: to output 0 where there is no header, to 1 where the first one's value is null, and else to
+/// its length + 2.
+const BY_HEADER: &[u8] = &[
+    0xbf, 0xa1, 0, 0, 0, 0, 0, 0, 0x07, 1, 0, 0, 0xf8, 0xff, 0xff, 0xff, 0xb7, 2, 0, 0, 0, 0, 0, 0,
+    0xb7, 3, 0, 0, 8, 0, 0, 0, 0x85, 0, 0, 0, 12, 0, 0, 0, 0xbf, 1, 0, 0, 0, 0, 0, 0, 0x85, 0, 0,
+    0, 3, 0, 0, 0, 0xb7, 0, 0, 0, 0, 0, 0, 0, 0x95, 0, 0, 0, 0, 0, 0, 0,
+];
+
 /// An event in short. A `Put` is of as many records as its text has bytes, each with the key `k`
-/// and one of the bytes as its value.
+/// and one of the bytes as its value. In a `PutWith` each has a header `h` too, with this value.
 #[derive(Clone, Copy)]
 enum Act {
-    Load(&'static str, &'static [u8]),
+    Load(&'static str, &'static [u8], Table),
     Mark(usize, &'static str, u32),
     Put(usize, &'static str),
+    PutWith(usize, &'static str, Option<&'static [u8]>),
     Close(usize),
     Deliver(usize, usize),
     Restart(usize),
 }
 
-fn record_of(alloc: Global, value: u8) -> Result<Record, AllocError> {
+/// No header, or one with the key `h` and this value, which may be null.
+fn headers_of(alloc: Global, header: Option<Option<&[u8]>>) -> Result<Headers, AllocError> {
+    let mut list = Vec::new(alloc);
+    if let Some(value) = header {
+        list.push(Header {
+            key: Bytes::copy_from_slice(alloc, b"h")?,
+            value: copied(alloc, value)?,
+        })?;
+    }
+    Ok(Headers { list })
+}
+
+fn record_of(
+    alloc: Global,
+    value: u8,
+    header: Option<Option<&[u8]>>,
+) -> Result<Record, AllocError> {
     Ok(Record {
         timestamp_delta: 0,
         key: Some(Bytes::copy_from_slice(alloc, b"k")?),
         value: Some(Bytes::copy_from_slice(alloc, &[value])?),
-        headers: Headers {
-            list: Vec::new(alloc),
-        },
+        headers: headers_of(alloc, header)?,
     })
 }
 
-fn records_of(alloc: Global, values: &str) -> Result<Records, AllocError> {
+fn records_of(
+    alloc: Global,
+    values: &str,
+    header: Option<Option<&[u8]>>,
+) -> Result<Records, AllocError> {
     let mut list = Vec::new(alloc);
     for value in values.as_bytes() {
-        list.push(record_of(alloc, *value)?)?;
+        list.push(record_of(alloc, *value, header)?)?;
     }
     Ok(Records { list })
 }
 
 /// A batch at 1000 milliseconds; none where it doesn't fit or memory ran out.
-fn batch_of(alloc: Global, values: &str) -> Option<Batch>
+fn batch_of(alloc: Global, values: &str, header: Option<Option<&[u8]>>) -> Option<Batch>
     ensures { IfSome result (λ batch. FitsLog batch) }
 {
-    batch_at(1000, records_of(alloc, values).ok()?)
+    batch_at(1000, records_of(alloc, values, header).ok()?)
 }
 
 fn event_of(alloc: Global, act: Act) -> Option<Event>
     ensures { IfSome result (λ event. FitsEvent event) }
 {
     match act {
-        Act::Load(name, image) => {
+        Act::Load(name, image, table) => {
             let image = Bytes::copy_from_slice(alloc, image).ok()?;
-            Some(Event::Load(raw_name_of(alloc, name).ok()?, image))
+            Some(Event::Load(raw_name_of(alloc, name).ok()?, image, table))
         }
         Act::Mark(input, name, version) => Some(Event::Mark(input, Name::new(name)?, version)),
-        Act::Put(input, values) => Some(Event::Batch(input, batch_of(alloc, values)?)),
+        Act::Put(input, values) => Some(Event::Batch(input, batch_of(alloc, values, None)?)),
+        Act::PutWith(input, values, header) => {
+            Some(Event::Batch(input, batch_of(alloc, values, Some(header))?))
+        }
         Act::Close(input) => Some(Event::Close(input)),
         Act::Deliver(input, output) => Some(Event::Deliver(input, output)),
         Act::Restart(input) => Some(Event::Restart(input)),
@@ -146,7 +178,7 @@ fn compare_books<R: Abort>(
 }
 
 const DELIVERED_ONCE: [(Act, &str); 10] = [
-    (Act::Load("fwd", &FORWARD), "Loaded(1)"),
+    (Act::Load("fwd", &FORWARD, Table::One), "Loaded(1)"),
     (Act::Mark(0, "fwd", 1), "Appended(0, 0)"),
     (Act::Put(0, "A"), "Appended(1, 0)"),
     (Act::Deliver(0, 0), "Added(0)"),
@@ -172,15 +204,15 @@ fn an_item_is_delivered_once_to_each_output(rt: HostRuntime) -> Result<(), Fail>
 }
 
 const BETWEEN_MARKS: [(Act, &str); 21] = [
-    (Act::Load("p1", FIRST), "Loaded(1)"),
-    (Act::Load("p2", SECOND), "Loaded(1)"),
+    (Act::Load("p1", FIRST, Table::One), "Loaded(1)"),
+    (Act::Load("p2", SECOND, Table::One), "Loaded(1)"),
     (Act::Put(1, "xyz"), "Appended(0, 0)"),
     (Act::Mark(1, "p1", 1), "Appended(1, 3)"),
     (Act::Put(1, "AB"), "Appended(2, 3)"),
     (Act::Deliver(1, 0), "Added(0)"),
     (Act::Mark(1, "p2", 1), "Appended(3, 5)"),
     (Act::Put(1, "C"), "Appended(4, 5)"),
-    (Act::Load("p1", SECOND), "Loaded(2)"),
+    (Act::Load("p1", SECOND, Table::One), "Loaded(2)"),
     (Act::Deliver(1, 0), "Added(0)"),
     (Act::Deliver(1, 0), "Added(2)"),
     (Act::Deliver(1, 1), "Added(0)"),
@@ -213,18 +245,65 @@ fn each_record_goes_by_the_mark_before_it(rt: HostRuntime) -> Result<(), Fail> {
     compare_books(&rt, alloc, &world, &MARKED_BOOKS)
 }
 
+const BY_TABLES: [(Act, &str); 27] = [
+    (Act::Load("plain", &FORWARD, Table::One), "Loaded(1)"),
+    (
+        Act::Load("routed", BY_HEADER, Table::One),
+        "V11 Helper at 4",
+    ),
+    (Act::Load("routed", BY_HEADER, Table::Two), "Loaded(1)"),
+    (Act::Mark(0, "plain", 1), "Appended(0, 0)"),
+    (Act::PutWith(0, "A", Some(b"")), "Appended(1, 0)"),
+    (Act::Mark(0, "routed", 1), "Appended(2, 1)"),
+    (Act::Put(0, "B"), "Appended(3, 1)"),
+    (Act::PutWith(0, "C", None), "Appended(4, 2)"),
+    (Act::PutWith(0, "D", Some(b"")), "Appended(5, 3)"),
+    (Act::Deliver(0, 0), "Added(0)"),
+    (Act::Deliver(0, 0), "Added(1)"),
+    (Act::Deliver(0, 0), "Added(0)"),
+    (Act::Deliver(0, 0), "Added(1)"),
+    (Act::Deliver(0, 0), "Added(0)"),
+    (Act::Deliver(0, 0), "Added(0)"),
+    (Act::Deliver(0, 1), "Added(0)"),
+    (Act::Deliver(0, 1), "Added(0)"),
+    (Act::Deliver(0, 1), "Added(0)"),
+    (Act::Deliver(0, 1), "Added(0)"),
+    (Act::Deliver(0, 1), "Added(1)"),
+    (Act::Deliver(0, 1), "Added(0)"),
+    (Act::Deliver(0, 2), "Added(0)"),
+    (Act::Deliver(0, 2), "Added(0)"),
+    (Act::Deliver(0, 2), "Added(0)"),
+    (Act::Deliver(0, 2), "Added(0)"),
+    (Act::Deliver(0, 2), "Added(0)"),
+    (Act::Deliver(0, 2), "Added(1)"),
+];
+
+const TABLE_BOOKS: [(usize, usize, &str); 3] = [
+    (0, 0, "0 0 0 1000 A, 0 1 0 1000 B, done 6 at 6"),
+    (0, 1, "0 2 0 1000 C, done 6 at 6"),
+    (0, 2, "0 3 0 1000 D, done 6 at 6"),
+];
+
+#[test]
+fn each_record_goes_by_its_programs_table(rt: HostRuntime) -> Result<(), Fail> {
+    let alloc = rt.alloc();
+    let mut world = World::new(alloc, 1, 3, 8)?;
+    answer_all(&rt, alloc, &mut world, &BY_TABLES)?;
+    compare_books(&rt, alloc, &world, &TABLE_BOOKS)
+}
+
 const LONGEST: &str = "abcdefghijklmnopqrstuvwxyz-01234";
 
 const TOO_LONG: &str = "abcdefghijklmnopqrstuvwxyz-012345";
 
 const REFUSED: [(Act, &str); 33] = [
-    (Act::Load("", &FORWARD), "C1 Name"),
-    (Act::Load("a_b", &[]), "C1 Name"),
-    (Act::Load(TOO_LONG, &FORWARD), "C1 Name"),
-    (Act::Load(TOO_LONG, &[]), "C1 Name"),
-    (Act::Load(LONGEST, &FORWARD), "Loaded(1)"),
-    (Act::Load("a-b", &[]), "I1 Size"),
-    (Act::Load("a", UNSAFE), "V7 RecordBounds at 0"),
+    (Act::Load("", &FORWARD, Table::One), "C1 Name"),
+    (Act::Load("a_b", &[], Table::One), "C1 Name"),
+    (Act::Load(TOO_LONG, &FORWARD, Table::One), "C1 Name"),
+    (Act::Load(TOO_LONG, &[], Table::One), "C1 Name"),
+    (Act::Load(LONGEST, &FORWARD, Table::One), "Loaded(1)"),
+    (Act::Load("a-b", &[], Table::One), "I1 Size"),
+    (Act::Load("a", UNSAFE, Table::One), "V7 RecordBounds at 0"),
     (Act::Mark(64, "a", 1), "P1 Partition"),
     (Act::Mark(63, "a", 1), "NoVersion"),
     (Act::Put(64, "A"), "P1 Partition"),
@@ -234,7 +313,7 @@ const REFUSED: [(Act, &str); 33] = [
     (Act::Deliver(64, 0), "P1 Partition"),
     (Act::Deliver(0, 64), "P1 Partition"),
     (Act::Deliver(63, 63), "NoItem"),
-    (Act::Load("a", &FORWARD), "Loaded(1)"),
+    (Act::Load("a", &FORWARD, Table::One), "Loaded(1)"),
     (Act::Close(63), "Appended(0, 0)"),
     (Act::Put(63, "A"), "L2 Closed"),
     (Act::Close(63), "L2 Closed"),
@@ -264,7 +343,7 @@ fn refusals_come_in_their_order(rt: HostRuntime) -> Result<(), Fail> {
 fn a_run_goes_on_after_a_refused_event(rt: HostRuntime) -> Result<(), Fail> {
     let alloc = rt.alloc();
     let mark = event_of(alloc, Act::Mark(0, "fwd", 1)).ok_or("an event")?;
-    let load = event_of(alloc, Act::Load("fwd", &FORWARD)).ok_or("an event")?;
+    let load = event_of(alloc, Act::Load("fwd", &FORWARD, Table::One)).ok_or("an event")?;
     let again = event_of(alloc, Act::Mark(0, "fwd", 1)).ok_or("an event")?;
     let put = event_of(alloc, Act::Put(0, "A")).ok_or("an event")?;
     let events = [

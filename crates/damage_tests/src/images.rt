@@ -4,6 +4,7 @@ use bytes::Bytes;
 use exec::{
     Emission, Emissions, Header, Headers, Outcome, Place, Record, is_place, is_within_limits, run,
 };
+use machine_spec::Table;
 use notes::Verified;
 use std::alloc::{AllocError, Global};
 use std::process::Abort;
@@ -114,7 +115,7 @@ fn runs_the_same(
         return Ok(false);
     }
     let outcome = run(alloc, program, record, &PLACE)?;
-    let (end, _count) = trace(alloc, image, record, &PLACE)?;
+    let (end, _count) = trace(alloc, image, record, &PLACE, Table::One)?;
     Ok(is_same(&end, &outcome))
 }
 
@@ -125,7 +126,7 @@ fn try_image(
     image: &[u8],
     records: &[Record],
 ) -> Result<bool, AllocError> {
-    let Ok(program) = load(alloc, image) else {
+    let Ok(program) = load(alloc, image, Table::One) else {
         return Ok(false);
     };
     for record in records {
@@ -240,7 +241,7 @@ fn a_cut_image_is_refused(rt: HostRuntime) -> Result<(), Fail> {
 
 /// What `load` answers to an image.
 fn answer_of(alloc: Global, image: &[u8]) -> Result<String, AllocError> {
-    match load(alloc, image) {
+    match load(alloc, image, Table::One) {
         Ok(_) => String::from_str(alloc, "accepted"),
         Err(fault) => format!(in alloc; "{fault}"),
     }

@@ -11,7 +11,7 @@ use bpf_machine::{End, trace};
 use bytes::Bytes;
 use exec::{Emissions, Headers, Outcome, Record, is_place, is_within_limits, run};
 use explain::{Extent, explain_image, image_fault_text};
-use machine_spec::IsaFault;
+use machine_spec::{IsaFault, Table};
 use notes::Verified;
 use std::alloc::{AllocError, Global};
 use std::process::Abort;
@@ -172,7 +172,7 @@ fn image(alloc: Global) -> Result<Vec<u8>, AllocError> {
 
 fn loaded(alloc: Global) -> Answer {
     match image(alloc) {
-        Ok(image) => of_load(&load(alloc, &image), None),
+        Ok(image) => of_load(&load(alloc, &image, Table::One), None),
         Err(_) => Answer::Memory,
     }
 }
@@ -211,7 +211,7 @@ fn is_right(outcome: &Outcome) -> bool {
 
 /// What `CLASSES` makes of the record, or which answer that is.
 fn outcome_of(alloc: Global) -> Result<bool, AllocError> {
-    let Ok(program) = load(alloc, &image(alloc)?) else {
+    let Ok(program) = load(alloc, &image(alloc)?, Table::One) else {
         return Err(AllocError);
     };
     let record = record(alloc);
@@ -222,7 +222,7 @@ fn outcome_of(alloc: Global) -> Result<bool, AllocError> {
 }
 
 fn end_of(alloc: Global) -> Result<bool, AllocError> {
-    let (end, count) = trace(alloc, &image(alloc)?, &record(alloc), &PLACE)?;
+    let (end, count) = trace(alloc, &image(alloc)?, &record(alloc), &PLACE, Table::One)?;
     match end {
         End::Out(outcome) => Ok(count == 17 && is_right(&outcome)),
         End::Trap(_) => Ok(false),
@@ -264,7 +264,7 @@ const REFUSED: &str = "0 slot 0: ld8 r0, [r1+0]\n\x20 r1: value+0  r2: length of
     r4: length of key  r5: 0 to 3  r10: stack+512\nrefused: V7 RecordBounds at 0\n";
 
 fn explained(alloc: Global, image: &[u8], want: &str) -> Answer {
-    match explain_image(alloc, image, Extent::All) {
+    match explain_image(alloc, image, Table::One, Extent::All) {
         Ok(explanation) => of(explanation.lines.as_str() == want),
         Err(IsaFault::Memory) => Answer::Memory,
         Err(_) => Answer::Wrong,
@@ -288,7 +288,7 @@ fn answer_of_call(alloc: Global, call: Call) -> Answer {
         Call::Encode => encoded(alloc),
         Call::Feed => fed(alloc),
         Call::Load => loaded(alloc),
-        Call::LoadRefused => of_load(&load(alloc, &FIRST_BYTE[..16]), Some(JUMPS_OUT)),
+        Call::LoadRefused => of_load(&load(alloc, &FIRST_BYTE[..16], Table::One), Some(JUMPS_OUT)),
         Call::Run => of_result(outcome_of(alloc)),
         Call::Trace => of_result(end_of(alloc)),
         Call::Assemble => assembled(alloc),

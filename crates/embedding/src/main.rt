@@ -8,6 +8,7 @@ ghost use Rattle.broker.specs.Layouts.{IsNamed};
 use broker::{Broker, BrokerFault, Ended, Parts, StreamFault, Until};
 use bytes::Bytes;
 use catalogue::Catalogue;
+use machine_spec::Table;
 use part_log::Names;
 use std::alloc::{AllocError, Global};
 use std::io::Read;
@@ -51,7 +52,7 @@ fn transform<Id: Names + Send + Sync, R: Threads + Wait + Sync, B: Read>(
         return Err(StreamFault::Broker(BrokerFault::Memory));
     };
 
-    let (_version, known) = broker.load(rt, alloc, "transform", image)?;
+    let (_version, known) = broker.load(rt, alloc, "transform", image, Table::One)?;
     let mut finder = broker.finder(rt, alloc)?;
     broker.deploy(rt, alloc, 0, known.name(), &mut finder, &known)?;
 

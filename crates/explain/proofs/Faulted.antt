@@ -4,8 +4,8 @@ use Rattle.std.proofs.Common.{◌++◌, length, Option, Some, None, Ok, ◌⊎�
 use Rattle.std.specs.Prelude.{is_some, option_map, slice_get}
 use Rattle.std.proofs.lemmas.Bool.{cases_Bool, cases_lt, cond-true, cond-false}
 use Rattle.std.proofs.lemmas.Option.{none-some, same_Some, slice_get_past, slice_get_within}
-use Rattle.machine_spec.specs.declared.{helper.TheConstants.HELPERS, instruction.Placed.Placed, summary.Summary.Summary}
-use Rattle.machine_spec.specs.Image.{program_of, read_image, IsCodeOf}
+use Rattle.machine_spec.specs.declared.{helper.Helper.Helper, instruction.Placed.Placed, summary.Summary.Summary}
+use Rattle.machine_spec.specs.Image.{Program, helpers_of, read_image, IsCodeOf}
 use Rattle.machine_spec.specs.Summaries.{summary_of}
 use Rattle.machine_spec.specs.Traps.{calls_no_helper, helper_called, arguments_of, read_registers, first_of}
 use Rattle.machine_spec.proofs.Slots.{number_of_zero, number_below}
@@ -81,16 +81,16 @@ shape_reasoned code k placed =
       ),
     )
 
-called_some : (call : Option ℤ) → calls_no_helper HELPERS call ≡ true → is_some call ≡ true
-called_some None e = cc
-called_some (Some number) e = refl
+called_some : (helpers : List Helper) (call : Option ℤ) → calls_no_helper helpers call ≡ true → is_some call ≡ true
+called_some helpers None e = cc
+called_some helpers (Some number) e = refl
 
-state_reasoned : (placed : Placed) (m : Summary) (s : Abstract) → is_proper s ≡ true →
-    AreReasoned (state_reason placed m s) (checks HELPERS m s)
-state_reasoned placed m s proper = (
+state_reasoned : (helpers : List Helper) (placed : Placed) (m : Summary) (s : Abstract) → is_proper s ≡ true →
+    AreReasoned (state_reason placed m s) (checks helpers m s)
+state_reasoned helpers placed m s proper = (
   λ e. refl,
   λ _. (
-    λ e. some_map Reason.NoHelper m.call (called_some m.call e),
+    λ e. some_map Reason.NoHelper m.call (called_some helpers m.call e),
     λ _. (
       λ e. some_map Reason.Unknown _ (found (λ r. is_unknown (kind_at s r)) (read_registers m) e),
       λ _. (
@@ -126,39 +126,40 @@ only_claims : (b : Bool) (kind : Check) → first_of ((b, Check.Notes) ∷ []) �
 only_claims true kind e = cc
 only_claims false kind e = cc
 
-rows_reasoned : (code : List Placed) (claims : Claims) (k : ℕ) (placed : Placed) (known : Option Abstract)
-    (kind : Check) → ((s : Abstract) → known ≡ Some s → is_proper s ≡ true) →
-    first_of (shape_checks code k placed ++ reached_checks HELPERS code claims k placed known) ≡ Some kind →
+rows_reasoned : (helpers : List Helper) (code : List Placed) (claims : Claims) (k : ℕ) (placed : Placed)
+    (known : Option Abstract) (kind : Check) → ((s : Abstract) → known ≡ Some s → is_proper s ≡ true) →
+    first_of (shape_checks code k placed ++ reached_checks helpers code claims k placed known) ≡ Some kind →
     kind ≢ Check.Notes → is_some (reason_of placed known kind) ≡ true
-rows_reasoned code claims k placed None kind proper e other = elim (either (shape_checks code k placed) [] kind e) [
-  | inl shape ↦ first_reasoned (shape_reason placed) (shape_checks code k placed) kind (shape_reasoned code k placed)
-      shape
-  | inr none ↦ absurd (none-some kind none)
-]
-rows_reasoned code claims k placed (Some s) kind proper e other =
+rows_reasoned helpers code claims k placed None kind proper e other = elim
+    (either (shape_checks code k placed) [] kind e) [
+      | inl shape ↦ first_reasoned (shape_reason placed) (shape_checks code k placed) kind (shape_reasoned code k placed)
+          shape
+      | inr none ↦ absurd (none-some kind none)
+    ]
+rows_reasoned helpers code claims k placed (Some s) kind proper e other =
     let m = summary_of placed.instruction in
     let covered = are_edges_covered code claims k placed s in
-    elim (either (shape_checks code k placed) (reached_checks HELPERS code claims k placed (Some s)) kind e) [
+    elim (either (shape_checks code k placed) (reached_checks helpers code claims k placed (Some s)) kind e) [
       | inl shape ↦ first_reasoned (state_reason placed m s) (shape_checks code k placed) kind
           (shape_reasoned code k placed) shape
-      | inr reached ↦ elim (either (checks HELPERS m s) ((not covered, Check.Notes) ∷ []) kind reached) [
-        | inl own ↦ first_reasoned (state_reason placed m s) (checks HELPERS m s) kind
-            (state_reasoned placed m s (proper s refl)) own
+      | inr reached ↦ elim (either (checks helpers m s) ((not covered, Check.Notes) ∷ []) kind reached) [
+        | inl own ↦ first_reasoned (state_reason placed m s) (checks helpers m s) kind
+            (state_reasoned helpers placed m s (proper s refl)) own
         | inr last ↦ absurd (other (only_claims (not covered) kind last))
       ]
     ]
 
 -- ---- the fault of a code
 
-module _ (code : List Placed) (claims : Claims) (proper : (k : ℕ) (s : Abstract) → k < length code →
+module _ (helpers : List Helper) (code : List Placed) (claims : Claims) (proper : (k : ℕ) (s : Abstract) → k < length code →
     claim_at claims k ≡ Some s → is_proper s ≡ true) where
   at_reasoned : (k : ℕ) (placed : Placed) (kind : Check) → slice_get code k ≡ Some placed →
-      failed_at HELPERS code claims k placed ≡ Some kind → kind ≢ Check.Notes →
+      failed_at helpers code claims k placed ≡ Some kind → kind ≢ Check.Notes →
       is_some (placed_reason (slice_get code k) (claim_at claims k) kind) ≡ true
   unfolding failed_at
   at_reasoned k placed kind at e other =
       ap (λ (p : Option Placed). is_some (placed_reason p (claim_at claims k) kind)) at
-      ∙ rows_reasoned code claims k placed (claim_at claims k) kind
+      ∙ rows_reasoned helpers code claims k placed (claim_at claims k) kind
       (λ s is. proper k s (slice_get_within code k placed at) is) e other
 
   or_reasoned : (k : ℕ) (failed : Option Check) (later : Option VerifyFault) (f : VerifyFault) →
@@ -175,13 +176,13 @@ module _ (code : List Placed) (claims : Claims) (proper : (k : ℕ) (s : Abstrac
 
   from_reasoned : (k : ℕ) (rest : List Placed) (f : VerifyFault) →
       ((i : ℕ) (placed : Placed) → slice_get rest i ≡ Some placed → slice_get code (k + i) ≡ Some placed) →
-      fault_from HELPERS code claims k rest ≡ Some f → f.kind ≢ Check.Notes → is_some (reason_at code claims f) ≡ true
+      fault_from helpers code claims k rest ≡ Some f → f.kind ≢ Check.Notes → is_some (reason_at code claims f) ≡ true
   from_reasoned k [] f all e other = absurd (none-some f e)
   from_reasoned k (placed ∷ rest) f all e other =
       let here : k + 0 ≡ k = omega arith in
       let at : slice_get code k ≡ Some placed =
       subst (λ (n : ℕ). slice_get code n ≡ Some placed) here (all 0 placed refl) in
-      or_reasoned k (failed_at HELPERS code claims k placed) (fault_from HELPERS code claims (k + 1) rest) f
+      or_reasoned k (failed_at helpers code claims k placed) (fault_from helpers code claims (k + 1) rest) f
       (λ kind failed named. at_reasoned k placed kind at failed named)
       (λ later. from_reasoned (k + 1) rest f (λ i p q.
       let next : k + suc i ≡ (k + 1) + i = omega arith in
@@ -189,7 +190,7 @@ module _ (code : List Placed) (claims : Claims) (proper : (k : ℕ) (s : Abstrac
       later other)
       e other
 
-  code_reasoned : (f : VerifyFault) → fault_of HELPERS code claims ≡ Some f → f.kind ≢ Check.Notes →
+  code_reasoned : (f : VerifyFault) → fault_of helpers code claims ≡ Some f → f.kind ≢ Check.Notes →
       is_some (reason_at code claims f) ≡ true
   unfolding fault_of
   code_reasoned f e other =
@@ -199,10 +200,10 @@ module _ (code : List Placed) (claims : Claims) (proper : (k : ℕ) (s : Abstrac
         | inl passes ↦ from_reasoned 0 code f (λ i placed at.
             let same : i ≡ 0 + i = omega arith in
             subst (λ (n : ℕ). slice_get code n ≡ Some placed) same at)
-            (sym (cond-true start (fault_from HELPERS code claims 0 code) (Some claims_fault) passes) ∙ e) other
+            (sym (cond-true start (fault_from helpers code claims 0 code) (Some claims_fault) passes) ∙ e) other
         | inr fails ↦
             let same : claims_fault ≡ f = same_Some claims_fault f
-            (sym (cond-false start (fault_from HELPERS code claims 0 code) (Some claims_fault) fails) ∙ e) in
+            (sym (cond-false start (fault_from helpers code claims 0 code) (Some claims_fault) fails) ∙ e) in
             absurd (other (sym (ap (λ (x : VerifyFault). x.kind) same)))
       ]
 
@@ -212,19 +213,23 @@ verified : (o : Option VerifyFault) (f : VerifyFault) → option_map Verify o �
 verified None f e = cc
 verified (Some g) f e = cc
 
-code_fault_is : (image : List ℕ) (code : List Placed) (f : VerifyFault) → read_image image ≡ Ok code →
-    load_fault (program_of image) ≡ Some (Verify f) → fault_of HELPERS code (joined_states HELPERS code) ≡ Some f
-unfolding load_fault
-code_fault_is image code f read e = verified _ f (sym (ap (code_fault HELPERS) read) ∙ e)
+module _ (program : Program) (code : List Placed) (f : VerifyFault) where
+  abbrev helpers : List Helper
+  helpers = helpers_of program.table
 
-pub refusal_reasoned : (image : List ℕ) (code : List Placed) (f : VerifyFault) → IsCodeOf image code →
-    read_image image ≡ Ok code → AreJoinedProper HELPERS code → IsRefusedWith (program_of image) (Verify f) →
-    is_some (reason_at code (joined_states HELPERS code) f) ≡ true
-refusal_reasoned image code f of read proper refused =
-    let fault = code_fault_is image code f read refused.fault_is in
-    let some : 0 < length code = number_below code 0 0 (number_of_zero image code of) in
-    code_reasoned code (joined_states HELPERS code) (λ k s below is. proper k s below
-    (sym (claim_joined HELPERS code k below) ∙ is)) f fault (fault_is_other HELPERS image code of f some fault)
+  code_fault_is : read_image program.image ≡ Ok code → load_fault program ≡ Some (Verify f) →
+      fault_of helpers code (joined_states helpers code) ≡ Some f
+  unfolding load_fault
+  code_fault_is read e = verified _ f (sym (ap (code_fault helpers) read) ∙ e)
+
+  pub refusal_reasoned : IsCodeOf program.image code → read_image program.image ≡ Ok code →
+      AreJoinedProper helpers code → IsRefusedWith program (Verify f) →
+      is_some (reason_at code (joined_states helpers code) f) ≡ true
+  refusal_reasoned of read proper refused =
+      let fault = code_fault_is read refused.fault_is in
+      let some : 0 < length code = number_below code 0 0 (number_of_zero program.image code of) in
+      code_reasoned helpers code (joined_states helpers code) (λ k s below is. proper k s below
+      (sym (claim_joined helpers code k below) ∙ is)) f fault (fault_is_other helpers program.image code of f some fault)
 
 -- ---- where it is
 

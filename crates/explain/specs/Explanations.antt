@@ -1,9 +1,8 @@
 -- What is explained of an image.
 use Rattle.std.specs.Prelude.{◌≡◌, ◌≢◌, ℕ, ◌+◌, min, List, ◌++◌, length, Option, Some, None, option_map, is_some, true}
 use Rattle.std.specs.Prelude.{Result, Ok, Err, IfSome, string_bytes}
-use Rattle.machine_spec.specs.declared.{helper.TheConstants.HELPERS, instruction.IsaFault.IsaFault}
-use Rattle.machine_spec.specs.declared.{instruction.Placed.Placed}
-use Rattle.machine_spec.specs.Image.{program_of, read_image}
+use Rattle.machine_spec.specs.declared.{helper.Table.Table, instruction.IsaFault.IsaFault, instruction.Placed.Placed}
+use Rattle.machine_spec.specs.Image.{Program, helpers_of, read_image}
 use Rattle.machine_spec.specs.declared.instruction.IsaFault.TheVariants as isa
 use Rattle.verifier_spec.specs.declared.fault.VerifyFault.{VerifyFault}
 use Rattle.verifier_spec.specs.declared.fault.LoadFault.TheVariants.{Verify}
@@ -17,10 +16,10 @@ use Rattle.explain.specs.Endings.{ending_text}
 use Rattle.explain.specs.Reasons.{reason_at}
 use Rattle.explain.specs.Hints.{hint_at}
 
--- An image is accepted, or refused at an instruction with its fault.
-abbrev pub IsVerdict : List ℕ → Option VerifyFault → Type 0
-IsVerdict image None = IsAccepted (program_of image)
-IsVerdict image (Some fault) = IsRefusedWith (program_of image) (Verify fault)
+-- A program is accepted, or refused at an instruction with its fault.
+abbrev pub IsVerdict : Program → Option VerifyFault → Type 0
+IsVerdict program None = IsAccepted program
+IsVerdict program (Some fault) = IsRefusedWith program (Verify fault)
 
 -- how many instructions may be listed: all, or those up to the refused one
 abbrev pub printed_count : List Placed → Option VerifyFault → ℕ
@@ -33,35 +32,37 @@ listing extent code claims fault =
     texts_below (printed_count code fault) (lines_where (is_listed extent code claims fault) code claims)
     ++ ending_text claims (printed_count code fault) fault
 
-abbrev pub refusal_at : List Placed → Claims → VerifyFault → Refusal
-refusal_at code claims fault =
+abbrev pub refusal_at : Table → List Placed → Claims → VerifyFault → Refusal
+refusal_at table code claims fault =
     record {
       fault = fault;
       reason = reason_at code claims fault;
-      hint = hint_at code claims fault (reason_at code claims fault);
+      hint = hint_at table code claims fault (reason_at code claims fault);
     }
 
 -- what a refusal is about is there
 abbrev pub HasReason : Refusal → Type 0
 HasReason refusal = is_some refusal.reason ≡ true
 
--- An image with code is explained: by its verdict, the joined states of its instructions, as many as asked, and what
+-- A program with code is explained: by its verdict, the joined states of its instructions, as many as asked, and what
 -- its fault is about.
-pub record Explains (extent : Extent) (image : List ℕ) (explanation : Explanation) : Type 0 where
+pub record Explains (extent : Extent) (program : Program) (explanation : Explanation) : Type 0 where
   pub code : List Placed
-  pub read : read_image image ≡ Ok code
+  pub read : read_image program.image ≡ Ok code
   pub fault : Option VerifyFault
-  pub verdict : IsVerdict image fault
-  pub lines : string_bytes explanation.lines ≡ listing extent code (joined_states HELPERS code) fault
-  pub refusal : explanation.refusal ≡ option_map (refusal_at code (joined_states HELPERS code)) fault
+  pub verdict : IsVerdict program fault
+  pub lines : string_bytes explanation.lines
+      ≡ listing extent code (joined_states (helpers_of program.table) code) fault
+  pub refusal : explanation.refusal
+      ≡ option_map (refusal_at program.table code (joined_states (helpers_of program.table) code)) fault
   pub reasoned : IfSome explanation.refusal HasReason
 
 -- One with none has its refusal; nothing is said where memory ran out.
-abbrev pub ExplainsAs : Extent → List ℕ → Result Explanation IsaFault → Type 0
-ExplainsAs extent image (Ok explanation) = Explains extent image explanation
-ExplainsAs extent image (Err fault) = fault ≢ isa.Memory → read_image image ≡ Err fault
+abbrev pub ExplainsAs : Extent → Program → Result Explanation IsaFault → Type 0
+ExplainsAs extent program (Ok explanation) = Explains extent program explanation
+ExplainsAs extent program (Err fault) = fault ≢ isa.Memory → read_image program.image ≡ Err fault
 
--- whether an image is refused, and with which fault, for an image that has code
-abbrev pub HasVerdict : List ℕ → Result (Option VerifyFault) IsaFault → Type 0
-HasVerdict image (Ok fault) = IsVerdict image fault
-HasVerdict image (Err fault) = fault ≢ isa.Memory → read_image image ≡ Err fault
+-- whether a program is refused, and with which fault, where its image has code
+abbrev pub HasVerdict : Program → Result (Option VerifyFault) IsaFault → Type 0
+HasVerdict program (Ok fault) = IsVerdict program fault
+HasVerdict program (Err fault) = fault ≢ isa.Memory → read_image program.image ≡ Err fault

@@ -4,7 +4,9 @@ use Rattle.std.specs.Prelude.{int_le, if◌then◌else◌, List, Option, Some, N
 use Rattle.std.specs.{Int.int_min, Int.int_max, Option.option_or}
 use Rattle.wire_spec.specs.declared.{limits.TheConstants.MAX_KEY, limits.TheConstants.MAX_VALUE}
 use Rattle.machine_spec.specs.declared.{limits.TheConstants.STACK_SIZE, instruction.Region.Region}
-use Rattle.machine_spec.specs.declared.{instruction.Placed.Placed, summary.Summary.Summary}
+use Rattle.machine_spec.specs.declared.{helper.Table.Table, instruction.Placed.Placed, summary.Summary.Summary}
+use Rattle.machine_spec.specs.Image.{helpers_of}
+use Rattle.machine_spec.specs.Machine.{helper_among}
 use Rattle.machine_spec.specs.Summaries.{summary_of}
 use Rattle.machine_spec.specs.Traps.{is_stack}
 use Rattle.verifier_spec.specs.declared.{interval.Interval.Interval, state.Abs.Abs, state.StackSet.StackSet}
@@ -31,6 +33,12 @@ number_hint m =
     if is_some m.condition then Some Hint.Compared else
     if is_some m.memory then Some Hint.Spilled else
     if is_some m.call || m.exits then None else Some Hint.Computed
+
+-- ---- helpers
+
+-- where a helper is called that the program's table lacks and table two has
+abbrev pub helper_hint : ℤ → Option Hint
+helper_hint number = if is_some (helper_among (helpers_of Table.Two) number) then Some Hint.TableTwo else None
 
 -- ---- bytes of a region
 
@@ -113,6 +121,7 @@ room_hint_of _ _ = None
 -- ---- by what the refusal is about
 
 abbrev pub hint_of : Abstract → Summary → Reason → Option Hint
+hint_of s m (Reason.NoHelper number) = helper_hint number
 hint_of s m (Reason.NoNumber _ _) = number_hint m
 hint_of s m (Reason.NoAddress _ kind) = address_hint kind
 hint_of s m (Reason.NoSign _ _ _) = Some Hint.Unbounded
@@ -134,13 +143,13 @@ abbrev pub hint_where : Placed → Option Abstract → Option Reason → Option 
 hint_where placed (Some s) reason = hint_with s (summary_of placed.instruction) reason
 hint_where placed None reason = None
 
--- Of a fault at an instruction with these states: of a jump back whether it closes a loop, of a register that may hold
+-- Of a fault at an instruction of a program: of a jump back whether it closes a loop, of a register that may hold
 -- nothing where it was lost, and else by what the fault is about.
-abbrev pub placed_hint : List Placed → Claims → ℕ → Option Reason → Option Placed → Option Hint
-placed_hint code claims pc reason (Some placed) =
-    option_or (option_or (back_hint code pc (Some placed)) (lost_hint code claims pc reason))
+abbrev pub placed_hint : Table → List Placed → Claims → ℕ → Option Reason → Option Placed → Option Hint
+placed_hint table code claims pc reason (Some placed) =
+    option_or (option_or (back_hint code pc (Some placed)) (lost_hint table code claims pc reason))
     (hint_where placed (claim_at claims pc) reason)
-placed_hint code claims pc reason None = None
+placed_hint table code claims pc reason None = None
 
-abbrev pub hint_at : List Placed → Claims → VerifyFault → Option Reason → Option Hint
-hint_at code claims fault reason = placed_hint code claims fault.pc reason (slice_get code fault.pc)
+abbrev pub hint_at : Table → List Placed → Claims → VerifyFault → Option Reason → Option Hint
+hint_at table code claims fault reason = placed_hint table code claims fault.pc reason (slice_get code fault.pc)

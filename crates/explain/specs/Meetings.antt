@@ -3,8 +3,8 @@
 use Rattle.std.specs.Prelude.{ℕ, zero, suc, ◌+◌, Bool, true, false, ◌==◌, ◌&&◌, ◌||◌, not, if◌then◌else◌, List, length}
 use Rattle.std.specs.Prelude.{slice_get, Option, Some, None, option_map, is_some, is_none, unwrap_or}
 use Rattle.std.specs.Option.{option_or}
-use Rattle.machine_spec.specs.declared.{helper.TheConstants.HELPERS, instruction.Placed.Placed}
-use Rattle.machine_spec.specs.Image.{target_of}
+use Rattle.machine_spec.specs.declared.{helper.Table.Table, instruction.Placed.Placed}
+use Rattle.machine_spec.specs.Image.{helpers_of, target_of}
 use Rattle.verifier_spec.specs.declared.{state.Abs.Abs, state.Abstract.Abstract}
 use Rattle.verifier_spec.specs.Kinds.{kind_at, is_unknown, is_number_kind, same_region}
 use Rattle.verifier_spec.specs.Checks.{failed_check, jump_of}
@@ -32,14 +32,10 @@ kind_from code r j k placed s =
     (jumps_to placed.instruction s))
 
 -- an instruction that is not reached or fails a check propagates nothing
-abbrev pub kind_passed : List Placed → ℕ → ℕ → ℕ → Option Placed → Option Abstract → Option Abs
-kind_passed code r j k (Some placed) (Some s) =
-    if is_none (failed_check HELPERS placed.instruction s) then kind_from code r j k placed s else None
-kind_passed code r j k _ _ = None
-
--- what instruction number k propagates of a register to instruction number j
-unfoldable pub arrival : List Placed → Claims → ℕ → ℕ → ℕ → Option Abs
-arrival code claims r j k = kind_passed code r j k (slice_get code k) (claim_at claims k)
+abbrev pub kind_passed : Table → List Placed → ℕ → ℕ → ℕ → Option Placed → Option Abstract → Option Abs
+kind_passed table code r j k (Some placed) (Some s) =
+    if is_none (failed_check (helpers_of table) placed.instruction s) then kind_from code r j k placed s else None
+kind_passed table code r j k _ _ = None
 
 -- ---- two kinds that nothing is known of together
 
@@ -53,12 +49,6 @@ same_sort a b = (is_unknown a && is_unknown b) || ((is_number_kind a && is_numbe
 abbrev pub is_other : Abs → Option Abs → Bool
 is_other kind (Some other) = not (same_sort kind other)
 is_other kind None = false
-
-abbrev pub arrives : List Placed → Claims → ℕ → ℕ → ℕ → Bool
-arrives code claims r j k = is_some (arrival code claims r j k)
-
-abbrev pub differs : List Placed → Claims → ℕ → ℕ → Abs → ℕ → Bool
-differs code claims r j kind k = is_other kind (arrival code claims r j k)
 
 -- ---- one instruction
 
@@ -82,46 +72,58 @@ abbrev pub lost_in : List Placed → Claims → ℕ → ℕ → Loss
 lost_in code claims r k = if is_lost_before r (claim_at claims k) then Loss.Before k else Loss.Here
     (Hint.Called (slot_of code k))
 
-abbrev pub met_with : List Placed → Claims → ℕ → ℕ → ℕ → Abs → Option ℕ → Loss
-met_with code claims r j k kind (Some other) =
-    Loss.Here (Hint.Met (edge_from code k kind) (edge_from code other
-    (unwrap_or (arrival code claims r j other) Abs.None)) (slot_of code j))
-met_with code claims r j k kind None = lost_in code claims r k
-
-abbrev pub met_from : List Placed → Claims → ℕ → ℕ → ℕ → Option Abs → Loss
-met_from code claims r j k (Some kind) = met_with code claims r j k kind (first_below j (differs code claims r j kind))
-met_from code claims r j k None = Loss.Here Hint.NeverSet
-
-abbrev pub met_first : List Placed → Claims → ℕ → ℕ → Option ℕ → Loss
-met_first code claims r j (Some k) = met_from code claims r j k (arrival code claims r j k)
-met_first code claims r j None = Loss.Here Hint.NeverSet
-
--- At an instruction before which nothing is known of a register: the first edges to it that propagate kinds of
--- different sorts; else the instruction that the first edge to it begins at, which is a call, or before which nothing
--- is known of it either.
-unfoldable pub step : List Placed → Claims → ℕ → ℕ → Loss
-step code claims r j = met_first code claims r j (first_below j (arrives code claims r j))
-
--- ---- from one instruction back to another
-
 abbrev pub after_step : (ℕ → Option Hint) → Loss → Option Hint
 after_step before (Loss.Here hint) = Some hint
 after_step before (Loss.Before k) = before k
 
--- where it is lost, as far back as a number of instructions
-unfoldable pub lost_within : List Placed → Claims → ℕ → ℕ → ℕ → Option Hint
-lost_within code claims r zero j = None
-lost_within code claims r (suc n) j = after_step (lost_within code claims r n) (step code claims r j)
+-- of a program, by its helper table, its code and what is known before each instruction, and of a register
+module _ (table : Table) (code : List Placed) (claims : Claims) (r : ℕ) where
+  -- what instruction number k propagates of the register to instruction number j
+  unfoldable pub arrival : ℕ → ℕ → Option Abs
+  arrival j k = kind_passed table code r j k (slice_get code k) (claim_at claims k)
+
+  abbrev pub arrives : ℕ → ℕ → Bool
+  arrives j k = is_some (arrival j k)
+
+  abbrev pub differs : ℕ → Abs → ℕ → Bool
+  differs j kind k = is_other kind (arrival j k)
+
+  abbrev pub met_with : ℕ → ℕ → Abs → Option ℕ → Loss
+  met_with j k kind (Some other) =
+      Loss.Here (Hint.Met (edge_from code k kind) (edge_from code other (unwrap_or (arrival j other) Abs.None))
+      (slot_of code j))
+  met_with j k kind None = lost_in code claims r k
+
+  abbrev pub met_from : ℕ → ℕ → Option Abs → Loss
+  met_from j k (Some kind) = met_with j k kind (first_below j (differs j kind))
+  met_from j k None = Loss.Here Hint.NeverSet
+
+  abbrev pub met_first : ℕ → Option ℕ → Loss
+  met_first j (Some k) = met_from j k (arrival j k)
+  met_first j None = Loss.Here Hint.NeverSet
+
+  -- At an instruction before which nothing is known of the register: the first edges to it that propagate kinds of
+  -- different sorts; else the instruction that the first edge to it begins at, which is a call, or before which nothing
+  -- is known of it either.
+  unfoldable pub step : ℕ → Loss
+  step j = met_first j (first_below j (arrives j))
+
+  -- where it is lost, from one instruction back to another, as far back as a number of them
+  unfoldable pub lost_within : ℕ → ℕ → Option Hint
+  lost_within zero j = None
+  lost_within (suc n) j = after_step (lost_within n) (step j)
+
+-- ---- the hint
 
 -- the register that a refusal finds nothing in
 abbrev pub lost_register : Option Reason → Option ℕ
 lost_register (Some (Reason.Unknown r)) = Some r
 lost_register _ = None
 
-abbrev pub lost_hint_of : List Placed → Claims → ℕ → Option ℕ → Option Hint
-lost_hint_of code claims pc (Some r) = lost_within code claims r (length code) pc
-lost_hint_of code claims pc None = None
+abbrev pub lost_hint_of : Table → List Placed → Claims → ℕ → Option ℕ → Option Hint
+lost_hint_of table code claims pc (Some r) = lost_within table code claims r (length code) pc
+lost_hint_of table code claims pc None = None
 
 -- of a refusal at an instruction for what is given
-abbrev pub lost_hint : List Placed → Claims → ℕ → Option Reason → Option Hint
-lost_hint code claims pc reason = lost_hint_of code claims pc (lost_register reason)
+abbrev pub lost_hint : Table → List Placed → Claims → ℕ → Option Reason → Option Hint
+lost_hint table code claims pc reason = lost_hint_of table code claims pc (lost_register reason)

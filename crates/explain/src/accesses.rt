@@ -44,40 +44,16 @@ fn reached_by(m: MemoryOperand, kind: Abs) -> Option<Reached>
 pub fn reached_bytes(memory: Option<MemoryOperand>, state: &Abstract) -> Option<Reached>
     ensures { result ≡ definitions.reached_bytes memory state.now }
 {
-    match memory {
-        Some(m) => reached_by(m, kinds::kind_at(state, m.base)),
-        None => None,
-    }
-}
-
-pub fn read_only(bytes: Option<Reached>) -> Option<Reason>
-    ensures { result ≡ option_map Reason.ReadOnly bytes }
-{
-    match bytes {
-        Some(bytes) => Some(Reason::ReadOnly(bytes)),
-        None => None,
-    }
+    let m = memory?;
+    reached_by(m, kinds::kind_at(state, m.base))
 }
 
 pub fn outside_record(state: &Abstract, bytes: Option<Reached>) -> Option<Reason>
     ensures { result ≡ option_map (definitions.outside_record state.now) bytes }
 {
-    match bytes {
-        Some(bytes) => {
-            let least = kinds::length_range(state, bytes.region).min;
-            Some(Reason::OutsideRecord(bytes, least))
-        }
-        None => None,
-    }
-}
-
-pub fn outside_stack(bytes: Option<Reached>) -> Option<Reason>
-    ensures { result ≡ option_map Reason.OutsideStack bytes }
-{
-    match bytes {
-        Some(bytes) => Some(Reason::OutsideStack(bytes)),
-        None => None,
-    }
+    let bytes = bytes?;
+    let least = kinds::length_range(state, bytes.region).min;
+    Some(Reason::OutsideRecord(bytes, least))
 }
 
 /// Whether a place of the stack is among some bytes and may not be set.
@@ -100,20 +76,10 @@ pub fn first_unset(set: &StackSet, bytes: Reached) -> Option<u64>
     None
 }
 
-fn unset_in(set: &StackSet, bytes: Reached) -> Option<Reason>
-    ensures { result ≡ definitions.unset_byte set.now (Some bytes) }
-{
-    match first_unset(set, bytes) {
-        Some(place) => Some(Reason::UnsetByte(bytes, place)),
-        None => None,
-    }
-}
-
 pub fn unset_byte(set: &StackSet, bytes: Option<Reached>) -> Option<Reason>
     ensures { result ≡ definitions.unset_byte set.now bytes }
 {
-    match bytes {
-        Some(bytes) => unset_in(set, bytes),
-        None => None,
-    }
+    let bytes = bytes?;
+    let place = first_unset(set, bytes)?;
+    Some(Reason::UnsetByte(bytes, place))
 }

@@ -1,11 +1,11 @@
 //! What a refusal is about.
 
-ghost use Rattle.std.specs.Prelude.{◌≡◌, option_map};
+ghost use Rattle.std.specs.Prelude.{◌≡◌};
 ghost use Rattle.std.specs.Option.{option_copied};
 ghost use Rattle.machine_spec.specs.Summaries.{summary_of};
 ghost use Rattle.explain.specs.Reasons as definitions;
 
-use crate::accesses::{outside_record, outside_stack, reached_bytes, read_only, unset_byte};
+use crate::accesses::{outside_record, reached_bytes, unset_byte};
 use crate::operands::{first_wrong_argument, wrong_argument, wrong_type};
 use crate::reason::Reason;
 use crate::registers::unknown_register;
@@ -28,57 +28,19 @@ fn landing_slot(slot: usize, offset: i32) -> i128
 fn landing_of(placed: Placed) -> Option<i128>
     ensures { result ≡ definitions.landing_of placed }
 {
-    match Summary::of(placed.instruction).jump {
-        Some(offset) => Some(landing_slot(placed.slot, offset)),
-        None => None,
-    }
+    let offset = Summary::of(placed.instruction).jump?;
+    Some(landing_slot(placed.slot, offset))
 }
 
 // ---- by check
-
-fn no_target(slot: Option<i128>) -> Option<Reason>
-    ensures { result ≡ option_map Reason.NoTarget slot }
-{
-    match slot {
-        Some(slot) => Some(Reason::NoTarget(slot)),
-        None => None,
-    }
-}
-
-fn back(slot: Option<i128>) -> Option<Reason>
-    ensures { result ≡ option_map Reason.Back slot }
-{
-    match slot {
-        Some(slot) => Some(Reason::Back(slot)),
-        None => None,
-    }
-}
-
-fn no_helper(number: Option<i32>) -> Option<Reason>
-    ensures { result ≡ option_map Reason.NoHelper number }
-{
-    match number {
-        Some(number) => Some(Reason::NoHelper(number)),
-        None => None,
-    }
-}
-
-fn unknown(register: Option<u8>) -> Option<Reason>
-    ensures { result ≡ option_map Reason.Unknown register }
-{
-    match register {
-        Some(register) => Some(Reason::Unknown(register)),
-        None => None,
-    }
-}
 
 /// What a failed check of an instruction's shape is about.
 fn shape_reason(placed: Placed, check: Check) -> Option<Reason>
     ensures { result ≡ definitions.shape_reason placed check }
 {
     match check {
-        Check::JumpTarget => no_target(landing_of(placed)),
-        Check::BackJump => back(landing_of(placed)),
+        Check::JumpTarget => landing_of(placed).map(Reason::NoTarget),
+        Check::BackJump => landing_of(placed).map(Reason::Back),
         Check::RunsOff => Some(Reason::Last),
         Check::Frame
         | Check::Helper
@@ -105,12 +67,12 @@ fn state_reason(placed: Placed, state: &Abstract, check: Check) -> Option<Reason
         Check::BackJump => shape_reason(placed, Check::BackJump),
         Check::RunsOff => shape_reason(placed, Check::RunsOff),
         Check::Frame => Some(Reason::Frame),
-        Check::Helper => no_helper(summary.call),
-        Check::Unset => unknown(unknown_register(summary, state)),
+        Check::Helper => summary.call.map(Reason::NoHelper),
+        Check::Unset => unknown_register(summary, state).map(Reason::Unknown),
         Check::WrongType => wrong_type(summary, state),
-        Check::ReadOnly => read_only(reached_bytes(summary.memory, state)),
+        Check::ReadOnly => reached_bytes(summary.memory, state).map(Reason::ReadOnly),
         Check::RecordBounds => outside_record(state, reached_bytes(summary.memory, state)),
-        Check::StackBounds => outside_stack(reached_bytes(summary.memory, state)),
+        Check::StackBounds => reached_bytes(summary.memory, state).map(Reason::OutsideStack),
         Check::StackUnset => unset_byte(&state.set, reached_bytes(summary.memory, state)),
         Check::HelperArg => wrong_argument(state, first_wrong_argument(summary, state)),
         Check::Exit => Some(Reason::NoNumber(0, kinds::kind_at(state, 0))),

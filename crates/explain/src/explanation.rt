@@ -1,6 +1,7 @@
 //! What is explained of an image.
 
-ghost use Rattle.std.specs.Prelude.{◌≡◌, ℕ, List, ◌<◌, ◌≤◌, length, option_map, IfOk, IfSome, string_bytes};
+ghost use Rattle.std.specs.Prelude.{◌≡◌, ◌<◌, ◌≤◌, length, option_map, IfOk, IfSome, string_bytes};
+ghost use Rattle.machine_spec.specs.Image.{Program, program_of};
 ghost use Rattle.annotate.specs.Loads.{FaultIs};
 ghost use Rattle.explain.specs.Explanations as definitions;
 ghost use Rattle.explain.specs.Explanations.{ExplainsAs, HasVerdict};
@@ -15,7 +16,7 @@ use crate::way::{Extent, selection_of};
 use abstract_regs::State;
 use annotate::{LoadFault, joined_states, load};
 use bpf_isa::{Code, decode};
-use machine_spec::IsaFault;
+use machine_spec::{IsaFault, Table};
 use std::alloc::{AllocError, Global};
 use std::fmt;
 use verifier_spec::{Check, VerifyFault};
@@ -55,9 +56,9 @@ pub struct Explanation {
     pub refusal: Option<Refusal>,
 }
 
-/// What a refusal of a load says of an image: it has no code, or is refused with a fault.
+/// What a refusal of a load says of a program: its image has no code, or it is refused with a fault.
 fn verdict_of(fault: LoadFault) -> Result<Option<VerifyFault>, IsaFault>
-    ensures { (image : List ℕ) → FaultIs image fault → HasVerdict image result }
+    ensures { (program : Program) → FaultIs program fault → HasVerdict program result }
 {
     match fault {
         LoadFault::Isa(fault) => Err(fault),
@@ -68,11 +69,11 @@ fn verdict_of(fault: LoadFault) -> Result<Option<VerifyFault>, IsaFault>
     }
 }
 
-/// Whether an image that has code is refused, and with which fault.
-fn verdict(alloc: Global, image: &[u8]) -> Result<Option<VerifyFault>, IsaFault>
-    ensures { HasVerdict image.now result }
+/// Whether a program whose image has code is refused, and with which fault.
+fn verdict(alloc: Global, image: &[u8], table: Table) -> Result<Option<VerifyFault>, IsaFault>
+    ensures { HasVerdict (program_of image.now table) result }
 {
-    let _verified = match load(alloc, image) {
+    let _verified = match load(alloc, image, table) {
         Err(fault) => return verdict_of(fault),
         Ok(verified) => verified,
     };
@@ -116,12 +117,13 @@ fn refusal_at(
     alloc: Global,
     code: &Code,
     states: &[Option<State>],
+    table: Table,
     fault: VerifyFault,
 ) -> Result<Refusal, AllocError>
-    ensures { IfOk result (λ refusal. refusal ≡ definitions.refusal_at code.now states.now fault) }
+    ensures { IfOk result (λ refusal. refusal ≡ definitions.refusal_at table code.now states.now fault) }
 {
     let reason = reason_at(code, states, fault);
-    let hint = hint_at(alloc, code, states, fault, reason)?;
+    let hint = hint_at(alloc, code, states, table, fault, reason)?;
     Ok(Refusal {
         fault,
         reason,
@@ -133,12 +135,13 @@ fn refusal_with(
     alloc: Global,
     code: &Code,
     states: &[Option<State>],
+    table: Table,
     fault: Option<VerifyFault>,
 ) -> Result<Option<Refusal>, AllocError>
-    ensures { IfOk result (λ refusal. refusal ≡ option_map (definitions.refusal_at code.now states.now) fault) }
+    ensures { IfOk result (λ refusal. refusal ≡ option_map (definitions.refusal_at table code.now states.now) fault) }
 {
     match fault {
-        Some(fault) => match refusal_at(alloc, code, states, fault) {
+        Some(fault) => match refusal_at(alloc, code, states, table, fault) {
             Ok(refusal) => Ok(Some(refusal)),
             Err(error) => Err(error),
         },
@@ -151,29 +154,35 @@ fn explained(
     alloc: Global,
     code: &Code,
     states: &[Option<State>],
+    table: Table,
     fault: Option<VerifyFault>,
     extent: Extent,
 ) -> Result<Explanation, AllocError>
     requires { IfSome fault (λ f. f.pc < length code.now) }
     ensures lines { IfOk result (λ e. string_bytes e.lines ≡ definitions.listing extent code.now states.now fault) }
-    ensures refusal { IfOk result (λ e. e.refusal ≡ option_map (definitions.refusal_at code.now states.now) fault) }
+    ensures refusal { IfOk result (λ e. e.refusal ≡ option_map (definitions.refusal_at table code.now states.now) fault) }
 {
-    let refusal = refusal_with(alloc, code, states, fault)?;
+    let refusal = refusal_with(alloc, code, states, table, fault)?;
     let lines = listing(alloc, code, states, fault, extent)?;
     Ok(Explanation { lines, refusal })
 }
 
-/// What the verifier knows of an image's program, or why the image has no code. The states are those
-/// that a load finds, and so is the fault.
-pub fn explain_image(alloc: Global, image: &[u8], extent: Extent) -> Result<Explanation, IsaFault>
-    ensures { ExplainsAs extent image.now result }
+/// What the verifier knows of the program of an image and a helper table, or why the image has no
+/// code. The states are those that a load finds, and so is the fault.
+pub fn explain_image(
+    alloc: Global,
+    image: &[u8],
+    table: Table,
+    extent: Extent,
+) -> Result<Explanation, IsaFault>
+    ensures { ExplainsAs extent (program_of image.now table) result }
 {
-    let fault = verdict(alloc, image)?;
+    let fault = verdict(alloc, image, table)?;
     let code = decode(alloc, image)?;
-    let Ok(states) = joined_states(alloc, &code) else {
+    let Ok(states) = joined_states(alloc, &code, table) else {
         return Err(IsaFault::Memory);
     };
-    match explained(alloc, &code, &states, fault, extent) {
+    match explained(alloc, &code, &states, table, fault, extent) {
         Ok(explanation) => Ok(explanation),
         Err(_) => Err(IsaFault::Memory),
     }

@@ -53,6 +53,8 @@ pub enum Hint {
     Called(usize),
     /// No path sets a register.
     NeverSet,
+    /// A helper is called that only table two has.
+    TableTwo,
 }
 
 /// Which tests tell nothing.
@@ -187,6 +189,10 @@ impl fmt::Display for Hint {
             Hint::NeverSet => write!(
                 f,
                 "no path to here sets it: a variable is read before it is set"
+            ),
+            Hint::TableTwo => write!(
+                f,
+                "helper table 2 has it: name the table where the program is checked and loaded, as in `klog check IMAGE 2` and `load NAME FILE 2`"
             ),
             Hint::NoRoom => write!(
                 f,

@@ -12,7 +12,7 @@ use crate::meeting::lost_hint;
 use crate::reason::{Reached, Reason};
 use abstract_regs::State;
 use bpf_isa::Code;
-use machine_spec::{Placed, Region, STACK_SIZE, Summary};
+use machine_spec::{Placed, Region, STACK_SIZE, Summary, Table};
 use notes::claim_at;
 use state_order::kinds;
 use std::alloc::{AllocError, Global};
@@ -46,6 +46,19 @@ fn number_hint(summary: Summary) -> Option<Hint>
         None
     } else {
         Some(Hint::Computed)
+    }
+}
+
+// ---- helpers
+
+/// The hint where a helper is called that the program's table lacks, if table two has it.
+fn helper_hint(number: i32) -> Option<Hint>
+    ensures { result ≡ definitions.helper_hint number }
+{
+    if Table::Two.with_number(number).is_some() {
+        Some(Hint::TableTwo)
+    } else {
+        None
     }
 }
 
@@ -128,23 +141,13 @@ fn last_unset(set: &StackSet, bytes: Reached, first: u64) -> Option<u64>
     None
 }
 
-fn unset_to(first: u64, last: Option<u64>) -> Option<Hint>
-    ensures { result ≡ definitions.unset_to first last }
-{
-    match last {
-        Some(last) => Some(Hint::Unset(first, last)),
-        None => None,
-    }
-}
-
 /// The hint for stack places, from one on, that are among some bytes and may not be set.
 fn unset_from(set: &StackSet, bytes: Reached, first: Option<u64>) -> Option<Hint>
     ensures { result ≡ definitions.unset_from set.now bytes first }
 {
-    match first {
-        Some(first) => unset_to(first, last_unset(set, bytes, first)),
-        None => None,
-    }
+    let first = first?;
+    let last = last_unset(set, bytes, first)?;
+    Some(Hint::Unset(first, last))
 }
 
 fn stack_hint(set: &StackSet, bytes: Reached) -> Option<Hint>
@@ -188,10 +191,7 @@ fn named_by(address: u8, kind: Abs, range: Interval) -> Option<Reached>
 fn named_bytes(address: u8, kind: Abs, range: Option<Interval>) -> Option<Reached>
     ensures { result ≡ definitions.named_bytes address kind range }
 {
-    match range {
-        Some(range) => named_by(address, kind, range),
-        None => None,
-    }
+    named_by(address, kind, range?)
 }
 
 /// The hint for bytes that a helper reads.
@@ -238,6 +238,7 @@ fn hint_of(state: &Abstract, summary: Summary, reason: Reason) -> Option<Hint>
     ensures { result ≡ definitions.hint_of state.now summary reason }
 {
     match reason {
+        Reason::NoHelper(number) => helper_hint(number),
         Reason::NoNumber(_, _) => number_hint(summary),
         Reason::NoAddress(_, kind) => address_hint(kind),
         Reason::NoSign(_, _, _) | Reason::TooFar(_, _, _, _) => Some(Hint::Unbounded),
@@ -255,22 +256,15 @@ fn hint_of(state: &Abstract, summary: Summary, reason: Reason) -> Option<Hint>
             let range = kinds::range_of(state, count);
             room_hint_of(named_bytes(address, kind, range), range)
         }
-        Reason::NoTarget(_)
-        | Reason::Back(_)
-        | Reason::Last
-        | Reason::Frame
-        | Reason::NoHelper(_)
-        | Reason::Unknown(_) => None,
+        Reason::NoTarget(_) | Reason::Back(_) | Reason::Last | Reason::Frame | Reason::Unknown(_) =>
+            None,
     }
 }
 
 fn hint_with(state: &Abstract, summary: Summary, reason: Option<Reason>) -> Option<Hint>
     ensures { result ≡ definitions.hint_with state.now summary reason }
 {
-    match reason {
-        Some(reason) => hint_of(state, summary, reason),
-        None => None,
-    }
+    hint_of(state, summary, reason?)
 }
 
 fn hint_where(placed: Placed, claim: Option<&State>, reason: Option<Reason>) -> Option<Hint>
@@ -282,22 +276,23 @@ fn hint_where(placed: Placed, claim: Option<&State>, reason: Option<Reason>) -> 
     }
 }
 
-/// The hint for a fault of code with these states, which is about what is given.
+/// The hint for a fault of a program with these states, which is about what is given.
 pub fn hint_at(
     alloc: Global,
     code: &Code,
     states: &[Option<State>],
+    table: Table,
     fault: VerifyFault,
     reason: Option<Reason>,
 ) -> Result<Option<Hint>, AllocError>
-    ensures { IfOk result (λ hint. hint ≡ definitions.hint_at code.now states.now fault reason) }
+    ensures { IfOk result (λ hint. hint ≡ definitions.hint_at table code.now states.now fault reason) }
 {
     if fault.pc >= code.len() {
         return Ok(None);
     }
     let placed = code.get(fault.pc);
     let back = back_hint(alloc, code, fault.pc, placed)?;
-    let lost = lost_hint(code, states, fault.pc, reason);
+    let lost = lost_hint(code, states, table, fault.pc, reason);
     let found = hint_where(placed, claim_at(states, fault.pc), reason);
     Ok(back.or(lost).or(found))
 }

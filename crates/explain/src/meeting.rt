@@ -12,7 +12,7 @@ use crate::hint::{Edge, Hint};
 use crate::reason::Reason;
 use abstract_regs::State;
 use bpf_isa::Code;
-use machine_spec::{MAX_SLOTS, Placed, Summary};
+use machine_spec::{MAX_SLOTS, Placed, Summary, Table};
 use notes::claim_at;
 use state_order::{kinds, same_region};
 use verifier_spec::Abs;
@@ -42,6 +42,7 @@ fn kind_along(leads: bool, register: u8, edge: Option<State>) -> Option<Abs>
 /// The kind of a register along the edges of an instruction, where they lead to another.
 fn kind_from(
     code: &Code,
+    table: Table,
     register: u8,
     j: usize,
     k: usize,
@@ -50,9 +51,9 @@ fn kind_from(
 ) -> Option<Abs>
     requires number { k < MAX_SLOTS }
     requires slot { placed.slot < MAX_SLOTS }
-    ensures { result ≡ definitions.kind_passed code.now register j k (Some placed) (Some state.now) }
+    ensures { result ≡ definitions.kind_passed table code.now register j k (Some placed) (Some state.now) }
 {
-    if state.check(placed.instruction).is_some() {
+    if state.check(placed.instruction, table).is_some() {
         return None;
     }
     let jump = Summary::of(placed.instruction).jump;
@@ -66,14 +67,21 @@ fn kind_from(
 
 /// What an instruction propagates of a register to another.
 #[tactic(auto, unfolding(crate::specs::Meetings::arrival))]
-fn arrival(code: &Code, states: &[Option<State>], register: u8, j: usize, k: usize) -> Option<Abs>
-    ensures { result ≡ arrival code.now states.now register j k }
+fn arrival(
+    code: &Code,
+    states: &[Option<State>],
+    table: Table,
+    register: u8,
+    j: usize,
+    k: usize,
+) -> Option<Abs>
+    ensures { result ≡ arrival table code.now states.now register j k }
 {
     if k >= code.len() {
         return None;
     }
     match claim_at(states, k) {
-        Some(state) => kind_from(code, register, j, k, code.get(k), state),
+        Some(state) => kind_from(code, table, register, j, k, code.get(k), state),
         None => None,
     }
 }
@@ -108,33 +116,47 @@ fn is_other(kind: Abs, other: Option<Abs>) -> bool
 }
 
 /// Whether an instruction propagates something of a register to another.
-fn arrives(code: &Code, states: &[Option<State>], register: u8, j: usize, k: usize) -> bool
-    ensures { result ≡ definitions.arrives code.now states.now register j k }
+fn arrives(
+    code: &Code,
+    states: &[Option<State>],
+    table: Table,
+    register: u8,
+    j: usize,
+    k: usize,
+) -> bool
+    ensures { result ≡ definitions.arrives table code.now states.now register j k }
 {
-    arrival(code, states, register, j, k).is_some()
+    arrival(code, states, table, register, j, k).is_some()
 }
 
 /// Whether it propagates a kind of another sort.
 fn differs(
     code: &Code,
     states: &[Option<State>],
+    table: Table,
     register: u8,
     j: usize,
     kind: Abs,
     k: usize,
 ) -> bool
-    ensures { result ≡ definitions.differs code.now states.now register j kind k }
+    ensures { result ≡ definitions.differs table code.now states.now register j kind k }
 {
-    is_other(kind, arrival(code, states, register, j, k))
+    is_other(kind, arrival(code, states, table, register, j, k))
 }
 
 /// The first instruction that propagates something of a register to another.
 #[tactic(auto, using(crate::proofs::Places::none_first, crate::proofs::Places::none_more, crate::proofs::Places::found_first))]
-fn first_arrival(code: &Code, states: &[Option<State>], register: u8, j: usize) -> Option<usize>
-    ensures { result ≡ first_below j (definitions.arrives code.now states.now register j) }
+fn first_arrival(
+    code: &Code,
+    states: &[Option<State>],
+    table: Table,
+    register: u8,
+    j: usize,
+) -> Option<usize>
+    ensures { result ≡ first_below j (definitions.arrives table code.now states.now register j) }
 {
     for k in 0..j {
-        if arrives(code, states, register, j, k) {
+        if arrives(code, states, table, register, j, k) {
             return Some(k);
         }
     }
@@ -146,14 +168,15 @@ fn first_arrival(code: &Code, states: &[Option<State>], register: u8, j: usize) 
 fn first_other(
     code: &Code,
     states: &[Option<State>],
+    table: Table,
     register: u8,
     j: usize,
     kind: Abs,
 ) -> Option<usize>
-    ensures { result ≡ first_below j (definitions.differs code.now states.now register j kind) }
+    ensures { result ≡ first_below j (definitions.differs table code.now states.now register j kind) }
 {
     for k in 0..j {
-        if differs(code, states, register, j, kind, k) {
+        if differs(code, states, table, register, j, kind, k) {
             return Some(k);
         }
     }
@@ -209,16 +232,17 @@ fn lost_in(code: &Code, states: &[Option<State>], register: u8, k: usize) -> Los
 fn met_with(
     code: &Code,
     states: &[Option<State>],
+    table: Table,
     register: u8,
     j: usize,
     first: (usize, Abs),
     other: Option<usize>,
 ) -> Loss
-    ensures { result ≡ definitions.met_with code.now states.now register j first.0 first.1 other }
+    ensures { result ≡ definitions.met_with table code.now states.now register j first.0 first.1 other }
 {
     match other {
         Some(other) => {
-            let kind = arrival(code, states, register, j, other).unwrap_or(Abs::None);
+            let kind = arrival(code, states, table, register, j, other).unwrap_or(Abs::None);
             Loss::Here(Hint::Met(
                 edge_from(code, first.0, first.1),
                 edge_from(code, other, kind),
@@ -229,13 +253,20 @@ fn met_with(
     }
 }
 
-fn met_from(code: &Code, states: &[Option<State>], register: u8, j: usize, k: usize) -> Loss
-    ensures { result ≡ definitions.met_from code.now states.now register j k (arrival code.now states.now register j k) }
+fn met_from(
+    code: &Code,
+    states: &[Option<State>],
+    table: Table,
+    register: u8,
+    j: usize,
+    k: usize,
+) -> Loss
+    ensures { result ≡ definitions.met_from table code.now states.now register j k (arrival table code.now states.now register j k) }
 {
-    match arrival(code, states, register, j, k) {
+    match arrival(code, states, table, register, j, k) {
         Some(kind) => {
-            let other = first_other(code, states, register, j, kind);
-            met_with(code, states, register, j, (k, kind), other)
+            let other = first_other(code, states, table, register, j, kind);
+            met_with(code, states, table, register, j, (k, kind), other)
         }
         None => Loss::Here(Hint::NeverSet),
     }
@@ -243,11 +274,11 @@ fn met_from(code: &Code, states: &[Option<State>], register: u8, j: usize, k: us
 
 /// What is said of an instruction before which nothing is known of a register.
 #[tactic(auto, unfolding(crate::specs::Meetings::step))]
-fn step(code: &Code, states: &[Option<State>], register: u8, j: usize) -> Loss
-    ensures { result ≡ definitions.step code.now states.now register j }
+fn step(code: &Code, states: &[Option<State>], table: Table, register: u8, j: usize) -> Loss
+    ensures { result ≡ definitions.step table code.now states.now register j }
 {
-    match first_arrival(code, states, register, j) {
-        Some(k) => met_from(code, states, register, j, k),
+    match first_arrival(code, states, table, register, j) {
+        Some(k) => met_from(code, states, table, register, j, k),
         None => Loss::Here(Hint::NeverSet),
     }
 }
@@ -256,12 +287,18 @@ fn step(code: &Code, states: &[Option<State>], register: u8, j: usize) -> Loss
 
 /// Where a register that may hold nothing before an instruction was lost.
 #[tactic(auto, using(crate::proofs::Back::one_back, crate::proofs::Back::all_left))]
-fn lost_at(code: &Code, states: &[Option<State>], register: u8, pc: usize) -> Option<Hint>
-    ensures { result ≡ definitions.lost_within code.now states.now register (length code.now) pc }
+fn lost_at(
+    code: &Code,
+    states: &[Option<State>],
+    table: Table,
+    register: u8,
+    pc: usize,
+) -> Option<Hint>
+    ensures { result ≡ definitions.lost_within table code.now states.now register (length code.now) pc }
 {
     let mut at = pc;
     for _step in 0..code.len() {
-        match step(code, states, register, at) {
+        match step(code, states, table, register, at) {
             Loss::Here(hint) => return Some(hint),
             Loss::Before(k) => at = k,
         }
@@ -284,13 +321,11 @@ fn lost_register(reason: Option<Reason>) -> Option<u8>
 pub fn lost_hint(
     code: &Code,
     states: &[Option<State>],
+    table: Table,
     pc: usize,
     reason: Option<Reason>,
 ) -> Option<Hint>
-    ensures { result ≡ definitions.lost_hint code.now states.now pc reason }
+    ensures { result ≡ definitions.lost_hint table code.now states.now pc reason }
 {
-    match lost_register(reason) {
-        Some(register) => lost_at(code, states, register, pc),
-        None => None,
-    }
+    lost_at(code, states, table, lost_register(reason)?, pc)
 }

@@ -136,19 +136,14 @@ fn no_address(state: &Abstract, register: u8) -> Option<Reason>
 fn wrong_base(memory: Option<MemoryOperand>, state: &Abstract) -> Option<Reason>
     ensures { result ≡ definitions.wrong_base memory state.now }
 {
-    match memory {
-        Some(m) => no_address(state, m.base),
-        None => None,
-    }
+    no_address(state, memory?.base)
 }
 
 fn wrong_condition(condition: Option<Condition>, state: &Abstract) -> Option<Reason>
     ensures { result ≡ definitions.wrong_condition condition state.now }
 {
-    match condition {
-        Some(c) => no_number(state, c.dst).or(no_number_source(state, c.source)),
-        None => None,
-    }
+    let c = condition?;
+    no_number(state, c.dst).or(no_number_source(state, c.source))
 }
 
 /// The first operand that is not of the kind that it must be.
@@ -177,10 +172,7 @@ fn first_wrong(state: &Abstract, arguments: &[Argument]) -> Option<Argument>
 pub fn first_wrong_argument(summary: Summary, state: &Abstract) -> Option<Argument>
     ensures { result ≡ definitions.first_wrong_argument summary state.now }
 {
-    match summary.helper() {
-        Some(helper) => first_wrong(state, &helper.signature().arguments),
-        None => None,
-    }
+    first_wrong(state, &summary.helper()?.signature().arguments)
 }
 
 /// The kind that an argument's address or length should not have, if one has such a kind.
@@ -203,10 +195,8 @@ fn wrong_bytes(state: &Abstract, address: u8, count: u8) -> Reason
 {
     let kind = kinds::kind_at(state, address);
     let count_kind = kinds::kind_at(state, count);
-    match wrong_pair(state, address, count) {
-        Some(reason) => reason,
-        None => Reason::WrongBytes(address, kind, count, count_kind),
-    }
+    let wrong = Reason::WrongBytes(address, kind, count, count_kind);
+    wrong_pair(state, address, count).unwrap_or(wrong)
 }
 
 fn wrong_room(state: &Abstract, address: u8, count: u8) -> Reason
@@ -214,10 +204,8 @@ fn wrong_room(state: &Abstract, address: u8, count: u8) -> Reason
 {
     let kind = kinds::kind_at(state, address);
     let count_kind = kinds::kind_at(state, count);
-    match wrong_pair(state, address, count) {
-        Some(reason) => reason,
-        None => Reason::WrongRoom(address, kind, count, count_kind),
-    }
+    let wrong = Reason::WrongRoom(address, kind, count, count_kind);
+    wrong_pair(state, address, count).unwrap_or(wrong)
 }
 
 pub fn wrong_argument(state: &Abstract, argument: Option<Argument>) -> Option<Reason>

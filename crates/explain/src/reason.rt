@@ -31,7 +31,7 @@ pub enum Reason {
     Last,
     /// r10 is written.
     Frame,
-    /// No helper has the number.
+    /// No helper of the program's table has the number.
     NoHelper(i32),
     /// The register is read and may hold nothing.
     Unknown(u8),
@@ -126,7 +126,12 @@ impl fmt::Display for Reason {
                 )
             }
             Reason::Frame => write!(f, "r10 is the end of the stack and is never written"),
-            Reason::NoHelper(number) => write!(f, "no helper has the number {number}"),
+            Reason::NoHelper(number) => {
+                write!(
+                    f,
+                    "no helper of the program's table has the number {number}"
+                )
+            },
             Reason::Unknown(register) => write!(f, "r{register} is read and may hold nothing"),
             Reason::NoNumber(register, kind) => {
                 write_kind(f, register, kind, "is no number, and a number is needed")

@@ -69,19 +69,14 @@ fn unknown_operand(state: &Abstract, takes: Operands) -> Option<u8>
 fn unknown_base(state: &Abstract, memory: Option<MemoryOperand>) -> Option<u8>
     ensures { result ≡ find (λ r. is_unknown (kind_at state.now r)) (base_registers memory) }
 {
-    match memory {
-        Some(m) => unknown_at(state, m.base),
-        None => None,
-    }
+    unknown_at(state, memory?.base)
 }
 
 fn unknown_in_condition(state: &Abstract, condition: Option<Condition>) -> Option<u8>
     ensures { result ≡ find (λ r. is_unknown (kind_at state.now r)) (condition_registers condition) }
 {
-    match condition {
-        Some(c) => unknown_of_two(state, c.dst, c.source),
-        None => None,
-    }
+    let c = condition?;
+    unknown_of_two(state, c.dst, c.source)
 }
 
 fn unknown_argument(state: &Abstract, argument: Argument) -> Option<u8>
@@ -110,10 +105,7 @@ fn first_unknown_argument(state: &Abstract, arguments: &[Argument]) -> Option<u8
 fn unknown_in_call(state: &Abstract, helper: Option<Helper>) -> Option<u8>
     ensures { result ≡ find (λ r. is_unknown (kind_at state.now r)) (flat_map argument_registers (arguments_of helper)) }
 {
-    match helper {
-        Some(helper) => first_unknown_argument(state, &helper.signature().arguments),
-        None => None,
-    }
+    first_unknown_argument(state, &helper?.signature().arguments)
 }
 
 fn unknown_at_exit(state: &Abstract, exits: bool) -> Option<u8>

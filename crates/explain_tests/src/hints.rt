@@ -161,7 +161,7 @@ the length may be 0: test first that it is at least 1 (is_within of klog.h); a t
         "mov64 r3, r2\nmov64 r0, 1\njeq64 r3, 0, +12\nmov64 r1, r10\nadd64 r1, -100\nmov64 r2, 0\ncall 1\nmov64 r1, r0\nmov64 r0, 2\njne64 r1, 0, +5\nmov64 r2, r10\nadd64 r2, -100\nmov64 r1, 0\nmov64 r3, 1\ncall 4\nexit\n",
         "V12 HelperArg at 6
 r1 (stack+412) and r3 (length of value) name room that may have no byte, or not lie on the stack
-no stack has bytes 512 to 65947: bound the index or the length (index_below and is_within of klog.h)",
+no stack has bytes 512 to 1048987: bound the index or the length (index_below and is_within of klog.h)",
     ),
     (
         "mov64 r2, 0\nmov64 r3, 8\ncall 2\nexit\n",

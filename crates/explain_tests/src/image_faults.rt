@@ -1,4 +1,5 @@
 use explain::{Extent, explain_image, image_fault_text};
+use machine_spec::Table;
 use std::alloc::Global;
 use std::test::Fail;
 
@@ -142,7 +143,7 @@ a 64-bit immediate has a second slot that begins with 00 00 00 00
 
 /// The fault of an image without code, and what it is about.
 fn fault_lines(alloc: Global, image: &[u8]) -> Result<String, Fail> {
-    let fault = explain_image(alloc, image, Extent::All)
+    let fault = explain_image(alloc, image, Table::One, Extent::All)
         .err()
         .ok_or("code")?;
     let why = image_fault_text(alloc, image, fault)?;

@@ -2,23 +2,27 @@
 
 use bpf_asm::assemble;
 use explain::{Explanation, Extent, explain_image};
+use machine_spec::Table;
 use std::alloc::{AllocError, Global};
 use std::test::Fail;
 
-/// What is explained of the program of a text, with as many instructions as asked.
+/// What is explained of the program of a text and a helper table, with as many instructions as asked.
 pub(crate) fn explained_to(
     alloc: Global,
     program: &str,
+    table: Table,
     extent: Extent,
 ) -> Result<Explanation, Fail> {
     let image = assemble(alloc, program).ok().ok_or("no image")?;
-    let explanation = explain_image(alloc, &image, extent).ok().ok_or("no code")?;
+    let explanation = explain_image(alloc, &image, table, extent)
+        .ok()
+        .ok_or("no code")?;
     Ok(explanation)
 }
 
-/// The same with all instructions.
+/// The same of table one with all instructions.
 pub(crate) fn explained(alloc: Global, program: &str) -> Result<Explanation, Fail> {
-    explained_to(alloc, program, Extent::All)
+    explained_to(alloc, program, Table::One, Extent::All)
 }
 
 /// The fault of a program and what it is about, each in a line.

@@ -12,4 +12,6 @@ mod listings;
 #[cfg(test)]
 mod reasons;
 #[cfg(test)]
+mod tables;
+#[cfg(test)]
 mod ways;

@@ -1,6 +1,6 @@
 use crate::images::{explained, refusal_text};
 use explain::{Extent, explain_image};
-use machine_spec::IsaFault;
+use machine_spec::{IsaFault, Table};
 use std::test::Fail;
 
 /// Programs, each with the lines of its instructions and those of its refusal.
@@ -123,9 +123,15 @@ fn lists_instructions(rt: HostRuntime) -> Result<(), Fail> {
 #[test]
 fn refuses_images(rt: HostRuntime) -> Result<(), Fail> {
     let alloc = rt.alloc();
-    let cut = explain_image(alloc, &[0x95, 0, 0, 0], Extent::All).err();
+    let cut = explain_image(alloc, &[0x95, 0, 0, 0], Table::Two, Extent::All).err();
     assert!(rt; cut == Some(IsaFault::Size));
-    let left_out = explain_image(alloc, &[0xdb, 0, 0, 0, 0, 0, 0, 0], Extent::Refused).err();
+    let left_out = explain_image(
+        alloc,
+        &[0xdb, 0, 0, 0, 0, 0, 0, 0],
+        Table::One,
+        Extent::Refused,
+    )
+    .err();
     assert!(rt; left_out == Some(IsaFault::NotInProfile(0)));
     Ok(())
 }

@@ -25,7 +25,7 @@ const REFUSALS: [(&str, &str); 27] = [
     ),
     (
         "call 99\nexit\n",
-        "V11 Helper at 0\nno helper has the number 99\n",
+        "V11 Helper at 0\nno helper of the program's table has the number 99\n",
     ),
     ("exit\n", "V4 Unset at 0\nr0 is read and may hold nothing\n"),
     (

@@ -1,5 +1,6 @@
 use crate::images::explained_to;
 use explain::Extent;
+use machine_spec::Table;
 use std::test::Fail;
 
 /// Programs, each with the lines of the instructions that lead to the refused one.
@@ -104,7 +105,7 @@ refused: V7 RecordBounds at 0
 fn lists_what_leads_to_a_refusal(rt: HostRuntime) -> Result<(), Fail> {
     let alloc = rt.alloc();
     for (program, lines) in WAYS {
-        let explanation = explained_to(alloc, program, Extent::Refused)?;
+        let explanation = explained_to(alloc, program, Table::One, Extent::Refused)?;
         assert_eq!(rt; explanation.lines.as_str(), lines);
     }
     Ok(())

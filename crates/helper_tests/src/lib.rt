@@ -6,6 +6,8 @@ mod addresses;
 #[cfg(test)]
 mod emissions;
 #[cfg(test)]
+mod headers;
+#[cfg(test)]
 mod loads;
 #[cfg(test)]
 mod runs;

@@ -1,22 +1,35 @@
 //! What is asked of the helper that a program calls.
 
-use machine_spec::{Argument, Helper, Instruction, Summary};
+use machine_spec::{Argument, Helper, Instruction, Summary, Table};
 use std::process::Abort;
 
-const NUMBERS: [(i32, Option<Helper>); 9] = [
+const NUMBERS: [(i32, Option<Helper>); 12] = [
     (3, Some(Helper::EmitRecord)),
     (99, None),
     (-3, None),
     (7, Some(Helper::Offset)),
     (1, Some(Helper::LoadValue)),
     (2, Some(Helper::LoadKey)),
-    (10, None),
+    (0, None),
+    (10, Some(Helper::HeaderCount)),
+    (12, Some(Helper::HeaderValue)),
+    (13, None),
     (4, Some(Helper::EmitValue)),
     (5, Some(Helper::Emit)),
 ];
 
+/// Tables, numbers and the helpers that they name there.
+const TABLES: [(Table, i32, Option<Helper>); 6] = [
+    (Table::One, 9, Some(Helper::Partition)),
+    (Table::One, 10, None),
+    (Table::One, 12, None),
+    (Table::Two, 1, Some(Helper::LoadValue)),
+    (Table::Two, 11, Some(Helper::HeaderKey)),
+    (Table::Two, 13, None),
+];
+
 /// Helpers, and an argument of each by its place.
-const ARGUMENTS: [(Helper, usize, Argument); 7] = [
+const ARGUMENTS: [(Helper, usize, Argument); 9] = [
     (Helper::EmitRecord, 0, Argument::Number(1)),
     (Helper::Partition, 0, Argument::Nothing),
     (Helper::LoadKey, 0, Argument::Room(1, 3)),
@@ -24,18 +37,29 @@ const ARGUMENTS: [(Helper, usize, Argument); 7] = [
     (Helper::EmitValue, 1, Argument::Bytes(2, 3)),
     (Helper::EmitValue, 2, Argument::Nothing),
     (Helper::Emit, 2, Argument::Bytes(4, 5)),
+    (Helper::HeaderCount, 0, Argument::Nothing),
+    (Helper::HeaderValue, 0, Argument::Room(1, 3)),
 ];
 
 /// Helpers, their numbers and the greatest number that each answers.
-const ANSWERS: [(Helper, i32, u64); 3] = [
+const ANSWERS: [(Helper, i32, u64); 6] = [
     (Helper::EmitRecord, 3, 3),
     (Helper::Partition, 9, 63),
     (Helper::LoadKey, 2, 1),
+    (Helper::HeaderCount, 10, 16),
+    (Helper::HeaderKey, 11, 256),
+    (Helper::HeaderValue, 12, 4098),
 ];
 
 fn numbers_name(rt: &impl Abort, rows: &[(i32, Option<Helper>)]) {
     for (number, want) in rows {
         assert_eq!(rt; Helper::with_number(*number), *want, "{number}");
+    }
+}
+
+fn tables_name(rt: &impl Abort, rows: &[(Table, i32, Option<Helper>)]) {
+    for (table, number, want) in rows {
+        assert_eq!(rt; table.with_number(*number), *want, "{table:?} {number}");
     }
 }
 
@@ -60,6 +84,7 @@ fn answers_are(rt: &impl Abort, rows: &[(Helper, i32, u64)]) {
 #[test]
 fn helpers_by_number(rt: HostRuntime) {
     numbers_name(&rt, &NUMBERS);
+    tables_name(&rt, &TABLES);
     arguments_are(&rt, &ARGUMENTS);
     answers_are(&rt, &ANSWERS);
 }
@@ -68,9 +93,10 @@ fn helpers_by_number(rt: HostRuntime) {
 fn helpers_of_calls(rt: HostRuntime) {
     let emission = Summary::of(Instruction::Call(3));
     assert_eq!(rt; emission.helper(), Some(Helper::EmitRecord));
-    assert!(rt; !emission.calls_no_helper());
+    assert!(rt; !emission.calls_no_helper(Table::One));
     assert!(rt; !emission.writes_frame());
-    assert!(rt; Summary::of(Instruction::Call(99)).calls_no_helper());
+    assert!(rt; Summary::of(Instruction::Call(99)).calls_no_helper(Table::Two));
+    assert!(rt; Summary::of(Instruction::Call(12)).calls_no_helper(Table::One));
     assert!(rt; Summary::of(Instruction::Wide(10, 0)).writes_frame());
     assert_eq!(rt; Summary::of(Instruction::Exit).helper(), None);
 }

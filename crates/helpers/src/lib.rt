@@ -3,12 +3,16 @@
 #![tactic(auto)]
 
 mod emitter;
+mod headers;
 mod parts;
 mod pieces;
+mod place;
 mod room;
 
 pub use emitter::Emitter;
+pub use headers::{HeaderPart, header_count, header_key, header_value};
 pub use machine_spec::{Emission, Emissions, Helper, Outcome, Place};
 pub use parts::{null_flags, text, text_length};
 pub use pieces::Piece;
-pub use room::load_part;
+pub use place::{offset, partition, timestamp};
+pub use room::{fill_room, load_part};

@@ -1,6 +1,6 @@
 //! The bytes that a helper writes to the stack.
 ghost use Rattle.std.specs.Prelude.{◌≡◌, if◌then◌else◌, length};
-ghost use Rattle.machine_spec.specs.Machine.{has_part, part_of};
+ghost use Rattle.machine_spec.specs.Machine.{has_part, part_of, padded};
 
 /// Whether there are `count` bytes from a place on. The sum does not wrap.
 fn has_part(bytes: &[u8], at: u64, count: usize) -> bool
@@ -22,5 +22,17 @@ pub fn load_part(bytes: &[u8], at: u64, room: &mut [u8]) -> u64
     } else {
         room.fill(0);
         1
+    }
+}
+
+/// Copies as many bytes as fit to the room, with zeros after their end.
+pub fn fill_room(bytes: &[u8], room: &mut [u8])
+    ensures { room.new ≡ padded (length room.old) bytes.now }
+{
+    if bytes.len() < room.len() {
+        room[..bytes.len()].copy_from_slice(bytes);
+        room[bytes.len()..].fill(0);
+    } else {
+        room.copy_from_slice(&bytes[..room.len()]);
     }
 }

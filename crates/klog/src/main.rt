@@ -1,7 +1,8 @@
 //! klog: a partitioned commit-log broker whose records pass through verified BPF programs. `klog
 //! run SCRIPT` does the commands of a script, `klog check IMAGE` verifies a program, `klog explain
 //! IMAGE` prints what the verifier knows of it, `klog asm TEXT IMAGE` makes the image of a program's
-//! text, and `klog dis IMAGE` prints that text.
+//! text, `klog dis IMAGE` prints that text, and `klog recheck LIST` verifies the programs of a list
+//! anew.
 #![tactic(auto)]
 
 use commands::{Files, command, tell_no_words};

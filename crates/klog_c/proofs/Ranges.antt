@@ -45,4 +45,5 @@ limits_are asked key value none =
     record {
       key = fits (is_key_null asked.nulls) key MAX_KEY parts.0;
       value = fits (is_value_null asked.nulls) value MAX_VALUE parts.1;
+      headers = record { few = omega arith; keys = λ position. omega arith; values = λ position. omega arith };
     }

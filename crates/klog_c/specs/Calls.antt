@@ -1,11 +1,11 @@
 -- What the calls of C's answer. A number is 0 where the call did its work.
 use Rattle.std.specs.Prelude.{◌≡◌, ◌≢◌, ℕ, zero, suc, ◌%◌, pos, Bool, true, false}
 use Rattle.std.specs.Prelude.{not, ◌&&◌, ◌||◌, ◌==◌, nat_le, nat_lt, if◌then◌else◌}
-use Rattle.std.specs.Prelude.{List, [], length, Option, Some, None, is_none, Err, string_bytes}
+use Rattle.std.specs.Prelude.{List, [], length, Option, Some, None, option_map, is_none, Err, string_bytes}
 use Rattle.wire_spec.specs.declared.record.Record.{Record}
 use Rattle.wire_spec.specs.declared.limits.TheConstants.{MAX_KEY, MAX_VALUE, TIMESTAMP_END}
 use Rattle.machine_spec.specs.declared.{outcome.Outcome.Outcome, outcome.Place.Place}
-use Rattle.machine_spec.specs.Image.{Program, program_of}
+use Rattle.machine_spec.specs.{Image.Program, Image.program_of, declared.helper.Table.Table}
 use Rattle.machine_spec.specs.Machine.{Input}
 use Rattle.machine_spec.specs.Meaning.{Means}
 use Rattle.verifier_spec.specs.declared.fault.LoadFault.{LoadFault}
@@ -59,17 +59,25 @@ Fills object before after (suc number) =
 
 -- ---- loads
 
--- the number and the place are those of the image's refusal
-abbrev pub Refuses : List ℕ → ℕ → ℕ → Type 0
-Refuses image place number =
-    (fault : LoadFault) × ProgramIs image (Err fault) × (number ≡ fault_number fault) × (place ≡ fault_place fault)
+-- the helper table with a number
+abbrev pub table_with_number : ℕ → Option Table
+table_with_number number = if number == 1 then Some Table.One else if number == 2 then Some Table.Two else None
 
--- the handle holds the program of the image, which is accepted; or it is as it was
-abbrev pub Loads : List ℕ → Option Object → Option Object → ℕ → ℕ → Type 0
-Loads image before after place zero =
-    (after ≡ Some (object.Program (program_of image))) × IsAccepted (program_of image)
-Loads image before after place (suc number) =
-    (after ≡ before) × (suc number ≢ MEMORY → suc number ≢ KIND → Refuses image place (suc number))
+-- the program of an image and the number of a helper table, if there is a table with the number
+abbrev pub program_with : List ℕ → ℕ → Option Program
+program_with image number = option_map (program_of image) (table_with_number number)
+
+-- the number and the place are those of the program's refusal
+abbrev pub Refuses : Program → ℕ → ℕ → Type 0
+Refuses program place number =
+    (fault : LoadFault) × ProgramIs program (Err fault) × (number ≡ fault_number fault) × (place ≡ fault_place fault)
+
+-- the handle holds the program, which is accepted; or it is as it was, also where there is no program
+abbrev pub Loads : Option Program → Option Object → Option Object → ℕ → ℕ → Type 0
+Loads None before after place number = (after ≡ before) × (number ≡ RANGE)
+Loads (Some program) before after place zero = (after ≡ Some (object.Program program)) × IsAccepted program
+Loads (Some program) before after place (suc number) =
+    (after ≡ before) × (suc number ≢ MEMORY → suc number ≢ KIND → Refuses program place (suc number))
     × (suc number ≡ KIND → takes_kind before 0 ≡ false)
 
 -- the other handle holds the same program; or it is as it was

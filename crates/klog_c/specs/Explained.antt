@@ -1,13 +1,14 @@
--- What is explained of an image, as a text.
+-- What is explained of a program, as a text.
 use Rattle.std.specs.Prelude.{◌≡◌, ◌≢◌, ℕ, zero, suc, Bool, List, ◌++◌, length, Option, Some, None, Result, Ok, Err}
 use Rattle.std.specs.Prelude.{string_bytes, if◌then◌else◌}
+use Rattle.machine_spec.specs.Image.{Program}
 use Rattle.machine_spec.specs.declared.instruction.IsaFault.{IsaFault}
 use Rattle.machine_spec.specs.declared.instruction.IsaFault.TheVariants as isa
 use Rattle.explain.specs.declared.{explanation.Explanation.Explanation, explanation.Refusal.Refusal, way.Extent.Extent}
 use Rattle.explain.specs.declared.way.Extent.TheVariants as extent
 use Rattle.explain.specs.Explanations.{ExplainsAs}
 use Rattle.explain.specs.ImageFaults.{image_fault_text}
-use Rattle.klog_c.specs.declared.faults.TheConstants.{MEMORY, KIND}
+use Rattle.klog_c.specs.declared.faults.TheConstants.{MEMORY, KIND, RANGE}
 use Rattle.klog_c.specs.declared.object.Object.{Object}
 use Rattle.klog_c.specs.Outcomes.{Copies}
 use Rattle.klog_c.specs.Calls.{text_in}
@@ -25,19 +26,20 @@ abbrev pub IsTextOf : List ℕ → Result Explanation IsaFault → List ℕ → 
 IsTextOf image (Ok explanation) text = Continues (string_bytes explanation.lines) explanation.refusal text
 IsTextOf image (Err fault) text = (fault ≢ isa.Memory) × EndsWith (image_fault_text image fault) text
 
--- what `klog explain` prints of an image
-abbrev pub IsExplained : Extent → List ℕ → List ℕ → Type 0
-IsExplained extent image text =
-    (found : Result Explanation IsaFault) × ExplainsAs extent image found × IsTextOf image found text
+-- what `klog explain` prints of a program
+abbrev pub IsExplained : Extent → Program → List ℕ → Type 0
+IsExplained extent program text =
+    (found : Result Explanation IsaFault) × ExplainsAs extent program found × IsTextOf program.image found text
 
 abbrev pub extent_of : Bool → Extent
 extent_of is_refused_alone = if is_refused_alone then extent.Refused else extent.All
 
--- the handle holds the text; or it is as it was
-abbrev pub Explained : List ℕ → Bool → Option Object → Option Object → ℕ → Type 0
-Explained image is_refused_alone before after zero = (text : List ℕ) × (text_in after ≡ Some text)
-    × IsExplained (extent_of is_refused_alone) image text
-Explained image is_refused_alone before after (suc number) =
+-- the handle holds the text; or it is as it was, also where there is no program
+abbrev pub Explained : Option Program → Bool → Option Object → Option Object → ℕ → Type 0
+Explained None is_refused_alone before after number = (after ≡ before) × (number ≡ RANGE)
+Explained (Some program) is_refused_alone before after zero = (text : List ℕ) × (text_in after ≡ Some text)
+    × IsExplained (extent_of is_refused_alone) program text
+Explained (Some program) is_refused_alone before after (suc number) =
     (after ≡ before) × (suc number ≢ MEMORY → suc number ≡ KIND)
 
 -- the text is at the front of the buffer, where it fits, and its length is told

@@ -1,17 +1,19 @@
-//! Why the verifier accepts or refuses an image, as a text.
+//! Why the verifier accepts or refuses a program, as a text.
 
 ghost use Rattle.std.specs.Prelude.{◌≡◌, Some, IfOk, OnOk, string_bytes};
 ghost use Rattle.explain.specs.ImageFaults.{image_fault_text as fault_lines};
-ghost use Rattle.klog_c.specs.Calls.{text_in};
+ghost use Rattle.machine_spec.specs.Image.{program_of};
+ghost use Rattle.klog_c.specs.Calls.{text_in, program_with};
 ghost use Rattle.klog_c.specs.Explained as definitions;
 
 use crate::emissions::copy;
-use crate::faults::{KIND, MEMORY};
+use crate::faults::{KIND, MEMORY, RANGE};
 use crate::filling::fill;
 use crate::handle::Handle;
 use crate::object::Object;
+use crate::working::table_with_number;
 use explain::{Explanation, Extent, Refusal, explain_image, image_fault_text};
-use machine_spec::IsaFault;
+use machine_spec::{IsaFault, Table};
 use std::alloc::{AllocError, Global};
 
 /// Appends the fault of a program, what it is about and what to do.
@@ -64,11 +66,16 @@ fn text_of(
     }
 }
 
-/// What is explained of an image, as a text.
-fn explained(alloc: Global, image: &[u8], extent: Extent) -> Result<String, AllocError>
-    ensures { IfOk result (λ text. definitions.IsExplained extent image.now (string_bytes text)) }
+/// What is explained of the program of an image and a helper table, as a text.
+fn explained(
+    alloc: Global,
+    image: &[u8],
+    table: Table,
+    extent: Extent,
+) -> Result<String, AllocError>
+    ensures { IfOk result (λ text. definitions.IsExplained extent (program_of image.now table) (string_bytes text)) }
 {
-    let found = explain_image(alloc, image, extent);
+    let found = explain_image(alloc, image, table, extent);
     text_of(alloc, image, found)
 }
 
@@ -82,18 +89,35 @@ fn extent_of(is_refused_alone: bool) -> Extent
     }
 }
 
-/// Puts what is explained of an image into a handle.
-pub(crate) fn explain_into(
+/// Puts what is explained of the program of an image and a helper table into a handle.
+fn explain_program(
     alloc: Global,
     image: &[u8],
+    table: Table,
     is_refused_alone: bool,
     text: &mut Handle,
 ) -> u32
-    ensures { definitions.Explained image.now is_refused_alone text.old.place.object text.new.place.object result }
+    ensures { definitions.Explained (Some (program_of image.now table)) is_refused_alone text.old.place.object text.new.place.object result }
 {
-    match explained(alloc, image, extent_of(is_refused_alone)) {
+    match explained(alloc, image, table, extent_of(is_refused_alone)) {
         Err(_) => MEMORY,
         Ok(found) => fill(alloc, text, Object::Text(found)),
+    }
+}
+
+/// The same by the number of a helper table.
+pub(crate) fn explain_into(
+    alloc: Global,
+    image: &[u8],
+    table: u32,
+    is_refused_alone: bool,
+    text: &mut Handle,
+) -> u32
+    ensures { definitions.Explained (program_with image.now table) is_refused_alone text.old.place.object text.new.place.object result }
+{
+    match table_with_number(table) {
+        None => RANGE,
+        Some(table) => explain_program(alloc, image, table, is_refused_alone, text),
     }
 }
 

@@ -3,7 +3,7 @@
 #![tactic(auto)]
 
 ghost use Rattle.std.specs.Prelude.{◌≡◌, Some, None};
-ghost use Rattle.klog_c.specs.Calls.{Loads, Shares, Runs, program_in, outcome_in, text_in};
+ghost use Rattle.klog_c.specs.Calls.{Loads, Shares, Runs, program_with, program_in, outcome_in, text_in};
 ghost use Rattle.klog_c.specs.Explained.{Explained, CopiesText};
 ghost use Rattle.klog_c.specs.Outcomes.{Tells, TellsAt, CopiesAt};
 ghost use Rattle.klog_c.specs.Texts.{Writes, fault_text};
@@ -29,18 +29,20 @@ use crate::texts::write_fault;
 use crate::working::{load_into, run_into, share_into};
 use std::alloc::Global;
 
-/// Loads a program's image into a handle that holds nothing or a program. A fault leaves the handle
-/// as it was; of a refusal `place` is then the slot or the instruction.
+/// Loads the program of an image and a helper table, 1 or 2, into a handle that holds nothing or a
+/// program. A fault leaves the handle as it was; of a refusal `place` is then the slot or the
+/// instruction.
 #[unsafe(no_mangle)]
 pub extern "C" fn klog_c_load(
     alloc: Global,
     image: &[u8],
+    table: u32,
     program: &mut Handle,
     place: &mut usize,
 ) -> u32
-    ensures { Loads image.now program.old.place.object program.new.place.object place.new result }
+    ensures { Loads (program_with image.now table) program.old.place.object program.new.place.object place.new result }
 {
-    load_into(alloc, image, program, place)
+    load_into(alloc, image, table, program, place)
 }
 
 /// Writes the text of a fault at the front of a buffer, and its length, also where the buffer is too
@@ -175,18 +177,20 @@ pub extern "C" fn klog_c_emission_value(
     number
 }
 
-/// Explains why the verifier accepts or refuses an image, into a handle that holds nothing or a text:
-/// the instructions, or those alone that lead to the refused one, each with what is known before it.
+/// Explains why the verifier accepts or refuses the program of an image and a helper table, 1 or 2,
+/// into a handle that holds nothing or a text: the instructions, or those alone that lead to the
+/// refused one, each with what is known before it.
 #[unsafe(no_mangle)]
 pub extern "C" fn klog_c_explain(
     alloc: Global,
     image: &[u8],
+    table: u32,
     is_refused_alone: bool,
     text: &mut Handle,
 ) -> u32
-    ensures { Explained image.now is_refused_alone text.old.place.object text.new.place.object result }
+    ensures { Explained (program_with image.now table) is_refused_alone text.old.place.object text.new.place.object result }
 {
-    explain_into(alloc, image, is_refused_alone, text)
+    explain_into(alloc, image, table, is_refused_alone, text)
 }
 
 /// Copies a text to the front of a buffer, and tells its length, also where the buffer is too short.

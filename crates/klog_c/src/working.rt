@@ -1,10 +1,11 @@
 //! What the calls do with what handles hold.
 
 ghost use Rattle.std.specs.Prelude.{◌≡◌, ◌≢◌, Some, None, IfOk, zero, suc};
+ghost use Rattle.machine_spec.specs.Image.{program_of};
 ghost use Rattle.klog_c.specs.Calls as definitions;
 ghost use Rattle.log_item.specs.Programs.{ProgramIs};
 
-use crate::faults::{KIND, MEMORY, OK, fault_number, fault_place};
+use crate::faults::{KIND, MEMORY, OK, RANGE, fault_number, fault_place};
 use crate::filling::fill;
 use crate::handle::Handle;
 use crate::object::Object;
@@ -12,33 +13,67 @@ use crate::running::{Asked, run, run_fault};
 use crate::shared::Shared;
 use bytes::Bytes;
 use log_item::Program;
-use machine_spec::IsaFault;
+use machine_spec::{IsaFault, Table};
 use std::alloc::Global;
 use verifier_spec::LoadFault;
 
-/// The program of an image, or the image's refusal.
-fn loaded(alloc: Global, image: &[u8]) -> Result<Shared, LoadFault>
-    ensures { ProgramIs image.now result }
+/// The helper table with a number.
+pub(crate) fn table_with_number(number: u32) -> Option<Table>
+    ensures { result ≡ definitions.table_with_number number }
+{
+    match number {
+        1 => Some(Table::One),
+        2 => Some(Table::Two),
+        _ => None,
+    }
+}
+
+/// The program of an image and a helper table, or its refusal.
+fn loaded(alloc: Global, image: &[u8], table: Table) -> Result<Shared, LoadFault>
+    ensures { ProgramIs (program_of image.now table) result }
 {
     let Ok(image) = Bytes::copy_from_slice(alloc, image) else {
         return Err(LoadFault::Isa(IsaFault::Memory));
     };
-    let program = Program::new(alloc, &image)?;
+    let program = Program::new(alloc, &image, table)?;
     match Shared::new(alloc, program) {
         Ok(shared) => Ok(shared),
         Err(_) => Err(LoadFault::Isa(IsaFault::Memory)),
     }
 }
 
-pub(crate) fn load_into(alloc: Global, image: &[u8], program: &mut Handle, place: &mut usize) -> u32
-    ensures { definitions.Loads image.now program.old.place.object program.new.place.object place.new result }
+/// Puts the program of an image and a helper table into a handle.
+fn load_program(
+    alloc: Global,
+    image: &[u8],
+    table: Table,
+    program: &mut Handle,
+    place: &mut usize,
+) -> u32
+    ensures { definitions.Loads (Some (program_of image.now table)) program.old.place.object program.new.place.object place.new result }
 {
-    match loaded(alloc, image) {
+    match loaded(alloc, image, table) {
         Ok(shared) => fill(alloc, program, Object::Program(shared)),
         Err(fault) => {
             *place = fault_place(fault);
             fault_number(fault)
         }
+    }
+}
+
+/// The same by the number of a helper table.
+pub(crate) fn load_into(
+    alloc: Global,
+    image: &[u8],
+    table: u32,
+    program: &mut Handle,
+    place: &mut usize,
+) -> u32
+    ensures { definitions.Loads (definitions.program_with image.now table) program.old.place.object program.new.place.object place.new result }
+{
+    match table_with_number(table) {
+        None => RANGE,
+        Some(table) => load_program(alloc, image, table, program, place),
     }
 }
 

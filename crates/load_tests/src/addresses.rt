@@ -1,6 +1,6 @@
 use crate::images::{EXIT, ZERO, check_answer, check_answers, check_kind, image_of};
 use annotate::load;
-use machine_spec::Region;
+use machine_spec::{Region, Table};
 use std::alloc::Global;
 use std::process::Abort;
 use std::test::Fail;
@@ -149,7 +149,7 @@ fn bytes_by_address(rt: HostRuntime) -> Result<(), Fail> {
             "V4 Unset at 2",
         ),
     ];
-    check_answers(rt.alloc(), &rt, &cases)
+    check_answers(rt.alloc(), &rt, Table::One, &cases)
 }
 
 const LOAD_VALUE: u64 = 0x8500_0000_0100_0000; // call 1
@@ -283,7 +283,7 @@ const ROOMS: [([u64; 7], &str); 10] = [
 #[test]
 fn room_on_the_stack(rt: HostRuntime) -> Result<(), Fail> {
     for (slots, want) in &ROOMS {
-        check_answer(rt.alloc(), &rt, slots, want)?;
+        check_answer(rt.alloc(), &rt, Table::One, slots, want)?;
     }
     Ok(())
 }
@@ -307,7 +307,7 @@ fn room_of_a_bounded_length(rt: HostRuntime) -> Result<(), Fail> {
             LOAD_VALUE,
             EXIT,
         ];
-        check_answer(rt.alloc(), &rt, &slots, want)?;
+        check_answer(rt.alloc(), &rt, Table::One, &slots, want)?;
     }
     Ok(())
 }
@@ -331,14 +331,14 @@ fn set_by_a_part(alloc: Global, rt: &impl Abort) -> Result<(), Fail> {
             last,
             EXIT,
         ];
-        check_answer(alloc, rt, &slots, want)?;
+        check_answer(alloc, rt, Table::One, &slots, want)?;
     }
     Ok(())
 }
 
 /// The only bytes that the call takes by address are the stack's.
 fn regions_of_a_part(alloc: Global, rt: &impl Abort, image: &[u8]) -> Result<(), Fail> {
-    let verified = load(alloc, image)?;
+    let verified = load(alloc, image, Table::One)?;
     assert_eq!(rt; verified.code().len(), 6);
     assert_eq!(rt; verified.regions(4).0, Some(Region::Stack));
     assert_eq!(rt; verified.regions(4).1, None);
@@ -354,8 +354,8 @@ fn after_a_part_is_copied(rt: HostRuntime) -> Result<(), Fail> {
         &[END, BELOW, FROM_START, EIGHT, LOAD_VALUE, EXIT],
     )?;
     regions_of_a_part(rt.alloc(), &rt, &image)?;
-    check_kind(rt.alloc(), &rt, &image, 5, 0, Abs::Num(0, 1))?;
-    check_kind(rt.alloc(), &rt, &image, 5, 1, Abs::None)
+    check_kind(rt.alloc(), &rt, Table::One, &image, 5, 0, Abs::Num(0, 1))?;
+    check_kind(rt.alloc(), &rt, Table::One, &image, 5, 1, Abs::None)
 }
 
 /// Key and value change places, with these instructions for r5, the new value's length, and for r3, the
@@ -387,14 +387,20 @@ fn two_pieces_by_address(rt: HostRuntime) -> Result<(), Fail> {
         ),
     ];
     for (value_length, key_length, want) in cases {
-        check_answer(rt.alloc(), &rt, &exchange(value_length, key_length), want)?;
+        check_answer(
+            rt.alloc(),
+            &rt,
+            Table::One,
+            &exchange(value_length, key_length),
+            want,
+        )?;
     }
     Ok(())
 }
 
 /// The call takes bytes of the value and of the key, and the exit none.
 fn regions_of_an_exchange(alloc: Global, rt: &impl Abort, image: &[u8]) -> Result<(), Fail> {
-    let verified = load(alloc, image)?;
+    let verified = load(alloc, image, Table::One)?;
     assert_eq!(rt; verified.code().len(), 8);
     assert_eq!(rt; verified.regions(6).0, Some(Region::Value));
     assert_eq!(rt; verified.regions(6).1, Some(Region::Key));
@@ -407,6 +413,6 @@ fn regions_of_an_exchange(alloc: Global, rt: &impl Abort, image: &[u8]) -> Resul
 fn regions_of_two_pieces(rt: HostRuntime) -> Result<(), Fail> {
     let image = image_of(rt.alloc(), &exchange(0xbf45_0000_0000_0000, LENGTH))?;
     regions_of_an_exchange(rt.alloc(), &rt, &image)?;
-    check_kind(rt.alloc(), &rt, &image, 7, 0, Abs::Num(0, 3))?;
-    check_kind(rt.alloc(), &rt, &image, 7, 5, Abs::None)
+    check_kind(rt.alloc(), &rt, Table::One, &image, 7, 0, Abs::Num(0, 3))?;
+    check_kind(rt.alloc(), &rt, Table::One, &image, 7, 5, Abs::None)
 }

@@ -2,7 +2,7 @@
 
 use crate::images::{EXIT, ZERO, image_of};
 use annotate::load;
-use machine_spec::{Distance, Instruction, Source, Test, Width};
+use machine_spec::{Distance, Instruction, Source, Table, Test, Width};
 use predecode::{Decoded, Rare, paired, predecode};
 use std::alloc::Global;
 use std::test::Fail;
@@ -17,7 +17,7 @@ fn a_program_is_predecoded(rt: HostRuntime) -> Result<(), Fail> {
         0x7110_0000_0000_0000, // ld8 r0, [r1+0]
         EXIT,
     ];
-    let verified = load(alloc, &image_of(alloc, &slots)?)?;
+    let verified = load(alloc, &image_of(alloc, &slots)?, Table::One)?;
     assert!(rt;
         matches!(
             verified.decoded(),
@@ -47,7 +47,7 @@ fn a_program_is_predecoded(rt: HostRuntime) -> Result<(), Fail> {
 
 /// A store, a call of helper 1 or 2, and a call of helper 4 or 5 with bytes of the stack, also with
 /// none, need a stack where they are reached. Emissions of the record's own bytes do not.
-const STACKS: [(&[u64], bool); 8] = [
+const STACKS: [(&[u64], bool); 10] = [
     (&[ZERO, EXIT], false),
     (&[0x720a_ffff_0000_0000, ZERO, EXIT], true), // st8 [r10-1], 0
     (
@@ -98,11 +98,26 @@ const STACKS: [(&[u64], bool); 8] = [
         ],
         true,
     ),
+    (
+        &[0x8500_0000_0a00_0000, EXIT], // call 10
+        false,
+    ),
+    (
+        &[
+            0xbfa1_0000_0000_0000, // mov64 r1, r10
+            0x0701_0000_f8ff_ffff, // add64 r1, -8
+            0xb702_0000_0000_0000, // mov64 r2, 0
+            0xb703_0000_0800_0000, // mov64 r3, 8
+            0x8500_0000_0c00_0000, // call 12
+            EXIT,
+        ],
+        true,
+    ),
 ];
 
 fn needs_stack(alloc: Global, slots: &[u64]) -> Option<bool> {
     let image = image_of(alloc, slots).ok()?;
-    let verified = load(alloc, &image).ok()?;
+    let verified = load(alloc, &image, Table::Two).ok()?;
     Some(verified.needs_stack())
 }
 

@@ -12,3 +12,5 @@ mod images;
 mod loads;
 #[cfg(test)]
 mod sparse;
+#[cfg(test)]
+mod tables;

@@ -1,4 +1,5 @@
 use crate::images::{EXIT, ZERO, answer, check_answers, check_kind, image_of};
+use machine_spec::Table;
 use std::alloc::Global;
 use std::process::Abort;
 use std::test::Fail;
@@ -6,7 +7,7 @@ use verifier_spec::Abs;
 
 /// An image has a whole number of slots.
 fn part_of_a_slot(alloc: Global, rt: &impl Abort) -> Result<(), Fail> {
-    let got = answer(alloc, &[0; 12])?;
+    let got = answer(alloc, &[0; 12], Table::One)?;
     assert_eq!(rt; got.as_str(), "I1 Size");
     Ok(())
 }
@@ -30,7 +31,7 @@ fn straight_programs(rt: HostRuntime) -> Result<(), Fail> {
         (&[0x8500_0000_0300_0000, EXIT], "V12 HelperArg at 0"), // call 3
         (&[0xbf10_0000_0000_0000, EXIT], "V13 Exit at 1"), // mov64 r0, r1
     ];
-    check_answers(rt.alloc(), &rt, &cases)?;
+    check_answers(rt.alloc(), &rt, Table::One, &cases)?;
     part_of_a_slot(rt.alloc(), &rt)
 }
 
@@ -114,7 +115,7 @@ fn a_test_of_the_length_makes_a_load_safe(rt: HostRuntime) -> Result<(), Fail> {
             "V7 RecordBounds at 4",
         ),
     ];
-    check_answers(rt.alloc(), &rt, &cases)
+    check_answers(rt.alloc(), &rt, Table::One, &cases)
 }
 
 /// Where ways meet, what is known is what all of them know.
@@ -190,7 +191,7 @@ fn branches_that_meet(rt: HostRuntime) -> Result<(), Fail> {
             "V5 Type at 2",
         ),
     ];
-    check_answers(rt.alloc(), &rt, &cases)
+    check_answers(rt.alloc(), &rt, Table::One, &cases)
 }
 
 /// Stack bytes are readable where every way has stored them at one known place.
@@ -292,7 +293,7 @@ fn stores(rt: HostRuntime) -> Result<(), Fail> {
         // lds8 r0, [r10-1]
         (&[WRITE_LAST, 0x91a0_ffff_0000_0000, EXIT], "accepted 3"),
     ];
-    check_answers(rt.alloc(), &rt, &cases)
+    check_answers(rt.alloc(), &rt, Table::One, &cases)
 }
 
 /// Jumps without a condition, 64-bit immediates, and which of two faults is reported.
@@ -334,7 +335,7 @@ fn jumps_and_wide_numbers(rt: HostRuntime) -> Result<(), Fail> {
         (&[0x1506_ffff_0000_0000, EXIT], "V2 BackJump at 0"),
         (&[FIRST_BYTE], "V3 RunsOff at 0"),
     ];
-    check_answers(rt.alloc(), &rt, &cases)
+    check_answers(rt.alloc(), &rt, Table::One, &cases)
 }
 
 /// Calls: what they answer, and that they leave r1 to r5 unknown.
@@ -355,13 +356,13 @@ fn calls(rt: HostRuntime) -> Result<(), Fail> {
         (&[0x8500_0000_0900_0000, EXIT], "accepted 2"), // call 9
         (&[0x8500_0000_6300_0000, EXIT], "V11 Helper at 0"), // call 99
     ];
-    check_answers(rt.alloc(), &rt, &cases)
+    check_answers(rt.alloc(), &rt, Table::One, &cases)
 }
 
 /// After this call r0 has a number from 0 to this one.
 fn check_number_of(alloc: Global, rt: &impl Abort, call: u64, greatest: u64) -> Result<(), Fail> {
     let image = image_of(alloc, &[call, EXIT])?;
-    check_kind(alloc, rt, &image, 1, 0, Abs::Num(0, greatest))
+    check_kind(alloc, rt, Table::One, &image, 1, 0, Abs::Num(0, greatest))
 }
 
 #[test]

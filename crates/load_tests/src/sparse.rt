@@ -3,7 +3,7 @@
 use abstract_regs::State;
 use annotate::{joined_states, load};
 use bpf_isa::decode;
-use machine_spec::Region;
+use machine_spec::{Region, Table};
 use notes::{check_sparse, claim_at};
 use std::alloc::Global;
 use std::process::Abort;
@@ -32,21 +32,26 @@ const OUTSIDE: [u8; 32] = [
 
 /// The joined state of an instruction that is reached.
 fn joined(alloc: Global, image: &[u8], k: usize) -> Result<State, Fail> {
-    let states = joined_states(alloc, &decode(alloc, image)?)?;
+    let states = joined_states(alloc, &decode(alloc, image)?, Table::One)?;
     Ok(*claim_at(&states, k).ok_or("it is reached")?)
 }
 
-/// What the check answers of an image and states with numbers.
-fn reported(alloc: Global, image: &[u8], pairs: &[(usize, State)]) -> Result<String, Fail> {
+/// What the check under a helper table answers of an image and states with numbers.
+fn reported(
+    alloc: Global,
+    image: &[u8],
+    table: Table,
+    pairs: &[(usize, State)],
+) -> Result<String, Fail> {
     let code = decode(alloc, image)?;
     let pairs = Vec::from_slice(alloc, pairs)?;
-    Ok(match check_sparse(alloc, code, pairs) {
+    Ok(match check_sparse(alloc, code, table, pairs) {
         Ok(verified) => format!(in alloc; "kept {}", verified.kept())?,
         Err(fault) => format!(in alloc; "{fault}")?,
     })
 }
 
-/// The check of an image and states with numbers answers this.
+/// The check of an image and states with numbers under table one answers this.
 fn check_reported(
     alloc: Global,
     rt: &impl Abort,
@@ -54,13 +59,13 @@ fn check_reported(
     pairs: &[(usize, State)],
     want: &str,
 ) -> Result<(), Fail> {
-    assert_eq!(rt; reported(alloc, image, pairs)?.as_str(), want);
+    assert_eq!(rt; reported(alloc, image, Table::One, pairs)?.as_str(), want);
     Ok(())
 }
 
 /// A load of an image keeps this many states.
 fn check_kept(alloc: Global, rt: &impl Abort, image: &[u8], count: usize) -> Result<(), Fail> {
-    assert_eq!(rt; load(alloc, image)?.kept(), count);
+    assert_eq!(rt; load(alloc, image, Table::One)?.kept(), count);
     Ok(())
 }
 
@@ -71,7 +76,7 @@ fn check_region(
     image: &[u8],
     want: Option<Region>,
 ) -> Result<(), Fail> {
-    let verified = load(alloc, image)?;
+    let verified = load(alloc, image, Table::One)?;
     assert_eq!(rt; verified.code().len(), 4);
     assert_eq!(rt; verified.regions(2).0, want);
     Ok(())
@@ -143,4 +148,15 @@ fn numbers_rise(rt: HostRuntime) -> Result<(), Fail> {
         &[(1, last), (1, last)],
         "V15 Notes at 0",
     )
+}
+
+/// call 10 and EXIT.
+const HEADER_COUNT: [u8; 16] = [0x85, 0, 0, 0, 10, 0, 0, 0, 0x95, 0, 0, 0, 0, 0, 0, 0];
+
+/// The states follow under the table that the check is given.
+#[test]
+fn states_follow_under_a_table(rt: HostRuntime) -> Result<(), Fail> {
+    let got = reported(rt.alloc(), &HEADER_COUNT, Table::Two, &[])?;
+    assert_eq!(rt; got.as_str(), "kept 0");
+    check_reported(rt.alloc(), &rt, &HEADER_COUNT, &[], "V11 Helper at 0")
 }

@@ -6,7 +6,7 @@ use Rattle.machine_spec.specs.declared.{outcome.Outcome.Outcome, helper.Argument
 use Rattle.machine_spec.specs.declared.summary.Direction.TheVariants.{Read, Write}
 use Rattle.machine_spec.specs.Values.{Registers}
 use Rattle.machine_spec.specs.Summaries.{summary_of}
-use Rattle.machine_spec.specs.Image.{Program, program_of, form_at, IsCodeOf}
+use Rattle.machine_spec.specs.Image.{Program, form_at, IsCodeOf}
 use Rattle.machine_spec.specs.Machine.{Input, State, Access, access_of, named_access, byte_in}
 use Rattle.machine_spec.specs.Traps.{helper_called, arguments_of, is_read, trap_at}
 use Rattle.machine_spec.specs.Meaning.{Reaches, Means}
@@ -14,10 +14,10 @@ use Rattle.verifier_spec.specs.declared.fault.LoadFault.{LoadFault}
 use Rattle.verifier_spec.specs.Loading.{IsAccepted}
 use Rattle.annotate.specs.Loads.{FaultIs}
 
--- the program of an image that is accepted, or the image's refusal
-abbrev pub ProgramIs : List ℕ → Result Program LoadFault → Type 0
-ProgramIs image (Ok program) = (program ≡ program_of image) × IsAccepted (program_of image)
-ProgramIs image (Err fault) = FaultIs image fault
+-- a program that is accepted, or its refusal
+abbrev pub ProgramIs : Program → Result Program LoadFault → Type 0
+ProgramIs asked (Ok program) = (program ≡ asked) × IsAccepted asked
+ProgramIs asked (Err fault) = FaultIs asked fault
 
 -- the bytes that an argument of a helper names, or the room; of another argument none
 abbrev pub argument_access : Registers → Argument → Option Access

@@ -1,11 +1,12 @@
 ghost use Rattle.std.specs.Prelude.{◌≡◌, ℕ, IfOk};
 ghost use Rattle.log_item.specs.Programs.{ProgramIs, RunsSafely};
+ghost use Rattle.machine_spec.specs.Image.{program_of};
 ghost use Rattle.machine_spec.specs.Meaning.{IsPlace, Means};
 ghost use Rattle.machine_spec.specs.declared.outcome.Outcome.{Outcome};
 ghost use Rattle.verifier_spec.specs.StandsFor.{IsWithinLimits};
 
 use bytes::Bytes;
-use machine_spec::{IsaFault, Outcome, Place};
+use machine_spec::{IsaFault, Outcome, Place, Table};
 use notes::Verified;
 use std::alloc::{AllocError, Global};
 use std::marker::Model;
@@ -25,18 +26,18 @@ impl Model for Program {
 
     ghost Value = { Program };
 
-    ghost view = { λ p. program_of p.image };
+    ghost view = { λ p. program_of p.image p.verified.table };
 
     ghost invariant = { λ p. IsCodeOf p.image p.verified.code };
 }
 
 impl Program {
-    /// The program of an image that decodes to code with an annotation. It fails with the image's
-    /// first refusal, or with a memory fault where memory runs out.
-    pub fn new(alloc: Global, image: &Bytes) -> Result<Program, LoadFault>
-        ensures { ProgramIs image.now result }
+    /// The program of an image that decodes to code with an annotation, by a helper table. It fails
+    /// with the program's first refusal, or with a memory fault where memory runs out.
+    pub fn new(alloc: Global, image: &Bytes, table: Table) -> Result<Program, LoadFault>
+        ensures { ProgramIs (program_of image.now table) result }
     {
-        let verified = annotate::load(alloc, image)?;
+        let verified = annotate::load(alloc, image, table)?;
         match image.clone() {
             Ok(image) => Ok(Program { image, verified }),
             Err(_) => Err(LoadFault::Isa(IsaFault::Memory)),

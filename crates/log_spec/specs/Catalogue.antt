@@ -12,25 +12,25 @@ pub record Entry : Type 0 where
   pub programs : List Program
 
 -- the entries of a catalogue, in the order of the names' first loads
-abbrev pub Table : Type 0
-Table = List Entry
+abbrev pub ProgramTable : Type 0
+ProgramTable = List Entry
 
 -- the programs of a name, none where it is not loaded
-abbrev pub programs_of : Table → List ℕ → List Program
+abbrev pub programs_of : ProgramTable → List ℕ → List Program
 programs_of [] name = []
 programs_of (entry ∷ table) name = if bytes_eq entry.name name then entry.programs else programs_of table name
 
 -- programs are loaded under the name
-abbrev pub has_name : Table → List ℕ → Bool
+abbrev pub has_name : ProgramTable → List ℕ → Bool
 has_name table name = list_any (λ entry. bytes_eq entry.name name) table
 
 -- the program of a version of a name, from 1; none where it was not loaded
-abbrev pub program_named : Table → List ℕ → ℕ → Option Program
+abbrev pub program_named : ProgramTable → List ℕ → ℕ → Option Program
 program_named table name zero = None
 program_named table name (suc k) = slice_get (programs_of table name) k
 
 -- the table with one more program of a name, and nothing else changed
-abbrev pub with_program : Table → List ℕ → Program → Table
+abbrev pub with_program : ProgramTable → List ℕ → Program → ProgramTable
 with_program [] name program = record { name = name; programs = program ∷ [] } ∷ []
 with_program (entry ∷ table) name program =
     if bytes_eq entry.name name then record { name = entry.name; programs = entry.programs ++ program ∷ [] }
@@ -78,7 +78,7 @@ pub record IsLast (entry : Entry) (version : Version) : Type 0 where
   pub program_is : entry.programs ≡ earlier ++ version.program ∷ []
 
 -- the live table of a table
-abbrev pub IsLive : Table → LiveTable → Type 0
+abbrev pub IsLive : ProgramTable → LiveTable → Type 0
 IsLive [] [] = Unit {0}
 IsLive (entry ∷ table) (version ∷ live) = IsLast entry version × IsLive table live
 IsLive [] (version ∷ live) = ⊥
@@ -108,7 +108,7 @@ first_refusal is_loaded names versions name =
     if nat_le (2 ^ 32 - 1) versions then Some Refusal.Versions else None
 
 -- the first refusal of a load before its image is read, by a table
-abbrev pub name_refusal : Table → List ℕ → Option Refusal
+abbrev pub name_refusal : ProgramTable → List ℕ → Option Refusal
 name_refusal table name = first_refusal (has_name table name) (length table) (length (programs_of table name)) name
 
 -- the same by a live table
@@ -128,7 +128,7 @@ IsFirstRefusal (Some earlier) program first = Some earlier ≡ first
 IsFirstRefusal None program first = IsProgramRefusal program first
 
 -- the first refusal of a load, or none, by a table
-abbrev pub IsLoadRefusal : Table → List ℕ → Program → Option Refusal → Type 0
+abbrev pub IsLoadRefusal : ProgramTable → List ℕ → Program → Option Refusal → Type 0
 IsLoadRefusal table name program first = IsFirstRefusal (name_refusal table name) program first
 
 -- the same by a live table

@@ -15,6 +15,7 @@ use Rattle.machine_spec.specs.declared.instruction.Instruction.TheVariants.{Move
 use Rattle.machine_spec.specs.declared.instruction.Instruction.TheVariants.{Jump, Wide, Call, Exit}
 use Rattle.machine_spec.specs.declared.helper.Helper.TheVariants.{LoadValue, LoadKey, EmitRecord, EmitValue, Emit}
 use Rattle.machine_spec.specs.declared.helper.Helper.TheVariants.{EmitNull, Offset, Timestamp, Partition}
+use Rattle.machine_spec.specs.declared.helper.Helper.TheVariants.{HeaderCount, HeaderKey, HeaderValue}
 use Rattle.machine_spec.specs.Image.{Program, form_at, slot_count}
 use Rattle.machine_spec.specs.Summaries.{summary_of}
 use Rattle.machine_spec.specs.Values.{Value, Nothing, Number, Address}
@@ -155,6 +156,9 @@ module _ (input : Input) (key : length (bytes_of input.given.key) ≤ MAX_KEY)
   effect_emits Offset s right are = are
   effect_emits Timestamp s right are = are
   effect_emits Partition s right are = are
+  effect_emits HeaderCount s right are = are
+  effect_emits HeaderKey s right are = are
+  effect_emits HeaderValue s right are = are
 
   call_emits : (helper : Option Helper) (s : State) →
       list_any (is_wrong_argument input s) (arguments_of helper) ≡ false → AreEmissions input s.emitted →

@@ -7,6 +7,7 @@ use Rattle.machine_spec.specs.declared.instruction.Instruction.TheVariants.{Exit
 use Rattle.machine_spec.specs.declared.instruction.Trap.TheVariants as trap
 use Rattle.machine_spec.specs.declared.outcome.Outcome.TheVariants.{Kept, Rejected}
 use Rattle.machine_spec.specs.Opcodes.{template_of, is_left_out}
+use Rattle.machine_spec.specs.declared.helper.Table.TheVariants.{One}
 use Rattle.machine_spec.specs.Image.{Program, program_of, form_at, read_slot, read_fields, first_slots}
 use Rattle.machine_spec.specs.Summaries.{summary_of}
 use Rattle.machine_spec.specs.Machine.{Input, State, entry, state_after}
@@ -52,8 +53,8 @@ abbrev run_from : ℕ → Program → Input → ℕ → State → Option End
 run_from zero program input n s = None
 run_from (suc turns) program input n s = run_by (run_from turns program input (n + 1)) n (turn program input s)
 
-abbrev pub run : ℕ → List ℕ → Input → Option End
-run turns image input = run_from turns (program_of image) input 0 (entry input)
+abbrev pub run : ℕ → Program → Input → Option End
+run turns program input = run_from turns program input 0 (entry input)
 
 -- ---- what is computed is what the program means
 
@@ -154,9 +155,9 @@ module _ (program : Program) (input : Input) where
       (turn program input s) refl e
 
 -- a computed outcome is the program's meaning, and a computed trap is the one that stops it
-pub run_ends : (image : List ℕ) (input : Input) (turns : ℕ) (end : End) → run turns image input ≡ Some end →
-    IsEnd (program_of image) input end
-run_ends image input turns end e = ends_from (program_of image) input turns 0 (entry input) end refl e
+pub run_ends : (program : Program) (input : Input) (turns : ℕ) (end : End) → run turns program input ≡ Some end →
+    IsEnd program input end
+run_ends program input turns end e = ends_from program input turns 0 (entry input) end refl e
 
 -- ---- instructions, as the bytes of their slots
 
@@ -222,7 +223,7 @@ Row = List ℕ × Option (List ℕ) × End
 
 -- each row's run, of at most 40 instructions, ends as the row says
 abbrev EndAsSaid : List Row → Type 0
-EndAsSaid rows = map (λ row. run 40 row.0 (of_value row.1)) rows ≡ map (λ row. Some row.2) rows
+EndAsSaid rows = map (λ row. run 40 (program_of row.0 One) (of_value row.1)) rows ≡ map (λ row. Some row.2) rows
 
 -- ---- outcomes
 
@@ -359,7 +360,7 @@ changes =
     ∷ (on_r0 0xbf 32 (small 0), 2 ^ 64 - 2)
     ∷ []
 
-changes_hold : map (λ row. run 9 (on_r0 0xb7 0 minus_two ++ (row.0 ++ exit)) (of_value None)) changes
+changes_hold : map (λ row. run 9 (program_of (on_r0 0xb7 0 minus_two ++ (row.0 ++ exit)) One) (of_value None)) changes
     ≡ map (λ row. Some (Out (Rejected row.1) 3)) changes
 unfolding read_slot read_fields template_of is_left_out first_slots trap_at state_after
 changes_hold = refl
@@ -408,7 +409,7 @@ jumps =
     ∷ []
 
 abbrev jumped : ℕ → List (Option End)
-jumped opcode = map (λ number. run 9 (jump_over opcode number) (of_value (Some (7 ∷ 8 ∷ 9 ∷ [])))) (2 ∷ 3 ∷ 4 ∷ [])
+jumped opcode = map (λ number. run 9 (program_of (jump_over opcode number) One) (of_value (Some (7 ∷ 8 ∷ 9 ∷ [])))) (2 ∷ 3 ∷ 4 ∷ [])
 
 jumps_hold : map (λ row. jumped row.0) jumps ≡ map (λ row. map Some row.1) jumps
 unfolding read_slot read_fields template_of is_left_out first_slots trap_at state_after

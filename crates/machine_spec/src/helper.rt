@@ -1,9 +1,10 @@
-//! The helpers that a program may call, each in one row (RFC 9669, section 4.3.1). What they do is
-//! defined in `specs/Machine.antt`.
+//! The helpers that a program may call, each in one row (RFC 9669, section 4.3.1), and the tables that
+//! list them. What they do is defined in `specs/Machine.antt`.
 ghost use Rattle.std.specs.Prelude.{◌≡◌};
+ghost use Rattle.machine_spec.specs.Image.{helpers_of};
 ghost use Rattle.machine_spec.specs.Machine.{signature_of, helper_among, helper_of};
 
-use wire_spec::TIMESTAMP_END;
+use wire_spec::{MAX_HEADER_KEY, MAX_HEADER_VALUE, MAX_HEADERS, TIMESTAMP_END};
 
 /// A function of the host that a program may call.
 #[derive(Clone, Copy, Debug, PartialEq, Eq)]
@@ -29,6 +30,24 @@ pub enum Helper {
     Timestamp,
     /// The record's input partition.
     Partition,
+    /// How many headers the record has.
+    HeaderCount,
+    /// Copies the key of a header to the stack, with zeros after its end, and answers the key's length
+    /// plus 1, or 0 where there is no such header. r1 and r3: the address and the length of the room for
+    /// it, r2: the header's position, from 0.
+    HeaderKey,
+    /// Copies the value of a header in the same way, and answers 0 where there is no such header, 1
+    /// where the value is null, else the value's length plus 2.
+    HeaderValue,
+}
+
+/// The helper table of a program: which helpers it may call.
+#[derive(Clone, Copy, Debug, PartialEq, Eq)]
+pub enum Table {
+    /// Helpers 1 to 9.
+    One,
+    /// Helpers 1 to 12.
+    Two,
 }
 
 /// What an argument of a helper must be.
@@ -56,8 +75,24 @@ pub struct Signature {
     pub greatest: u64,
 }
 
-/// Every helper.
-pub const HELPERS: [Helper; 9] = [
+/// Every helper, in the order of its numbers.
+pub const HELPERS: [Helper; 12] = [
+    Helper::LoadValue,
+    Helper::LoadKey,
+    Helper::EmitRecord,
+    Helper::EmitValue,
+    Helper::Emit,
+    Helper::EmitNull,
+    Helper::Offset,
+    Helper::Timestamp,
+    Helper::Partition,
+    Helper::HeaderCount,
+    Helper::HeaderKey,
+    Helper::HeaderValue,
+];
+
+/// The helpers of table one.
+pub const TABLE_ONE: [Helper; 9] = [
     Helper::LoadValue,
     Helper::LoadKey,
     Helper::EmitRecord,
@@ -69,7 +104,7 @@ pub const HELPERS: [Helper; 9] = [
     Helper::Partition,
 ];
 
-/// A helper takes room on the stack, and the place where the part begins that it copies there.
+/// A helper takes room on the stack, and where what it copies there begins or which header it is.
 const WITH_ROOM: [Argument; 3] = [Argument::Room(1, 3), Argument::Number(2), Argument::Nothing];
 
 /// A helper's only argument is the output partition that it emits to.
@@ -161,6 +196,33 @@ impl Helper {
                 arguments: NO_ARGUMENTS,
                 greatest: 63,
             },
+            Helper::HeaderCount => Signature {
+                number: 10,
+                arguments: NO_ARGUMENTS,
+                greatest: MAX_HEADERS as u64,
+            },
+            Helper::HeaderKey => Signature {
+                number: 11,
+                arguments: WITH_ROOM,
+                greatest: MAX_HEADER_KEY as u64 + 1,
+            },
+            Helper::HeaderValue => Signature {
+                number: 12,
+                arguments: WITH_ROOM,
+                greatest: MAX_HEADER_VALUE as u64 + 2,
+            },
+        }
+    }
+}
+
+impl Table {
+    /// The helper that a call of a program of this table names by a number, if it may call one.
+    pub fn with_number(self, number: i32) -> Option<Helper>
+        ensures { result ≡ helper_among (helpers_of self) number }
+    {
+        match self {
+            Table::One => find_helper(&TABLE_ONE, number),
+            Table::Two => find_helper(&HELPERS, number),
         }
     }
 }

@@ -13,7 +13,7 @@ mod operation;
 mod outcome;
 mod summary;
 
-pub use helper::{Argument, HELPERS, Helper, Signature};
+pub use helper::{Argument, HELPERS, Helper, Signature, TABLE_ONE, Table};
 pub use instruction::{
     Distance, Extension, Instruction, IsaFault, Placed, Region, Size, Source, Trap,
 };

@@ -5,6 +5,7 @@ use crate::making::{batch, image, say};
 use broker::{Broker, BrokerFault};
 use broker_fixtures::{NAME, place_of};
 use catalogue::{CatFault, Catalogue, Finder, Known};
+use machine_spec::Table;
 use part_log::{LogFault, Names};
 use std::alloc::Global;
 use std::sync::Wait;
@@ -39,14 +40,14 @@ pub(crate) fn load<Id: Names, H: Wait + Drop, R: Wait + Print>(
     before: Option<&Known>,
 ) -> Option<Known> {
     let image = image(alloc)?;
-    let (version, known) = match broker.load(rt, alloc, NAME, &image) {
+    let (version, known) = match broker.load(rt, alloc, NAME, &image, Table::One) {
         Ok(loaded) => loaded,
         Err(fault) => {
             say(rt, "load", fault);
             if fault != C6 || !is_newest(rt, alloc, broker, before) {
                 return None;
             }
-            broker.load(rt, alloc, NAME, &image).ok()?
+            broker.load(rt, alloc, NAME, &image, Table::One).ok()?
         }
     };
     let want = match before {

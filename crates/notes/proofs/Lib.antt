@@ -1,3 +1,4 @@
+pub mod Kept
 pub mod Derived
 pub mod Joined
 pub mod Lookups

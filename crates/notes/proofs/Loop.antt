@@ -3,39 +3,40 @@ use Rattle.std.proofs.Common.{◌≡◌, ℕ, ◌+◌, Bool, true, ◌==◌, ◌
 use Rattle.std.proofs.Common.{below_more, arith, inl, inr}
 use Rattle.std.specs.Prelude.{Option, Some, None, slice_get, IfNone}
 use Rattle.std.proofs.lemmas.Bool.{cases_lt, and_parts, eqb-true}
-use Rattle.machine_spec.specs.declared.{helper.TheConstants.HELPERS, instruction.Placed.Placed}
+use Rattle.machine_spec.specs.declared.{helper.Helper.Helper, instruction.Placed.Placed}
 use Rattle.verifier_spec.specs.declared.{fault.Check.Check, fault.VerifyFault.VerifyFault}
 use Rattle.verifier_spec.specs.Annotation.{Claims, claim_at, failed_at, fault_or, fault_from}
 use Rattle.verifier_spec.proofs.Faults.{fault_from-drop, none_fault_or}
 use Rattle.notes.specs.Proper.{IsProperAt, AreProperBelow, AreProper}
 use Rattle.notes.proofs.Lookups.{claim_at_past}
 
--- the refusal of an instruction that fails a check
-pub reported_here : (code : List Placed) (claims : Claims) (k : ℕ) (placed : Placed) (kind : Check) →
-    slice_get code k ≡ Some placed
-    → failed_at HELPERS code claims k placed ≡ Some kind →
-    fault_from HELPERS code claims k (drop k code) ≡ Some (record { pc = k; kind = kind })
-reported_here code claims k placed kind at fails =
-    fault_from-drop HELPERS code claims code k placed at
-    ∙ ap (λ failed. fault_or k failed (fault_from HELPERS code claims (k + 1) (drop (k + 1) code))) fails
-
--- one that fails none leaves the word to the later ones
-pub passed_here : (code : List Placed) (claims : Claims) (k : ℕ) (placed : Placed) → slice_get code k ≡ Some placed →
-    failed_at HELPERS code claims k placed ≡ None →
-    fault_from HELPERS code claims k (drop k code) ≡ fault_from HELPERS code claims (k + 1) (drop (k + 1) code)
-passed_here code claims k placed at passes =
-    fault_from-drop HELPERS code claims code k placed at
-    ∙ none_fault_or k (failed_at HELPERS code claims k placed)
-    (fault_from HELPERS code claims (k + 1) (drop (k + 1) code)) passes
-
 drop_all : {A : Type 0} (xs : List A) → drop (length xs) xs ≡ []
 drop_all [] = refl
 drop_all (x ∷ xs) = drop_all xs
 
--- past the last there is none
-pub none_past : (code : List Placed) (claims : Claims) →
-    fault_from HELPERS code claims (length code) (drop (length code) code) ≡ None
-none_past code claims = ap (fault_from HELPERS code claims (length code)) (drop_all code)
+module _ (helpers : List Helper) where
+  -- the refusal of an instruction that fails a check
+  pub reported_here : (code : List Placed) (claims : Claims) (k : ℕ) (placed : Placed) (kind : Check) →
+      slice_get code k ≡ Some placed
+      → failed_at helpers code claims k placed ≡ Some kind →
+      fault_from helpers code claims k (drop k code) ≡ Some (record { pc = k; kind = kind })
+  reported_here code claims k placed kind at fails =
+      fault_from-drop helpers code claims code k placed at
+      ∙ ap (λ failed. fault_or k failed (fault_from helpers code claims (k + 1) (drop (k + 1) code))) fails
+
+  -- one that fails none leaves the word to the later ones
+  pub passed_here : (code : List Placed) (claims : Claims) (k : ℕ) (placed : Placed) → slice_get code k ≡ Some placed →
+      failed_at helpers code claims k placed ≡ None →
+      fault_from helpers code claims k (drop k code) ≡ fault_from helpers code claims (k + 1) (drop (k + 1) code)
+  passed_here code claims k placed at passes =
+      fault_from-drop helpers code claims code k placed at
+      ∙ none_fault_or k (failed_at helpers code claims k placed)
+      (fault_from helpers code claims (k + 1) (drop (k + 1) code)) passes
+
+  -- past the last there is none
+  pub none_past : (code : List Placed) (claims : Claims) →
+      fault_from helpers code claims (length code) (drop (length code) code) ≡ None
+  none_past code claims = ap (fault_from helpers code claims (length code)) (drop_all code)
 
 pub proper_more : (claims : Claims) (k : ℕ) → AreProperBelow claims k → IsProperAt claims k →
     AreProperBelow claims (k + 1)

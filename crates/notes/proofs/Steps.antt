@@ -9,7 +9,7 @@ use Rattle.std.proofs.lemmas.Option.{slice_get_within}
 use Rattle.std.proofs.lemmas.List.{get_or-set_same, get_or-set_other, get_or-replicate, length-replicate, drop_more}
 use Rattle.std.proofs.lemmas.List.{append_assoc, append-nil}
 use Rattle.std.proofs.lemmas.List.Folds.{list_any_more}
-use Rattle.machine_spec.specs.declared.instruction.Placed.{Placed}
+use Rattle.machine_spec.specs.declared.{helper.Helper.Helper, instruction.Placed.Placed}
 use Rattle.machine_spec.specs.Image.{target_of}
 use Rattle.verifier_spec.specs.declared.state.Abstract.{Abstract}
 use Rattle.verifier_spec.specs.States.{is_proper, entry_state}
@@ -139,43 +139,59 @@ one_done old claims new k claim inside is before = record {
       claim_at-set_other claims k j claim other ∙ before.left j (omega (arith, from));
 }
 
+-- a claim that was not reached yet is the old one
+pub old_claim : (old claims : Claims) (new : ℕ → Option Abstract) (k : ℕ) → AreDone old claims new k →
+    claim_at claims k ≡ claim_at old k
+old_claim old claims new k done = done.left k (omega arith)
+
 -- those of marked instructions
 abbrev pub if_marked : List Bool → Claims → ℕ → Option Abstract
 if_marked marks claims j = cond (get_or marks j false) (claim_at claims j) None
 
 -- ---- what follows
 
--- what follows has come to instruction k
-pub record HasFollowed (code : List Placed) (old : Claims) (follows : Option Abstract) (k : ℕ) : Type 0 where
-  pub next : derived_at code (claim_at old) k ≡ given_or (claim_at old k) follows
-  pub proper : AreDerivedProper code (claim_at old) k
+module _ (helpers : List Helper) where
+  -- what follows has come to instruction k
+  pub record HasFollowed (code : List Placed) (old : Claims) (follows : Option Abstract) (k : ℕ) : Type 0 where
+    pub next : derived_at helpers code (claim_at old) k ≡ given_or (claim_at old k) follows
+    pub proper : AreDerivedProper helpers code (claim_at old) k
 
-pub follows_first : (code : List Placed) (old : Claims) → HasFollowed code old (Some entry_state) 0
-follows_first code old = record {
-  next = given_first code (claim_at old);
-  proper = λ k s under e. absurd (omega (arith, under));
-}
+  pub follows_first : (code : List Placed) (old : Claims) → HasFollowed code old (Some entry_state) 0
+  follows_first code old = record {
+    next = given_first helpers code (claim_at old);
+    proper = λ k s under e. absurd (omega (arith, under));
+  }
 
-pub follows_more : (code : List Placed) (old : Claims) (follows state falls : Option Abstract) (k : ℕ) (placed : Placed)
-    → slice_get code k ≡ Some placed → state ≡ given_or (claim_at old k) follows →
-    falls ≡ state_fallen_to code k (Some placed) state → ((s : Abstract) → state ≡ Some s → is_proper s ≡ true) →
-    HasFollowed code old follows k → HasFollowed code old falls (k + 1)
-follows_more code old follows state falls k placed at state_is falls_is proper before =
-    let given = claim_at old in
-    let here : derived_at code given k ≡ state = before.next ∙ sym state_is in
-    let one : suc k ≡ k + 1 = omega arith in
-    let P : ℕ → Type 0 = λ n. derived_at code given n ≡ given_or (given n) falls in
-    record {
-      next = subst P one
-          (given_next code given k
-          ∙ ap (λ (o : Option Abstract). given_or (given (suc k)) o)
-          (ap (λ (o : Option Placed). state_fallen_to code k o (derived_at code given k)) at
-          ∙ (ap (λ (o : Option Abstract). state_fallen_to code k (Some placed) o) here ∙ sym falls_is)));
-      proper = λ j s under e. elim (cases_eq j k) [
-        | inl same ↦ proper s (sym here ∙ (ap (λ (n : ℕ). derived_at code given n) (sym same) ∙ e))
-        | inr other ↦ before.proper j s (omega (arith, under, other)) e
-      ];
-    }
+  pub follows_more : (code : List Placed) (old : Claims) (follows state falls : Option Abstract) (k : ℕ)
+      (placed : Placed) → slice_get code k ≡ Some placed → state ≡ given_or (claim_at old k) follows →
+      falls ≡ state_fallen_to helpers code k (Some placed) state →
+      ((s : Abstract) → state ≡ Some s → is_proper s ≡ true) →
+      HasFollowed code old follows k → HasFollowed code old falls (k + 1)
+  follows_more code old follows state falls k placed at state_is falls_is proper before =
+      let given = claim_at old in
+      let here : derived_at helpers code given k ≡ state = before.next ∙ sym state_is in
+      let one : suc k ≡ k + 1 = omega arith in
+      let P : ℕ → Type 0 = λ n. derived_at helpers code given n ≡ given_or (given n) falls in
+      record {
+        next = subst P one
+            (given_next helpers code given k
+            ∙ ap (λ (o : Option Abstract). given_or (given (suc k)) o)
+            (ap (λ (o : Option Placed). state_fallen_to helpers code k o (derived_at helpers code given k)) at
+            ∙ (ap (λ (o : Option Abstract). state_fallen_to helpers code k (Some placed) o) here ∙ sym falls_is)));
+        proper = λ j s under e. elim (cases_eq j k) [
+          | inl same ↦ proper s (sym here ∙ (ap (λ (n : ℕ). derived_at helpers code given n) (sym same) ∙ e))
+          | inr other ↦ before.proper j s (omega (arith, under, other)) e
+        ];
+      }
+
+  -- what an instruction has after one step of the derivation
+  pub followed_claim : (code : List Placed) (old claims : Claims) (k : ℕ) (follows : Option Abstract) →
+      AreDone old claims (derived_at helpers code (claim_at old)) k → HasFollowed code old follows k →
+      given_or (claim_at claims k) follows ≡ derived_at helpers code (claim_at old) k
+  followed_claim code old claims k follows done followed =
+      ap (λ (o : Option Abstract). given_or o follows)
+      (old_claim old claims (derived_at helpers code (claim_at old)) k done)
+      ∙ sym followed.next
 
 -- ---- states with numbers
 
@@ -263,11 +279,6 @@ kept_more code claims k wanted claim under is read =
     ++ kept_from code (k + 1) (drop (k + 1) claims) in
     subst Q (sym is) (subst P (sym read) (ap (λ (ns : Claims). kept_from code k ns) (drop_more claims k claim under)))
 
--- a claim that was not reached yet is the old one
-pub old_claim : (old claims : Claims) (new : ℕ → Option Abstract) (k : ℕ) → AreDone old claims new k →
-    claim_at claims k ≡ claim_at old k
-old_claim old claims new k done = done.left k (omega arith)
-
 -- all claims are new ones
 pub all_done : (old claims : Claims) (new : ℕ → Option Abstract) (k : ℕ) → k ≡ length old → AreDone old claims new k →
     HasEachClaim claims new
@@ -278,14 +289,6 @@ pub more_done : (old claims more : Claims) (new : ℕ → Option Abstract) (k : 
     k < length old → more ≡ set claims k claim → claim ≡ new k → AreDone old claims new k → AreDone old more new (k + 1)
 more_done old claims more new k claim inside set_is is before =
     subst (λ (ns : Claims). AreDone old ns new (k + 1)) (sym set_is) (one_done old claims new k claim inside is before)
-
--- what an instruction has after one step of the derivation
-pub followed_claim : (code : List Placed) (old claims : Claims) (k : ℕ) (follows : Option Abstract) →
-    AreDone old claims (derived_at code (claim_at old)) k → HasFollowed code old follows k →
-    given_or (claim_at claims k) follows ≡ derived_at code (claim_at old) k
-followed_claim code old claims k follows done followed =
-    ap (λ (o : Option Abstract). given_or o follows) (old_claim old claims (derived_at code (claim_at old)) k done)
-    ∙ sym followed.next
 
 -- nothing is put at first
 pub none_put : (states : Claims) → states ≡ replicate (length states) None → HasEachClaim states (pair_at [])

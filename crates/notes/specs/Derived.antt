@@ -1,8 +1,9 @@
--- The states of a program that follow from those that are given of some instructions.
+-- The states of a code that may call the helpers of a table, as they follow from those that are given of some
+-- instructions.
 use Rattle.std.specs.Prelude.{◌≡◌, ℕ, zero, suc, ◌+◌, ◌<◌, Bool, true, false, ◌==◌, ◌&&◌, nat_lt, nat_le, if◌then◌else◌}
 use Rattle.std.specs.Prelude.{List, [], ◌∷◌, ◌++◌, length, slice_get, slice_index_or, Option, Some, None}
 use Rattle.std.specs.List.{list_any}
-use Rattle.machine_spec.specs.declared.{helper.TheConstants.HELPERS, instruction.Placed.Placed}
+use Rattle.machine_spec.specs.declared.{helper.Helper.Helper, instruction.Placed.Placed}
 use Rattle.machine_spec.specs.Image.{target_of}
 use Rattle.verifier_spec.specs.declared.{state.Abstract.Abstract, fault.Check.Check, fault.VerifyFault.VerifyFault}
 use Rattle.verifier_spec.specs.States.{is_proper, entry_state}
@@ -16,12 +17,12 @@ use Rattle.verifier_spec.specs.Annotation.{Claims, claim_at, fault_of}
 
 -- What falls through from instruction number k: nothing where there is none, where it is not reached or where it fails
 -- a check, of its shape or in its state.
-abbrev pub state_fallen_to : List Placed → ℕ → Option Placed → Option Abstract → Option Abstract
-state_fallen_to code k None s = None
-state_fallen_to code k (Some placed) None = None
-state_fallen_to code k (Some placed) (Some s) =
+abbrev pub state_fallen_to : List Helper → List Placed → ℕ → Option Placed → Option Abstract → Option Abstract
+state_fallen_to helpers code k None s = None
+state_fallen_to helpers code k (Some placed) None = None
+state_fallen_to helpers code k (Some placed) (Some s) =
     if_passed (first_of (shape_checks code k placed)) None
-    (if_passed (failed_check HELPERS placed.instruction s) None (falls_to placed.instruction s))
+    (if_passed (failed_check helpers placed.instruction s) None (falls_to placed.instruction s))
 
 -- the state that is given of an instruction, or else the one that follows
 abbrev pub given_or : Option Abstract → Option Abstract → Option Abstract
@@ -30,19 +31,20 @@ given_or None follows = follows
 
 -- The state of an instruction: the given one, or else what falls through from the one before; of the first the entry
 -- state.
-unfoldable pub derived_at : List Placed → (ℕ → Option Abstract) → ℕ → Option Abstract
-derived_at code given zero = given_or (given 0) (Some entry_state)
-derived_at code given (suc k) =
-    given_or (given (suc k)) (state_fallen_to code k (slice_get code k) (derived_at code given k))
+unfoldable pub derived_at : List Helper → List Placed → (ℕ → Option Abstract) → ℕ → Option Abstract
+derived_at helpers code given zero = given_or (given 0) (Some entry_state)
+derived_at helpers code given (suc k) =
+    given_or (given (suc k)) (state_fallen_to helpers code k (slice_get code k) (derived_at helpers code given k))
 
 -- the states of these instructions, of which the first has the number k
-abbrev pub derived_from : List Placed → (ℕ → Option Abstract) → ℕ → List Placed → Claims
-derived_from code given k [] = []
-derived_from code given k (placed ∷ rest) = derived_at code given k ∷ derived_from code given (k + 1) rest
+abbrev pub derived_from : List Helper → List Placed → (ℕ → Option Abstract) → ℕ → List Placed → Claims
+derived_from helpers code given k [] = []
+derived_from helpers code given k (placed ∷ rest) =
+    derived_at helpers code given k ∷ derived_from helpers code given (k + 1) rest
 
 -- the states of all instructions
-unfoldable pub derived_claims : List Placed → (ℕ → Option Abstract) → Claims
-derived_claims code given = derived_from code given 0 code
+unfoldable pub derived_claims : List Helper → List Placed → (ℕ → Option Abstract) → Claims
+derived_claims helpers code given = derived_from helpers code given 0 code
 
 -- ---- jump targets
 
@@ -64,8 +66,8 @@ abbrev pub at_targets : List Placed → Claims → ℕ → Option Abstract
 at_targets code claims k = if is_jump_target code k then claim_at claims k else None
 
 -- What a verified program has of a list of states: those at jump targets, and what follows from them.
-abbrev pub settled_claims : List Placed → Claims → Claims
-settled_claims code claims = derived_claims code (at_targets code claims)
+abbrev pub settled_claims : List Helper → List Placed → Claims → Claims
+settled_claims helpers code claims = derived_claims helpers code (at_targets code claims)
 
 -- ---- states with the numbers of their instructions
 
@@ -105,9 +107,9 @@ are_rising least limit (pair ∷ pairs) = (nat_lt pair.0 limit && nat_le least p
 
 -- The refusal that is reported for states with numbers: at 0, that the numbers don't rise or are past the code's end;
 -- else that of the list that follows from them.
-unfoldable pub pairs_fault : List Placed → List (ℕ × Abstract) → Option VerifyFault
-pairs_fault code pairs = if are_rising 0 (length code) pairs then fault_of HELPERS code
-    (derived_claims code (pair_at pairs)) else Some (record { pc = 0; kind = Check.Notes })
+unfoldable pub pairs_fault : List Helper → List Placed → List (ℕ × Abstract) → Option VerifyFault
+pairs_fault helpers code pairs = if are_rising 0 (length code) pairs then fault_of helpers code
+    (derived_claims helpers code (pair_at pairs)) else Some (record { pc = 0; kind = Check.Notes })
 
 -- ---- lists by number
 
@@ -116,8 +118,9 @@ abbrev pub HasEachClaim : Claims → (ℕ → Option Abstract) → Type 0
 HasEachClaim claims claim = (j : ℕ) → j < length claims → claim_at claims j ≡ claim j
 
 -- the states that follow are in their ranges
-abbrev pub AreDerivedProper : List Placed → (ℕ → Option Abstract) → ℕ → Type 0
-AreDerivedProper code given n = (k : ℕ) (s : Abstract) → k < n → derived_at code given k ≡ Some s → is_proper s ≡ true
+abbrev pub AreDerivedProper : List Helper → List Placed → (ℕ → Option Abstract) → ℕ → Type 0
+AreDerivedProper helpers code given n = (k : ℕ) (s : Abstract) → k < n → derived_at helpers code given k ≡ Some s →
+    is_proper s ≡ true
 
 -- a list says of each instruction whether a jump leads to it
 pub record AreTargets (code : List Placed) (targets : List Bool) : Type 0 where

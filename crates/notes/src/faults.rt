@@ -3,14 +3,14 @@ ghost use Rattle.machine_spec.specs.Traps.{first_of};
 ghost use Rattle.verifier_spec.specs.States.{is_proper, entry_state};
 ghost use Rattle.verifier_spec.specs.Annotation.{claim_at, is_covered, reached_checks, failed_at, fault_from, fault_of};
 ghost use Rattle.notes.specs.Proper.{IsProperAt, AreProper, AreProperBelow};
-ghost use Rattle.machine_spec.specs.declared.helper.TheConstants.{HELPERS};
+ghost use Rattle.machine_spec.specs.Image.{helpers_of};
 
 use crate::edges::{are_edges_covered, is_covered};
 use crate::lookup::claim_at;
 use crate::shape::failed_shape;
 use abstract_regs::State;
 use bpf_isa::Code;
-use machine_spec::{MAX_SLOTS, Placed};
+use machine_spec::{MAX_SLOTS, Placed, Table};
 use verifier_spec::{Check, VerifyFault};
 
 /// The first check that an instruction fails in a state: its own, and then that its edges are
@@ -18,6 +18,7 @@ use verifier_spec::{Check, VerifyFault};
 #[tactic(auto, unfolding(verifier_spec::specs::Checks::failed_check))]
 fn failed_reached(
     code: &Code,
+    table: Table,
     claims: &[Option<State>],
     k: usize,
     placed: Placed,
@@ -25,10 +26,10 @@ fn failed_reached(
 ) -> Option<Check>
     requires number { k < MAX_SLOTS }
     requires slot { placed.slot < MAX_SLOTS }
-    ensures failed { result ≡ first_of (reached_checks HELPERS code.now claims.now k placed (Some state.now)) }
+    ensures failed { result ≡ first_of (reached_checks (helpers_of table) code.now claims.now k placed (Some state.now)) }
     ensures proper { is_proper state.now ≡ true }
 {
-    if let Some(check) = state.check(placed.instruction) {
+    if let Some(check) = state.check(placed.instruction, table) {
         return Some(check);
     }
     if are_edges_covered(code, claims, k, placed, state) {
@@ -40,28 +41,34 @@ fn failed_reached(
 
 /// The first check that the instruction with this number fails: of its shape, and then, where it
 /// is reached, in its state.
-fn failed_at(code: &Code, claims: &[Option<State>], k: usize, placed: Placed) -> Option<Check>
+fn failed_at(
+    code: &Code,
+    table: Table,
+    claims: &[Option<State>],
+    k: usize,
+    placed: Placed,
+) -> Option<Check>
     requires number { k < MAX_SLOTS }
     requires slot { placed.slot < MAX_SLOTS }
-    ensures failed { result ≡ failed_at HELPERS code.now claims.now k placed }
+    ensures failed { result ≡ failed_at (helpers_of table) code.now claims.now k placed }
     ensures proper { IfNone result (IsProperAt claims.now k) }
 {
     if let Some(check) = failed_shape(code, k, placed) {
         return Some(check);
     }
     match claim_at(claims, k) {
-        Some(state) => failed_reached(code, claims, k, placed, state),
+        Some(state) => failed_reached(code, table, claims, k, placed, state),
         None => None,
     }
 }
 
 /// The first failed check of the lowest instruction that fails one.
-fn first_fault(code: &Code, claims: &[Option<State>]) -> Option<VerifyFault>
-    ensures fault { result ≡ fault_from HELPERS code.now claims.now 0 code.now }
+fn first_fault(code: &Code, table: Table, claims: &[Option<State>]) -> Option<VerifyFault>
+    ensures fault { result ≡ fault_from (helpers_of table) code.now claims.now 0 code.now }
     ensures proper { IfNone result (AreProperBelow claims.now (length code.now)) }
 {
     for k in 0..code.len() {
-        if let Some(kind) = failed_at(code, claims, k, code.get(k)) {
+        if let Some(kind) = failed_at(code, table, claims, k, code.get(k)) {
             return Some(VerifyFault { pc: k, kind });
         }
     }
@@ -75,10 +82,10 @@ fn has_start(code: &Code, claims: &[Option<State>]) -> bool
     claims.len() == code.len() && is_covered(&State::entry(), claim_at(claims, 0))
 }
 
-/// Why a list of states is no annotation of code, if it is none.
+/// Why a list of states is no annotation of code under a helper table, if it is none.
 #[tactic(auto, unfolding(verifier_spec::specs::Annotation::fault_of))]
-pub fn fault_of(code: &Code, claims: &[Option<State>]) -> Option<VerifyFault>
-    ensures fault { result ≡ fault_of HELPERS code.now claims.now }
+pub fn fault_of(code: &Code, table: Table, claims: &[Option<State>]) -> Option<VerifyFault>
+    ensures fault { result ≡ fault_of (helpers_of table) code.now claims.now }
     ensures proper { IfNone result (AreProper claims.now) }
 {
     if !has_start(code, claims) {
@@ -87,5 +94,5 @@ pub fn fault_of(code: &Code, claims: &[Option<State>]) -> Option<VerifyFault>
             kind: Check::Notes,
         });
     }
-    first_fault(code, claims)
+    first_fault(code, table, claims)
 }

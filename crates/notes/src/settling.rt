@@ -6,46 +6,52 @@ ghost use Rattle.verifier_spec.specs.Checks.{failed_check};
 ghost use Rattle.verifier_spec.specs.Transfer.{falls_to};
 ghost use Rattle.verifier_spec.specs.JoinedStates.{if_passed};
 ghost use Rattle.notes.specs.Derived.{state_fallen_to, given_or, derived_claims, at_targets, settled_claims, pair_at, are_rising, kept_claim, kept_states, HasEachClaim, AreDerivedProper, AreTargets};
-ghost use Rattle.machine_spec.specs.declared.helper.TheConstants.{HELPERS};
+ghost use Rattle.machine_spec.specs.Image.{helpers_of};
 
 use crate::shape::failed_shape;
 use abstract_regs::State;
 use bpf_isa::Code;
-use machine_spec::{MAX_SLOTS, Placed};
+use machine_spec::{MAX_SLOTS, Placed, Table};
 use std::alloc::{AllocError, Global};
 
 /// What falls through from the instruction with this number in its state: nothing where it is not
 /// reached or fails a check.
-fn state_fallen_to(code: &Code, k: usize, placed: Placed, state: Option<State>) -> Option<State>
+fn state_fallen_to(
+    code: &Code,
+    table: Table,
+    k: usize,
+    placed: Placed,
+    state: Option<State>,
+) -> Option<State>
     requires number { k < MAX_SLOTS }
     requires slot { placed.slot < MAX_SLOTS }
-    ensures fallen { result ≡ state_fallen_to code.now k (Some placed) state }
+    ensures fallen { result ≡ state_fallen_to (helpers_of table) code.now k (Some placed) state }
     ensures proper { IfSome state (λ s. is_proper s ≡ true) }
 {
     match state {
-        Some(state) => fallen_from(code, k, placed, &state),
+        Some(state) => fallen_from(code, table, k, placed, &state),
         None => None,
     }
 }
 
-fn fallen_from(code: &Code, k: usize, placed: Placed, state: &State) -> Option<State>
+fn fallen_from(code: &Code, table: Table, k: usize, placed: Placed, state: &State) -> Option<State>
     requires number { k < MAX_SLOTS }
     requires slot { placed.slot < MAX_SLOTS }
-    ensures fallen { result ≡ state_fallen_to code.now k (Some placed) (Some state.now) }
+    ensures fallen { result ≡ state_fallen_to (helpers_of table) code.now k (Some placed) (Some state.now) }
     ensures proper { is_proper state.now ≡ true }
 {
-    let passed = passed_on(placed, state);
+    let passed = passed_on(table, placed, state);
     match failed_shape(code, k, placed) {
         Some(_) => None,
         None => passed,
     }
 }
 
-fn passed_on(placed: Placed, state: &State) -> Option<State>
-    ensures passed { result ≡ if_passed (failed_check HELPERS placed.instruction state.now) None (falls_to placed.instruction state.now) }
+fn passed_on(table: Table, placed: Placed, state: &State) -> Option<State>
+    ensures passed { result ≡ if_passed (failed_check (helpers_of table) placed.instruction state.now) None (falls_to placed.instruction state.now) }
     ensures proper { is_proper state.now ≡ true }
 {
-    match state.check(placed.instruction) {
+    match state.check(placed.instruction, table) {
         Some(_) => None,
         None => state.transfer(placed.instruction).next,
     }
@@ -88,6 +94,7 @@ fn keep_marked(marks: &[bool], states: &mut [Option<State>])
 /// Gives an instruction without a state the one that follows, and returns what falls through from it.
 fn follow(
     code: &Code,
+    table: Table,
     states: &mut [Option<State>],
     k: usize,
     placed: Placed,
@@ -97,49 +104,50 @@ fn follow(
     requires number { k < MAX_SLOTS }
     requires slot { placed.slot < MAX_SLOTS }
     ensures states { states.new ≡ slice_set states.old k (given_or (claim_at states.old k) follows) }
-    ensures fallen { result ≡ state_fallen_to code.now k (Some placed) (given_or (claim_at states.old k) follows) }
+    ensures fallen { result ≡ state_fallen_to (helpers_of table) code.now k (Some placed) (given_or (claim_at states.old k) follows) }
     ensures proper { IfSome (given_or (claim_at states.old k) follows) (λ s. is_proper s ≡ true) }
 {
     states[k] = given_or(state_of(states, k), follows);
-    state_fallen_to(code, k, placed, state_of(states, k))
+    state_fallen_to(code, table, k, placed, state_of(states, k))
 }
 
 /// Gives each instruction without a state the one that follows from those before it.
-fn derive(code: &Code, states: &mut [Option<State>])
+fn derive(code: &Code, table: Table, states: &mut [Option<State>])
     requires { length states.old ≡ length code.now }
-    ensures states { states.new ≡ derived_claims code.now (claim_at states.old) }
-    ensures proper { AreDerivedProper code.now (claim_at states.old) (length code.now) }
+    ensures states { states.new ≡ derived_claims (helpers_of table) code.now (claim_at states.old) }
+    ensures proper { AreDerivedProper (helpers_of table) code.now (claim_at states.old) (length code.now) }
 {
     let mut follows = Some(State::entry());
     for k in 0..code.len() {
-        follows = follow(code, states, k, code.get(k), follows);
+        follows = follow(code, table, states, k, code.get(k), follows);
     }
 }
 
 /// Leaves the states at jump targets, and gives each other instruction the state that follows.
-fn settle(code: &Code, targets: &[bool], states: &mut [Option<State>])
+fn settle(code: &Code, table: Table, targets: &[bool], states: &mut [Option<State>])
     requires targets { AreTargets code.now targets.now }
     requires long { length states.old ≡ length code.now }
-    ensures states { states.new ≡ settled_claims code.now states.old }
-    ensures proper { AreDerivedProper code.now (at_targets code.now states.old) (length code.now) }
+    ensures states { states.new ≡ settled_claims (helpers_of table) code.now states.old }
+    ensures proper { AreDerivedProper (helpers_of table) code.now (at_targets code.now states.old) (length code.now) }
 {
     keep_marked(targets, states);
-    derive(code, states);
+    derive(code, table, states);
 }
 
 /// The states at jump targets of a list, and those that follow from them.
 pub fn settled_states(
     code: &Code,
+    table: Table,
     targets: &[bool],
     states: Vec<Option<State>>,
 ) -> Vec<Option<State>>
     requires targets { AreTargets code.now targets.now }
     requires long { length states.items ≡ length code.now }
-    ensures states { result.items ≡ settled_claims code.now states.items }
-    ensures proper { AreDerivedProper code.now (at_targets code.now states.items) (length code.now) }
+    ensures states { result.items ≡ settled_claims (helpers_of table) code.now states.items }
+    ensures proper { AreDerivedProper (helpers_of table) code.now (at_targets code.now states.items) (length code.now) }
 {
     let mut states = states;
-    settle(code, targets, &mut states);
+    settle(code, table, targets, &mut states);
     states
 }
 
@@ -167,24 +175,25 @@ fn put_all(states: &mut [Option<State>], pairs: &[(usize, State)])
 }
 
 /// Gives each instruction the state that is given of it or follows from those before it.
-fn fill(code: &Code, states: &mut [Option<State>], pairs: &[(usize, State)])
+fn fill(code: &Code, table: Table, states: &mut [Option<State>], pairs: &[(usize, State)])
     requires { states.old ≡ replicate (length code.now) None }
-    ensures { states.new ≡ derived_claims code.now (pair_at pairs.now) }
+    ensures { states.new ≡ derived_claims (helpers_of table) code.now (pair_at pairs.now) }
 {
     put_all(states, pairs);
-    derive(code, states);
+    derive(code, table, states);
 }
 
 /// The states that follow from some with the numbers of their instructions.
 pub fn derived_states(
     alloc: Global,
     code: &Code,
+    table: Table,
     pairs: &[(usize, State)],
 ) -> Result<Vec<Option<State>>, AllocError>
-    ensures { IfOk result (λ states. states.items ≡ derived_claims code.now (pair_at pairs.now)) }
+    ensures { IfOk result (λ states. states.items ≡ derived_claims (helpers_of table) code.now (pair_at pairs.now)) }
 {
     let mut states = vec![in alloc; None; code.len()]?;
-    fill(code, &mut states, pairs);
+    fill(code, table, &mut states, pairs);
     Ok(states)
 }
 

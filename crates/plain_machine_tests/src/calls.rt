@@ -17,7 +17,7 @@ const PARTITION: u64 = 0x8500_0000_0900_0000; // call 9
 
 const EXIT: u64 = 0x9500_0000_0000_0000;
 
-const PLACES: [(&[u64], &str); 6] = [
+const PLACES: [(&[u64], &str); 7] = [
     (&[OFFSET, EXIT], "rejected 5 after 2"),
     (&[TIMESTAMP, EXIT], "rejected 1000 after 2"),
     (&[PARTITION, EXIT], "rejected 7 after 2"),
@@ -30,6 +30,8 @@ const PLACES: [(&[u64], &str); 6] = [
     ),
     // call 99
     (&[0x8500_0000_6300_0000, EXIT], "K11 after 0"),
+    // call 10, which is in table two alone
+    (&[OFFSET, 0x8500_0000_0a00_0000, EXIT], "K11 after 1"),
 ];
 
 #[test]

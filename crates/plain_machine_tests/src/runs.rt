@@ -1,6 +1,6 @@
 //! Runs as text.
 
-use bpf_machine::{End, Headers, Outcome, Place, Record, Trap, trace};
+use bpf_machine::{End, Headers, Outcome, Place, Record, Table, Trap, trace};
 use bytes::Bytes;
 use std::alloc::Global;
 use std::process::Abort;
@@ -35,7 +35,7 @@ fn trap_name(trap: Trap) -> &'static str {
     }
 }
 
-/// What the program of these bytes ends with on a record with this value and the key `key`, and
+/// What the program of these bytes and table one ends with on a record with this value and the key `key`, and
 /// after how many instructions.
 pub(crate) fn end_of_bytes(
     alloc: Global,
@@ -49,7 +49,7 @@ pub(crate) fn end_of_bytes(
         timestamp: 1000,
         outputs,
     };
-    let (end, count) = trace(alloc, image, &record_of(alloc, value), &place)?;
+    let (end, count) = trace(alloc, image, &record_of(alloc, value), &place, Table::One)?;
     Ok(match end {
         End::Out(Outcome::Kept(emissions)) => {
             format!(in alloc; "kept {} after {count}", emissions.list.len())?

@@ -9,7 +9,7 @@ use Rattle.std.proofs.lemmas.List.{length-append}
 use Rattle.machine_spec.specs.Image.{Program}
 use Rattle.log_spec.specs.declared.event.Refusal.{Refusal}
 use Rattle.log_spec.specs.declared.event.Refusal.TheVariants as refusal
-use Rattle.log_spec.specs.Catalogue.{Table, Entry as Loaded, programs_of, has_name, is_name, with_program}
+use Rattle.log_spec.specs.Catalogue.{ProgramTable, Entry as Loaded, programs_of, has_name, is_name, with_program}
 use Rattle.log_spec.specs.Catalogue.{IsFirstRefusal, IsLoadRefusal}
 use Rattle.program_table.specs.Tables.{IsTable, LoadsInto}
 
@@ -38,7 +38,7 @@ none_earlier : (earlier : Option Refusal) (program : Program) → IsFirstRefusal
 none_earlier (Some early) program h = h
 none_earlier None program h = refl
 
-allowed : (table : Table) (name : List ℕ) (program : Program) → IsLoadRefusal table name program None →
+allowed : (table : ProgramTable) (name : List ℕ) (program : Program) → IsLoadRefusal table name program None →
     ((has_name table name ≡ true) ⊎ (nat_le 64 (length table) ≡ false))
     × (nat_le (2 ^ 32 - 1) (length (programs_of table name)) ≡ false)
 allowed table name program h =
@@ -47,7 +47,7 @@ allowed table name program h =
 
 -- ---- one more program
 
-length-known : (table : Table) (name : List ℕ) (program : Program) → has_name table name ≡ true →
+length-known : (table : ProgramTable) (name : List ℕ) (program : Program) → has_name table name ≡ true →
     length (with_program table name program) ≡ length table
 length-known [] name program h = absurd cc
 length-known (entry ∷ table) name program h = by (bytes_eq entry.name name) (λ e. length-known table name program e) h
@@ -59,7 +59,7 @@ length-known (entry ∷ table) name program h = by (bytes_eq entry.name name) (�
     by true rest h = refl
     by false rest h = ap suc (rest h)
 
-length-most : (table : Table) (name : List ℕ) (program : Program) →
+length-most : (table : ProgramTable) (name : List ℕ) (program : Program) →
     length (with_program table name program) ≤ length table + 1
 length-most [] name program = omega arith
 length-most (entry ∷ table) name program = by (bytes_eq entry.name name) (length-most table name program)
@@ -70,7 +70,7 @@ length-most (entry ∷ table) name program = by (bytes_eq entry.name name) (leng
     by true rest = omega arith
     by false rest = omega arith
 
-some-kept : (table : Table) (name : List ℕ) (program : Program) → AllByRecursion HasSome table →
+some-kept : (table : ProgramTable) (name : List ℕ) (program : Program) → AllByRecursion HasSome table →
     AllByRecursion HasSome (with_program table name program)
 some-kept [] name program all = (omega arith, tt)
 some-kept (entry ∷ table) name program all = by (bytes_eq entry.name name) (some-kept table name program all.1)
@@ -80,7 +80,7 @@ some-kept (entry ∷ table) name program all = by (bytes_eq entry.name name) (so
     by true rest = (omega (arith, length-append entry.programs (program ∷ [])), all.1)
     by false rest = (all.0, rest)
 
-few-kept : (table : Table) (name : List ℕ) (program : Program) → length (programs_of table name) < 2 ^ 32 - 1 →
+few-kept : (table : ProgramTable) (name : List ℕ) (program : Program) → length (programs_of table name) < 2 ^ 32 - 1 →
     AllByRecursion HasFew table → AllByRecursion HasFew (with_program table name program)
 few-kept [] name program lt all = (omega arith, tt)
 few-kept (entry ∷ table) name program lt all =
@@ -92,7 +92,7 @@ few-kept (entry ∷ table) name program lt all =
     by true lt rest = (omega (arith, length-append entry.programs (program ∷ [])), all.1)
     by false lt rest = (all.0, rest lt)
 
-names-kept : (table : Table) (name : List ℕ) (program : Program) → length table ≤ 64 →
+names-kept : (table : ProgramTable) (name : List ℕ) (program : Program) → length table ≤ 64 →
     (has_name table name ≡ true) ⊎ (nat_le 64 (length table) ≡ false) → length (with_program table name program) ≤ 64
 names-kept table name program le (inl known) = omega (arith, length-known table name program known)
 names-kept table name program le (inr room) =
@@ -102,7 +102,7 @@ pub is_table-new : IsTable []
 is_table-new = record { names = omega arith; some = tt; few = tt }
 
 -- after a load, or its refusal
-pub is_table-loaded : (table next : Table) (name : List ℕ) (program : Program) (result : Result ℕ Refusal) →
+pub is_table-loaded : (table next : ProgramTable) (name : List ℕ) (program : Program) (result : Result ℕ Refusal) →
     IsTable table → LoadsInto table name program result next → IsTable next
 is_table-loaded table next name program (Ok version) is loads =
     let free = allowed table name program loads.0 in

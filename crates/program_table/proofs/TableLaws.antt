@@ -10,7 +10,7 @@ use Rattle.log_spec.specs.declared.event.Refusal.{Refusal}
 use Rattle.log_spec.specs.declared.event.Refusal.TheVariants as refusal
 use Rattle.std.specs.Arc.{arc_value}
 use Rattle.std.specs.Str.{bytes_eq}
-use Rattle.log_spec.specs.Catalogue.{Table, programs_of, program_named, with_program, has_name, is_name, name_refusal}
+use Rattle.log_spec.specs.Catalogue.{ProgramTable, programs_of, program_named, with_program, has_name, is_name, name_refusal}
 use Rattle.log_spec.specs.Catalogue.{IsProgramRefusal, IsFirstRefusal, IsLoadRefusal, Entry as Loaded}
 use Rattle.program_table.specs.declared.table.Entry.{Entry}
 use Rattle.program_table.specs.Tables.{entry_view, table_view, version_of}
@@ -62,65 +62,65 @@ with_program-found (entry ∷ entries) zero d changed name program lt h e same m
 with_program-found (entry ∷ entries) (suc i) d changed name program lt h e same more =
     let p = or_false (bytes_eq entry.name name) (has_name (table_view (take i entries)) name) h in
     let below : i < length entries = omega arith in
-    rw p.0 (ap (λ (rest : Table). entry_view entry ∷ rest)
+    rw p.0 (ap (λ (rest : ProgramTable). entry_view entry ∷ rest)
     (with_program-found entries i d changed name program below p.1 e same more))
 
-pub programs_of-absent : (table : Table) (name : List ℕ) → has_name table name ≡ false → programs_of table name ≡ []
+pub programs_of-absent : (table : ProgramTable) (name : List ℕ) → has_name table name ≡ false → programs_of table name ≡ []
 programs_of-absent [] name h = refl
 programs_of-absent (entry ∷ table) name h =
     let p = or_false (bytes_eq entry.name name) (has_name table name) h in
     rw p.0 (programs_of-absent table name p.1)
 
-pub with_program-absent : (table : Table) (name : List ℕ) (program : Program) → has_name table name ≡ false
+pub with_program-absent : (table : ProgramTable) (name : List ℕ) (program : Program) → has_name table name ≡ false
     → with_program table name program ≡ table ++ record { name = name; programs = program ∷ [] } ∷ []
 with_program-absent [] name program h = refl
 with_program-absent (entry ∷ table) name program h =
     let p = or_false (bytes_eq entry.name name) (has_name table name) h in
-    rw p.0 (ap (λ (rest : Table). entry ∷ rest) (with_program-absent table name program p.1))
+    rw p.0 (ap (λ (rest : ProgramTable). entry ∷ rest) (with_program-absent table name program p.1))
 
 -- ---- which refusal comes first
 
 -- of a name that is loaded, after its form: its versions, then the program
-pub refusal_named : (table : Table) (name : List ℕ) → is_name name ≡ true → has_name table name ≡ true →
+pub refusal_named : (table : ProgramTable) (name : List ℕ) → is_name name ≡ true → has_name table name ≡ true →
     length (programs_of table name) < 2 ^ 32 - 1 → name_refusal table name ≡ None
 refusal_named table name form named lt =
     let room : nat_le (2 ^ 32 - 1) (length (programs_of table name)) ≡ false = grind (arith, nat_tests) in
     rw (form, named, room) refl
 
-pub refusal_versions : (table : Table) (name : List ℕ) → is_name name ≡ true → has_name table name ≡ true →
+pub refusal_versions : (table : ProgramTable) (name : List ℕ) → is_name name ≡ true → has_name table name ≡ true →
     2 ^ 32 - 1 ≤ length (programs_of table name) → name_refusal table name ≡ Some refusal.Versions
 refusal_versions table name form named le =
     let full : nat_le (2 ^ 32 - 1) (length (programs_of table name)) ≡ true = grind (arith, nat_tests) in
     rw (form, named, full) refl
 
 -- of a new name: whether there is room, then the program
-pub refusal_new : (table : Table) (name : List ℕ) → is_name name ≡ true → has_name table name ≡ false →
+pub refusal_new : (table : ProgramTable) (name : List ℕ) → is_name name ≡ true → has_name table name ≡ false →
     length table < 64 → name_refusal table name ≡ None
 refusal_new table name form new lt =
     let room : nat_le 64 (length table) ≡ false = grind (arith, nat_tests) in
     rw (form, new, room, programs_of-absent table name new) refl
 
-pub refusal_full : (table : Table) (name : List ℕ) → is_name name ≡ true → has_name table name ≡ false →
+pub refusal_full : (table : ProgramTable) (name : List ℕ) → is_name name ≡ true → has_name table name ≡ false →
     64 ≤ length table → name_refusal table name ≡ Some refusal.Full
 refusal_full table name form new le =
     let full : nat_le 64 (length table) ≡ true = grind (arith, nat_tests) in
     rw (form, new, full) refl
 
-refusal_form : (table : Table) (name : List ℕ) → is_name name ≡ false → name_refusal table name ≡ Some refusal.Name
+refusal_form : (table : ProgramTable) (name : List ℕ) → is_name name ≡ false → name_refusal table name ≡ Some refusal.Name
 refusal_form table name form = rw form refl
 
 -- a refusal before the image is read is the load's
-pub refused_early : (table : Table) (name : List ℕ) (program : Program) (early : Refusal) →
+pub refused_early : (table : ProgramTable) (name : List ℕ) (program : Program) (early : Refusal) →
     name_refusal table name ≡ Some early → IsLoadRefusal table name program (Some early)
 refused_early table name program early e =
     subst (λ (o : Option Refusal). IsFirstRefusal o program (Some early)) (sym e) refl
 
 -- else the program's is
-pub refused_program : (table : Table) (name : List ℕ) (program : Program) (first : Option Refusal) →
+pub refused_program : (table : ProgramTable) (name : List ℕ) (program : Program) (first : Option Refusal) →
     name_refusal table name ≡ None → IsProgramRefusal program first → IsLoadRefusal table name program first
 refused_program table name program first e h = subst (λ (o : Option Refusal). IsFirstRefusal o program first) (sym e) h
 
-pub refused_form : (table : Table) (name : List ℕ) (program : Program) → is_name name ≡ false →
+pub refused_form : (table : ProgramTable) (name : List ℕ) (program : Program) → is_name name ≡ false →
     IsLoadRefusal table name program (Some refusal.Name)
 refused_form table name program form = refused_early table name program refusal.Name (refusal_form table name form)
 
@@ -135,12 +135,12 @@ versions_of-found entries i d name lt h e =
     ∙ length-map (get_or entries i d).programs.items (λ program. arc_value program)
 
 -- the programs of the name at a place of the entries that are a table
-pub programs_here : (table : Table) (kept entries : List Entry) (i : ℕ) (d : Entry) (name : List ℕ) →
+pub programs_here : (table : ProgramTable) (kept entries : List Entry) (i : ℕ) (d : Entry) (name : List ℕ) →
     table_view kept ≡ table → entries ≡ kept → i < length entries →
     has_name (table_view (take i entries)) name ≡ false → bytes_eq (get_or entries i d).name name ≡ true →
     programs_of table name ≡ map (λ program. arc_value program) (get_or entries i d).programs.items
 programs_here table kept entries i d name is same lt h e =
-    ap (λ (t : Table). programs_of t name) (sym is ∙ ap table_view (sym same))
+    ap (λ (t : ProgramTable). programs_of t name) (sym is ∙ ap table_view (sym same))
     ∙ programs_of-found entries i d name lt h e
 
 -- how many versions the name at a place has, and that nothing but its program is refused where there are fewer than
@@ -166,9 +166,9 @@ table-set_same [] i d changed lt e = refl
 table-set_same (entry ∷ entries) zero d changed lt e = ap (λ (first : Loaded). first ∷ table_view entries) e
 table-set_same (entry ∷ entries) (suc i) d changed lt e =
     let below : i < length entries = omega arith in
-    ap (λ (rest : Table). entry_view entry ∷ rest) (table-set_same entries i d changed below e)
+    ap (λ (rest : ProgramTable). entry_view entry ∷ rest) (table-set_same entries i d changed below e)
 
-pub program_named-version : (table : Table) (name : List ℕ) (programs : List Program) (version : ℕ) →
+pub program_named-version : (table : ProgramTable) (name : List ℕ) (programs : List Program) (version : ℕ) →
     programs_of table name ≡ programs → program_named table name version ≡ version_of programs version
 program_named-version table name programs zero e = refl
 program_named-version table name programs (suc k) e = ap (λ (is : List Program). slice_get is k) e

@@ -1,8 +1,8 @@
-//! What a load asks of a name and of an image alone, whatever the table.
-ghost use Rattle.std.specs.Prelude.{◌≡◌, List, ℕ, IfOk, IfErr, OnOk};
+//! What a load asks of a name and of a program alone, whatever else is loaded.
+ghost use Rattle.std.specs.Prelude.{◌≡◌, IfOk, IfErr, OnOk};
 ghost use Rattle.std.specs.List.{list_all};
 ghost use Rattle.std.specs.Arc.{arc_value};
-ghost use Rattle.machine_spec.specs.Image.{program_of};
+ghost use Rattle.machine_spec.specs.Image.{Program as Loaded, program_of};
 ghost use Rattle.verifier_spec.specs.Loading.{IsAccepted};
 ghost use Rattle.annotate.specs.Loads.{FaultIs};
 ghost use Rattle.log_spec.specs.Catalogue.{IsProgramRefusal, is_name, is_name_byte};
@@ -11,7 +11,7 @@ ghost use Rattle.program_table.specs.Tables.{RefusedAs};
 use bytes::Bytes;
 use log_item::Program;
 use log_spec::{MAX_NAME, Refusal};
-use machine_spec::IsaFault;
+use machine_spec::{IsaFault, Table};
 use std::alloc::Global;
 use std::sync::Arc;
 use verifier_spec::{Check, LoadFault};
@@ -39,9 +39,9 @@ pub fn has_name_form(name: &str) -> bool
     are_name_chars(bytes)
 }
 
-/// The refusal of a load whose image is refused.
+/// The refusal of a load whose program is refused.
 fn refusal_of(fault: LoadFault) -> Refusal
-    ensures { (image : List ℕ) → FaultIs image fault → RefusedAs (IsProgramRefusal (program_of image)) result }
+    ensures { (program : Loaded) → FaultIs program fault → RefusedAs (IsProgramRefusal program) result }
 {
     match fault {
         LoadFault::Isa(IsaFault::Memory) => Refusal::Memory,
@@ -53,14 +53,14 @@ fn refusal_of(fault: LoadFault) -> Refusal
     }
 }
 
-/// The program of an image that the verifier accepts; else the first refusal of the image, or that
-/// memory ran out.
-pub fn admit(alloc: Global, image: &Bytes) -> Result<Arc<Program>, Refusal>
-    ensures program { IfOk result (λ program. arc_value program ≡ program_of image.now) }
-    ensures accepted { OnOk result (IsAccepted (program_of image.now)) }
-    ensures refused { IfErr result (λ refused. RefusedAs (IsProgramRefusal (program_of image.now)) refused) }
+/// The program of an image and a helper table, where the verifier accepts it; else its first refusal,
+/// or that memory ran out.
+pub fn admit(alloc: Global, image: &Bytes, table: Table) -> Result<Arc<Program>, Refusal>
+    ensures program { IfOk result (λ program. arc_value program ≡ program_of image.now table) }
+    ensures accepted { OnOk result (IsAccepted (program_of image.now table)) }
+    ensures refused { IfErr result (λ refused. RefusedAs (IsProgramRefusal (program_of image.now table)) refused) }
 {
-    match Program::new(alloc, image) {
+    match Program::new(alloc, image, table) {
         Err(fault) => Err(refusal_of(fault)),
         Ok(program) => match Arc::new(alloc, program) {
             Err(_) => Err(Refusal::Memory),

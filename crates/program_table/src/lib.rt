@@ -6,4 +6,4 @@ mod admission;
 mod table;
 
 pub use crate::admission::{admit, has_name_form};
-pub use crate::table::Table;
+pub use crate::table::ProgramTable;

@@ -12,6 +12,7 @@ use arrayvec::{ArrayString, ArrayVec};
 use bytes::Bytes;
 use log_item::Program;
 use log_spec::{Name, Refusal};
+use machine_spec::Table;
 use std::alloc::{AllocError, Global};
 use std::default::MadeWith;
 use std::marker::Model;
@@ -47,12 +48,12 @@ type Entries = ArrayVec<Entry, MOST_NAMES, Global>;
 
 /// The programs that were loaded, by name.
 #[derive(Drop)]
-pub struct Table {
+pub struct ProgramTable {
     entries: Entries,
 }
 
-impl Model for Table {
-    ghost use Rattle.log_spec.specs.Catalogue.{Table as Loads};
+impl Model for ProgramTable {
+    ghost use Rattle.log_spec.specs.Catalogue.{ProgramTable as Loads};
     ghost use Rattle.program_table.specs.Tables.{table_view, IsTable};
 
     ghost Value = { Loads };
@@ -94,18 +95,19 @@ fn add_version(
     place: usize,
     name: &Name,
     image: &Bytes,
+    table: Table,
 ) -> Result<u32, Refusal>
     requires form { is_name name.now ≡ true }
     requires inside { place < length entries.old }
     requires first { has_name (table_view (take place entries.old)) name.now ≡ false }
     requires named { (d : Entry) → bytes_eq (slice_index_or entries.old place d).name name.now ≡ true }
-    ensures { LoadsInto (table_view entries.old) name.now (program_of image.now) result (table_view entries.new) }
+    ensures { LoadsInto (table_view entries.old) name.now (program_of image.now table) result (table_view entries.new) }
 {
     let versions = entries[place].programs.len();
     if versions >= MOST_VERSIONS {
         return Err(Refusal::Versions);
     }
-    match admit(alloc, image) {
+    match admit(alloc, image, table) {
         Err(refusal) => Err(refusal),
         Ok(program) => match add_program(&mut entries[place], program) {
             Err(_) => Err(Refusal::Memory),
@@ -120,15 +122,16 @@ fn add_name(
     entries: &mut Entries,
     name: &Name,
     image: &Bytes,
+    table: Table,
 ) -> Result<u32, Refusal>
     requires form { is_name name.now ≡ true }
     requires new { has_name (table_view entries.old.items) name.now ≡ false }
-    ensures { LoadsInto (table_view entries.old.items) name.now (program_of image.now) result (table_view entries.new.items) }
+    ensures { LoadsInto (table_view entries.old.items) name.now (program_of image.now table) result (table_view entries.new.items) }
 {
     if entries.is_full() {
         return Err(Refusal::Full);
     }
-    match admit(alloc, image) {
+    match admit(alloc, image, table) {
         Err(refusal) => Err(refusal),
         Ok(program) => match add_entry(alloc, entries, name, program) {
             Err(_) => Err(Refusal::Memory),
@@ -163,28 +166,34 @@ fn add_entry(
     Ok(())
 }
 
-impl Table {
+impl ProgramTable {
     /// The table of no names.
-    pub fn new(alloc: Global) -> Table
+    pub fn new(alloc: Global) -> ProgramTable
         ensures { result ≡ [] }
     {
-        Table {
+        ProgramTable {
             entries: ArrayVec::new_in(alloc),
         }
     }
 
-    /// Loads an image under a name, and returns the name's version, from 1. It fails with the first
-    /// refusal: of the name's form, of a full table (64 other names), of versions used up, of the
-    /// image; or with `Memory`. An `Err` changes nothing.
-    pub fn load(&mut self, alloc: Global, name: &Name, image: &Bytes) -> Result<u32, Refusal>
-        ensures { LoadsInto self.old name.now (program_of image.now) result self.new }
+    /// Loads an image under a name, as a program of a helper table, and returns the name's version,
+    /// from 1. It fails with the first refusal: of the name's form, of 64 other names, of versions used
+    /// up, of the program; or with `Memory`. An `Err` changes nothing.
+    pub fn load(
+        &mut self,
+        alloc: Global,
+        name: &Name,
+        image: &Bytes,
+        table: Table,
+    ) -> Result<u32, Refusal>
+        ensures { LoadsInto self.old name.now (program_of image.now table) result self.new }
     {
         if !has_name_form(name.text.as_str()) {
             return Err(Refusal::Name);
         }
         match place_of(&self.entries, name) {
-            Some(place) => add_version(alloc, &mut self.entries, place, name, image),
-            None => add_name(alloc, &mut self.entries, name, image),
+            Some(place) => add_version(alloc, &mut self.entries, place, name, image, table),
+            None => add_name(alloc, &mut self.entries, name, image, table),
         }
     }
 

@@ -6,6 +6,7 @@ use crate::rows::{Seen, is_row};
 use broker::{Broker, Ended, Stepped, Until};
 use bytes::Bytes;
 use catalogue::Catalogue;
+use machine_spec::Table;
 use part_log::{Names, Receipt};
 use std::alloc::Global;
 use std::sync::Wait;
@@ -21,7 +22,7 @@ pub(crate) fn deploy<Id: Names, H: Wait + Drop, R: Wait>(
     image: &[u8],
 ) -> Option<usize> {
     let image = Bytes::copy_from_slice(alloc, image).ok()?;
-    let (_version, known) = broker.load(rt, alloc, name, &image).ok()?;
+    let (_version, known) = broker.load(rt, alloc, name, &image, Table::One).ok()?;
     let mut finder = broker.finder(rt, alloc).ok()?;
     let deployed = broker.deploy(rt, alloc, 0, known.name(), &mut finder, &known);
     let (receipt, _marked) = deployed.ok()?;

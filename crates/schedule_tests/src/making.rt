@@ -7,6 +7,7 @@ ghost use Rattle.log_spec.specs.Worlds.{FitsEvent};
 use bytes::Bytes;
 use fixtures::{batch_at, raw_name_of};
 use log_spec::Event;
+use machine_spec::Table;
 use std::alloc::{AllocError, Global};
 use wire_spec::{Batch, Headers, Record, Records};
 
@@ -59,5 +60,6 @@ pub(crate) fn load_of(alloc: Global, name: &str, image: &[u8]) -> Option<Event>
     ensures { IfSome result (λ event. FitsEvent event) }
 {
     let image = Bytes::copy_from_slice(alloc, image).ok()?;
-    Some(Event::Load(raw_name_of(alloc, name).ok()?, image))
+    let name = raw_name_of(alloc, name).ok()?;
+    Some(Event::Load(name, image, Table::One))
 }

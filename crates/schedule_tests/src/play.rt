@@ -9,6 +9,7 @@ use crate::rows::has;
 use bytes::Bytes;
 use catalogue::{Catalogue, Finder, Known};
 use log_spec::{Event, Name, Refusal, Reply};
+use machine_spec::Table;
 use out_book::{Book, BookFault, Delivered};
 use part_log::{Cells, LogFault, Names, PartLog, Receipt};
 use std::alloc::Global;
@@ -118,7 +119,7 @@ pub(crate) fn open<R: Wait + Drop>(rt: R, alloc: Global, core: &mut World) -> Op
     let mut catalogue = Catalogue::new(rt, alloc).ok()?;
     let finder = catalogue.reader(alloc).ok()?;
     let image = Bytes::copy_from_slice(alloc, &BOTH).ok()?;
-    let (version, known) = catalogue.load(alloc, NAME, &image).ok()?;
+    let (version, known) = catalogue.load(alloc, NAME, &image, Table::One).ok()?;
     let event = load_of(alloc, NAME, &BOTH)?;
     if core.step(alloc, &event) != Ok(Reply::Loaded(version)) {
         return None;
@@ -137,7 +138,7 @@ pub(crate) fn load<R: Wait + Drop>(
     core: &mut World,
 ) -> Option<bool> {
     let image = Bytes::copy_from_slice(alloc, &NULLS).ok()?;
-    let (version, known) = desk.catalogue.load(alloc, NAME, &image).ok()?;
+    let (version, known) = desk.catalogue.load(alloc, NAME, &image, Table::One).ok()?;
     desk.known = known;
     let event = load_of(alloc, NAME, &NULLS)?;
     Some(core.step(alloc, &event) == Ok(Reply::Loaded(version)))

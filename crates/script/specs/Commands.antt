@@ -1,7 +1,9 @@
 -- What a line of a script says.
-use Rattle.std.specs.Prelude.{ℕ, ◌==◌, nat_lt, nat_eq, if◌then◌else◌, List, length, drop, Option, Some, None, codes}
+use Rattle.std.specs.Prelude.{ℕ, ◌==◌, ◌&&◌, nat_lt, nat_eq, if◌then◌else◌, List, length, drop, Option, Some, None}
+use Rattle.std.specs.Prelude.{codes}
 use Rattle.std.specs.List.{list_all, starts_with}
 use Rattle.std.specs.Str.{bytes_eq}
+use Rattle.machine_spec.specs.declared.helper.Table.{Table}
 use Rattle.script.specs.declared.{command.Command.Command, command.Source.Source}
 use Rattle.script.specs.declared.command.Command.TheVariants.{Partitions, Load, Deploy, Put, Append, Close, Fetch, Go}
 use Rattle.script.specs.declared.command.Source.TheVariants.{Line, File}
@@ -27,9 +29,20 @@ abbrev pub partitions_line : List (List ℕ) → Option Command
 partitions_line words = if length words == 4 then partitions_of (decimal_of (word_at words 1))
     (decimal_of (word_at words 2)) (decimal_of (word_at words 3)) else None
 
--- `load NAME FILE`
+-- the helper table of a load: the second where a fourth word is `2`, the first where there is none
+abbrev pub table_of : List (List ℕ) → Option Table
+table_of words =
+    if length words == 3 then Some Table.One else
+    if length words == 4 && bytes_eq (word_at words 3) (codes "2") then Some Table.Two else None
+
+-- the command, if its words name a helper table
+abbrev pub load_of : List ℕ → Source → Option Table → Option Command
+load_of name source (Some table) = Some (Load name source table)
+load_of name source None = None
+
+-- `load NAME FILE`, `load NAME FILE 2`
 abbrev pub load_line : List (List ℕ) → Option Command
-load_line words = if length words == 3 then Some (Load (word_at words 1) (source_of (word_at words 2))) else None
+load_line words = load_of (word_at words 1) (source_of (word_at words 2)) (table_of words)
 
 -- the command, if its first word is a number
 abbrev pub deploy_of : Option ℕ → List ℕ → Option Command

@@ -10,7 +10,7 @@ use Rattle.script.specs.declared.fault.ScriptFault.TheVariants.{Order, Range}
 -- a command may come here: `partitions` is first and occurs once, and a program is deployed after it was loaded
 abbrev pub is_in_order : Command → (has_begun is_loaded : Bool) → Bool
 is_in_order (Partitions inputs outputs cells) has_begun is_loaded = not has_begun
-is_in_order (Load name source) has_begun is_loaded = has_begun
+is_in_order (Load name source table) has_begun is_loaded = has_begun
 is_in_order (Deploy input name) has_begun is_loaded = has_begun && is_loaded
 is_in_order (Put input timestamp key value) has_begun is_loaded = has_begun
 is_in_order (Append input source) has_begun is_loaded = has_begun
@@ -32,7 +32,7 @@ is_count number most = nat_le 1 number && nat_le number most
 abbrev pub is_in_range : Command → Bool
 is_in_range (Partitions inputs outputs cells) = is_count inputs MAX_PARTITIONS
     && (is_count outputs MAX_PARTITIONS && is_count cells MAX_CELLS)
-is_in_range (Load name source) = true
+is_in_range (Load name source table) = true
 is_in_range (Deploy input name) = true
 is_in_range (Put input timestamp key value) = nat_lt timestamp TIMESTAMP_END
     && (nat_le (text_size key) MAX_KEY && nat_le (text_size value) MAX_VALUE)

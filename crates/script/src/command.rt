@@ -1,14 +1,15 @@
 //! The commands of a script, and the lines that say them.
 
-ghost use Rattle.std.specs.Prelude.{◌≡◌, ◌<◌, length, drop, nat_eq, nat_lt, codes, IfOk, if◌then◌else◌};
+ghost use Rattle.std.specs.Prelude.{◌≡◌, ◌<◌, ◌≤◌, IfSome, length, drop, nat_eq, nat_lt, codes, IfOk, if◌then◌else◌};
 ghost use Rattle.std.specs.List.{list_all, starts_with};
 ghost use Rattle.script.specs.Words.{texts, hex_bytes};
-ghost use Rattle.script.specs.Commands.{source_of, partitions_line, load_line, deploy_line, put_line, append_line, close_line, fetch_line, go_line, command_of_words, command_from, command_of};
+ghost use Rattle.script.specs.Commands.{source_of, partitions_line, table_of, load_line, deploy_line, put_line, append_line, close_line, fetch_line, go_line, command_of_words, command_from, command_of};
 
 use crate::pairs::{bytes_word, hex};
 use crate::words::{number_at, word, words};
 use bytes::Bytes;
 use log_spec::RawName;
+use machine_spec::Table;
 use std::alloc::{AllocError, Global};
 use std::marker::Model;
 
@@ -40,8 +41,8 @@ pub enum Source {
 pub enum Command {
     /// The numbers of input and output partitions, and how many cells a log has.
     Partitions(u64, u64, u64),
-    /// Loads a program under a name.
-    Load(RawName, Source),
+    /// Loads an image under a name, as a program of a helper table.
+    Load(RawName, Source, Table),
     /// Deploys a loaded program to an input partition.
     Deploy(u64, RawName),
     /// Appends one record to an input partition: its timestamp in milliseconds, its key and its
@@ -104,15 +105,29 @@ fn partitions(words: &[&str]) -> Option<Command>
     Some(Command::Partitions(inputs, outputs, cells))
 }
 
+/// The helper table that a load names: the first where it has no word for it.
+fn table_of(words: &[&str]) -> Option<Table>
+    ensures table { result ≡ table_of (texts words.now) }
+    ensures long { IfSome result (λ _. 3 ≤ length words.now) }
+{
+    if words.len() == 3 {
+        return Some(Table::One);
+    }
+    if words.len() == 4 && word(words, 3) == "2" {
+        return Some(Table::Two);
+    }
+    None
+}
+
 fn load(alloc: Global, words: &[&str]) -> Result<Option<Command>, AllocError>
     ensures { IfOk result (λ command. command ≡ load_line (texts words.now)) }
 {
-    if words.len() != 3 {
+    let Some(table) = table_of(words) else {
         return Ok(None);
-    }
+    };
     let name = name_of(alloc, word(words, 1))?;
     let source = source_named(alloc, word(words, 2))?;
-    Ok(Some(Command::Load(name, source)))
+    Ok(Some(Command::Load(name, source, table)))
 }
 
 fn deploy(alloc: Global, words: &[&str]) -> Result<Option<Command>, AllocError>

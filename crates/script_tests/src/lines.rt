@@ -1,5 +1,6 @@
 use bytes::Bytes;
 use log_spec::Row;
+use machine_spec::Table;
 use script::{
     Command, ScriptFault, Source, append_text, close_text, deploy_text, fetch_text, first_fault,
     load_text, parse, push_row,
@@ -9,10 +10,15 @@ use std::test::Fail;
 use wire_spec::Headers;
 
 /// A `load` as one text.
-fn load_shown(alloc: Global, name: &str, source: &Source) -> Result<String, AllocError> {
+fn load_shown(
+    alloc: Global,
+    name: &str,
+    source: &Source,
+    table: Table,
+) -> Result<String, AllocError> {
     match source {
-        Source::Line(image) => format!(in alloc; "image {name} {:?}", image.as_slice()),
-        Source::File(file) => format!(in alloc; "file {name} {}", file.text.as_str()),
+        Source::Line(image) => format!(in alloc; "image {name} {:?} {table:?}", image.as_slice()),
+        Source::File(file) => format!(in alloc; "file {name} {} {table:?}", file.text.as_str()),
     }
 }
 
@@ -43,7 +49,9 @@ fn command_shown(alloc: Global, command: &Command) -> Result<String, AllocError>
         Command::Partitions(inputs, outputs, cells) => {
             format!(in alloc; "partitions {inputs} {outputs} {cells}")
         }
-        Command::Load(name, source) => load_shown(alloc, name.text.as_str(), source),
+        Command::Load(name, source, table) => {
+            load_shown(alloc, name.text.as_str(), source, *table)
+        }
         Command::Deploy(input, name) => format!(in alloc; "deploy {input} {}", name.text.as_str()),
         Command::Put(input, timestamp, key, value) => {
             put_shown(alloc, *input, *timestamp, key, value)
@@ -63,18 +71,24 @@ fn shown(alloc: Global, line: &str) -> Result<String, AllocError> {
     }
 }
 
-const LINES: [(&str, &str); 40] = [
+const LINES: [(&str, &str); 46] = [
     ("partitions 1 1 8", "partitions 1 1 8"),
     ("partitions 1 1 08", "none"),
     ("partitions 1 1 +8", "none"),
     ("partitions 1 1 0", "partitions 1 1 0"),
     ("partitions 1 1", "none"),
-    ("load fwd f.bin", "file fwd f.bin"),
-    ("load fwd hex:", "image fwd []"),
-    ("load fwd hex:00ff", "image fwd [0, 255]"),
-    ("load fwd hex:00f", "file fwd hex:00f"),
-    ("load fwd hex:00FF", "file fwd hex:00FF"),
+    ("load fwd f.bin", "file fwd f.bin One"),
+    ("load fwd hex:", "image fwd [] One"),
+    ("load fwd hex:00ff", "image fwd [0, 255] One"),
+    ("load fwd hex:00f", "file fwd hex:00f One"),
+    ("load fwd hex:00FF", "file fwd hex:00FF One"),
+    ("load fwd f.bin 2", "file fwd f.bin Two"),
+    ("load fwd hex:00ff 2", "image fwd [0, 255] Two"),
     ("load fwd f 1", "none"),
+    ("load fwd f 3", "none"),
+    ("load fwd f 02", "none"),
+    ("load fwd f 2 2", "none"),
+    ("load fwd f 2 ", "none"),
     ("load  f", "none"),
     ("load fwd ", "none"),
     (" go", "none"),

@@ -11,3 +11,5 @@ mod rows;
 mod running;
 #[cfg(test)]
 mod sessions;
+#[cfg(test)]
+mod tables;

@@ -9,6 +9,7 @@ use crate::threads::{CELLS, DEPLOYERS, INPUTS, OUTPUTS};
 use broker::Broker;
 use fixtures::raw_name_of;
 use log_spec::{Event, Refusal, Row};
+use machine_spec::Table;
 use out_book::Book;
 use part_log::{Item, Names, Receipt, Trail};
 use std::alloc::Global;
@@ -60,7 +61,7 @@ pub(crate) fn compare<Id: Names, C, R: Wait>(
 fn load_all(alloc: Global, core: &mut World, deployer: usize, versions: usize) -> Option<()> {
     for turn in 0..versions {
         let name = raw_name_of(alloc, program_name(deployer)).ok()?;
-        let event = Event::Load(name, image(alloc, turn)?);
+        let event = Event::Load(name, image(alloc, turn)?, Table::One);
         core.step(alloc, &event).ok()?;
     }
     Some(())

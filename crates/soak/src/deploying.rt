@@ -4,6 +4,7 @@ use crate::making::{image, program_name};
 use crate::threads::INPUTS;
 use broker::Broker;
 use catalogue::{Catalogue, Finder};
+use machine_spec::Table;
 use part_log::Names;
 use std::alloc::Global;
 use std::sync::Wait;
@@ -51,7 +52,7 @@ fn deploy<Id: Names, H: Wait + Drop, R: Wait>(
     turn: usize,
 ) -> Option<()> {
     let image = image(alloc, turn)?;
-    let (_version, known) = broker.load(rt, alloc, name, &image).ok()?;
+    let (_version, known) = broker.load(rt, alloc, name, &image, Table::One).ok()?;
     broker
         .deploy(rt, alloc, input_of(turn), known.name(), finder, &known)
         .ok()?;

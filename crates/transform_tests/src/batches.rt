@@ -5,6 +5,7 @@ use batch::Feed;
 use bytes::Bytes;
 use fixtures::{FORWARD, batch_at, batch_of};
 use log_item::Program;
+use machine_spec::Table;
 use std::alloc::{AllocError, Global};
 use std::test::Fail;
 use transform::{Outlet, Transform};
@@ -18,7 +19,7 @@ const SECOND: [u8; 24] = [
 /// The program of an image.
 pub(crate) fn program_of(alloc: Global, image: &[u8]) -> Result<Program, Fail> {
     let image = Bytes::copy_from_slice(alloc, image)?;
-    match Program::new(alloc, &image) {
+    match Program::new(alloc, &image, Table::One) {
         Ok(program) => Ok(program),
         Err(_) => Err(Fail::from("a program")),
     }

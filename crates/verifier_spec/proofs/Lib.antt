@@ -23,6 +23,7 @@ pub mod StackSets
 pub mod Stores
 pub mod Steps
 pub mod Sums
+pub mod Tables
 pub mod Tighter
 pub mod Turns
 pub mod Whole

@@ -1,6 +1,6 @@
 use abstract_regs::State;
 use bpf_isa::{Code, decode};
-use machine_spec::Region;
+use machine_spec::{Region, Table};
 use notes::check;
 use std::alloc::Global;
 use std::test::Fail;
@@ -35,11 +35,16 @@ fn state(r0: Abs, value_min: u32, value_max: u32) -> Result<State, Fail> {
     Ok(state.ok_or("the state is in its ranges")?)
 }
 
-/// What the check reports of an image and a list of states.
-fn reported(alloc: Global, image: &[u8], claims: &[Option<State>]) -> Result<String, Fail> {
+/// What the check under a helper table reports of an image and a list of states.
+fn reported(
+    alloc: Global,
+    image: &[u8],
+    table: Table,
+    claims: &[Option<State>],
+) -> Result<String, Fail> {
     let code = decode(alloc, image)?;
     let claims = Vec::from_slice(alloc, claims)?;
-    Ok(match check(alloc, code, claims) {
+    Ok(match check(alloc, code, table, claims) {
         Ok(verified) => format!(in alloc; "accepted {}", verified.code().len())?,
         Err(fault) => format!(in alloc; "{fault}")?,
     })
@@ -49,7 +54,7 @@ fn reported(alloc: Global, image: &[u8], claims: &[Option<State>]) -> Result<Str
 fn accepts_a_constant(rt: HostRuntime) -> Result<(), Fail> {
     let zero = state(Abs::Num(0, 0), 0, 1_048_576)?;
     let claims = vec![in rt.alloc(); Some(State::entry()), Some(zero)]?;
-    let verified = check(rt.alloc(), decode(rt.alloc(), &ZERO)?, claims)?;
+    let verified = check(rt.alloc(), decode(rt.alloc(), &ZERO)?, Table::One, claims)?;
     assert_eq!(rt; verified.code().len(), 2);
     assert_eq!(rt; verified.kept(), 0);
     assert_eq!(rt; verified.regions(0).0, None);
@@ -64,7 +69,12 @@ fn accepts_a_guarded_load(rt: HostRuntime) -> Result<(), Fail> {
         Some(state(Abs::Num(0, 0), 1, 1_048_576)?),
         Some(state(Abs::Num(0, 255), 0, 1_048_576)?),
     ]?;
-    let verified = check(rt.alloc(), decode(rt.alloc(), &FIRST_BYTE)?, claims)?;
+    let verified = check(
+        rt.alloc(),
+        decode(rt.alloc(), &FIRST_BYTE)?,
+        Table::One,
+        claims,
+    )?;
     assert_eq!(rt; verified.code().len(), 4);
     assert_eq!(rt; verified.kept(), 1);
     assert_eq!(rt; verified.regions(1).0, None);
@@ -106,7 +116,7 @@ fn refuses_lists(rt: HostRuntime) -> Result<(), Fail> {
         (&FIRST_BYTE, &[entry, zero, some, zero], "V15 Notes at 2"),
     ];
     for (image, claims, want) in cases {
-        let text = reported(alloc, image, claims)?;
+        let text = reported(alloc, image, Table::One, claims)?;
         assert_eq!(rt; text.as_str(), want);
     }
     Ok(())
@@ -154,7 +164,48 @@ fn refuses_instructions(rt: HostRuntime) -> Result<(), Fail> {
     ];
     for (forms, claims, want) in cases {
         let image = image_of(alloc, forms)?;
-        let text = reported(alloc, &image, claims)?;
+        let text = reported(alloc, &image, Table::One, claims)?;
+        assert_eq!(rt; text.as_str(), want);
+    }
+    Ok(())
+}
+
+// call 10; exit
+const HEADER_COUNT: [u8; 16] = [0x85, 0, 0, 0, 10, 0, 0, 0, 0x95, 0, 0, 0, 0, 0, 0, 0];
+
+/// The state after a call in the entry state, with r0.
+fn called(r0: Abs) -> Result<State, Fail> {
+    let registers = [
+        r0,
+        Abs::None,
+        Abs::None,
+        Abs::None,
+        Abs::None,
+        Abs::None,
+        Abs::None,
+        Abs::None,
+        Abs::None,
+        Abs::None,
+        Abs::Addr(Region::Stack, 512, 512),
+    ];
+    let set = StackSet { words: [0; 8] };
+    let state = State::new(registers, 0, 4096, 0, 1_048_576, set);
+    Ok(state.ok_or("the state is in its ranges")?)
+}
+
+/// The same list is an annotation under one helper table and none under the other.
+#[test]
+fn annotates_under_a_table(rt: HostRuntime) -> Result<(), Fail> {
+    let alloc = rt.alloc();
+    let entry = Some(State::entry());
+    let count = [entry, Some(called(Abs::Num(0, 16))?)];
+    let fewer = [entry, Some(called(Abs::Num(0, 15))?)];
+    for (table, claims, want) in [
+        (Table::Two, &count, "accepted 2"),
+        (Table::Two, &fewer, "V15 Notes at 0"),
+        (Table::One, &count, "V11 Helper at 0"),
+    ] {
+        let text = reported(alloc, &HEADER_COUNT, table, claims)?;
         assert_eq!(rt; text.as_str(), want);
     }
     Ok(())

@@ -1,6 +1,6 @@
 use abstract_regs::{Abs, Check, StackSet, State};
 use machine_spec::{
-    Distance, Extension, Instruction, Operation, Region, Size, Source, Test, Width,
+    Distance, Extension, Instruction, Operation, Region, Size, Source, Table, Test, Width,
 };
 
 /// The kinds at the start of a run.
@@ -60,7 +60,7 @@ fn are_same(a: &State, b: &State) -> bool {
 
 /// The states at the next instruction and at the jump's target, none where a check fails.
 fn edges(state: &State, instruction: Instruction) -> (Option<State>, Option<State>) {
-    match state.check(instruction) {
+    match state.check(instruction, Table::Two) {
         None => {
             let edges = state.transfer(instruction);
             (edges.next, edges.jump)
@@ -336,11 +336,18 @@ fn checks_in_order(rt: HostRuntime) {
         (add(1, Source::Register(2)), None),
         (jump(Test::Equal, 5, 0), None),
     ] {
-        assert_eq!(rt; entry.check(instruction), want, "{instruction:?}");
+        assert_eq!(rt;
+            entry.check(instruction, Table::One),
+            want,
+            "{instruction:?}"
+        );
     }
     let (next, _) = edges(&entry, set(0, Source::Register(1)));
     let address = next.expect(&rt, "a copy");
-    assert_eq!(rt; address.check(Instruction::Exit), Some(Check::Exit));
+    assert_eq!(rt;
+        address.check(Instruction::Exit, Table::One),
+        Some(Check::Exit)
+    );
 }
 
 /// Of two checks that an instruction fails the one before the other is reported.
@@ -377,12 +384,15 @@ fn reports_the_first_of_two_faults(rt: HostRuntime) {
         // V4 and V13
         (Instruction::Exit, Check::Unset),
     ] {
-        let failed = entry.check(instruction);
+        let failed = entry.check(instruction, Table::One);
         assert_eq!(rt; failed, Some(want), "{instruction:?}");
     }
     // V4 and V12
     let bare = with_two(Abs::None, Abs::None).expect(&rt, "in range");
-    assert_eq!(rt; bare.check(Instruction::Call(3)), Some(Check::Unset));
+    assert_eq!(rt;
+        bare.check(Instruction::Call(3), Table::One),
+        Some(Check::Unset)
+    );
 }
 
 #[test]
@@ -414,7 +424,11 @@ fn keeps_addresses_near(rt: HostRuntime) {
     ] {
         let address = Abs::Addr(Region::Value, low, high);
         let state = with_two(address, Abs::Num(least, most)).expect(&rt, "in range");
-        assert_eq!(rt; state.check(sum), want, "{low} {high} {least} {most}");
+        assert_eq!(rt;
+            state.check(sum, Table::One),
+            want,
+            "{low} {high} {least} {most}"
+        );
     }
 }
 
@@ -426,21 +440,24 @@ fn reads_what_is_known_to_be_there(rt: HostRuntime) {
     let sixteen = with_lengths(4, 4096, 16, 1_048_576).expect(&rt, "in range");
     let fifteen = with_lengths(4, 4096, 15, 1_048_576).expect(&rt, "in range");
     let refused = Some(Check::RecordBounds);
-    assert_eq!(rt; sixteen.check(load(Size::Double, 1, 8)), None);
-    assert_eq!(rt; fifteen.check(load(Size::Double, 1, 8)), refused);
-    assert_eq!(rt; sixteen.check(load(Size::Word, 3, 0)), None);
-    assert_eq!(rt; sixteen.check(load(Size::Word, 3, 1)), refused);
+    assert_eq!(rt; sixteen.check(load(Size::Double, 1, 8), Table::One), None);
+    assert_eq!(rt;
+        fifteen.check(load(Size::Double, 1, 8), Table::One),
+        refused
+    );
+    assert_eq!(rt; sixteen.check(load(Size::Word, 3, 0), Table::One), None);
+    assert_eq!(rt; sixteen.check(load(Size::Word, 3, 1), Table::One), refused);
     let last_eight = StackSet {
         words: [0, 0, 0, 0, 0, 0, 0, 0xff00_0000_0000_0000],
     };
     let set = State::new(first_kinds(), 0, 4096, 0, 1_048_576, last_eight).expect(&rt, "in range");
-    assert_eq!(rt; set.check(load(Size::Double, 10, -8)), None);
+    assert_eq!(rt; set.check(load(Size::Double, 10, -8), Table::One), None);
     assert_eq!(rt;
-        set.check(load(Size::Double, 10, -9)),
+        set.check(load(Size::Double, 10, -9), Table::One),
         Some(Check::StackUnset)
     );
     assert_eq!(rt;
-        set.check(load(Size::Double, 10, -7)),
+        set.check(load(Size::Double, 10, -7), Table::One),
         Some(Check::StackBounds)
     );
 }
@@ -459,6 +476,23 @@ fn spends_registers_in_calls(rt: HostRuntime) {
     assert_eq!(rt; after.kind(10), Abs::Addr(Region::Stack, 512, 512));
     let (next, target) = edges(&after, Instruction::Exit);
     assert!(rt; next.is_none() && target.is_none());
+}
+
+/// Which helper a number names is the table's.
+#[test]
+fn checks_calls_under_a_table(rt: HostRuntime) {
+    let entry = State::entry();
+    for (number, one, two) in [
+        (9, None, None),
+        (10, Some(Check::Helper), None),
+        (11, Some(Check::Helper), Some(Check::HelperArg)),
+        (12, Some(Check::Helper), Some(Check::HelperArg)),
+        (13, Some(Check::Helper), Some(Check::Helper)),
+    ] {
+        let call = Instruction::Call(number);
+        assert_eq!(rt; entry.check(call, Table::One), one, "{number}");
+        assert_eq!(rt; entry.check(call, Table::Two), two, "{number}");
+    }
 }
 
 #[test]

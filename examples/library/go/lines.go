@@ -56,7 +56,7 @@ type Program struct {
 
 func (p *Program) Load(image []byte) error {
 	var place C.size_t
-	return fault(C.klog_load(bytesAt(image), C.size_t(len(image)), &p.program, &place), place)
+	return fault(C.klog_load(bytesAt(image), C.size_t(len(image)), C.KLOG_TABLE_ONE, &p.program, &place), place)
 }
 
 func (p *Program) Free() {

@@ -10,28 +10,28 @@ use Rattle.bpf_machine.proofs.tracing.trace.Goals as goal
 
 pub advance-requires-clause-slot : goal.advance-requires-clause-slot
 advance-requires-clause-slot c =
-    let program : Program = program_of c.args.image.now in
+    let program : Program = program_of c.args.image.now c.args.table in
     let input : Input = record { given = c.args.given.now; place = c.args.place.now } in
     let small : slot_count c.args.image.now < 2 ^ 61 = omega arith in
     small_slot program input (state_of c.steps.machine) c.steps.count c.steps.invariant small
 
 pub advance-requires-clause-near : goal.advance-requires-clause-near
 advance-requires-clause-near c =
-    let program : Program = program_of c.args.image.now in
+    let program : Program = program_of c.args.image.now c.args.table in
     let input : Input = record { given = c.args.given.now; place = c.args.place.now } in
     let small : slot_count c.args.image.now < 2 ^ 61 = omega arith in
     near_of program input c.steps.count (state_of c.steps.machine) c.steps.invariant small
 
 pub overflow_add-count : goal.overflow_add-count
 overflow_add-count c =
-    let program : Program = program_of c.args.image.now in
+    let program : Program = program_of c.args.image.now c.args.table in
     let input : Input = record { given = c.args.given.now; place = c.args.place.now } in
     let small : slot_count c.args.image.now < 2 ^ 61 = omega arith in
     omega (arith, small_count program input (state_of c.steps.machine) c.steps.count c.steps.invariant small)
 
 pub steps-smaller : goal.steps-smaller
 steps-smaller c =
-    let program : Program = program_of c.args.image.now in
+    let program : Program = program_of c.args.image.now c.args.table in
     let input : Input = record { given = c.args.given.now; place = c.args.place.now } in
     let ahead = step_further program input (state_of c.steps.machine) (state_of c.advance.new.self)
     (rw c.in-Stepped.is at c.in_ok-advance.ensures) in
@@ -39,21 +39,21 @@ steps-smaller c =
 
 pub returns-in-Trapped : goal.returns-in-Trapped
 returns-in-Trapped c =
-    let program : Program = program_of c.args.image.now in
+    let program : Program = program_of c.args.image.now c.args.table in
     let input : Input = record { given = c.args.given.now; place = c.args.place.now } in
     ends_trapped program input (state_of c.steps.machine) c.steps.count c.in-Trapped.trap c.steps.invariant
     (rw c.in-Trapped.is at c.in_ok-advance.ensures)
 
 pub overflow_add-result : goal.overflow_add-result
 overflow_add-result c =
-    let program : Program = program_of c.args.image.now in
+    let program : Program = program_of c.args.image.now c.args.table in
     let input : Input = record { given = c.args.given.now; place = c.args.place.now } in
     let small : slot_count c.args.image.now < 2 ^ 61 = omega arith in
     omega (arith, small_count program input (state_of c.steps.machine) c.steps.count c.steps.invariant small)
 
 pub returns-in-Ended : goal.returns-in-Ended
 returns-in-Ended c =
-    let program : Program = program_of c.args.image.now in
+    let program : Program = program_of c.args.image.now c.args.table in
     let input : Input = record { given = c.args.given.now; place = c.args.place.now } in
     let exit = rw c.in-Ended.is at c.in_ok-advance.ensures in
     ends_out program input (state_of c.steps.machine) c.steps.count c.outcome_of.result c.steps.invariant exit.0

@@ -1,10 +1,10 @@
-use Rattle.std.proofs.Common.{◌≡◌, List, ℕ, length, rules, sym, ap, ◌∙◌, subst}
-use Rattle.std.specs.Prelude.{string_bytes}
+use Rattle.std.proofs.Common.{◌≡◌, length, rules, ap, ◌∙◌}
+use Rattle.machine_spec.specs.Image.{program_of}
 use Rattle.commands.specs.Images.{accepted_line}
 use Rattle.commands.proofs.image.check.Goals as goal
 
 pub returns-in-Err : goal.returns-in-Err
-returns-in-Err c = c.refusal_of.ensures c.args.image.now c.in-Err.ensures.answer
+returns-in-Err c = c.refusal_of.ensures (program_of c.args.image.now c.args.table) c.in-Err.ensures.answer
 
 pub returns-in-Ok-accepted : goal.returns-in-Ok-accepted
 returns-in-Ok-accepted c =

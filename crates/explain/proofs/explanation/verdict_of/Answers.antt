@@ -6,7 +6,7 @@ use Rattle.explain.proofs.Verdicts.{not_read}
 use Rattle.explain.proofs.explanation.verdict_of.Goals as goal
 
 pub returns-in-Isa : goal.returns-in-Isa
-returns-in-Isa c = λ image is ne.
-    let refused : FaultIs image (Isa c.in-Isa.fault) =
-    subst (λ (fault : LoadFault). FaultIs image fault) c.in-Isa.is is in
-    not_read image c.in-Isa.fault (refused ne).fault_is
+returns-in-Isa c = λ program is ne.
+    let refused : FaultIs program (Isa c.in-Isa.fault) =
+    subst (λ (fault : LoadFault). FaultIs program fault) c.in-Isa.is is in
+    not_read program c.in-Isa.fault (refused ne).fault_is

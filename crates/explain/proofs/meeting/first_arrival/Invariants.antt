@@ -5,4 +5,4 @@ use Rattle.explain.specs.Meetings.{arrives}
 use Rattle.explain.proofs.meeting.first_arrival.Given as goal
 
 abbrev pub invariant-loop-k : goal.invariant-loop-k
-invariant-loop-k l = first_below l.k (arrives l.code l.states l.register l.j) ≡ None
+invariant-loop-k l = first_below l.k (arrives l.table l.code l.states l.register l.j) ≡ None

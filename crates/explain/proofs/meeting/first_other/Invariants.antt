@@ -5,4 +5,4 @@ use Rattle.explain.specs.Meetings.{differs}
 use Rattle.explain.proofs.meeting.first_other.Given as goal
 
 abbrev pub invariant-loop-k : goal.invariant-loop-k
-invariant-loop-k l = first_below l.k (differs l.code l.states l.register l.j l.kind) ≡ None
+invariant-loop-k l = first_below l.k (differs l.table l.code l.states l.register l.j l.kind) ≡ None

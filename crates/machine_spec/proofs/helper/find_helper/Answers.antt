@@ -8,6 +8,7 @@ use Rattle.std.proofs.lemmas.Int.{ints, to_z-of_z}
 use Rattle.machine_spec.specs.declared.{helper.Signature.Signature, helper.Helper.Helper}
 use Rattle.machine_spec.specs.declared.helper.Helper.TheVariants.{LoadValue, LoadKey, EmitRecord, EmitValue, Emit}
 use Rattle.machine_spec.specs.declared.helper.Helper.TheVariants.{EmitNull, Offset, Timestamp, Partition}
+use Rattle.machine_spec.specs.declared.helper.Helper.TheVariants.{HeaderCount, HeaderKey, HeaderValue}
 use Rattle.machine_spec.specs.Machine.{signature_of}
 use Rattle.machine_spec.proofs.helper.find_helper.Goals as goal
 
@@ -32,6 +33,9 @@ number_fits EmitNull = omega (arith, ints)
 number_fits Offset = omega (arith, ints)
 number_fits Timestamp = omega (arith, ints)
 number_fits Partition = omega (arith, ints)
+number_fits HeaderCount = omega (arith, ints)
+number_fits HeaderKey = omega (arith, ints)
+number_fits HeaderValue = omega (arith, ints)
 
 pub returns-then-signature-number : goal.returns-then-signature-number
 returns-then-signature-number c =

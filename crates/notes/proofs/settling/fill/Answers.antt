@@ -1,6 +1,7 @@
 use Rattle.std.proofs.Common.{ap, ◌∙◌, arith, length}
 use Rattle.std.specs.Prelude.{Option, None}
 use Rattle.std.proofs.lemmas.List.{length-replicate}
+use Rattle.machine_spec.specs.Image.{helpers_of}
 use Rattle.verifier_spec.specs.declared.state.Abstract.{Abstract}
 use Rattle.verifier_spec.specs.Annotation.{claim_at}
 use Rattle.notes.specs.Derived.{pair_at}
@@ -11,5 +12,6 @@ pub returns : goal.returns
 returns c =
     let long = ap length c.requires ∙ length-replicate {A = Option Abstract} (length c.args.code.now) None in
     c.derive.ensures.states
-    ∙ derived_same c.args.code.now (pair_at c.args.pairs.now) (claim_at c.put_all.new.states)
+    ∙ derived_same (helpers_of c.args.table) c.args.code.now (pair_at c.args.pairs.now)
+    (claim_at c.put_all.new.states)
     (λ k under. c.put_all.ensures.each k (omega (arith, under, c.put_all.ensures.length, long)))

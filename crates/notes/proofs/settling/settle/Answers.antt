@@ -1,4 +1,5 @@
 use Rattle.std.proofs.Common.{◌∙◌, length}
+use Rattle.machine_spec.specs.Image.{helpers_of}
 use Rattle.verifier_spec.specs.Annotation.{claim_at}
 use Rattle.notes.specs.Derived.{at_targets}
 use Rattle.notes.proofs.Derived.{derived_same, proper_same}
@@ -11,7 +12,7 @@ returns-clause-states c =
     let old = c.args.states.now in
     let kept = c.keep_marked.new.states in
     c.derive.ensures.states
-    ∙ derived_same code (at_targets code old) (claim_at kept)
+    ∙ derived_same (helpers_of c.args.table) code (at_targets code old) (claim_at kept)
     (marked_given code c.args.targets.now old kept c.requires.targets c.requires.long
     c.keep_marked.ensures.length c.keep_marked.ensures.each)
 
@@ -20,6 +21,6 @@ returns-clause-proper c =
     let code = c.args.code.now in
     let old = c.args.states.now in
     let kept = c.keep_marked.new.states in
-    proper_same code (at_targets code old) (claim_at kept) (length code)
+    proper_same (helpers_of c.args.table) code (at_targets code old) (claim_at kept) (length code)
     (marked_given code c.args.targets.now old kept c.requires.targets c.requires.long c.keep_marked.ensures.length
     c.keep_marked.ensures.each) c.derive.ensures.proper

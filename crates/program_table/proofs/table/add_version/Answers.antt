@@ -23,7 +23,7 @@ returns-then-versions-ge-MOST_VERSIONS c =
     ∙ ap (λ (entry : Entry). vec_len entry.programs) (sym c.index-entries-place.is) in
     let le : 2 ^ 32 - 1 ≤ length (programs_of (table_view items) c.args.name.now) =
     omega (arith, versions, count, d.programs.ok.0) in (
-      λ _. refused_early (table_view items) c.args.name.now (program_of c.args.image.now) refusal.Versions
+      λ _. refused_early (table_view items) c.args.name.now (program_of c.args.image.now c.args.table) refusal.Versions
           (refusal_versions (table_view items) c.args.name.now c.requires.form known le),
       refl,
     )
@@ -37,7 +37,7 @@ returns-in-Err c =
     let few : length d.programs.items < 2 ^ 32 - 1 = omega (arith, count, d.programs.ok.0) in
     let first = refusal_here items c.args.place d c.args.name.now c.requires.form c.requires.inside c.requires.first
     (c.requires.named d) c.index-entries-place.is few in (
-      λ ne. refused_program (table_view items) c.args.name.now (program_of c.args.image.now) (Some c.in-Err.refusal)
+      λ ne. refused_program (table_view items) c.args.name.now (program_of c.args.image.now c.args.table) (Some c.in-Err.refusal)
           first (c.in-Err.ensures.refused ne),
       refl,
     )
@@ -66,12 +66,12 @@ returns-in-Ok-add_program c =
     let pushed = map-push (λ program. arc_value program) c.add_program.new.entry.programs.items old.programs.items
     c.in-Ok.program c.in-Ok-add_program.ensures.ok in
     let more : map (λ program. arc_value program) c.add_program.new.entry.programs.items
-    ≡ map (λ program. arc_value program) old.programs.items ++ program_of c.args.image.now ∷ []
+    ≡ map (λ program. arc_value program) old.programs.items ++ program_of c.args.image.now c.args.table ∷ []
     = pushed ∙ ap (λ (p : Program). map (λ program. arc_value program) old.programs.items ++ p ∷ [])
     c.in-Ok.ensures.program in (
-      refused_program (table_view items) c.args.name.now (program_of c.args.image.now) None first
+      refused_program (table_view items) c.args.name.now (program_of c.args.image.now c.args.table) None first
           c.in-Ok.ensures.accepted,
       omega (arith, versions, count, d.programs.ok.0),
-      sym (with_program-found items c.args.place m c.add_program.new.entry c.args.name.now (program_of c.args.image.now)
+      sym (with_program-found items c.args.place m c.add_program.new.entry c.args.name.now (program_of c.args.image.now c.args.table)
           c.requires.inside c.requires.first (c.requires.named m) c.add_program.ensures.name more),
     )

@@ -13,6 +13,6 @@ returns g c =
     let text : c.as_str-text.result.now ≡ name = c.as_str-text.ensures.value ∙ c.name.view_is in
     let line : c.as_str.result.now ≡ load_line name version =
     c.as_str.ensures.value ∙ (c.in_ok-line.ensures ∙ ap (λ (t : List ℕ). load_line t version) text) in
-    loads name c.as_str-text.result.now c.args.image (version, c.in_ok-version.known) before after
+    loads name c.as_str-text.result.now c.args.image c.args.table (version, c.in_ok-version.known) before after
     c.in_ok-version.ensures text
     (same_text before after c.as_str.result.now (load_line name version) c.in_ok-print.ensures.ok line)

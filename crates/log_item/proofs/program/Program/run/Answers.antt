@@ -9,7 +9,7 @@ use Rattle.log_item.proofs.program.Program.run.Goals as goal
 
 pub returns-clause-means : goal.returns-clause-means
 returns-clause-means c =
-    let program : Program = program_of c.self.inside.image in
+    let program : Program = program_of c.self.inside.image c.self.inside.verified.table in
     let input : Input = record { given = c.args.given.now; place = c.args.place.now } in
     let ran = c.run.ensures c.self.inside.image c.self.invariant in
     let means = run_means program input c.self.inside.verified.code c.self.inside.verified.claims ran.0 ran.1
@@ -18,7 +18,7 @@ returns-clause-means c =
 
 pub returns-clause-safe : goal.returns-clause-safe
 returns-clause-safe c =
-    let program : Program = program_of c.self.inside.image in
+    let program : Program = program_of c.self.inside.image c.self.inside.verified.table in
     let input : Input = record { given = c.args.given.now; place = c.args.place.now } in
     let ran = c.run.ensures c.self.inside.image c.self.invariant in
     let safe = run_safe program input c.self.inside.verified.code c.self.inside.verified.claims ran.0 ran.1

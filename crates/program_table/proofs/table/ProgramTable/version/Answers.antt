@@ -3,7 +3,7 @@ use Rattle.std.specs.Arc.{arc_value}
 use Rattle.log_spec.specs.Catalogue.{programs_of}
 use Rattle.program_table.specs.Tables.{table_view}
 use Rattle.program_table.proofs.TableLaws.{programs_of-absent, programs_here, program_named-version, version_of-none}
-use Rattle.program_table.proofs.table.Table.version.Goals as goal
+use Rattle.program_table.proofs.table.ProgramTable.version.Goals as goal
 
 pub returns-in-None : goal.returns-in-None
 returns-in-None c =

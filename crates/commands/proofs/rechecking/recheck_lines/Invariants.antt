@@ -1,0 +1,8 @@
+use Rattle.std.proofs.Common.{take}
+use Rattle.script.specs.Words.{texts}
+use Rattle.commands.proofs.RecheckLaws.{Rechecked}
+use Rattle.commands.proofs.rechecking.recheck_lines.Given as goal
+
+abbrev pub invariant-loop-index : goal.invariant-loop-index
+invariant-loop-index g l = Rechecked (g.F.Files.bytes l.initial.files) (g.F.Files.bytes l.files)
+    (take l.index (texts l.lines)) l.refused (g.O.Write.contents l.initial.stdout) (g.O.Write.contents l.stdout)

@@ -1,0 +1,140 @@
+-- What `recheck` says of the programs that a list names.
+use Rattle.std.specs.Prelude.{◌≡◌, ℕ, ◌+◌, ◌-◌, Bool, true, false, ◌&&◌, ◌==◌, ◌⊎◌, if◌then◌else◌, List, [], ◌∷◌, ◌++◌}
+use Rattle.std.specs.Prelude.{length, take, Option, Some, None, Result, Ok, Err, ⊤, codes}
+use Rattle.std.specs.List.{AllZip, flat_map, list_any, slice_split}
+use Rattle.std.specs.Result.{is_err}
+use Rattle.std.specs.Str.{bytes_eq}
+use Rattle.std.specs.Io.KnownBytes.{Appends}
+use Rattle.machine_spec.specs.{Image.Program, declared.helper.Table.Table}
+use Rattle.verifier_spec.specs.Loading.{IsAccepted, IsRefusedWith}
+use Rattle.verifier_spec.specs.declared.fault.LoadFault.{LoadFault}
+use Rattle.script.specs.declared.command.Source.TheVariants.{File}
+use Rattle.script.specs.declared.fault.ScriptFault.TheVariants.{Syntax}
+use Rattle.script.specs.Words.{words_of, word_at}
+use Rattle.commands.specs.declared.{run.Ended.Ended, stop.Stop.Stop}
+use Rattle.commands.specs.declared.stop.Stop.TheVariants as stop
+use Rattle.commands.specs.Appends.{Prints}
+use Rattle.commands.specs.Images.{accepted_line}
+use Rattle.commands.specs.Sessions.{IsImageIn}
+use Rattle.commands.specs.Stops.{IsUnwritten, status_of}
+
+-- ---- the lines of a list
+
+-- pieces without the last, if that is empty
+abbrev pub without_end : List (List ℕ) → List (List ℕ)
+without_end pieces =
+    if length (word_at pieces (length pieces - 1)) == 0 then take (length pieces - 1) pieces else pieces
+
+-- the lines of a list; each ends with a line feed, which the last may lack
+abbrev pub lines_of : List ℕ → List (List ℕ)
+lines_of list = without_end (slice_split (λ b. b == 10) list)
+
+-- the helper table of a line's words: the second where `2` follows the name of a file, the first where nothing does;
+-- other words name no program
+abbrev pub table_of : List (List ℕ) → Option Table
+table_of words =
+    if length (word_at words 0) == 0 then None else if length words == 1 then Some Table.One else
+    if length words == 2 && bytes_eq (word_at words 1) (codes "2") then Some Table.Two else None
+
+-- a line names the file of an image, and the helper table of its program
+pub record NamesProgram (line file : List ℕ) (table : Table) : Type 0 where
+  pub file_is : word_at (words_of line) 0 ≡ file
+  pub table_is : table_of (words_of line) ≡ Some table
+
+-- ---- what is told of a program
+
+-- a program is accepted, and its code has so many instructions, or it is refused with its fault
+abbrev pub IsVerdict : Program → Result ℕ LoadFault → Type 0
+IsVerdict program (Ok count) = (accepted : IsAccepted program) × (length accepted.code ≡ count)
+IsVerdict program (Err fault) = IsRefusedWith program fault
+
+-- what standard output gets of a verdict: `FILE accepted N instructions`; a fault goes to standard error
+abbrev pub verdict_line : List ℕ → Result ℕ LoadFault → List ℕ
+verdict_line file (Ok count) = file ++ (32 ∷ accepted_line count)
+verdict_line file (Err fault) = []
+
+-- what was told of a line: the name of a file, the program that it has, and the verdict
+pub record Told : Type 0 where
+  pub file : List ℕ
+  pub program : Program
+  pub verdict : Result ℕ LoadFault
+
+-- this was told of a line, by what is known of files
+pub record IsTold (files : List ℕ → Option (List ℕ)) (line : List ℕ) (told : Told) : Type 0 where
+  pub names : NamesProgram line told.file told.program.table
+  pub image : IsImageIn files (File told.file) told.program.image
+  pub verdict : IsVerdict told.program told.verdict
+
+-- What is told of a program of a file, answered by whether it is refused, or by why nothing could be told. Nothing is said
+-- of what was printed where standard output or memory failed.
+abbrev pub ImageTells : List ℕ → Program → Option (List ℕ) → Option (List ℕ) → Result Bool Stop → Type 0
+ImageTells file program before after (Ok refused) = (verdict : Result ℕ LoadFault) × IsVerdict program verdict
+    × (refused ≡ is_err verdict) × Appends before after (verdict_line file verdict)
+ImageTells file program before after (Err reason) = IsUnwritten reason
+
+-- what standard output gets of all that was told
+abbrev pub told_lines : List Told → List ℕ
+told_lines all = flat_map (λ told. verdict_line told.file told.verdict) all
+
+-- one of the programs was refused
+abbrev pub has_refused : List Told → Bool
+has_refused all = list_any (λ told. is_err told.verdict) all
+
+-- ---- how a list ends
+
+-- Why nothing is told of a line: it names no program, or its file can't be read. Nothing is said where standard output
+-- or memory failed.
+abbrev pub StopsAt : List ℕ → Stop → Type 0
+StopsAt line (stop.Line fault) = (table_of (words_of line) ≡ None) × (fault ≡ Syntax)
+StopsAt line (stop.File name) = (table : Table) × NamesProgram line name table
+StopsAt line stop.Output = ⊤
+StopsAt line stop.Memory = ⊤
+StopsAt line (stop.Broker fault) = ⊥
+StopsAt line (stop.Batch fault) = ⊥
+StopsAt line stop.Thread = ⊥
+
+-- What a line does: something is told of its program, or it stops the list and nothing is printed.
+abbrev pub LineTells : (List ℕ → Option (List ℕ)) → List ℕ → Option (List ℕ) → Option (List ℕ) → Result Bool Stop →
+    Type 0
+LineTells files line before after (Ok refused) = (told : Told) × IsTold files line told
+    × (refused ≡ is_err told.verdict) × Appends before after (verdict_line told.file told.verdict)
+LineTells files line before after (Err reason) = StopsAt line reason × Prints before after [] (Err reason)
+
+-- How a list ends where this was told and these lines are left: none is left, and it is known whether a program was
+-- refused; or the first of them stops it, and its number, from 1, is known. Nothing is said where memory ran out before
+-- the first line.
+abbrev pub ListEnds : List (List ℕ) → List Told → Result Bool Ended → Type 0
+ListEnds rest told (Ok refused) = (rest ≡ []) × (refused ≡ has_refused told)
+ListEnds rest told (Err ended) = (ended.stop ≡ stop.Memory) ⊎ ((line : List ℕ) × (others : List (List ℕ))
+    × (rest ≡ line ∷ others) × (ended.line ≡ length told + 1) × StopsAt line ended.stop)
+
+-- the reason that stopped a list, if one did
+abbrev pub stop_of : Result Bool Ended → Result ⊤ Stop
+stop_of (Ok refused) = Ok tt
+stop_of (Err ended) = Err ended.stop
+
+-- the programs of the first lines of a list were verified in order, also those after a refused one, and standard output
+-- got a line of each that was accepted
+pub record Rechecks (files : List ℕ → Option (List ℕ)) (lines : List (List ℕ)) (before after : Option (List ℕ))
+    (result : Result Bool Ended) : Type 0 where
+  pub done : List (List ℕ)
+  pub rest : List (List ℕ)
+  pub lines_are : lines ≡ done ++ rest
+  pub told : List Told
+  pub are_told : AllZip (IsTold files) done told
+  pub ends : ListEnds rest told result
+  pub printed : Prints before after (told_lines told) (stop_of result)
+
+-- the status of a list: 1 where a program was refused or a line names none, 0 where all were accepted, 3 where a file,
+-- standard output or memory failed
+abbrev pub status_of_list : Result Bool Ended → ℕ
+status_of_list (Ok false) = 0
+status_of_list (Ok true) = 1
+status_of_list (Err ended) = status_of ended.stop
+
+-- A call that rechecks the programs of a list ends with this status. The list may be one that could not be read, and
+-- then nothing was printed. Where there is no memory to say why a list was stopped, the status is 3.
+abbrev pub RechecksAs : (List ℕ → Option (List ℕ)) → List ℕ → ℕ → Option (List ℕ) → Option (List ℕ) → Type 0
+RechecksAs files list status before after = ((status ≡ 3) × (after ≡ before))
+    ⊎ ((result : Result Bool Ended) × Rechecks files (lines_of list) before after result
+    × ((status ≡ status_of_list result) ⊎ (status ≡ 3)))

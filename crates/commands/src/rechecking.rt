@@ -1,0 +1,224 @@
+//! Programs of a list, verified anew.
+
+ghost use Rattle.std.specs.Prelude.{◌≡◌, ◌==◌, ◌<◌, ◌≤◌, ◌⊎◌, ℕ, List, ◌∷◌, ◌++◌, Some, length, IfOk, IfSome, OnOk, IfErr};
+ghost use Rattle.std.specs.List.{slice_split};
+ghost use Rattle.std.specs.Io.KnownBytes.{Appends};
+ghost use Rattle.machine_spec.specs.Image.{program_of};
+ghost use Rattle.script.specs.Words.{texts, word_at};
+ghost use Rattle.commands.specs.declared.stop.Stop.TheVariants as stop;
+ghost use Rattle.commands.specs.Rechecks as definitions;
+ghost use Rattle.commands.specs.Rechecks.{ImageTells, LineTells, Rechecks, RechecksAs};
+ghost use Rattle.commands.specs.Stops.{IsUnwritten};
+
+use crate::asm::read_text;
+use crate::call::{DONE, REFUSED, say, tell, tell_unread, write_out};
+use crate::files::Files;
+use crate::image::{Refused, check, read_image};
+use crate::reading::Unread;
+use crate::run::Ended;
+use crate::stop::{Stop, stop_of_unread};
+use machine_spec::Table;
+use script::{FileName, ScriptFault};
+use std::alloc::{AllocError, Global};
+use std::io::Write;
+use verifier_spec::LoadFault;
+
+/// The pieces of a text between separators.
+fn pieces<'a>(alloc: Global, text: &'a str, separator: char) -> Result<Vec<&'a str>, AllocError>
+    requires { separator < 128 }
+    ensures { IfOk result (λ pieces. texts pieces.items ≡ slice_split (λ b. b == separator) text.now) }
+{
+    text.split(separator).collect(alloc)
+}
+
+/// The piece with this number, from 0.
+fn piece<'a>(pieces: &[&'a str], place: usize) -> &'a str
+    requires { place < length pieces.now }
+    ensures { result.now ≡ word_at (texts pieces.now) place }
+{
+    pieces[place]
+}
+
+/// Pieces without the last, if that is empty.
+fn without_end<'a, 'b>(pieces: &'b [&'a str]) -> &'b [&'a str]
+    ensures { texts result.now ≡ definitions.without_end (texts pieces.now) }
+{
+    let count = pieces.len();
+    if count > 0 && pieces[count - 1].is_empty() {
+        &pieces[..count - 1]
+    } else {
+        pieces
+    }
+}
+
+/// The helper table that the words of a line name, if they name a program.
+fn table_of(words: &[&str]) -> Option<Table>
+    ensures table { result ≡ definitions.table_of (texts words.now) }
+    ensures long { IfSome result (λ _. 1 ≤ length words.now) }
+{
+    if words.is_empty() || words[0].is_empty() {
+        return None;
+    }
+    if words.len() == 1 {
+        return Some(Table::One);
+    }
+    if words.len() == 2 && words[1] == "2" {
+        return Some(Table::Two);
+    }
+    None
+}
+
+/// Says that a program is refused, and why.
+fn tell_refusal<E: Write>(
+    alloc: Global,
+    stderr: &mut E,
+    file: &str,
+    fault: LoadFault,
+) -> Result<(), Stop>
+    ensures { IfErr result IsUnwritten }
+{
+    let text = format!(in alloc; "{file} {fault}\n")?;
+    say(stderr, text.as_str());
+    Ok(())
+}
+
+/// Prints what `check` says of an accepted program, after the name of its file.
+fn print_accepted<O: Write>(
+    alloc: Global,
+    stdout: &mut O,
+    file: &str,
+    accepted: &str,
+) -> Result<(), Stop>
+    ensures ok { OnOk result (Appends (O.contents stdout.old) (O.contents stdout.new) (file.now ++ (32 ∷ accepted.now))) }
+    ensures err { IfErr result IsUnwritten }
+{
+    let text = format!(in alloc; "{file} {accepted}")?;
+    write_out(stdout, text.as_str())
+}
+
+/// Verifies the program of an image, and says that it is accepted or why it is refused; answers
+/// whether it is refused.
+fn recheck_image<O: Write, E: Write>(
+    alloc: Global,
+    stdout: &mut O,
+    stderr: &mut E,
+    file: &str,
+    image: &[u8],
+    table: Table,
+) -> Result<bool, Stop>
+    ensures { ImageTells file.now (program_of image.now table) (O.contents stdout.old) (O.contents stdout.new) result }
+{
+    match check(alloc, image, table) {
+        Ok(text) => {
+            print_accepted(alloc, stdout, file, text.as_str())?;
+            Ok(false)
+        }
+        Err(Refused::Image(fault)) => {
+            tell_refusal(alloc, stderr, file, fault)?;
+            Ok(true)
+        }
+        Err(Refused::Memory) => Err(Stop::Memory),
+    }
+}
+
+/// Why a list ends that names a file which can't be read.
+fn stop_of_file(alloc: Global, file: &str, cause: Unread) -> Stop
+    ensures { (result ≡ stop.Memory) ⊎ (result ≡ stop.File file.now) }
+{
+    match String::from_str(alloc, file) {
+        Ok(text) => stop_of_unread(FileName { text }, cause),
+        Err(_) => Stop::Memory,
+    }
+}
+
+/// Verifies the program that a line names, and says that it is accepted or why it is refused; answers
+/// whether it is refused.
+fn recheck_line<F: Files, O: Write, E: Write>(
+    alloc: Global,
+    files: &mut F,
+    stdout: &mut O,
+    stderr: &mut E,
+    line: &str,
+) -> Result<bool, Stop>
+    ensures kept { (other : List ℕ) → F.bytes files.new other ≡ F.bytes files.old other }
+    ensures told { LineTells (F.bytes files.old) line.now (O.contents stdout.old) (O.contents stdout.new) result }
+{
+    let words = pieces(alloc, line, ' ')?;
+    let Some(table) = table_of(&words) else {
+        return Err(Stop::Line(ScriptFault::Syntax));
+    };
+    let name = piece(&words, 0);
+    match read_image(alloc, files, name) {
+        Ok(image) => recheck_image(alloc, stdout, stderr, name, image.as_slice(), table),
+        Err(cause) => Err(stop_of_file(alloc, name, cause)),
+    }
+}
+
+/// Verifies the programs of a list's lines in order, up to one that names none; answers whether one is
+/// refused.
+fn recheck_lines<F: Files, O: Write, E: Write>(
+    alloc: Global,
+    files: &mut F,
+    stdout: &mut O,
+    stderr: &mut E,
+    lines: &[&str],
+) -> Result<bool, Ended>
+    ensures { Rechecks (F.bytes files.old) (texts lines.now) (O.contents stdout.old) (O.contents stdout.new) result }
+{
+    let mut refused = false;
+    for index in 0..lines.len() {
+        match recheck_line(alloc, files, stdout, stderr, piece(lines, index)) {
+            Ok(is_refused) => refused |= is_refused,
+            Err(stop) => {
+                let line = (index as u64).saturating_add(1);
+                return Err(Ended { line, stop });
+            }
+        }
+    }
+    Ok(refused)
+}
+
+/// The same of a list's text.
+fn recheck_text<F: Files, O: Write, E: Write>(
+    alloc: Global,
+    files: &mut F,
+    stdout: &mut O,
+    stderr: &mut E,
+    list: &str,
+) -> Result<bool, Ended>
+    ensures { Rechecks (F.bytes files.old) (definitions.lines_of list.now) (O.contents stdout.old) (O.contents stdout.new) result }
+{
+    match pieces(alloc, list, '\n') {
+        Ok(pieces) => recheck_lines(alloc, files, stdout, stderr, without_end(&pieces)),
+        Err(_) => Err(Ended {
+            line: 0,
+            stop: Stop::Memory,
+        }),
+    }
+}
+
+/// Verifies the programs that a list names anew, in order: says of each that it is accepted or why it
+/// is refused, and goes on. A line that names no program ends it, and a file that can't be read does.
+/// Answers the status: 0 all are accepted, 1 one is refused or a line names none, 3 a file, standard
+/// output or memory failed.
+pub fn recheck<F: Files, O: Write, E: Write>(
+    alloc: Global,
+    files: &mut F,
+    stdout: &mut O,
+    stderr: &mut E,
+    name: &str,
+) -> u8
+    ensures small { result ≤ 3 }
+    ensures told { (list : List ℕ) → F.bytes files.old name.now ≡ Some list
+        → RechecksAs (F.bytes files.old) list result (O.contents stdout.old) (O.contents stdout.new) }
+{
+    let list = match read_text(alloc, files, name) {
+        Ok(list) => list,
+        Err(cause) => return tell_unread(alloc, stderr, name, cause),
+    };
+    match recheck_text(alloc, files, stdout, stderr, list.as_str()) {
+        Ok(false) => DONE,
+        Ok(true) => REFUSED,
+        Err(ended) => tell(alloc, stderr, &ended),
+    }
+}

@@ -1,0 +1,80 @@
+//! Calls that name the helper table of a program.
+
+use crate::shelf::{BATCHES, FORWARD, called_with, empty_shelf};
+use commands::Files;
+use std::test::Fail;
+
+/// mov64 r1, r10; add64 r1, -8; mov64 r2, 0; mov64 r3, 8; call 12; exit: rejects a record that has a
+/// header.
+pub(crate) const FIRST_HEADER: [u8; 48] = [
+    0xbf, 0xa1, 0, 0, 0, 0, 0, 0, 0x07, 1, 0, 0, 0xf8, 0xff, 0xff, 0xff, 0xb7, 2, 0, 0, 0, 0, 0, 0,
+    0xb7, 3, 0, 0, 8, 0, 0, 0, 0x85, 0, 0, 0, 12, 0, 0, 0, 0x95, 0, 0, 0, 0, 0, 0, 0,
+];
+
+/// Words of a call, what it prints, what it says on standard error and its status.
+type Row = (&'static [&'static str], &'static str, &'static str, u8);
+
+const ROWS: [Row; 11] = [
+    (&["check", "header"], "", "V11 Helper at 4\n", 1),
+    (&["check", "header", "1"], "", "V11 Helper at 4\n", 1),
+    (
+        &["check", "header", "2"],
+        "accepted 6 instructions\n",
+        "",
+        0,
+    ),
+    (
+        &["check", "forward", "1"],
+        "accepted 3 instructions\n",
+        "",
+        0,
+    ),
+    (
+        &["check", "forward", "2"],
+        "accepted 3 instructions\n",
+        "",
+        0,
+    ),
+    (&["explain", "forward", "1", "refused"], "ok\n", "", 0),
+    (&["explain", "header", "2", "refused"], "ok\n", "", 0),
+    (
+        &["transform", "header", "batches", "out"],
+        "",
+        "V11 Helper at 4\n",
+        1,
+    ),
+    (
+        &["transform", "table2", "header", "batches", "out"],
+        "",
+        "out 0 in 0 done 3 rows 0\nin 0 items 3 records 5\n",
+        0,
+    ),
+    (
+        &["transform", "table2", "forward", "batches", "out"],
+        "",
+        "out 0 in 0 done 3 rows 5\nin 0 items 3 records 5\n",
+        0,
+    ),
+    (
+        &["transform", "table2", "header", "batches"],
+        "",
+        "usage: klog COMMAND FILE ...\n",
+        2,
+    ),
+];
+
+#[test]
+fn calls_name_the_table(rt: HostRuntime) -> Result<(), Fail> {
+    let alloc = rt.alloc();
+    for (words, want_out, want_err, want) in ROWS {
+        let mut files = empty_shelf(alloc);
+        files.write("header", &FIRST_HEADER)?;
+        files.write("forward", &FORWARD)?;
+        files.write("batches", &BATCHES)?;
+        let (status, out, err) = called_with(&rt, alloc, &mut files, words, b"")?;
+        assert!(rt; out.as_str() == want_out, "{words:?}: {out}");
+        assert!(rt; err.as_str() == want_err, "{words:?}: {err}");
+        assert!(rt; status == want, "{words:?}: {status}");
+    }
+    Ok(())
+}
