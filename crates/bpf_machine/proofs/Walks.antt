@@ -1,14 +1,15 @@
 -- A walk over the first slots of an image, and bytes written one after the other.
-use Rattle.std.proofs.Common.{◌≡◌, ◌≢◌, ℕ, zero, suc, ◌+◌, ◌-◌, ◌<◌, ◌≤◌, Bool, true, false, ◌&&◌, nat_lt, nat_le, ◌==◌}
-use Rattle.std.proofs.Common.{List, length, slice_set, Option, Some, refl, sym, ap, ◌∙◌, subst, ⊎_elim, arith}
-use Rattle.std.specs.Prelude.{slice_get, option_and_then, slice_index}
+use Rattle.std.proofs.Common.{◌≡◌, ◌≢◌, ℕ, zero, suc, ◌+◌, ◌-◌, ◌<◌, ◌≤◌, Bool, true, false, ◌&&◌, ◌||◌, nat_lt, nat_le}
+use Rattle.std.proofs.Common.{◌==◌, List, length, slice_set, replicate, Option, Some, refl, sym, ap, ◌∙◌, subst, ⊎_elim, arith}
+use Rattle.std.specs.Prelude.{slice_get, option_and_then, slice_index, unwrap_or}
 use Rattle.std.specs.List.{list_any}
+use Rattle.std.proofs.Math.Bool.{or-false}
 use Rattle.std.proofs.lemmas.Bool.{cond_both, lt-ltb, le-ltb, le-leb, eq-eqb, ne_eqb, ltb-true, leb-true, and_parts}
-use Rattle.std.proofs.lemmas.Bool.{and_from, cases_eq, false≢true}
+use Rattle.std.proofs.lemmas.Bool.{and_from, or_left, or_right, cases_eq, false≢true}
 use Rattle.std.proofs.lemmas.Option.{slice_get-get_or}
 use Rattle.machine_spec.specs.Image.{slot_count, slot_after, first_slots_from, first_slots, is_first_slot}
 use Rattle.machine_spec.specs.Machine.{stack_with_bytes}
-use Rattle.bpf_machine.specs.Views.{stack_of}
+use Rattle.bpf_machine.specs.Views.{stack_of, is_marked}
 use Rattle.bpf_machine.proofs.Pieces.{get-set_same, get-set_other}
 
 module _ (image : List ℕ) (target : ℕ) where
@@ -33,6 +34,36 @@ module _ (image : List ℕ) (target : ℕ) where
       comes left slot ≡ comes steps (slot_after image slot)
   comes_later steps left slot more within other =
       ap (λ n. comes n slot) more ∙ rw (lt-ltb slot (slot_count image) within, ne_eqb slot target other) refl
+
+  -- a slot is marked, or a walk from a slot on comes to it
+  abbrev marked_or_comes : List Bool → ℕ → ℕ → Bool
+  marked_or_comes marks steps slot = is_marked marks target || comes steps slot
+
+  -- a walk marks the slot that it is at and goes on
+  pub marks_on : (marks : List Bool) (steps left slot : ℕ) → left ≡ suc steps → slot < slot_count image
+      → slot < length marks → marked_or_comes marks left slot ≡ is_first_slot image target
+      → marked_or_comes (slice_set marks slot true) steps (slot_after image slot) ≡ is_first_slot image target
+  marks_on marks steps left slot more within inside before = ⊎_elim
+      (λ (same : slot ≡ target).
+      let is_set = subst (λ q. is_marked (slice_set marks slot true) q ≡ true) same
+      (ap (λ m. unwrap_or m false) (get-set_same marks slot true inside)) in
+      or_left _ _ is_set ∙ sym (or_right _ _ (comes_here left slot (omega (arith, more)) within same)) ∙ before)
+      (λ (other : slot ≢ target).
+      ap (λ m. unwrap_or m false || comes steps (slot_after image slot)) (get-set_other marks slot target true other)
+      ∙ ap (λ b. is_marked marks target || b) (sym (comes_later steps left slot more within other)) ∙ before)
+      (cases_eq slot target)
+
+  -- where a walk does not come to a slot any more, it is marked if it is a first slot
+  pub marks_all : (marks : List Bool) (steps slot : ℕ) → comes steps slot ≡ false
+      → marked_or_comes marks steps slot ≡ is_first_slot image target → is_marked marks target ≡ is_first_slot image target
+  marks_all marks steps slot past is =
+      sym (ap (λ b. is_marked marks target || b) past ∙ or-false (is_marked marks target)) ∙ is
+
+-- no slot is marked by these
+pub none_marked : (count slot : ℕ) → is_marked (replicate count false) slot ≡ false
+none_marked zero slot = refl
+none_marked (suc count) zero = refl
+none_marked (suc count) (suc slot) = none_marked count slot
 
 -- the first k of some bytes have been written from a place on
 pub record Wrote (old new : List (Option ℕ)) (start : ℕ) (bytes : List ℕ) (k : ℕ) : Type 0 where

@@ -1,5 +1,7 @@
 -- The parts of the plain machine as the definitions of the machine name them.
-use Rattle.std.specs.Prelude.{ℕ, ◌<◌, ◌^◌, List, Option, Some, None, slice_get, option_and_then, unsigned_abs}
+use Rattle.std.specs.Prelude.{◌≡◌, ℕ, ◌<◌, ◌^◌, Bool, false, List, Option, Some, None, slice_get, option_and_then}
+use Rattle.std.specs.Prelude.{unwrap_or, unsigned_abs}
+use Rattle.machine_spec.specs.Image.{is_first_slot}
 use Rattle.machine_spec.specs.Values.{Value, Nothing, Number, Address}
 use Rattle.machine_spec.specs.Machine.{Access}
 use Rattle.bpf_machine.specs.declared.{tagged.Tagged.Tagged, memory.Span.Span}
@@ -33,6 +35,14 @@ access_in (Some span) = Some (record {
   size = span.size;
 })
 access_in None = None
+
+-- a slot is marked in a list; those past its end are not
+abbrev pub is_marked : List Bool → ℕ → Bool
+is_marked marks slot = unwrap_or (slice_get marks slot) false
+
+-- the marked slots are those at which an instruction of an image begins
+pub record AreFirstSlots (image : List ℕ) (marks : List Bool) : Type 0 where
+  pub each : (slot : ℕ) → is_marked marks slot ≡ is_first_slot image slot
 
 -- the offset of an address is so small that its sum with a displacement fits in 128 bits
 abbrev pub IsNear : Value → Type 0

@@ -16,11 +16,13 @@ use machine_spec::{Direction, Extension, MemoryOperand, Place, Region, STACK_SIZ
 use std::alloc::{AllocError, Global};
 use wire_spec::Record;
 
-/// What a run has at hand: the program's image and helper table, the record and its place.
+/// What a run has at hand: the program's image, the slots at which its instructions begin, its helper
+/// table, the record and its place.
 #[derive(Drop)]
 pub struct Run<'a> {
     pub alloc: Global,
     pub image: &'a [u8],
+    pub firsts: &'a [bool],
     pub table: Table,
     pub given: &'a Record,
     pub place: &'a Place,

@@ -1,6 +1,10 @@
 //! The slots of an image.
-ghost use Rattle.std.specs.Prelude.{◌≡◌, ◌<◌, ◌^◌};
+ghost use Rattle.std.specs.Prelude.{◌≡◌, ◌<◌, ◌^◌, IfOk};
 ghost use Rattle.machine_spec.specs.Image as definitions;
+ghost use Rattle.bpf_machine.specs.Views as views;
+ghost use Rattle.bpf_machine.specs.Views.{AreFirstSlots};
+
+use std::alloc::{AllocError, Global};
 
 /// The opcode of the 64-bit immediate, which has two slots (RFC 9669, section 3.2).
 const WIDE: u8 = 0x18;
@@ -25,20 +29,30 @@ fn slot_after(image: &[u8], slot: usize) -> usize
     }
 }
 
-/// Whether a slot of an image is the first one of an instruction, by a walk over those before it.
-pub fn is_first_slot(image: &[u8], target: usize) -> bool
-    ensures { result ≡ definitions.is_first_slot image.now target }
+/// Marks the slots of an image at which an instruction begins, by one walk. It fails only where memory
+/// runs out.
+pub fn first_slots(alloc: Global, image: &[u8]) -> Result<Vec<bool>, AllocError>
+    ensures { IfOk result (λ marks. AreFirstSlots image.now marks.items) }
 {
     let slots = slot_count(image);
+    let mut marks = vec![in alloc; false; slots]?;
     let mut slot = 0;
     for _steps in 0..slots {
         if slot >= slots {
-            return false;
+            break;
         }
-        if slot == target {
-            return true;
-        }
+        marks[slot] = true;
         slot = slot_after(image, slot);
     }
-    false
+    Ok(marks)
+}
+
+/// Whether a slot is marked; those past the end are not.
+pub fn is_marked(marks: &[bool], slot: usize) -> bool
+    ensures { result ≡ views.is_marked marks.now slot }
+{
+    match marks.get(slot) {
+        Some(is_marked) => *is_marked,
+        None => false,
+    }
 }

@@ -3,7 +3,7 @@ ghost use Rattle.std.specs.Prelude.{◌≡◌, ℕ, ◌<◌, ◌≤◌, ◌^◌,
 ghost use Rattle.machine_spec.specs.Image.{program_of, slot_count};
 ghost use Rattle.machine_spec.specs.Meaning.{outcome_of};
 ghost use Rattle.machine_spec.specs.Traps.{trap_at};
-ghost use Rattle.bpf_machine.specs.Views.{value_of, registers_of, IsNear};
+ghost use Rattle.bpf_machine.specs.Views.{value_of, registers_of, AreFirstSlots, IsNear};
 ghost use Rattle.bpf_machine.specs.States.{program_run, input_of, state_of};
 ghost use Rattle.bpf_machine.specs.Ends.{EndsOnlyIn};
 ghost use Rattle.bpf_machine.specs.Advances.{IsFetched, Advances};
@@ -11,7 +11,7 @@ ghost use Rattle.bpf_machine.specs.Advances.{IsFetched, Advances};
 use crate::machine::Machine;
 use crate::memory::Run;
 use crate::registers::get;
-use crate::slots::slot_count;
+use crate::slots::{first_slots, slot_count};
 use crate::tagged::Tagged;
 use crate::traps::trap_of;
 use bpf_isa::form_at;
@@ -50,6 +50,7 @@ fn outcome_of(answer: Tagged, machine: Machine) -> Outcome
 impl Machine {
     /// The instruction at the state's slot, or the trap that the state has.
     fn fetched(&self, run: &Run) -> Result<Instruction, Trap>
+        requires firsts { AreFirstSlots run.now.image.now run.now.firsts.now }
         requires slot { self.now.slot < 2 ^ 62 }
         requires near { (r : ℕ) → IsNear (registers_of self.now.registers r) }
         ensures { IsFetched (program_run run.now) (input_of run.now) (state_of self.now) result }
@@ -68,6 +69,7 @@ impl Machine {
 
     /// Does the instruction at the state's slot, if it has no trap and is no exit.
     fn advance(&mut self, run: &Run) -> Result<Advance, AllocError>
+        requires firsts { AreFirstSlots run.now.image.now run.now.firsts.now }
         requires slot { self.old.slot < 2 ^ 62 }
         requires near { (r : ℕ) → IsNear (registers_of self.old.registers r) }
         ensures { IfOk result (Advances (program_run run.now) (input_of run.now) (state_of self.old) (state_of self.new)) }
@@ -98,9 +100,11 @@ pub fn trace(
     ensures { IfOk result (λ answer. EndsOnlyIn (program_of image.now table)
         (record { given = given.now; place = place.now }) answer.0 answer.1) }
 {
+    let firsts = first_slots(alloc, image)?;
     let run = Run {
         alloc,
         image,
+        firsts: &firsts,
         table,
         given,
         place,

@@ -5,13 +5,13 @@ ghost use Rattle.machine_spec.specs.Image.{jump_target};
 ghost use Rattle.machine_spec.specs.Values as values;
 ghost use Rattle.machine_spec.specs.Traps as definitions;
 ghost use Rattle.machine_spec.specs.Traps.{source_registers, operand_registers, base_registers, condition_registers, argument_registers, arguments_of, first_of, traps};
-ghost use Rattle.bpf_machine.specs.Views.{registers_of, stack_of, access_in, IsNear};
+ghost use Rattle.bpf_machine.specs.Views.{registers_of, stack_of, access_in, AreFirstSlots, IsNear};
 ghost use Rattle.bpf_machine.specs.States.{program_run, input_of, state_of};
 
 use crate::machine::Machine;
 use crate::memory::{Run, Span, named_access, span_of};
 use crate::registers::{REGISTERS, get, operand};
-use crate::slots::is_first_slot;
+use crate::slots::is_marked;
 use crate::stack::Stack;
 use crate::tagged::{Tagged, can_compute, is_address, is_nothing, is_number, is_taken};
 use machine_spec::{
@@ -317,10 +317,11 @@ pub fn jump_target(slot: usize, distance: i32) -> Option<usize>
 }
 
 fn is_valid_target(run: &Run, slot: Option<usize>) -> bool
+    requires { AreFirstSlots run.now.image.now run.now.firsts.now }
     ensures { result ≡ definitions.is_valid_target (program_run run.now) slot }
 {
     match slot {
-        Some(slot) => is_first_slot(run.image, slot),
+        Some(slot) => is_marked(run.firsts, slot),
         None => false,
     }
 }
@@ -343,7 +344,8 @@ fn jumps_wrongly(
     jump: Option<i32>,
     machine: &Machine,
 ) -> bool
-    requires { machine.now.slot < 2 ^ 62 }
+    requires firsts { AreFirstSlots run.now.image.now run.now.firsts.now }
+    requires slot { machine.now.slot < 2 ^ 62 }
     ensures { result ≡ definitions.jumps_wrongly (program_run run.now) condition jump (state_of machine.now) }
 {
     match jump {
@@ -359,6 +361,7 @@ fn jumps_wrongly(
 
 /// The trap of an instruction, if there is one, the first in their order.
 pub fn trap_of(run: &Run, summary: Summary, machine: &Machine) -> Option<Trap>
+    requires firsts { AreFirstSlots run.now.image.now run.now.firsts.now }
     requires slot { machine.now.slot < 2 ^ 62 }
     requires near { (r : ℕ) → IsNear (registers_of machine.now.registers r) }
     ensures { result ≡ first_of (traps (program_run run.now) (input_of run.now) summary (state_of machine.now)) }
