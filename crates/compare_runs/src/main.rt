@@ -1,8 +1,9 @@
 //! Runs random programs on random records by the plain machine and, where the verifier accepts them,
 //! by the interpreter, and compares. The arguments are how many programs and the seed; with none the
-//! program does nothing.
+//! program does nothing. `jumps COUNT` times the plain machine on a program of COUNT jumps.
 #![tactic(auto)]
 
+mod jumps;
 mod random;
 
 use annotate::load;
@@ -10,6 +11,7 @@ use bpf_machine::{End, Table, trace};
 use exec::{Emissions, Outcome, Place, Record, is_place, is_within_limits, run};
 use random::Random;
 use std::alloc::{AllocError, Global};
+use std::rt::Clock;
 use std::{env, io};
 
 const PLACE: Place = Place {
@@ -98,21 +100,37 @@ fn compared(alloc: Global, programs: u64, seed: u64) -> Result<Counts, AllocErro
     Ok(counts)
 }
 
-fn main(rt: HostRuntime) -> io::Result<()> {
-    let mut arguments = env::args(&rt)?;
-    let _ = arguments.next();
-    let Some(programs) = arguments.next() else {
-        return Ok(());
-    };
-    let programs: u64 = programs.as_str().parse().unwrap_or(0);
-    let seed: u64 = match arguments.next() {
-        Some(seed) => seed.as_str().parse().unwrap_or(0),
-        None => 0,
-    };
-    let counts = compared(rt.alloc(), programs, seed)?;
+fn print_comparison<R: Print>(rt: &R, alloc: Global, programs: u64, seed: u64) -> io::Result<()> {
+    let counts = compared(alloc, programs, seed)?;
     println!(rt;
         "{programs} programs, {} accepted, {} instructions, {} different",
         counts.accepted, counts.instructions, counts.different
-    )?;
-    Ok(())
+    )
+}
+
+fn print_time<R: Print + Clock>(rt: &R, alloc: Global, jumps: u32) -> io::Result<()> {
+    let (count, nanos) = jumps::time(rt, alloc, jumps)?;
+    println!(rt; "{count} instructions in {nanos} ns")
+}
+
+fn main(rt: HostRuntime) -> io::Result<()> {
+    let mut arguments = env::args(&rt)?;
+    let _ = arguments.next();
+    let Some(mode) = arguments.next() else {
+        return Ok(());
+    };
+    let second = arguments.next();
+    let number = match &second {
+        Some(number) => number.as_str(),
+        None => "0",
+    };
+    match mode.as_str() {
+        "jumps" => print_time(&rt, rt.alloc(), number.parse().unwrap_or(0)),
+        programs => print_comparison(
+            &rt,
+            rt.alloc(),
+            programs.parse().unwrap_or(0),
+            number.parse().unwrap_or(0),
+        ),
+    }
 }
