@@ -16,17 +16,7 @@ use std::marker::Brand;
 use std::sync::Wait;
 use std::thread::Threads;
 use std::{env, fs, io};
-use worker::Gate;
-
-/// Lets a worker offer every item.
-#[derive(Drop)]
-struct Open;
-
-impl Gate for Open {
-    fn pass(&self, _input: usize, _index: usize, _output: usize) -> bool {
-        true
-    }
-}
+use worker::Open;
 
 /// What came of the batches: how many were appended, how many items the worker processed, and the
 /// first rows of the output as a record batch, if there are any.
