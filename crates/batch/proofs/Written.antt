@@ -13,6 +13,7 @@ use Rattle.wire_spec.specs.BatchSpelling.{IsTimestamp, timestamps, greatest, sig
 use Rattle.wire_spec.specs.BatchSpelling.{checksummed_bytes, batch_spelling}
 use Rattle.wire_spec.proofs.BatchLaws.{list_all-from, records_length}
 use Rattle.batch.specs.Latest.{latest_of}
+use Rattle.batch.specs.Heads.{front_of, header_of}
 
 -- two parts in a row
 pub row : (old mid new a b : List ℕ) → mid ≡ old ++ a → new ≡ mid ++ b → new ≡ old ++ (a ++ b)
@@ -70,14 +71,6 @@ pub latest_some : (base : ℤ) (rs : List Record) → AllByRecursion IsTimestamp
 unfolding latest_of
 latest_some base rs h = rw (list_all-from (timestamps base rs) h) refl
 
--- the header from attributes on, with these numbers
-abbrev pub header_of : Batch → ℤ → ℕ → List ℕ
-header_of b g n =
-    to_be_bytes w16 0 ++ (to_be_bytes w32 (n - 1)
-    ++ (signed w64 b.base_timestamp
-    ++ (signed w64 g ++ (signed w64 b.producer_id
-    ++ (signed w16 b.producer_epoch ++ (signed w32 b.base_sequence ++ to_be_bytes w32 n))))))
-
 header_then : (b : Batch) → header_of b (greatest (timestamps b.base_timestamp b.records)) (length b.records)
     ++ records_spelling 0 b.records ≡ checksummed_bytes b
 header_then b = refl
@@ -96,11 +89,6 @@ covered_is b rs g n old mid new same top count first second =
     ∙ ap (λ (x : List Record). mid ++ records_spelling 0 x) same in
     row old mid new (header_of b (greatest (timestamps b.base_timestamp b.records)) (length b.records))
     (records_spelling 0 b.records) first' second' ∙ ap (λ (s : List ℕ). old ++ s) (header_then b)
-
--- what is before it, with 0 in the place of the checksum
-abbrev pub front_of : Batch → ℕ → List ℕ
-front_of b size = signed w64 b.base_offset
-    ++ (to_be_bytes w32 (size - 12) ++ (signed w32 b.leader_epoch ++ (2 ∷ to_be_bytes w32 0)))
 
 sealed : (b : Batch) (size : ℕ) (rest : List ℕ) →
     take 17 (front_of b size ++ rest)
@@ -122,6 +110,28 @@ spelled_is b size first second third e p q r =
     ∙ ap (λ (n : ℕ). signed w64 b.base_offset
     ++ (to_be_bytes w32 n ++ (signed w32 b.leader_epoch
     ++ (2 ∷ (to_be_bytes w32 (checksum (checksummed_bytes b)) ++ checksummed_bytes b))))) len
+
+-- where records were written after the beginning, and then the checksum
+pub finished_is : (b : Batch) (size n : ℕ) (g : ℤ) (begun written all : List ℕ) →
+    size ≡ 61 + length (records_spelling 0 b.records) → g ≡ greatest (timestamps b.base_timestamp b.records) →
+    n ≡ length b.records → begun ≡ front_of b size ++ header_of b g n →
+    written ≡ begun ++ records_spelling 0 b.records →
+    all ≡ take 17 written ++ (to_be_bytes w32 (checksum (drop 21 written)) ++ drop 21 written) → all ≡ batch_spelling b
+finished_is b size n g begun written all long top count e1 e2 e3 =
+    spelled_is b size (front_of b size) written all long refl
+    (covered_is b b.records g n (front_of b size) begun written refl top count e1 e2) e3
+
+-- the checksum and all before it are there from the beginning on
+pub begun_long : (b : Batch) (size n : ℕ) (g : ℤ) (begun more written : List ℕ) →
+    begun ≡ front_of b size ++ header_of b g n → written ≡ begun ++ more → 21 ≤ length written
+begun_long b size n g begun more written e1 e2 =
+    omega (
+      arith,
+      ap length e2,
+      ap length e1,
+      length-append begun more,
+      length-append (front_of b size) (header_of b g n),
+    )
 
 pub header_is : (b : Batch) (g : ℤ) (n : ℕ) (o0 o1 o2 o3 o4 o5 o6 o7 o8 : List ℕ) → FitsSigned w64 b.base_timestamp →
     FitsSigned w64 g → FitsSigned w64 b.producer_id → FitsSigned w16 b.producer_epoch → FitsSigned w32 b.base_sequence →
@@ -179,7 +189,3 @@ sealed_length old new c long e =
       length-take 17 old,
       length-drop 21 old,
     )
-
-pub front_long : (b : Batch) (size : ℕ) (first second : List ℕ) → first ≡ [] ++ front_of b size →
-    second ≡ first ++ checksummed_bytes b → 21 ≤ length second
-front_long b size first second p q = omega (arith, ap length q, length-append first (checksummed_bytes b), ap length p)

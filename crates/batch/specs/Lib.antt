@@ -1,3 +1,4 @@
 pub mod Batches
+pub mod Heads
 pub mod Latest
 pub mod Streams

@@ -14,4 +14,4 @@ pub use limits::{HEADER, fits, record_len};
 pub use reading::{decode, one_spelling};
 pub use sharing::share;
 pub use wire_spec::{Batch, BatchFault, Headers, MAX_BATCH, MAX_RECORDS, Records};
-pub use writing::encode;
+pub use writing::{begin, encode, finish};

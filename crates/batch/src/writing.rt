@@ -3,7 +3,8 @@ ghost use Rattle.std.specs.Int.{w16, w32, w64, to_be_bytes};
 ghost use Rattle.std.specs.List.{AllByRecursion};
 ghost use Rattle.wire_spec.specs.Checksum.{checksum};
 ghost use Rattle.wire_spec.specs.RecordSpelling.{RecordFits, record_spelling};
-ghost use Rattle.wire_spec.specs.BatchSpelling.{IsTimestamp, BatchFits, timestamps, greatest, signed, records_spelling, checksummed_bytes, batch_spelling};
+ghost use Rattle.wire_spec.specs.BatchSpelling.{IsTimestamp, BatchFits, timestamps, greatest, signed, records_spelling, batch_spelling};
+ghost use Rattle.batch.specs.Heads.{front_of, header_of};
 
 use crate::fields::{put_i16, put_i32, put_i64, put_u32};
 use crate::limits::{FRONT, HEADER, records_len};
@@ -79,17 +80,25 @@ fn put_header(out: &mut Vec<u8>, batch: &Batch, count: u32, greatest: i64) -> Re
     Ok(())
 }
 
-/// Writes all that the checksum covers.
-fn put_covered(out: &mut Vec<u8>, batch: &Batch) -> Result<(), AllocError>
-    requires { BatchFits «batch».now }
-    ensures { OnOk result (out.new.items ≡ out.old.items ++ checksummed_bytes «batch».now) }
+/// The bytes of a batch up to its records, with 0 in the place of the checksum: those of a batch of `size`
+/// bytes with the fields of `head`, this number of records and this greatest timestamp. The records of
+/// `head` are not looked at. There is room for `size` bytes. It fails only where memory runs out.
+pub fn begin(
+    alloc: Global,
+    head: &Batch,
+    size: usize,
+    count: u32,
+    greatest: i64,
+) -> Result<Vec<u8>, AllocError>
+    requires least { 12 ≤ size }
+    requires most { size ≤ MAX_BATCH }
+    requires some { 0 < count }
+    ensures { IfOk result (λ out. out.items ≡ front_of «head».now size ++ header_of «head».now greatest count) }
 {
-    let records = batch.records.list.as_slice();
-    let base = base_of(batch);
-    let greatest = greatest_of(base, records);
-    put_header(out, batch, records.len() as u32, greatest)?;
-    put_records(out, records)?;
-    Ok(())
+    let mut out = Vec::with_capacity(alloc, size)?;
+    put_front(&mut out, head, size)?;
+    put_header(&mut out, head, count, greatest)?;
+    Ok(out)
 }
 
 /// Writes the checksum of what follows it.
@@ -101,16 +110,25 @@ fn seal(out: &mut [u8])
     BigEndian::write_u32(&mut out[CRC..], crc);
 }
 
+/// The bytes of a batch to which its records were written after `begin`, with the checksum in its place.
+pub fn finish(mut out: Vec<u8>) -> Vec<u8>
+    requires { 21 ≤ length out.items }
+    ensures { result.items ≡ take 17 out.items ++ (to_be_bytes w32 (checksum (drop 21 out.items)) ++ drop 21 out.items) }
+{
+    seal(&mut out);
+    out
+}
+
 /// The one spelling of a batch that `fits` (Kafka's message format, magic 2: "Record Batch"). It
 /// fails only where memory runs out.
 pub fn encode(alloc: Global, batch: &Batch) -> Result<Vec<u8>, AllocError>
     requires { BatchFits «batch».now }
     ensures { IfOk result (λ v. v.items ≡ batch_spelling «batch».now) }
 {
-    let size = HEADER + records_len(batch.records.list.as_slice());
-    let mut out = Vec::with_capacity(alloc, size)?;
-    put_front(&mut out, batch, size)?;
-    put_covered(&mut out, batch)?;
-    seal(&mut out);
-    Ok(out)
+    let records = batch.records.list.as_slice();
+    let size = HEADER + records_len(records);
+    let greatest = greatest_of(base_of(batch), records);
+    let mut out = begin(alloc, batch, size, records.len() as u32, greatest)?;
+    put_records(&mut out, records)?;
+    Ok(finish(out))
 }

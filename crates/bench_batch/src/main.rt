@@ -1,13 +1,16 @@
-//! Measures how fast `batch` reads and writes batches, and reads them of a stream in pieces. Given how many times to do so in a turn, it takes
-//! ten turns with each batch and prints the bytes and records a second of the best. Given `cuts` and a
-//! number, it cuts a stream of 1,000 batches at random places so often, and prints how often other batches
-//! came out; given nothing, it prints nothing.
+//! Measures how fast `batch` reads and writes batches, and reads them of a stream in pieces, and how fast
+//! `row_batch` writes rows. Given how many times to do so in a turn, it takes ten turns with each batch and
+//! prints the bytes and records a second of the best. Given `cuts` and a number, it cuts a stream of
+//! 1,000 batches at random places so often, and prints how often other batches came out; given nothing, it
+//! prints nothing.
 #![tactic(auto)]
 
 mod cuts;
+mod rows;
 
 ghost use Rattle.wire_spec.specs.BatchSpelling.{BatchFits};
 
+use crate::rows::{Rows, rows_of};
 use batch::{Batch, Feed, Headers, Records, decode, encode, fits};
 use bytes::Bytes;
 use kafka_record::{Header, Record};
@@ -193,6 +196,18 @@ fn write_turn(alloc: Global, batch: &Batch, times: u32) -> io::Result<u64>
     Ok(sum)
 }
 
+/// Writes the rows as a batch `times` times, and sums how many bytes there are.
+fn rows_turn(alloc: Global, rows: &Rows, times: u32) -> io::Result<u64> {
+    let mut sum: u64 = 0;
+    for _ in 0..times {
+        let Some(bytes) = rows.batch(alloc)? else {
+            return Err(ErrorKind::InvalidData.into());
+        };
+        sum = sum.wrapping_add(bytes.len() as u64);
+    }
+    Ok(sum)
+}
+
 /// The shortest turn of reading, and the sum of all.
 fn shortest_read<R: Clock>(
     rt: &R,
@@ -246,6 +261,31 @@ fn shortest_write<R: Clock>(
     Ok((shortest, sum))
 }
 
+/// The shortest turn of writing rows, and the sum of all.
+fn shortest_rows<R: Clock>(
+    rt: &R,
+    alloc: Global,
+    rows: &Rows,
+    times: u32,
+) -> io::Result<(Duration, u64)> {
+    let mut shortest = Duration::MAX;
+    let mut sum: u64 = 0;
+    for _ in 0..TURNS {
+        let start = Instant::now(rt)?;
+        sum = sum.wrapping_add(rows_turn(alloc, rows, times)?);
+        shortest = shortest.min(start.elapsed(rt)?);
+    }
+    Ok((shortest, sum))
+}
+
+/// The rows of a batch's records, which share its bytes.
+fn read_rows(alloc: Global, bytes: &Bytes) -> io::Result<Rows> {
+    match decode(alloc, bytes.clone()?) {
+        Ok((batch, _)) => rows_of(alloc, batch),
+        Err(_) => Err(ErrorKind::InvalidData.into()),
+    }
+}
+
 /// Prints what a turn took: `times` times `bytes` bytes and `records` records.
 fn show<R: Print>(
     rt: &R,
@@ -277,7 +317,10 @@ fn compare<R: Print + Clock>(rt: &R, alloc: Global, shape: &Shape, times: u32) -
     let (took, sum) = shortest_feed(rt, alloc, &bytes, times)?;
     show(rt, "  feed", took, times, bytes.len(), shape.records, sum)?;
     let (took, sum) = shortest_write(rt, alloc, &batch, times)?;
-    show(rt, "  encode", took, times, bytes.len(), shape.records, sum)
+    show(rt, "  encode", took, times, bytes.len(), shape.records, sum)?;
+    let rows = read_rows(alloc, &bytes)?;
+    let (took, sum) = shortest_rows(rt, alloc, &rows, times)?;
+    show(rt, "  rows", took, times, bytes.len(), shape.records, sum)
 }
 
 fn compare_all<R: Print + Clock>(rt: &R, alloc: Global, times: u32) -> io::Result<()> {

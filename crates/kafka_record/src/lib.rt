@@ -13,6 +13,6 @@ pub use fault::RecordFault;
 pub use limits::fits;
 pub use reading::{one_spelling, read};
 pub use sharing::{share, share_bytes, share_headers};
-pub use sizes::size;
+pub use sizes::{size, size_of_parts};
 pub use wire_spec::{Header, Headers, Record};
-pub use writing::write;
+pub use writing::{write, write_parts};

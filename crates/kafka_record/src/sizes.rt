@@ -2,12 +2,13 @@ ghost use Rattle.std.specs.Prelude.{◌≡◌, ◌+◌, ◌*◌, ◌^◌, ◌<�
 ghost use Rattle.std.specs.List.{flat_map};
 ghost use Rattle.wire_spec.specs.Varint.{varint};
 ghost use Rattle.wire_spec.specs.RecordSpelling.{HeaderFits, RecordFits, nullable, header, record_body, record_spelling};
+ghost use Rattle.kafka_record.specs.Parts.{record_with};
 
 use crate::limits::slice_of;
 use bytes::Bytes;
 use varint::{len32, len64};
 use wire_spec::{
-    Header, MAX_BODY_SIZE, MAX_HEADER_SIZE, MAX_HEADERS, MAX_RECORD_SIZE, MAX_VALUE, Record,
+    Header, Headers, MAX_BODY_SIZE, MAX_HEADER_SIZE, MAX_HEADERS, MAX_RECORD_SIZE, MAX_VALUE, Record,
 };
 
 /// How many bytes a length takes, and what it is the length of.
@@ -50,20 +51,42 @@ fn headers_len(headers: &[Header]) -> usize
     len
 }
 
-/// How many bytes follow the length of the record with this offset delta: what the length says.
-pub fn body_len(record: &Record, delta: i32) -> usize
-    requires { RecordFits «record».now }
-    ensures size { result ≡ length (record_body delta «record».now) }
+/// How many bytes follow the length of the record with this offset delta and these parts: what the
+/// length says.
+pub fn body_len(
+    timestamp_delta: i64,
+    key: &Option<Bytes>,
+    value: &Option<Bytes>,
+    headers: &Headers,
+    delta: i32,
+) -> usize
+    requires { RecordFits (record_with timestamp_delta key.now value.now headers.now) }
+    ensures size { result ≡ length (record_body delta (record_with timestamp_delta key.now value.now headers.now)) }
     ensures small { result ≤ MAX_BODY_SIZE }
 {
-    let timestamp = len64(record.timestamp_delta);
+    let timestamp = len64(timestamp_delta);
     let offset = len32(delta);
-    let key = nullable_len(&record.key);
-    let value = nullable_len(&record.value);
-    let list = slice_of(&record.headers);
+    let key = nullable_len(key);
+    let value = nullable_len(value);
+    let list = slice_of(headers);
     let count = len32(list.len() as i32);
     let headers = headers_len(list);
     1 + timestamp + offset + (key + value) + count + headers
+}
+
+/// How many bytes the record with this offset delta and these parts takes, its length among them.
+pub fn size_of_parts(
+    timestamp_delta: i64,
+    key: &Option<Bytes>,
+    value: &Option<Bytes>,
+    headers: &Headers,
+    delta: i32,
+) -> usize
+    requires { RecordFits (record_with timestamp_delta key.now value.now headers.now) }
+    ensures size { result ≡ length (record_spelling delta (record_with timestamp_delta key.now value.now headers.now)) }
+    ensures small { result ≤ MAX_RECORD_SIZE }
+{
+    string_len(body_len(timestamp_delta, key, value, headers, delta))
 }
 
 /// How many bytes the record with this offset delta takes, its length among them.
@@ -72,5 +95,11 @@ pub fn size(record: &Record, delta: i32) -> usize
     ensures size { result ≡ length (record_spelling delta «record».now) }
     ensures small { result ≤ MAX_RECORD_SIZE }
 {
-    string_len(body_len(record, delta))
+    size_of_parts(
+        record.timestamp_delta,
+        &record.key,
+        &record.value,
+        &record.headers,
+        delta,
+    )
 }

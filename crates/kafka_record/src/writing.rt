@@ -3,13 +3,14 @@ ghost use Rattle.std.specs.List.{flat_map};
 ghost use Rattle.wire_spec.specs.Varint.{varint, varlong};
 ghost use Rattle.wire_spec.specs.RecordSpelling.{HeaderFits, RecordFits, string, nullable, header, record_body, record_spelling};
 ghost use Rattle.kafka_record.specs.Keeps.{Keeps};
+ghost use Rattle.kafka_record.specs.Parts.{record_with};
 
 use crate::limits::slice_of;
 use crate::sizes::body_len;
 use bytes::Bytes;
 use std::alloc::AllocError;
 use varint::{write32, write64};
-use wire_spec::{Header, Record};
+use wire_spec::{Header, Headers, Record};
 
 /// Writes a length, of less than 2^31.
 #[inline(always)]
@@ -87,24 +88,62 @@ fn put_deltas(timestamp_delta: i64, delta: i32, out: &mut Vec<u8>) -> Result<(),
 }
 
 /// Writes what follows a record's length.
-fn put_body(record: &Record, delta: i32, out: &mut Vec<u8>) -> Result<(), AllocError>
-    requires { RecordFits «record».now }
-    ensures ok { OnOk result (out.new.items ≡ out.old.items ++ record_body delta «record».now) }
+fn put_body(
+    timestamp_delta: i64,
+    key: &Option<Bytes>,
+    value: &Option<Bytes>,
+    headers: &Headers,
+    delta: i32,
+    out: &mut Vec<u8>,
+) -> Result<(), AllocError>
+    requires { RecordFits (record_with timestamp_delta key.now value.now headers.now) }
+    ensures ok { OnOk result (out.new.items ≡ out.old.items ++ record_body delta (record_with timestamp_delta key.now value.now headers.now)) }
     ensures kept { Keeps out.old.items out.new.items }
 {
-    put_deltas(record.timestamp_delta, delta, out)?;
-    put_nullable(&record.key, out)?;
-    put_nullable(&record.value, out)?;
-    put_counted(slice_of(&record.headers), out)
+    put_deltas(timestamp_delta, delta, out)?;
+    put_nullable(key, out)?;
+    put_nullable(value, out)?;
+    put_counted(slice_of(headers), out)
 }
 
-fn put_record(record: &Record, delta: i32, out: &mut Vec<u8>) -> Result<(), AllocError>
-    requires { RecordFits «record».now }
-    ensures ok { OnOk result (out.new.items ≡ out.old.items ++ record_spelling delta «record».now) }
+fn put_record(
+    timestamp_delta: i64,
+    key: &Option<Bytes>,
+    value: &Option<Bytes>,
+    headers: &Headers,
+    delta: i32,
+    out: &mut Vec<u8>,
+) -> Result<(), AllocError>
+    requires { RecordFits (record_with timestamp_delta key.now value.now headers.now) }
+    ensures ok { OnOk result (out.new.items ≡ out.old.items ++ record_spelling delta (record_with timestamp_delta key.now value.now headers.now)) }
     ensures kept { Keeps out.old.items out.new.items }
 {
-    put_len(body_len(record, delta), out)?;
-    put_body(record, delta, out)
+    put_len(body_len(timestamp_delta, key, value, headers, delta), out)?;
+    put_body(timestamp_delta, key, value, headers, delta, out)
+}
+
+/// Writes the record with this offset delta and these parts at the end, as `write` does. It fails only
+/// where memory runs out; an `Err` leaves the bytes as they were.
+pub fn write_parts(
+    timestamp_delta: i64,
+    key: &Option<Bytes>,
+    value: &Option<Bytes>,
+    headers: &Headers,
+    delta: i32,
+    out: &mut Vec<u8>,
+) -> Result<(), AllocError>
+    requires { RecordFits (record_with timestamp_delta key.now value.now headers.now) }
+    ensures ok { OnOk result (out.new.items ≡ out.old.items ++ record_spelling delta (record_with timestamp_delta key.now value.now headers.now)) }
+    ensures err { OnErr result (out.new.items ≡ out.old.items) }
+{
+    let start = out.len();
+    match put_record(timestamp_delta, key, value, headers, delta, out) {
+        Ok(()) => Ok(()),
+        Err(error) => {
+            out.truncate(start);
+            Err(error)
+        }
+    }
 }
 
 /// Writes the record with this offset delta at the end (Kafka's message format, magic 2: "Record").
@@ -114,12 +153,12 @@ pub fn write(record: &Record, delta: i32, out: &mut Vec<u8>) -> Result<(), Alloc
     ensures ok { OnOk result (out.new.items ≡ out.old.items ++ record_spelling delta «record».now) }
     ensures err { OnErr result (out.new.items ≡ out.old.items) }
 {
-    let start = out.len();
-    match put_record(record, delta, out) {
-        Ok(()) => Ok(()),
-        Err(error) => {
-            out.truncate(start);
-            Err(error)
-        }
-    }
+    write_parts(
+        record.timestamp_delta,
+        &record.key,
+        &record.value,
+        &record.headers,
+        delta,
+        out,
+    )
 }

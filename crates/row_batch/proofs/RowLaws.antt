@@ -1,18 +1,20 @@
 -- Batches of the first rows: what they have, and how they grow.
 use Rattle.std.proofs.Common.{◌≡◌, ℕ, zero, suc, ◌+◌, ◌^◌, ◌<◌, ◌≤◌, ℤ, pos, List, [], ◌∷◌, ◌++◌, length, take, drop}
-use Rattle.std.proofs.Common.{get_or, slice_index_or, map, refl, sym, ap, subst, ◌∙◌, append_assoc, negsuc}
-use Rattle.std.proofs.Common.{⊎_elim, arith}
+use Rattle.std.proofs.Common.{get_or, map, refl, sym, ap, subst, ◌∙◌, append_assoc, negsuc}
+use Rattle.std.proofs.Common.{⊎_elim, max, arith}
 use Rattle.std.specs.Prelude.{◌-ℤ◌, ◌+ℤ◌, ◌≤ℤ◌, ◌<ℤ◌, All, FitsSigned}
-use Rattle.std.specs.Int.{w64}
+use Rattle.std.specs.Int.{w32, w64, int_max, to_be_bytes}
 use Rattle.std.specs.List.{AllByRecursion}
-use Rattle.std.proofs.lemmas.Int.{ints}
+use Rattle.std.proofs.lemmas.Int.{ints, clamps}
 use Rattle.std.proofs.lemmas.Bool.{cases_lt}
 use Rattle.std.proofs.lemmas.List.{length-append, length-map, length-take-le, take-map, take_more, map_push, append-nil}
 use Rattle.std.proofs.lemmas.List.Elements.{All-take}
+use Rattle.std.proofs.lemmas.List.Sums.{fold-append}
 use Rattle.wire_spec.specs.declared.{limits.TheConstants.TIMESTAMP_END, record.Record.Record, record.Batch.Batch}
 use Rattle.wire_spec.specs.Varint.{varint}
 use Rattle.wire_spec.specs.RecordSpelling.{RecordFits, record_body, record_spelling}
-use Rattle.wire_spec.specs.BatchSpelling.{IsTimestamp, timestamps, records_spelling}
+use Rattle.wire_spec.specs.Checksum.{checksum}
+use Rattle.wire_spec.specs.BatchSpelling.{IsTimestamp, timestamps, greatest, records_spelling}
 use Rattle.wire_spec.specs.declared.limits.TheConstants.{MAX_BATCH, MAX_RECORDS, MAX_RECORD_SIZE}
 use Rattle.wire_spec.specs.BatchSpelling.{batch_spelling, BatchFits}
 use Rattle.wire_spec.proofs.Varints.{length-varint}
@@ -20,8 +22,10 @@ use Rattle.wire_spec.proofs.RecordLaws.{length-record_body}
 use Rattle.wire_spec.proofs.BatchLaws.{length-covered, records_length}
 use Rattle.log_spec.specs.declared.row.Row.{Row}
 use Rattle.log_spec.specs.Logs.{RowFits}
-use Rattle.row_batch.specs.RowBatches.{record_of, first_timestamp, batch_of, TakesMost}
-use Rattle.row_batch.specs.FirstRows.{size_with, AreFirst, IsFirst}
+use Rattle.batch.specs.Heads.{front_of, header_of}
+use Rattle.batch.proofs.Written.{finished_is}
+use Rattle.row_batch.specs.RowBatches.{record_of, first_timestamp, head_of, batch_of, TakesMost}
+use Rattle.row_batch.specs.FirstRows.{size_with, IsMeasured, IsFirst}
 
 -- ---- one row
 
@@ -50,8 +54,8 @@ is_stamp n low = (omega (arith, ints), omega (arith, ints))
 
 -- ---- lists of rows
 
-head_of : (row : Row) (rows : List Row) → All RowFits (row ∷ rows) → RowFits row
-head_of row rows fit = fit 0 row (omega arith)
+row_fits : (row : Row) (rows : List Row) → All RowFits (row ∷ rows) → RowFits row
+row_fits row rows fit = fit 0 row (omega arith)
 
 tail_of : (row : Row) (rows : List Row) → All RowFits (row ∷ rows) → All RowFits rows
 tail_of row rows fit = λ k d lt. fit (suc k) d (omega arith)
@@ -60,19 +64,19 @@ records_fit : (base : ℕ) (rows : List Row) → base < TIMESTAMP_END → All Ro
     AllByRecursion RecordFits (map (record_of base) rows)
 records_fit base [] low fit = tt
 records_fit base (row ∷ rows) low fit =
-    (record_fits base row low (head_of row rows fit), records_fit base rows low (tail_of row rows fit))
+    (record_fits base row low (row_fits row rows fit), records_fit base rows low (tail_of row rows fit))
 
 records_stamped : (base : ℕ) (rows : List Row) → All RowFits rows →
     AllByRecursion IsTimestamp (timestamps (pos base) (map (record_of base) rows))
 records_stamped base [] fit = tt
 records_stamped base (row ∷ rows) fit = (
-  subst IsTimestamp (sym (stamp_again base row.timestamp)) (is_stamp row.timestamp (head_of row rows fit).time),
+  subst IsTimestamp (sym (stamp_again base row.timestamp)) (is_stamp row.timestamp (row_fits row rows fit).time),
   records_stamped base rows (tail_of row rows fit),
 )
 
 pub first_fits : (rows : List Row) → All RowFits rows → first_timestamp rows < TIMESTAMP_END
 first_fits [] fit = omega arith
-first_fits (row ∷ rows) fit = (head_of row rows fit).time
+first_fits (row ∷ rows) fit = (row_fits row rows fit).time
 
 -- the first of the first rows is the first
 pub same_first : (rows : List Row) (count : ℕ) → 1 ≤ count → first_timestamp (take count rows) ≡ first_timestamp rows
@@ -138,7 +142,7 @@ pub one_small : (base : ℕ) (rows : List Row) → base < TIMESTAMP_END → All 
 one_small base [] low fit = omega arith
 one_small base (row ∷ rows) low fit =
     let given = record_of base row in
-    let small = record_small (pos 0) given (record_fits base row low (head_of row rows fit)) in
+    let small = record_small (pos 0) given (record_fits base row low (row_fits row rows fit)) in
     let same : length (record_spelling (pos 0) given ++ []) ≡ length (record_spelling (pos 0) given) =
     ap length (append-nil (record_spelling (pos 0) given)) in
     omega (arith, small, same)
@@ -175,14 +179,15 @@ one_row place row rows low fits =
 
 -- ---- records one after the other
 
--- the first rows so far, as records, and their size
-pub record UpTo (base : ℕ) (rows : List Row) (count : ℕ) (records : List Record) (size : ℕ) : Type 0 where
-  pub are : records ≡ map (record_of base) (take count rows)
-  pub size_is : size ≡ size_with records
+-- the first rows so far, as records: their size in a batch, which has room for them, and their greatest timestamp
+pub record UpTo (base : ℕ) (rows : List Row) (count size latest : ℕ) : Type 0 where
+  pub size_is : size ≡ size_with (map (record_of base) (take count rows))
   pub small : size ≤ MAX_BATCH
+  pub latest_is : pos latest ≡ greatest (timestamps (pos base) (map (record_of base) (take count rows)))
+  pub in_time : latest < TIMESTAMP_END
 
-pub none_yet : (base : ℕ) (rows : List Row) → UpTo base rows 0 [] 61
-none_yet base rows = record { are = refl; size_is = refl; small = omega arith }
+pub none_yet : (base : ℕ) (rows : List Row) → UpTo base rows 0 61 0
+none_yet base rows = record { size_is = refl; small = omega arith; latest_is = refl; in_time = omega arith }
 
 next_records : (base : ℕ) (rows : List Row) (count : ℕ) (row : Row) → count < length rows → row ≡ get_or rows count row
     → map (record_of base) (take (count + 1) rows) ≡ map (record_of base) (take count rows) ++ record_of base row ∷ []
@@ -190,139 +195,150 @@ next_records base rows count row lt is =
     ap (map (record_of base)) (take_more rows count row lt ∙ ap (λ (r : Row). take count rows ++ r ∷ []) (sym is))
     ∙ map_push (record_of base) (take count rows) row
 
-module _ (base : ℕ) (rows : List Row) (count size len : ℕ) (records : List Record) (row : Row) (given : Record)
-    (so_far : UpTo base rows count records size) (lt : count < length rows) (is : row ≡ get_or rows count row)
-    (given_is : given ≡ record_of base row)
-    (len_is : len ≡ length (record_spelling (pos count) given)) where
-  pub count_is : length records ≡ count
-  count_is = ap length so_far.are
-      ∙ (length-map (take count rows) (record_of base) ∙ length-take-le count rows (omega (arith, lt)))
+-- the bytes of one row more
+next_bytes : (base : ℕ) (rows : List Row) (count : ℕ) (row : Row) → count < length rows → row ≡ get_or rows count row
+    → records_spelling 0 (map (record_of base) (take (count + 1) rows))
+    ≡ records_spelling 0 (map (record_of base) (take count rows)) ++ record_spelling (pos count) (record_of base row)
+next_bytes base rows count row lt is =
+    let records = map (record_of base) (take count rows) in
+    let long : 0 + length records ≡ count =
+    omega (arith, length-map (take count rows) (record_of base), length-take-le count rows (omega (arith, lt))) in
+    ap (records_spelling 0) (next_records base rows count row lt is)
+    ∙ (spelling_push 0 records (record_of base row)
+    ∙ ap (λ (n : ℕ). records_spelling 0 records ++ record_spelling (pos n) (record_of base row)) long)
 
-  longer : map (record_of base) (take (count + 1) rows) ≡ records ++ given ∷ []
-  longer =
-      next_records base rows count row lt is
-      ∙ (ap (λ (rs : List Record). rs ++ record_of base row ∷ []) (sym so_far.are)
-      ∙ ap (λ (r : Record). records ++ r ∷ []) (sym given_is))
+pub row_written : (base : ℕ) (rows : List Row) (place : ℕ) (row : Row) (old out new : List ℕ) → place < length rows →
+    row ≡ get_or rows place row → out ≡ old ++ records_spelling 0 (map (record_of base) (take place rows)) →
+    new ≡ out ++ record_spelling (pos place) (record_of base row) →
+    new ≡ old ++ records_spelling 0 (map (record_of base) (take (place + 1) rows))
+row_written base rows place row old out new lt is so_far written =
+    let here = record_spelling (pos place) (record_of base row) in
+    written ∙ (ap (λ (s : List ℕ). s ++ here) so_far
+    ∙ (append_assoc old (records_spelling 0 (map (record_of base) (take place rows))) here
+    ∙ ap (λ (s : List ℕ). old ++ s) (sym (next_bytes base rows place row lt is))))
 
-  grown : size + len ≡ size_with (records ++ given ∷ [])
+later : (a b : ℕ) → int_max (pos a) (pos b) ≡ pos (max a b)
+later a b = omega (arith, ints, clamps)
+
+-- the greatest timestamp with one row more
+next_latest : (base : ℕ) (rows : List Row) (count latest : ℕ) (row : Row) → count < length rows →
+    row ≡ get_or rows count row →
+    pos latest ≡ greatest (timestamps (pos base) (map (record_of base) (take count rows))) →
+    pos (max latest row.timestamp)
+    ≡ greatest (timestamps (pos base) (map (record_of base) (take (count + 1) rows)))
+next_latest base rows count latest row lt is so_far =
+    let records = map (record_of base) (take count rows) in
+    let stamp : Record → ℤ = λ r. pos base +ℤ r.timestamp_delta in
+    let here = stamp (record_of base row) in
+    let more : timestamps (pos base) (map (record_of base) (take (count + 1) rows))
+    ≡ timestamps (pos base) records ++ here ∷ [] =
+    ap (timestamps (pos base)) (next_records base rows count row lt is) ∙ map_push stamp records (record_of base row) in
+    let top : greatest (timestamps (pos base) records ++ here ∷ []) ≡ int_max (pos latest) here =
+    fold-append int_max (pos 0) (timestamps (pos base) records) (here ∷ []) ∙ rw (← so_far) refl in
+    sym (ap greatest more ∙ (top ∙ (ap (int_max (pos latest)) (stamp_again base row.timestamp)
+    ∙ later latest row.timestamp)))
+
+module _ (base : ℕ) (rows : List Row) (count size latest len : ℕ) (row : Row) (so_far : UpTo base rows count size latest)
+    (lt : count < length rows) (is : row ≡ get_or rows count row)
+    (len_is : len ≡ length (record_spelling (pos count) (record_of base row))) where
+  grown : size + len ≡ size_with (map (record_of base) (take (count + 1) rows))
   grown =
-      let at : 0 + length records ≡ count = omega (arith, count_is) in
-      let pushed = spelling_push 0 records given
-      ∙ ap (λ (n : ℕ). records_spelling 0 records ++ record_spelling (pos n) given) at in
-      let more = ap length pushed ∙ length-append (records_spelling 0 records) (record_spelling (pos count) given) in
+      let records = map (record_of base) (take count rows) in
+      let more = ap length (next_bytes base rows count row lt is)
+      ∙ length-append (records_spelling 0 records) (record_spelling (pos count) (record_of base row)) in
       omega (arith, so_far.size_is, len_is, more)
 
-  pub next_up_to : size + len ≤ MAX_BATCH → UpTo base rows (count + 1) (records ++ given ∷ []) (size + len)
-  next_up_to small = record { are = sym longer; size_is = grown; small = small }
+  pub next_up_to : size + len ≤ MAX_BATCH → row.timestamp < TIMESTAMP_END →
+      UpTo base rows (count + 1) (size + len) (max latest row.timestamp)
+  next_up_to small time = record {
+    size_is = grown;
+    small = small;
+    latest_is = next_latest base rows count latest row lt is so_far.latest_is;
+    in_time = below latest row.timestamp so_far.in_time time;
+  }
+    where
+      below : (a b : ℕ) → a < TIMESTAMP_END → b < TIMESTAMP_END → max a b < TIMESTAMP_END
+      below a b p q = omega (arith, p, q)
 
-  pub ends_before : MAX_BATCH < size + len → AreFirst base rows records
+  pub ends_before : MAX_BATCH < size + len → IsMeasured base rows count size latest
   ends_before large = record {
-    are = so_far.are ∙ ap (λ (n : ℕ). map (record_of base) (take n rows)) (sym count_is);
-    there = omega (arith, count_is, lt);
-    few_bytes = omega (arith, so_far.size_is, so_far.small);
-    full = λ some. subst (λ (n : ℕ). MAX_BATCH < size_with (map (record_of base) (take (n + 1) rows))) (sym count_is)
-        (omega (arith, grown, large, ap size_with longer));
+    there = omega (arith, lt);
+    size_is = so_far.size_is;
+    small = so_far.small;
+    latest_is = so_far.latest_is;
+    in_time = so_far.in_time;
+    full = λ some. omega (arith, grown, large);
   }
 
-pub ends_after : (base : ℕ) (rows : List Row) (count size : ℕ) (records : List Record) →
-    UpTo base rows count records size → count ≡ length rows → AreFirst base rows records
-ends_after base rows count size records so_far whole =
-    let many : length records ≡ count = ap length so_far.are
-    ∙ (length-map (take count rows) (record_of base) ∙ length-take-le count rows (omega (arith, whole))) in
-    record {
-      are = so_far.are ∙ ap (λ (n : ℕ). map (record_of base) (take n rows)) (sym many);
-      there = omega (arith, many, whole);
-      few_bytes = omega (arith, so_far.size_is, so_far.small);
-      full = λ some. absurd (omega (arith, some, many, whole));
-    }
+pub ends_after : (base : ℕ) (rows : List Row) (count size latest : ℕ) → UpTo base rows count size latest →
+    count ≡ length rows → IsMeasured base rows count size latest
+ends_after base rows count size latest so_far whole = record {
+  there = omega (arith, whole);
+  size_is = so_far.size_is;
+  small = so_far.small;
+  latest_is = so_far.latest_is;
+  in_time = so_far.in_time;
+  full = λ some. absurd (omega (arith, some, whole));
+}
 
 -- ---- the batch of the first rows
 
-pub first_batch_is : (place : ℕ) (rows : List Row) (records : List Record) → place < 2 ^ 63 → 0 < length rows →
-    length rows ≤ MAX_RECORDS → All RowFits rows
-    → AreFirst (first_timestamp rows) rows records
-    → IsFirst place rows (length records) (record {
-      base_offset = pos place;
-      leader_epoch = pos 0;
-      base_timestamp = pos (first_timestamp rows);
-      producer_id = negsuc 0;
-      producer_epoch = negsuc 0;
-      base_sequence = negsuc 0;
-      records = records;
-    })
-first_batch_is place rows records low some few fit first =
-    let base = first_timestamp rows in
-    let count = length records in
-    let one = one_small base rows (first_fits rows fit) fit in
-    let more : 1 ≤ count = by_count count first.full in
-    let same = same_first rows count more in
-    let taken : length (take count rows) ≡ count = length-take-le count rows first.there in
-    let with : ℕ → List Record → Batch = λ b rs. record {
-      base_offset = pos place;
-      leader_epoch = pos 0;
-      base_timestamp = pos b;
-      producer_id = negsuc 0;
-      producer_epoch = negsuc 0;
-      base_sequence = negsuc 0;
-      records = rs;
-    } in
-    let is : with base records ≡ batch_of place (take count rows) =
-    ap (with base) first.are ∙ ap (λ (b : ℕ). with b (map (record_of b) (take count rows))) (sym same) in
+-- one row has room
+pub some_measured : (rows : List Row) (count size latest : ℕ) → 0 < length rows → All RowFits rows →
+    IsMeasured (first_timestamp rows) rows count size latest → 1 ≤ count
+some_measured rows zero size latest some fit measured =
+    absurd (omega (arith, one_small (first_timestamp rows) rows (first_fits rows fit) fit, measured.full some))
+some_measured rows (suc count) size latest some fit measured = omega arith
+
+pub first_is : (place : ℕ) (rows : List Row) (count size latest : ℕ) (bytes : List ℕ) → place < 2 ^ 63 →
+    0 < length rows → length rows ≤ MAX_RECORDS → All RowFits rows →
+    IsMeasured (first_timestamp rows) rows count size latest →
+    bytes ≡ batch_spelling (batch_of place (take count rows)) → IsFirst place rows count bytes
+first_is place rows count size latest bytes low some few fit measured are =
+    let more = some_measured rows count size latest some fit measured in
+    let taken : length (take count rows) ≡ count = length-take-le count rows measured.there in
     let small : length (batch_spelling (batch_of place (take count rows))) ≤ MAX_BATCH =
-    omega (arith, first_size place count rows more, ap size_with first.are, first.few_bytes) in
-    let fits = batch_fits place (take count rows) low (omega (arith, taken, more))
-    (omega (arith, taken, first.there, few)) (All-take RowFits count rows fit) small in
+    omega (arith, first_size place count rows more, measured.size_is, measured.small) in
     record {
       some = more;
-      there = first.there;
-      is = is;
-      fits = subst BatchFits (sym is) fits;
-      full = λ left. omega (arith, first.full left, first_size place (count + 1) rows (omega arith));
+      there = measured.there;
+      fits = batch_fits place (take count rows) low (omega (arith, taken, more))
+          (omega (arith, taken, measured.there, few)) (All-take RowFits count rows fit) small;
+      bytes_are = are;
+      full = λ left. omega (arith, measured.full left, first_size place (count + 1) rows (omega arith));
     }
-  where
-    by_count : (n : ℕ) → (n < length rows →
-        MAX_BATCH < size_with (map (record_of (first_timestamp rows)) (take (n + 1) rows))) → 1 ≤ n
-    by_count zero full =
-        let one : size_with (map (record_of (first_timestamp rows)) (take (0 + 1) rows)) ≤ MAX_BATCH =
-        one_small (first_timestamp rows) rows (first_fits rows fit) fit in
-        absurd (omega (arith, one, full some))
-    by_count (suc n) full = omega arith
 
-pub first_is : (rows : List Row) (row : Row) → 0 < length rows →
-    (slice_index_or rows 0 row).timestamp ≡ first_timestamp rows
-first_is [] row some = absurd (omega arith)
-first_is (first ∷ rows) row some = refl
+-- a batch of rows with this base timestamp
+based : ℕ → ℕ → List Row → Batch
+based place base rows = record {
+  base_offset = pos place;
+  leader_epoch = pos 0;
+  base_timestamp = pos base;
+  producer_id = negsuc 0;
+  producer_epoch = negsuc 0;
+  base_sequence = negsuc 0;
+  records = map (record_of base) rows;
+}
 
--- the same by other names of its numbers
-pub first_batch_as : (place : ℕ) (rows : List Row) (records : List Record) (offset stamp : ℤ) → offset ≡ pos place →
-    stamp ≡ pos (first_timestamp rows) → place < 2 ^ 63
-    → 0 < length rows → length rows ≤ MAX_RECORDS → All RowFits rows → AreFirst (first_timestamp rows) rows records
-    → IsFirst place rows (length records) (record {
-      base_offset = offset;
-      leader_epoch = pos 0;
-      base_timestamp = stamp;
-      producer_id = negsuc 0;
-      producer_epoch = negsuc 0;
-      base_sequence = negsuc 0;
-      records = records;
-    })
-first_batch_as place rows records offset stamp at base low some few fit first =
-    let with : ℤ → ℤ → Batch = λ o t. record {
-      base_offset = o;
-      leader_epoch = pos 0;
-      base_timestamp = t;
-      producer_id = negsuc 0;
-      producer_epoch = negsuc 0;
-      base_sequence = negsuc 0;
-      records = records;
-    } in
-    subst (λ (o : ℤ). IsFirst place rows (length records) (with o stamp)) (sym at)
-    (subst (λ (t : ℤ). IsFirst place rows (length records) (with (pos place) t)) (sym base)
-    (first_batch_is place rows records low some few fit first))
+-- the bytes that were written are those of the batch
+pub written_is : (place : ℕ) (rows : List Row) (count size latest : ℕ) (g : ℤ) (n : ℕ) (begun written all : List ℕ) →
+    1 ≤ count → IsMeasured (first_timestamp rows) rows count size latest → g ≡ pos latest → n ≡ count →
+    begun ≡ front_of (head_of place (first_timestamp rows)) size ++ header_of (head_of place (first_timestamp rows)) g n →
+    written ≡ begun ++ records_spelling 0 (map (record_of (first_timestamp rows)) (take count rows)) →
+    all ≡ take 17 written ++ (to_be_bytes w32 (checksum (drop 21 written)) ++ drop 21 written) →
+    all ≡ batch_spelling (batch_of place (take count rows))
+unfolding based
+written_is place rows count size latest g n begun written all some measured top number e1 e2 e3 =
+    let base = first_timestamp rows in
+    let taken : n ≡ length (map (record_of base) (take count rows)) =
+    number ∙ sym (length-map (take count rows) (record_of base) ∙ length-take-le count rows measured.there) in
+    finished_is (based place base (take count rows)) size n g begun written all measured.size_is
+    (top ∙ measured.latest_is) taken e1 e2 e3
+    ∙ ap (λ (b : ℕ). batch_spelling (based place b (take count rows))) (sym (same_first rows count some))
 
 -- ---- the most rows that a batch takes
 
-take_less : (more fewer : ℕ) (rows : List Row) → fewer ≤ more → take fewer (take more rows) ≡ take fewer rows
+pub take_less : (more fewer : ℕ) (rows : List Row) → fewer ≤ more → take fewer (take more rows) ≡ take fewer rows
 take_less zero zero rows le = refl
 take_less zero (suc fewer) rows le = absurd (omega arith)
 take_less (suc more) zero rows le = refl
@@ -350,10 +366,10 @@ batch_longer place fewer more rows some le =
     )
 
 -- no greater number of rows is in one batch
-none_greater : (left : List Row) (place most count more : ℕ) (batch : Batch) →
-    IsFirst place (take most left) count batch → most ≤ length left → more ≤ most →
+none_greater : (left : List Row) (place most count more : ℕ) (bytes : List ℕ) →
+    IsFirst place (take most left) count bytes → most ≤ length left → more ≤ most →
     length (batch_spelling (batch_of place (take more left))) ≤ MAX_BATCH → count < more → ⊥
-none_greater left place most count more batch first there within small lt =
+none_greater left place most count more bytes first there within small lt =
     let long : length (take most left) ≡ most = length-take-le most left there in
     let full = first.full (omega (arith, long, lt, within)) in
     let same : take (count + 1) (take most left) ≡ take (count + 1) left =
@@ -362,29 +378,31 @@ none_greater left place most count more batch first there within small lt =
     let longer = batch_longer place (count + 1) more left (omega arith) (omega (arith, lt)) in
     omega (arith, full, size, longer, small)
 
-pub most_taken : (rows : List Row) (place max most count : ℕ) (batch : Batch) → most ≤ max → most ≤ MAX_RECORDS →
+pub most_taken : (rows : List Row) (place max most count : ℕ) (bytes : List ℕ) → most ≤ max → most ≤ MAX_RECORDS →
     most ≤ length (drop place rows) →
     ((more : ℕ) → more ≤ max → more ≤ MAX_RECORDS → more ≤ length (drop place rows) → more ≤ most) →
-    IsFirst place (take most (drop place rows)) count batch →
-    TakesMost rows place max count × (batch ≡ batch_of place (take count (drop place rows)))
-most_taken rows place max most count batch wanted few there greatest first =
+    IsFirst place (take most (drop place rows)) count bytes →
+    TakesMost rows place max count × BatchFits (batch_of place (take count (drop place rows)))
+    × (bytes ≡ batch_spelling (batch_of place (take count (drop place rows))))
+most_taken rows place max most count bytes wanted few there greatest first =
     let left = drop place rows in
     let long : length (take most left) ≡ most = length-take-le most left there in
     let below : count ≤ most = omega (arith, long, first.there) in
     let same : take count (take most left) ≡ take count left = take_less most count left below in
-    let is : batch ≡ batch_of place (take count left) = first.is ∙ ap (batch_of place) same in (
+    let fits = subst (λ (rs : List Row). BatchFits (batch_of place rs)) same first.fits in (
       record {
         may = record {
           some = first.some;
           wanted = omega (arith, below, wanted);
           there = omega (arith, below, there);
           few_records = omega (arith, below, few);
-          few_bytes = subst (λ (b : Batch). length (batch_spelling b) ≤ MAX_BATCH) is first.fits.few_bytes;
+          few_bytes = fits.few_bytes;
         };
         most = λ more may. ⊎_elim
-            (λ lt. absurd (none_greater left place most count more batch first there
+            (λ lt. absurd (none_greater left place most count more bytes first there
             (greatest more may.wanted may.few_records may.there) may.few_bytes lt)) (λ le. le)
             (cases_lt count more);
       },
-      is,
+      fits,
+      first.bytes_are ∙ ap (λ (rs : List Row). batch_spelling (batch_of place rs)) same,
     )

@@ -1,8 +1,8 @@
 -- The first of some rows, as many as one batch has room for.
-use Rattle.std.specs.Prelude.{◌≡◌, ℕ, ◌+◌, ◌<◌, ◌≤◌, ◌^◌, List, ◌∷◌, length, map, take}
-use Rattle.wire_spec.specs.declared.{record.Record.Record, record.Batch.Batch}
-use Rattle.wire_spec.specs.BatchSpelling.{records_spelling, batch_spelling, BatchFits}
-use Rattle.wire_spec.specs.declared.limits.TheConstants.{MAX_BATCH}
+use Rattle.std.specs.Prelude.{◌≡◌, ℕ, ◌+◌, ◌<◌, ◌≤◌, ◌^◌, pos, List, ◌∷◌, length, map, take}
+use Rattle.wire_spec.specs.declared.record.Record.{Record}
+use Rattle.wire_spec.specs.BatchSpelling.{timestamps, greatest, records_spelling, batch_spelling, BatchFits}
+use Rattle.wire_spec.specs.declared.limits.TheConstants.{MAX_BATCH, TIMESTAMP_END}
 use Rattle.log_spec.specs.declared.row.Row.{Row}
 use Rattle.log_spec.specs.Logs.{RowFits}
 use Rattle.row_batch.specs.RowBatches.{record_of, batch_of}
@@ -11,20 +11,22 @@ use Rattle.row_batch.specs.RowBatches.{record_of, batch_of}
 abbrev pub size_with : List Record → ℕ
 size_with records = 61 + length (records_spelling 0 records)
 
--- these are the records of the first rows, and with the record of one more row their batch would have too many bytes
-pub record AreFirst (base : ℕ) (rows : List Row) (records : List Record) : Type 0 where
-  pub are : records ≡ map (record_of base) (take (length records) rows)
-  pub there : length records ≤ length rows
-  pub few_bytes : size_with records ≤ MAX_BATCH
-  pub full : length records < length rows →
-      MAX_BATCH < size_with (map (record_of base) (take (length records + 1) rows))
+-- A batch has room for the first `count` rows, and not for one more; it has this size with them, and this is the
+-- greatest of their timestamps.
+pub record IsMeasured (base : ℕ) (rows : List Row) (count size latest : ℕ) : Type 0 where
+  pub there : count ≤ length rows
+  pub size_is : size ≡ size_with (map (record_of base) (take count rows))
+  pub small : size ≤ MAX_BATCH
+  pub latest_is : pos latest ≡ greatest (timestamps (pos base) (map (record_of base) (take count rows)))
+  pub in_time : latest < TIMESTAMP_END
+  pub full : count < length rows → MAX_BATCH < size_with (map (record_of base) (take (count + 1) rows))
 
--- the batch of the first `count` rows, which fits; with one more it would have too many bytes
-pub record IsFirst (place : ℕ) (rows : List Row) (count : ℕ) (batch : Batch) : Type 0 where
+-- the bytes of the batch of the first `count` rows, which fits; with one more it would have too many bytes
+pub record IsFirst (place : ℕ) (rows : List Row) (count : ℕ) (bytes : List ℕ) : Type 0 where
   pub some : 1 ≤ count
   pub there : count ≤ length rows
-  pub is : batch ≡ batch_of place (take count rows)
-  pub fits : BatchFits batch
+  pub fits : BatchFits (batch_of place (take count rows))
+  pub bytes_are : bytes ≡ batch_spelling (batch_of place (take count rows))
   pub full : count < length rows → MAX_BATCH < length (batch_spelling (batch_of place (take (count + 1) rows)))
 
 -- a batch of one row that fits always fits

@@ -33,6 +33,18 @@ batch_of place rows = record {
   records = map (record_of (first_timestamp rows)) rows;
 }
 
+-- the fields of such a batch before its records, which are not here
+abbrev pub head_of : ℕ → ℕ → Batch
+head_of place base = record {
+  base_offset = pos place;
+  leader_epoch = pos 0;
+  base_timestamp = pos base;
+  producer_id = negsuc 0;
+  producer_epoch = negsuc 0;
+  base_sequence = negsuc 0;
+  records = [];
+}
+
 -- `count` rows from a place on may be in one batch: they are no more than are wanted and there, and their batch has no
 -- more records and bytes than one may have.
 pub record MayTake (rows : List Row) (place max count : ℕ) : Type 0 where

@@ -8,4 +8,4 @@ mod rows;
 
 pub use crate::laws::one_row_fits;
 pub use crate::list::RowList;
-pub use crate::rows::{first_batch, row_batch};
+pub use crate::rows::{FirstBatch, first_batch, row_batch};

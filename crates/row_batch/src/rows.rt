@@ -2,44 +2,73 @@
 
 ghost use Rattle.std.specs.Prelude.{◌≡◌, ◌+◌, ◌<◌, ◌≤◌, ◌^◌, ℕ, length, take, drop, All, IfOk, option_map};
 ghost use Rattle.log_spec.specs.Logs.{RowFits};
-ghost use Rattle.row_batch.specs.RowBatches.{IsFetched};
+ghost use Rattle.row_batch.specs.RowBatches.{head_of, IsFetched};
 ghost use Rattle.row_batch.specs.FirstRows.{IsFirst};
 
 use crate::list::RowList;
-use crate::records::first_records;
-use batch::{MAX_RECORDS, encode};
+use crate::records::{Extent, measure, put_rows};
+use batch::{MAX_RECORDS, begin, finish};
 use log_spec::Row;
 use segments::Segments;
 use std::alloc::{AllocError, Global};
-use wire_spec::Batch;
+use wire_spec::{Batch, Records, TIMESTAMP_END};
 
-/// The batch of the first of `most` rows from number `first` on, at least one and as many as it has
-/// room for. Its base offset is `place`. The rows' parts share their bytes with the records. It fails
-/// only where memory runs out.
-pub fn first_batch<L: RowList>(
-    alloc: Global,
-    rows: &L,
-    first: usize,
-    most: usize,
-    place: usize,
-) -> Result<Batch, AllocError>
+/// A batch of some rows: its bytes, and how many rows it has.
+#[derive(Drop)]
+pub struct FirstBatch {
+    pub bytes: Vec<u8>,
+    pub count: usize,
+}
+
+/// The fields of a batch of rows, whose records are not here. No producer is named.
+fn head(alloc: Global, place: usize, base: u64) -> Batch
     requires place { place < 2 ^ 63 }
-    requires there { first + most ≤ length (L.rows rows.now) }
-    requires small { first + most < 2 ^ 63 }
-    requires some { 1 ≤ most }
-    requires few { most ≤ MAX_RECORDS }
-    requires fit { All RowFits (take most (drop first (L.rows rows.now))) }
-    ensures { IfOk result (λ batch. IsFirst place (take most (drop first (L.rows rows.now))) (length batch.records) batch) }
+    requires base { base < TIMESTAMP_END }
+    ensures { result ≡ head_of place base }
 {
-    let base = rows.row(first).timestamp;
-    Ok(Batch {
+    Batch {
         base_offset: place as i64,
         leader_epoch: 0,
         base_timestamp: base as i64,
         producer_id: -1,
         producer_epoch: -1,
         base_sequence: -1,
-        records: first_records(alloc, base, rows, first, most)?,
+        records: Records {
+            list: Vec::new(alloc),
+        },
+    }
+}
+
+/// The bytes of the batch of the first of `most` rows from number `first` on, at least one and as many as
+/// it has room for. Its base offset is `place`. The rows' bytes are copied once. It fails only where
+/// memory runs out.
+pub fn first_batch<L: RowList>(
+    alloc: Global,
+    rows: &L,
+    first: usize,
+    most: usize,
+    place: usize,
+) -> Result<FirstBatch, AllocError>
+    requires place { place < 2 ^ 63 }
+    requires there { first + most ≤ length (L.rows rows.now) }
+    requires small { first + most < 2 ^ 63 }
+    requires some { 1 ≤ most }
+    requires few { most ≤ MAX_RECORDS }
+    requires fit { All RowFits (take most (drop first (L.rows rows.now))) }
+    ensures { IfOk result (λ made. IsFirst place (take most (drop first (L.rows rows.now))) made.count made.bytes.items) }
+{
+    let base = rows.row(first).timestamp;
+    let Extent {
+        count,
+        size,
+        latest,
+    } = measure(base, rows, first, most);
+    let head = head(alloc, place, base);
+    let mut bytes = begin(alloc, &head, size, count as u32, latest as i64)?;
+    put_rows(base, rows, first, count, &mut bytes)?;
+    Ok(FirstBatch {
+        bytes: finish(bytes),
+        count,
     })
 }
 
@@ -62,6 +91,5 @@ pub fn row_batch(
     }
     let left = rows.len() - place;
     let most = left.min(max).min(MAX_RECORDS as usize);
-    let batch = first_batch(alloc, rows, place, most, place)?;
-    Ok(Some(encode(alloc, &batch)?))
+    Ok(Some(first_batch(alloc, rows, place, most, place)?.bytes))
 }

@@ -1,6 +1,5 @@
 -- Rows of an output partition that become record batches, one after the other.
 use Rattle.std.specs.Prelude.{◌≡◌, ℕ, ◌+◌, ◌<◌, ◌≤◌, ◌^◌, ◌⊎◌, List, [], length, take, drop, All, Option, Some, None}
-use Rattle.wire_spec.specs.declared.record.Batch.{Batch}
 use Rattle.wire_spec.specs.BatchSpelling.{batch_spelling, BatchFits}
 use Rattle.wire_spec.specs.declared.limits.TheConstants.{MAX_BATCH, MAX_RECORDS}
 use Rattle.log_spec.specs.declared.row.Row.{Row}
@@ -44,12 +43,9 @@ GivesNext old (Some bytes) new = (count : ℕ) × IsBatchOf old count bytes × (
 
 -- ---- What a backlog keeps
 
--- a batch of the first `count` rows that wait, full or of all
-pub record IsNext (w : Waiting) (count : ℕ) (batch : Batch) : Type 0 where
-  pub some : 1 ≤ count
-  pub there : count ≤ length w.rows
-  pub is : batch ≡ batch_of w.place (take count w.rows)
-  pub fits : BatchFits batch
+-- the bytes of a batch of the first `count` rows that wait, full or of all
+pub record IsNext (w : Waiting) (count : ℕ) (bytes : List ℕ) : Type 0 where
+  pub batch : IsBatchOf w count bytes
   pub full : count < length w.rows → IsFull w count
 
 -- rows of which the first were put into batches, and the offset of the others' first

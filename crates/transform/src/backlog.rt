@@ -2,18 +2,18 @@
 
 ghost use Rattle.std.specs.Prelude.{◌≡◌, ◌<◌, ◌≤◌, ◌+◌, ◌^◌, ◌++◌, [], length, drop, All, IfOk, OnOk, OnErr, IfErr, option_map};
 ghost use Rattle.log_spec.specs.Logs.{RowFits};
-ghost use Rattle.transform.specs.Backlogs.{waiting, rest_after, IsNext, IsBatchOf, GivesFull, GivesNext};
+ghost use Rattle.transform.specs.Backlogs.{waiting, rest_after, IsNext, GivesFull, GivesNext};
 ghost use Rattle.transform.specs.declared.backlog.BacklogFault.TheVariants.{Full, Memory};
 
 use crate::owning::own_rows;
-use batch::{MAX_BATCH, MAX_RECORDS, encode};
+use batch::{MAX_BATCH, MAX_RECORDS};
 use bytes::Bytes;
 use log_spec::Row;
-use row_batch::first_batch;
+use row_batch::{FirstBatch, first_batch};
 use std::alloc::{AllocError, Global};
 use std::marker::Model;
 use thiserror::Error;
-use wire_spec::{Batch, Headers};
+use wire_spec::Headers;
 
 /// Offsets of an output partition's rows are below this number.
 const PLACE_END: u64 = 9_223_372_036_854_775_808;
@@ -127,12 +127,12 @@ impl Backlog {
         if self.len() == 0 {
             return Ok(None);
         }
-        let batch = self.first()?;
-        let count = batch.records.list.len();
+        let FirstBatch { bytes, count } = self.first()?;
         if count == self.len() && count < MAX_RECORDS as usize {
             return Ok(None);
         }
-        Ok(Some(self.give(&batch)?))
+        self.pass(count, bytes.len());
+        Ok(Some(bytes))
     }
 
     /// The bytes of the next batch: as many of the rows that wait as one batch takes, the first of them
@@ -144,8 +144,9 @@ impl Backlog {
         if self.len() == 0 {
             return Ok(None);
         }
-        let batch = self.first()?;
-        Ok(Some(self.give(&batch)?))
+        let FirstBatch { bytes, count } = self.first()?;
+        self.pass(count, bytes.len());
+        Ok(Some(bytes))
     }
 
     /// Copies the bytes of the rows that wait, so that they share none with the batches that they came
@@ -156,10 +157,10 @@ impl Backlog {
         own_rows(self.alloc, &mut self.rows, self.taken)
     }
 
-    // The batch of the first rows that wait.
-    fn first(&self) -> Result<Batch, AllocError>
+    // The bytes of the batch of the first rows that wait.
+    fn first(&self) -> Result<FirstBatch, AllocError>
         requires { 0 < length self.now.rows }
-        ensures { IfOk result (λ batch. IsNext self.now (length batch.records) batch) }
+        ensures { IfOk result (λ made. IsNext self.now made.count made.bytes.items) }
     {
         let most = self.len().min(MAX_RECORDS as usize);
         first_batch(
@@ -171,19 +172,14 @@ impl Backlog {
         )
     }
 
-    // The bytes of the next batch, whose rows wait no more.
-    fn give(&mut self, batch: &Batch) -> Result<Vec<u8>, AllocError>
-        requires { IsNext self.old (length batch.now.records) batch.now }
-        ensures ok { IfOk result (λ bytes. IsBatchOf self.old (length batch.now.records) bytes.items) }
-        ensures new { OnOk result (self.new ≡ rest_after self.old (length batch.now.records)) }
-        ensures err { OnErr result (self.new ≡ self.old) }
+    // The first rows, which a batch of this size has, wait no more.
+    fn pass(&mut self, count: usize, size: usize)
+        requires { count ≤ length self.old.rows }
+        ensures { self.new ≡ rest_after self.old count }
     {
-        let bytes = encode(self.alloc, batch)?;
-        let count = batch.records.list.len();
         self.place += count as u64;
         self.taken += count;
-        self.bytes = self.bytes.saturating_sub(bytes.len());
-        Ok(bytes)
+        self.bytes = self.bytes.saturating_sub(size);
     }
 }
 

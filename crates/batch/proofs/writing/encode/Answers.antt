@@ -1,40 +1,48 @@
-use Rattle.std.proofs.Common.{rules, ◌≡◌, ℕ, ◌+◌, List, [], ◌++◌, length, take, drop, sym, ap, ◌∙◌, arith}
-use Rattle.std.specs.Int.{w32, to_be_bytes}
-use Rattle.std.proofs.lemmas.List.{take_at}
+use Rattle.std.proofs.Common.{rules, ◌≡◌, ℕ, ℤ, ◌+◌, List, ◌++◌, All, length, sym, ap, subst, ◌∙◌, to_z, of_z, FitsSigned}
+use Rattle.std.proofs.Common.{arith}
+use Rattle.std.specs.Int.{w64}
+use Rattle.std.proofs.lemmas.Int.{to_z-of_z}
+use Rattle.std.proofs.lemmas.List.Elements.{All-from_recursion}
 use Rattle.wire_spec.specs.declared.record.Record.{Record}
-use Rattle.wire_spec.specs.Checksum.{checksum}
-use Rattle.wire_spec.specs.BatchSpelling.{records_spelling, checksummed_bytes}
+use Rattle.wire_spec.specs.RecordSpelling.{RecordFits}
+use Rattle.wire_spec.specs.BatchSpelling.{greatest, timestamps, records_spelling}
+use Rattle.batch.specs.Heads.{front_of, header_of}
 use Rattle.batch.proofs.WithinLimits.{spelling_length}
-use Rattle.batch.proofs.Written.{front_of, spelled_is, sealed_length, front_long}
+use Rattle.batch.proofs.Written.{finished_is}
 use Rattle.batch.proofs.writing.encode.Goals as goal
 
-pub put_front-requires-clause-most : goal.put_front-requires-clause-most
-put_front-requires-clause-most c =
+pub begin-requires-clause-most : goal.begin-requires-clause-most
+begin-requires-clause-most c =
     let b = c.args.batch.now in
-    let same : c.as_slice.result.now ≡ b.records = search rules in
+    let same : c.as_slice-records.result.now ≡ b.records = search rules in
     let size : c.records_len-size.result ≡ length (records_spelling 0 b.records) = c.records_len-size.ensures.size
     ∙ ap (λ (rs : List Record). length (records_spelling 0 rs)) same in
     omega (arith, size, spelling_length b, c.requires.few_bytes)
 
+pub put_records-requires-clause-fit : goal.put_records-requires-clause-fit
+put_records-requires-clause-fit c =
+    let same : c.as_slice-records.result.now ≡ c.args.batch.now.records = search rules in
+    subst (λ (rs : List Record). All RecordFits rs) (sym same)
+    (All-from_recursion RecordFits c.args.batch.now.records c.requires.records)
+
 pub returns : goal.returns
 returns c =
     let b = c.args.batch.now in
-    let same : c.as_slice.result.now ≡ b.records = search rules in
+    let rs = c.as_slice-records.result.now in
+    let g = c.greatest_of-greatest.result in
+    let same : rs ≡ b.records = search rules in
     let n = 61 + c.records_len-size.result in
     let size : n ≡ 61 + length (records_spelling 0 b.records) =
     ap (λ (k : ℕ). 61 + k) (c.records_len-size.ensures.size
-    ∙ ap (λ (rs : List Record). length (records_spelling 0 rs)) same) in
-    let first : c.put_front.new.out.items ≡ [] ++ front_of b n = c.in_ok-put_front.ensures
-    ∙ ap (λ (o : List ℕ). o ++ front_of b n) c.in_ok-out.ensures.items in
-    let second : c.put_covered.new.out.items ≡ c.put_front.new.out.items ++ checksummed_bytes b =
-    c.in_ok-put_covered.ensures in
-    let now : c.deref_mut.result.now ≡ c.put_covered.new.out.items = c.deref_mut.ensures.value in
-    let third : c.seal.new.out ≡ take 17 c.put_covered.new.out.items
-    ++ (to_be_bytes w32 (checksum (drop 21 c.put_covered.new.out.items)) ++ drop 21 c.put_covered.new.out.items) =
-    c.seal.ensures ∙ ap (λ (s : List ℕ). take 17 s ++ (to_be_bytes w32 (checksum (drop 21 s)) ++ drop 21 s)) now in
-    let long = front_long b n c.put_front.new.out.items c.put_covered.new.out.items first second in
-    let len : length c.seal.new.out ≡ c.put_covered.new.out.len =
-    sealed_length c.put_covered.new.out.items c.seal.new.out (checksum (drop 21 c.put_covered.new.out.items)) long
-    third ∙ ap length (sym now) ∙ c.deref_mut.ensures.len in
-    take_at c.seal.new.out (drop (length c.seal.new.out) c.put_covered.new.out.items) c.put_covered.new.out.len len
-    ∙ spelled_is b n c.put_front.new.out.items c.put_covered.new.out.items c.seal.new.out size first second third
+    ∙ ap (λ (x : List Record). length (records_spelling 0 x)) same) in
+    let base_fits : FitsSigned w64 c.base_of.result = search rules in
+    let base : to_z w64 (of_z w64 c.base_of.result) ≡ b.base_timestamp =
+    to_z-of_z w64 c.base_of.result base_fits ∙ c.base_of.ensures in
+    let top_fits : FitsSigned w64 g = search rules in
+    let top : to_z w64 (of_z w64 g) ≡ greatest (timestamps b.base_timestamp b.records) = to_z-of_z w64 g top_fits
+    ∙ c.greatest_of-greatest.ensures ∙ ap (λ (t : ℤ). greatest (timestamps t rs)) base
+    ∙ ap (λ (x : List Record). greatest (timestamps b.base_timestamp x)) same in
+    let written : c.put_records.new.out.items ≡ c.in_ok-out.out.items ++ records_spelling 0 b.records =
+    c.in_ok-put_records.ensures ∙ ap (λ (x : List Record). c.in_ok-out.out.items ++ records_spelling 0 x) same in
+    finished_is b n (length rs) (to_z w64 (of_z w64 g)) c.in_ok-out.out.items c.put_records.new.out.items
+    c.finish.result.items size top (ap length same) c.in_ok-out.ensures written c.finish.ensures

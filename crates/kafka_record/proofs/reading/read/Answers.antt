@@ -1,4 +1,4 @@
-use Rattle.std.proofs.Common.{◌<◌, length, drop, refl, ◌≡◌, arith}
+use Rattle.std.proofs.Common.{drop, refl, ◌≡◌, arith}
 use Rattle.std.specs.Prelude.{None, Err, ok_or}
 use Rattle.wire_spec.specs.Memory.{IsFault}
 use Rattle.wire_spec.specs.RecordReading.{record_at}

@@ -1,5 +1,4 @@
-use Rattle.std.proofs.Common.{◌≤◌, length, drop, ap, subst, ◌∙◌, length-drop, arith}
-use Rattle.wire_spec.specs.BatchSpelling.{batch_spelling, BatchFits}
+use Rattle.std.proofs.Common.{◌≤◌, length, drop, length-drop, arith}
 use Rattle.wire_spec.specs.declared.limits.TheConstants.{MAX_RECORDS}
 use Rattle.row_batch.proofs.RowLaws.{most_taken}
 use Rattle.row_batch.proofs.Places.{part_fits}
@@ -10,15 +9,18 @@ first_batch-requires-clause-fit c = part_fits c.args.rows.now.items c.args.place
 
 pub returns : goal.returns
 returns c =
-    let rows = c.args.rows.now.items in let place = c.args.place in let most = c.min-most.result in let batch =
-    c.in_ok-batch.batch in let left = drop place rows in
-    let count = length batch.records in
+    let rows = c.args.rows.now.items in
+    let place = c.args.place in
+    let most = c.min-most.result in
+    let made = c.in_ok-first_batch.field-0 in
+    let left = drop place rows in
     let long = length-drop place rows in
     let few = c.min-most.ensures in
     let least = c.min.ensures in
     let wanted : most ≤ c.args.max = omega (arith, least, few) in
     let small : most ≤ MAX_RECORDS = omega (arith, few) in
     let there : most ≤ length left = omega (arith, least, few, long, c.len.ensures.count, c.len-2.ensures.count) in
-    let taken = most_taken rows place c.args.max most count batch wanted small there
-    (λ more a b d. omega (arith, least, few, long, c.len.ensures.count, c.len-2.ensures.count)) c.in_ok-batch.ensures in
-    (count, taken.0, subst BatchFits taken.1 c.in_ok-batch.ensures.fits, c.in_ok-encode.ensures ∙ ap batch_spelling taken.1)
+    let taken = most_taken rows place c.args.max most made.count made.bytes.items wanted small there
+    (λ more a b d. omega (arith, least, few, long, c.len.ensures.count, c.len-2.ensures.count))
+    c.in_ok-first_batch.ensures in
+    (made.count, taken.0, taken.1, taken.2)
