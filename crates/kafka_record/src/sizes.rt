@@ -8,7 +8,8 @@ use crate::limits::slice_of;
 use bytes::Bytes;
 use varint::{len32, len64};
 use wire_spec::{
-    Header, Headers, MAX_BODY_SIZE, MAX_HEADER_SIZE, MAX_HEADERS, MAX_RECORD_SIZE, MAX_VALUE, Record,
+    Header, Headers, MAX_BODY_SIZE, MAX_HEADER_SIZE, MAX_HEADERS, MAX_RECORD_SIZE, MAX_VALUE,
+    Record,
 };
 
 /// How many bytes a length takes, and what it is the length of.
