@@ -1,0 +1,2 @@
+pub mod Transformed
+pub mod Passes

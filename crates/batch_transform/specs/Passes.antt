@@ -1,0 +1,125 @@
+-- What is known between two batches, and of each step.
+use Rattle.std.specs.Prelude.{◌≡◌, ◌≢◌, ℕ, ◌+◌, ◌<◌, ◌≤◌, List, [], ◌∷◌, ◌++◌, length, drop, Some, Result, Ok, Err, ⊤}
+use Rattle.wire_spec.specs.declared.record.Batch.{Batch}
+use Rattle.wire_spec.specs.declared.fault.BatchFault.TheVariants.{Memory as NoMemory}
+use Rattle.wire_spec.specs.declared.limits.TheConstants.{TIMESTAMP_END, MAX_RECORDS}
+use Rattle.wire_spec.specs.BatchReading.{batch_at}
+use Rattle.machine_spec.specs.Image.{Program}
+use Rattle.log_spec.specs.Logs.{Records}
+use Rattle.batch.specs.Batches.{AreBatches as Begins}
+use Rattle.fates.specs.declared.fate.Fate.{Fate}
+use Rattle.fates.specs.Fates.{AreItemFates}
+use Rattle.fates.specs.Totals.{AreCounts, AreCountsWith}
+use Rattle.item_rows.specs.declared.origin.Origin.{Origin}
+use Rattle.transform.specs.Backlogs.{waiting}
+use Rattle.transform.specs.Outlets.{Outflow, outflow}
+use Rattle.transform.specs.Transforms.{Flow, flow, output_at, Pushes, Follows, Empties}
+use Rattle.batch_transform.specs.declared.{fault.Stop.Stop, stream.Stream.Stream, pass.Transformed.Transformed}
+use Rattle.batch_transform.specs.declared.{ending.OutputBatches.OutputBatches}
+use Rattle.batch_transform.specs.declared.fault.Stop.TheVariants as stop
+use Rattle.batch_transform.specs.Transformed.{AreFates}
+
+abbrev pub flow_of : Stream → Flow
+flow_of s = flow s.input s.offset s.outlets.items
+
+-- the numbers of a stream are in range
+pub record IsStream (s : Stream) : Type 0 where
+  pub input : s.input < 64
+  pub offset : s.offset ≤ TIMESTAMP_END
+  pub some_output : 1 ≤ length s.outlets.items
+  pub outputs : length s.outlets.items ≤ 64
+  pub counted : s.counts.records ≤ s.offset
+
+-- no row was put into any of the output partitions
+pub record AreEmpty (outputs : ℕ) (outlets : List Outflow) : Type 0 where
+  pub count : length outlets ≡ outputs
+  pub each : (output : ℕ) → output < outputs → output_at outlets output ≡ outflow (Some []) (waiting 0 [])
+
+-- a stream before its first batch
+pub record StartsAt (origin : Origin) (s : Stream) : Type 0 where
+  pub input : s.input ≡ origin.input
+  pub offset : s.offset ≡ origin.offset
+  pub none : AreCounts [] s.counts
+  pub empty : AreEmpty origin.outputs s.outlets.items
+
+-- the fates of a batch's records were counted beside those before
+abbrev pub CountsBatch : Program → Batch → Stream → Stream → Type 0
+CountsBatch program batch old new =
+    (here : List Fate) × AreItemFates old.input (length old.outlets.items) (Some program) old.offset (Records batch) here
+    × ((before : List Fate) → AreCounts before old.counts → AreCounts (before ++ here) new.counts)
+
+-- A batch was transformed; or it might reach the offset 2^62; or memory ran out.
+abbrev pub PushesBatch : Program → Batch → Stream → Result (Unit {0}) Stop → Stream → Type 0
+PushesBatch program batch old (Ok done) new =
+    Pushes program batch (flow_of old) (Ok tt) (flow_of new) × CountsBatch program batch old new × IsStream new
+PushesBatch program batch old (Err (stop.Batch fault)) new = ⊥
+PushesBatch program batch old (Err stop.Full) new = (TIMESTAMP_END < old.offset + MAX_RECORDS) × (new ≡ old)
+PushesBatch program batch old (Err stop.Memory) new = ⊤
+
+-- the batch at the front was read, or why not
+abbrev pub ReadsBatch : List ℕ → Result (Batch × ℕ) Stop → Type 0
+ReadsBatch bytes (Ok found) = batch_at bytes ≡ Ok found
+ReadsBatch bytes (Err (stop.Batch fault)) = fault ≢ NoMemory → batch_at bytes ≡ Err fault
+ReadsBatch bytes (Err stop.Full) = ⊥
+ReadsBatch bytes (Err stop.Memory) = ⊤
+
+-- the batch at the front was transformed, and the bytes lose it
+pub record TakesOne (program : Program) (bytes : List ℕ) (old : Stream) (rest : List ℕ) (new : Stream) : Type 0 where
+  pub batch : Batch
+  pub used : ℕ
+  pub some : 1 ≤ used
+  pub within : used ≤ length bytes
+  pub found : batch_at bytes ≡ Ok (batch, used)
+  pub rest_is : rest ≡ drop used bytes
+  pub pushes : PushesBatch program batch old (Ok tt) new
+
+-- The same; or a fault leaves the bytes, and where it is of the bytes or the offset, the stream.
+abbrev pub PassesOne : Program → List ℕ → Stream → Result (Unit {0}) Stop → List ℕ → Stream → Type 0
+PassesOne program bytes old (Ok done) rest new = TakesOne program bytes old rest new
+PassesOne program bytes old (Err (stop.Batch fault)) rest new =
+    (rest ≡ bytes) × (new ≡ old) × (fault ≢ NoMemory → batch_at bytes ≡ Err fault)
+PassesOne program bytes old (Err stop.Full) rest new =
+    (rest ≡ bytes) × (new ≡ old) × (TIMESTAMP_END < old.offset + MAX_RECORDS)
+PassesOne program bytes old (Err stop.Memory) rest new = rest ≡ bytes
+
+-- the first batches of some bytes were transformed
+pub record HavePassed (program : Program) (bytes : List ℕ) (start : Stream) (rest : List ℕ) (count : ℕ)
+    (now : Stream) : Type 0 where
+  pub batches : List Batch
+  pub are : Begins bytes batches rest
+  pub count_is : count ≡ length batches
+  pub within : count + length rest ≤ length bytes
+  pub follows : Follows (flow_of start) program batches (flow_of now)
+  pub counts : AreCountsWith (AreFates start.input (length start.outlets.items) program start.offset batches) now.counts
+  pub stream : IsStream now
+
+-- All batches were transformed, or those before a fault.
+abbrev pub PassesAll : Program → List ℕ → Stream → Result (Unit {0}) Stop → List ℕ → ℕ → Stream → Type 0
+PassesAll program bytes start (Ok done) rest count now =
+    HavePassed program bytes start rest count now × (rest ≡ [])
+PassesAll program bytes start (Err (stop.Batch fault)) rest count now =
+    HavePassed program bytes start rest count now × (fault ≢ NoMemory → batch_at rest ≡ Err fault) × (rest ≢ [])
+PassesAll program bytes start (Err stop.Full) rest count now =
+    HavePassed program bytes start rest count now × (TIMESTAMP_END < now.offset + MAX_RECORDS)
+PassesAll program bytes start (Err stop.Memory) rest count now = length rest ≤ length bytes
+
+-- what an output partition holds in the end
+pub record Ends (old : Outflow) (made : OutputBatches) : Type 0 where
+  pub new : Outflow
+  pub empties : Empties old new
+  pub bytes_are : new.written ≡ Some made.bytes.items
+  pub rows_are : made.rows ≡ new.waits.place + length new.waits.rows
+
+-- the same of each
+abbrev pub AreEnds : List Outflow → List OutputBatches → Type 0
+AreEnds [] [] = ⊤
+AreEnds (old ∷ olds) (made ∷ others) = Ends old made × AreEnds olds others
+AreEnds [] (made ∷ others) = ⊥
+AreEnds (old ∷ olds) [] = ⊥
+
+-- what a stream gives in the end
+pub record Finishes (batches : ℕ) (s : Stream) (made : Transformed) : Type 0 where
+  pub batches_are : made.batches ≡ batches
+  pub counts_are : made.counts ≡ s.counts
+  pub rejects_are : made.rejects.items ≡ made.counts.rejects
+  pub outputs_are : AreEnds s.outlets.items made.outputs.items

@@ -1,0 +1,172 @@
+ghost use Rattle.std.specs.Prelude.{◌≤◌};
+ghost use Rattle.wire_spec.specs.declared.limits.TheConstants.{TIMESTAMP_END};
+
+use batch::encode;
+use batch_transform::{BatchPlace, Stop, Transformed, transform_batches};
+use bytes::Bytes;
+use fixtures::{FORWARD, batch_of, batch_of_value};
+use item_rows::Origin;
+use log_item::Program;
+use machine_spec::Table;
+use std::alloc::Global;
+use std::test::Fail;
+use wire_spec::{Batch, BatchFault, TIMESTAMP_END};
+
+/// ldxb r0, [r1] after a test for one byte of the value; exit: the first byte is the reject code.
+const REJECT: [u8; 32] = [
+    0xb7, 0, 0, 0, 0, 0, 0, 0, // mov64 r0, 0
+    0x25, 2, 1, 0, 0, 0, 0, 0, // jgt r2, 0, +1
+    0x95, 0, 0, 0, 0, 0, 0, 0, // exit
+    0x71, 0x10, 0, 0, 0, 0, 0, 0, // ldxb r0, [r1]
+];
+
+fn program_of(alloc: Global, image: &[u8]) -> Result<Program, Fail> {
+    let image = Bytes::copy_from_slice(alloc, image)?;
+    match Program::new(alloc, &image, Table::One) {
+        Ok(program) => Ok(program),
+        Err(_) => Err(Fail::from("a program")),
+    }
+}
+
+fn put_batch(alloc: Global, bytes: &mut Vec<u8>, batch: Option<Batch>) -> Result<(), Fail> {
+    let batch = batch.ok_or("a batch")?;
+    if !batch::fits(&batch) {
+        return Err(Fail::from("a batch that fits"));
+    }
+    bytes.extend_from_slice(&encode(alloc, &batch)?)?;
+    Ok(())
+}
+
+/// The bytes of two batches of 3 and 2 records without key and value, 82 and 75 bytes: the first `len` of
+/// them, and one changed.
+fn damaged(alloc: Global, len: usize, place: usize) -> Result<Vec<u8>, Fail> {
+    let mut bytes = Vec::new(alloc);
+    put_batch(alloc, &mut bytes, batch_of(alloc, 3, 1000))?;
+    put_batch(alloc, &mut bytes, batch_of(alloc, 2, 1000))?;
+    bytes.truncate(len);
+    if place < bytes.len() {
+        bytes[place] ^= 1;
+    }
+    Ok(bytes)
+}
+
+/// What a program makes of batches, with how many outputs there are.
+fn made(
+    alloc: Global,
+    image: &[u8],
+    offset: u64,
+    bytes: &[u8],
+    place: &mut BatchPlace,
+) -> Result<Result<Transformed, Stop>, Fail>
+    requires { offset ≤ TIMESTAMP_END }
+{
+    let program = program_of(alloc, image)?;
+    let origin = Origin {
+        input: 7,
+        offset,
+        outputs: 2,
+    };
+    Ok(transform_batches(alloc, &program, &origin, bytes, place))
+}
+
+/// Damage: how many bytes are left, and which is changed; why the transform stops, if it does; how many
+/// batches and bytes are before, or are read in all.
+type Damage = (usize, usize, Option<Stop>, usize, usize);
+
+const DAMAGES: [Damage; 7] = [
+    (0, 999, None, 0, 0),
+    (157, 999, None, 2, 157),
+    (82, 999, None, 1, 82),
+    (81, 999, Some(Stop::Batch(BatchFault::Short)), 0, 0),
+    (156, 999, Some(Stop::Batch(BatchFault::Short)), 1, 82),
+    (157, 70, Some(Stop::Batch(BatchFault::Crc)), 0, 0),
+    (157, 150, Some(Stop::Batch(BatchFault::Crc)), 1, 82),
+];
+
+/// Whether a transform ends as it should.
+fn ends_so(alloc: Global, damage: &Damage) -> Result<bool, Fail> {
+    let (len, changed, stop, batch, byte) = *damage;
+    let bytes = damaged(alloc, len, changed)?;
+    let mut place = BatchPlace {
+        batch: 99,
+        byte: 99,
+    };
+    match made(alloc, &FORWARD, 5, &bytes, &mut place)? {
+        Err(why) => Ok(Some(why) == stop && place == BatchPlace { batch, byte }),
+        Ok(found) => Ok(stop.is_none() && found.batches == batch && bytes.len() == byte),
+    }
+}
+
+#[test]
+fn stops_at_the_first_fault(rt: HostRuntime) -> Result<(), Fail> {
+    for damage in &DAMAGES {
+        assert!(rt; ends_so(rt.alloc(), damage)?, "{damage:?}");
+    }
+    Ok(())
+}
+
+/// Of each output the number of rows and of bytes.
+fn sizes(alloc: Global, found: &Transformed) -> Result<Vec<(u64, usize)>, Fail> {
+    let mut list = Vec::new(alloc);
+    for output in &found.outputs {
+        list.push((output.rows, output.bytes.len()))?;
+    }
+    Ok(list)
+}
+
+#[test]
+fn rows_of_two_batches_are_in_one(rt: HostRuntime) -> Result<(), Fail> {
+    let alloc = rt.alloc();
+    let mut place = BatchPlace { batch: 0, byte: 0 };
+    let bytes = damaged(alloc, 157, 999)?;
+    let found = made(alloc, &FORWARD, 0, &bytes, &mut place)?;
+    let found = found.ok().ok_or("batches")?;
+    // A header and 5 records of 7 bytes.
+    assert_eq!(rt;
+        sizes(alloc, &found)?.as_slice(),
+        [(5, 96), (0, 0)].as_slice()
+    );
+    assert_eq!(rt; found.counts.records(), 5);
+    assert_eq!(rt; found.counts.kept(), 5);
+    assert!(rt; found.rejects.is_empty());
+    Ok(())
+}
+
+/// What the records of batches of two and three values, the bytes 9 and 3, are rejected by.
+fn rejects(alloc: Global) -> Result<Vec<(u64, u64)>, Fail> {
+    let mut bytes = Vec::new(alloc);
+    put_batch(alloc, &mut bytes, batch_of_value(alloc, 2, 9))?;
+    put_batch(alloc, &mut bytes, batch_of_value(alloc, 3, 3))?;
+    put_batch(alloc, &mut bytes, batch_of_value(alloc, 1, 0))?;
+    let mut place = BatchPlace { batch: 0, byte: 0 };
+    let mut image = Vec::from_slice(alloc, &REJECT)?;
+    image.extend_from_slice(&[0x95, 0, 0, 0, 0, 0, 0, 0])?;
+    let found = made(alloc, &image, 0, &bytes, &mut place)?;
+    let found = found.ok().ok_or("batches")?;
+    if found.counts.kept() != 1 || found.counts.records() != 6 {
+        return Err(Fail::from("one kept record of six"));
+    }
+    Ok(found.rejects)
+}
+
+#[test]
+fn counts_rejects_by_rising_code(rt: HostRuntime) -> Result<(), Fail> {
+    assert_eq!(rt;
+        rejects(rt.alloc())?.as_slice(),
+        [(3, 3), (9, 2)].as_slice()
+    );
+    Ok(())
+}
+
+#[test]
+fn stops_where_offsets_end(rt: HostRuntime) -> Result<(), Fail> {
+    let alloc = rt.alloc();
+    let bytes = damaged(alloc, 157, 999)?;
+    let mut place = BatchPlace { batch: 9, byte: 9 };
+    let found = made(alloc, &FORWARD, TIMESTAMP_END - 10_002, &bytes, &mut place)?;
+    assert_eq!(rt; found.err(), Some(Stop::Full));
+    assert_eq!(rt; place, BatchPlace { batch: 1, byte: 82 });
+    let found = made(alloc, &FORWARD, TIMESTAMP_END - 10_003, &bytes, &mut place)?;
+    assert!(rt; found.is_ok());
+    Ok(())
+}
