@@ -1,13 +1,14 @@
 //! What a load of a name costs, among the first of many and among the last, and the memory that they
 //! take.
 
+use crate::memory::peak_memory;
 use broker_fixtures::NAME;
 use bytes::Bytes;
 use catalogue::Catalogue;
 use fixtures::FORWARD;
 use machine_spec::Table;
 use std::alloc::{Alloc, AllocError, Global};
-use std::fs::{self, Files};
+use std::fs::Files;
 use std::io;
 use std::num::nearest_u64_to_f64;
 use std::rt::Clock;
@@ -19,25 +20,6 @@ const SOME: u64 = 1_000;
 
 /// How many loads there are between these.
 const BETWEEN: u64 = 98_000;
-
-/// The most memory that the process had so far, in kB; 0 where the system does not say.
-fn peak_memory<R: Files + Alloc>(rt: &R) -> io::Result<u64> {
-    let status = fs::read_to_string(rt, "/proc/self/status")?;
-    for line in status.lines() {
-        if let Some(amount) = line.strip_prefix("VmHWM:") {
-            return Ok(number_of(amount));
-        }
-    }
-    Ok(0)
-}
-
-/// The first number of a line.
-fn number_of(line: &str) -> u64 {
-    match line.split_whitespace().next() {
-        Some(word) => word.parse::<u64>().unwrap_or(0),
-        None => 0,
-    }
-}
 
 /// Loads the name so often; what a load took, in microseconds.
 fn load<W: Wait + Drop, R: Clock>(

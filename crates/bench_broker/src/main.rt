@@ -4,8 +4,11 @@
 //!   loads, and what a load takes.
 //! - `worker TURNS` prints how many records a second went from the append to the row in the best turn,
 //!   with one, two and four input partitions and as many threads, and with 1, 8 and 64 output
-//!   partitions; then what a step of a book took after 1,000 and after 60,000 items. With a number of
-//!   batches after TURNS it keeps their records and rows instead, for its memory to be looked at.
+//!   partitions. With a number of batches after TURNS it keeps their records and rows instead, and
+//!   prints the memory that these take.
+//! - `book TURNS` prints what a delivery of 100 rows, an audit, a fetch and a search for an offset took in
+//!   the best turn with a book of 1,000 rows and with one of 1,000,000; then how long a book is locked for
+//!   a delivery beside three others, and what a step of a book took after 1,000 and after 60,000 items.
 //! - `fetch TIMES` fetches rows as batches that many times in each of ten turns, and prints the bytes
 //!   and rows a second of the best, beside the writing of the same batch by `batch` and a copy.
 //!
@@ -13,9 +16,14 @@
 #![tactic(auto)]
 
 mod appends;
+mod books;
+mod deliveries;
 mod fetches;
 mod finds;
 mod loads;
+mod locks;
+mod memory;
+mod reads;
 mod shortest;
 mod steps;
 mod turns;
@@ -47,15 +55,6 @@ fn measure_logs<R: Threads + Wait + Clock + Files + Alloc + Print + Sync>(
     loads::measure(rt, alloc)
 }
 
-fn measure_workers<R: Threads + Wait + Clock + Print + Sync>(
-    rt: &R,
-    alloc: Global,
-    turns: u32,
-) -> io::Result<()> {
-    turns::measure_all(rt, alloc, turns)?;
-    steps::measure(rt, alloc, turns)
-}
-
 fn main(rt: HostRuntime) -> io::Result<()> {
     let alloc = rt.alloc();
     let mut words = env::args(&rt)?.skip(1);
@@ -68,11 +67,13 @@ fn main(rt: HostRuntime) -> io::Result<()> {
     } else if subject.as_str() == "worker" {
         match words.next() {
             Some(batches) => turns::keep(&rt, alloc, batches.parse::<usize>().unwrap_or(0)),
-            None => measure_workers(&rt, alloc, count_of(count, 3)),
+            None => turns::measure_all(&rt, alloc, count_of(count, 3)),
         }
+    } else if subject.as_str() == "book" {
+        books::measure(&rt, alloc, count_of(count, 3))
     } else if subject.as_str() == "fetch" {
         fetches::measure_all(&rt, alloc, count_of(count, 20))
     } else {
-        println!(rt; "the subjects are log, worker and fetch")
+        println!(rt; "the subjects are log, worker, book and fetch")
     }
 }

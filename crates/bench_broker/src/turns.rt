@@ -4,13 +4,15 @@ ghost use Rattle.std.specs.Prelude.{IfSome};
 ghost use Rattle.log_spec.specs.Logs.{FitsLog};
 ghost use Rattle.broker.specs.Layouts.{IsCount, IsNamed};
 
+use crate::memory::peak_memory;
 use broker::{Broker, Parts};
 use broker_fixtures::{deploy, drain};
 use bytes::Bytes;
 use catalogue::Catalogue;
 use fixtures::{FORWARD, batch_at, record_of};
 use part_log::Names;
-use std::alloc::{AllocError, Global};
+use std::alloc::{Alloc, AllocError, Global};
+use std::fs::Files;
 use std::marker::Brand;
 use std::num::nearest_u64_to_f64;
 use std::rt::Clock;
@@ -24,7 +26,7 @@ use wire_spec::{Batch, Records};
 const SIZE: usize = 64;
 
 /// How many records a batch has in most measures.
-const RECORDS: usize = 100;
+pub(crate) const RECORDS: usize = 100;
 
 /// call 9; mov64 r1, r0; call 3; exit: each record goes to the output of its input's number as it is.
 const TO_OWN: [u8; 32] = [
@@ -79,7 +81,8 @@ fn records(alloc: Global, count: usize) -> Result<Records, AllocError> {
     Ok(Records { list })
 }
 
-fn batch_of(alloc: Global, count: usize) -> Option<Batch>
+/// A batch of that number of records. None where memory ran out.
+pub(crate) fn batch_of(alloc: Global, count: usize) -> Option<Batch>
     ensures { IfSome result (λ batch. FitsLog batch) }
 {
     batch_at(1000, records(alloc, count).ok()?)
@@ -273,16 +276,20 @@ pub(crate) fn measure_all<R: Threads + Wait + Clock + Print + Sync>(
     Ok(())
 }
 
-/// Keeps the records of batches and their rows.
-pub(crate) fn keep<R: Threads + Wait + Clock + Print + Sync>(
+/// Keeps the records of batches and their rows, and prints the memory that a record and its row take.
+pub(crate) fn keep<R: Threads + Wait + Clock + Files + Alloc + Print + Sync>(
     rt: &R,
     alloc: Global,
     batches: usize,
 ) -> io::Result<()> {
-    match taken(rt, alloc, 1, 1, &FORWARD, batches) {
-        Some(_) => println!(rt;
-            "{batches} batches of {RECORDS} records are kept, with a row for each record"
-        ),
-        None => println!(rt; "a call was refused"),
-    }
+    let before = peak_memory(rt)?;
+    let Some(_) = taken(rt, alloc, 1, 1, &FORWARD, batches) else {
+        return println!(rt; "a call was refused");
+    };
+    let taken = peak_memory(rt)?.saturating_sub(before).wrapping_mul(1024);
+    let records = batches.wrapping_mul(RECORDS) as u64;
+    println!(rt;
+        "{records} records of {SIZE} bytes, each with its row: {:6.1} bytes a record",
+        nearest_u64_to_f64(taken) / nearest_u64_to_f64(records)
+    )
 }
