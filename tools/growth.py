@@ -45,6 +45,13 @@ def work(count):
     yield "go\n"
 
 
+def reports(count):
+    """The same, and nine more reports of the same rows."""
+    yield from work(count)
+    for _ in range(9):
+        yield "go\n"
+
+
 def line(count):
     """One line of so many bytes, which is no command."""
     yield "partitions 1 1 8\n"
@@ -65,6 +72,8 @@ ROWS = [
     ("loads of one name", loads, 10_000, 100_000, 0, ""),
     ("puts of a record", puts, 100_000, 1_000_000, 0, ""),
     ("puts and their rows", work, 100_000, 1_000_000, 0, ""),
+    ("one report of rows", work, 6_000, 60_000, 0, ""),
+    ("ten reports of rows", reports, 6_000, 60_000, 0, ""),
     ("a value in one line, bytes", line, 10_000_000, 100_000_000, 1, "line 2: S3 Range\n"),
     ("a comment in one line, bytes", comment, 10_000_000, 100_000_000, 0, ""),
     ("64 x 64 partitions, cells", corner, 6_554, 65_536, 0, ""),
