@@ -21,11 +21,10 @@ const OUTPUTS: usize = 2;
 
 #[test]
 fn a_refused_delivery_can_be_made_again(rt: HostRuntime) -> Result<(), Fail> {
-    let alloc = rt.alloc();
-    let mut ending = make_and_deliver(&rt, alloc);
-    if ending == Err(Ending::NotMade) {
-        ending = make_and_deliver(&rt, alloc);
-    }
+    let ending = match make_and_deliver(&rt, rt.alloc()) {
+        Err(Ending::NotMade) => make_and_deliver(&rt, rt.alloc()),
+        ended => ended,
+    };
     assert_eq!(rt; ending, Ok(()));
     Ok(())
 }
