@@ -18,11 +18,7 @@ pub(crate) fn start_all<
     Id: Names + Send + Sync,
     H: Wait + Drop + Send,
     R: Threads + Wait + Print + Sync,
->(
-    rt: &R,
-    alloc: Global,
-    broker: &Broker<Id, Catalogue<H>>,
-) -> Result<(), Ending> {
+>(rt: &R, alloc: Global, broker: &Broker<Id, Catalogue<H>>) -> Result<(), Ending> {
     fill(rt, alloc, broker).ok_or(Ending::Wrong("fill"))?;
     if start(rt, alloc, broker) != Some(Ended::Done(3)) {
         return Err(Ending::Wrong("start"));

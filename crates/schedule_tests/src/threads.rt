@@ -62,7 +62,14 @@ fn goes_on<Id: Names + Send + Sync, C: Send, R: Threads + Wait + Sync>(
     ends(rt, alloc, broker, Until::Drained, &first, &stopped)
         && has_first(rt, broker, 0, call / 2)
         && has_first(rt, broker, 1, before / 2)
-        && ends(rt, alloc, broker, Until::Drained, &second, &[Ended::Done(4)])
+        && ends(
+            rt,
+            alloc,
+            broker,
+            Until::Drained,
+            &second,
+            &[Ended::Done(4)],
+        )
         && second.offers() == 8usize.wrapping_sub(before / 2 * 2)
 }
 
