@@ -21,11 +21,10 @@ const OUTPUTS: usize = 2;
 
 #[test]
 fn a_refused_delivery_can_be_made_again(rt: HostRuntime) -> Result<(), Fail> {
-    let alloc = rt.alloc();
-    let mut ending = make_and_deliver(&rt, alloc);
-    if ending == Err(Ending::NotMade) {
-        ending = make_and_deliver(&rt, alloc);
-    }
+    let ending = match make_and_deliver(&rt, rt.alloc()) {
+        Err(Ending::NotMade) => make_and_deliver(&rt, rt.alloc()),
+        ended => ended,
+    };
     assert_eq!(rt; ending, Ok(()));
     Ok(())
 }
@@ -99,10 +98,10 @@ fn fill_log<Id: Names, R: Wait + Print>(rt: &R, alloc: Global, log: &PartLog<Id>
     }
 }
 
-fn program(alloc: Global) -> Option<Arc<Program>> {
-    match program_of(alloc, &BOTH) {
+fn program(alloc: Global, image: &[u8]) -> Option<Arc<Program>> {
+    match program_of(alloc, image) {
         Some(program) => Some(program),
-        None => program_of(alloc, &BOTH),
+        None => program_of(alloc, image),
     }
 }
 
@@ -126,13 +125,13 @@ fn mark<Id: Names, R: Wait + Print>(
     alloc: Global,
     log: &PartLog<Id>,
 ) -> Option<(usize, usize, u64)> {
-    let receipt = match log.mark(rt, alloc, Name::new(NAME)?, 1, program(alloc)?) {
+    let receipt = match log.mark(rt, alloc, Name::new(NAME)?, 1, program(alloc, &BOTH)?) {
         Ok(receipt) => receipt,
         Err(fault) => {
             if !is_refused(rt, log, "mark", fault, 0) {
                 return None;
             }
-            log.mark(rt, alloc, Name::new(NAME)?, 1, program(alloc)?)
+            log.mark(rt, alloc, Name::new(NAME)?, 1, program(alloc, &BOTH)?)
                 .ok()?
         }
     };

@@ -16,6 +16,10 @@ mod making;
 #[cfg(test)]
 mod rows;
 #[cfg(test)]
+mod scenarios;
+#[cfg(test)]
 mod starts;
 #[cfg(test)]
 mod steps;
+#[cfg(test)]
+mod streams;

@@ -1,127 +1,94 @@
 //! Workers in threads.
 
-ghost use Rattle.broker.specs.Layouts.{IsNamed};
-
 use crate::calls::fill;
 use crate::making::say;
 use crate::rows::done_of;
-use broker::{Broker, BrokerFault, Ended, Parts, Until};
-use broker_fixtures::{Ending, new_broker};
+use broker::{Broker, BrokerFault, Ended, Until};
+use broker_fixtures::Ending;
 use catalogue::Catalogue;
 use out_book::BookFault;
 use part_log::Names;
 use std::alloc::Global;
-use std::marker::Brand;
-use std::process::Abort;
 use std::sync::Wait;
-use std::test::Fail;
 use std::thread::Threads;
 use worker::Open;
 
-#[test]
-fn a_refused_start_can_be_made_again(rt: HostRuntime) -> Result<(), Fail> {
-    let alloc = rt.alloc();
-    let mut ending = make_and_start(&rt, alloc);
-    if ending == Err(Ending::NotMade) {
-        ending = make_and_start(&rt, alloc);
-    }
-    assert_eq!(rt; ending, Ok(()));
-    Ok(())
-}
-
-fn make_and_start<R: Threads + Wait + Print + Sync>(rt: &R, alloc: Global) -> Result<(), Ending> {
-    match Parts::new(rt, alloc, 1, 2, 3) {
-        Ok(parts) => start_all::<Brand, R>(rt, alloc, parts),
-        Err(_) => Err(Ending::NotMade),
-    }
-}
-
 /// One worker, which takes a mark and two batches into two books.
-fn start_all<Id: Names + Send + Sync, R: Threads + Wait + Print + Sync>(
-    rt: &R,
-    alloc: Global,
-    parts: Parts<Catalogue<&R>>,
-) -> Result<(), Ending>
-    requires { IsNamed Id.cells Id.inputs Id.outputs parts }
-{
-    let broker: Broker<Id, Catalogue<&R>> = new_broker(alloc, parts)?;
-    fill(rt, alloc, &broker).ok_or(Ending::Wrong("fill"))?;
-    if start(rt, alloc, &broker) != Some(Ok(Ended::Done(3))) {
+pub(crate) fn start_all<
+    Id: Names + Send + Sync,
+    H: Wait + Drop + Send,
+    R: Threads + Wait + Print + Sync,
+>(rt: &R, alloc: Global, broker: &Broker<Id, Catalogue<H>>) -> Result<(), Ending> {
+    fill(rt, alloc, broker).ok_or(Ending::Wrong("fill"))?;
+    if start(rt, alloc, broker) != Some(Ended::Done(3)) {
         return Err(Ending::Wrong("start"));
     }
-    if done_of(rt, &broker, 0) == Some(3) && done_of(rt, &broker, 1) == Some(3) {
+    if done_of(rt, broker, 0) == Some(3) && done_of(rt, broker, 1) == Some(3) {
         Ok(())
     } else {
         Err(Ending::Wrong("rows"))
     }
 }
 
-/// How the one worker ended. None where there is not just one.
-fn start_once<Id: Names + Send + Sync, C: Send, R: Threads + Wait + Sync>(
-    rt: &R,
-    alloc: Global,
-    broker: &Broker<Id, C>,
-) -> Option<Result<Ended, BrokerFault>> {
-    match broker.start(rt, alloc, Until::Drained, &Open) {
-        Err(fault) => Some(Err(fault)),
-        Ok(ended) => {
-            let first = ended.first()?;
-            if ended.len() == 1 {
-                Some(Ok(*first))
-            } else {
-                None
-            }
-        }
+/// How the one worker ended, where there is just one.
+fn only(ended: &[Ended]) -> Option<Ended> {
+    match ended {
+        [end] => Some(*end),
+        _ => None,
     }
 }
 
-/// The same, of a second start where memory was refused in the first.
+/// What a start that was refused may leave in the books. None where it was not refused memory.
+#[derive(Clone, Copy, PartialEq, Eq)]
+enum Left {
+    Nothing,
+    DoneItems,
+}
+
+/// What was refused, and how it is called.
+fn refusal<R: Print>(rt: &R, started: &Result<Vec<Ended>, BrokerFault>) -> Option<Left> {
+    let (call, fault, left) = match started {
+        Err(fault) => ("start", *fault, Left::Nothing),
+        Ok(ended) => match only(ended)? {
+            Ended::NoThread => {
+                let _ = println!(rt; "refused start: NoThread");
+                return Some(Left::Nothing);
+            }
+            Ended::Fault(fault) => ("start, its worker", fault, Left::DoneItems),
+            _ => return None,
+        },
+    };
+    say(rt, call, fault);
+    let is_book = fault == BrokerFault::Book(BookFault::Memory) && left == Left::DoneItems;
+    if fault == BrokerFault::Memory || is_book {
+        Some(left)
+    } else {
+        None
+    }
+}
+
+/// Whether each book has the rows of its done items, or has none.
+fn have<Id: Names, C, R: Wait>(rt: &R, broker: &Broker<Id, C>, left: Left) -> bool {
+    match (done_of(rt, broker, 0), done_of(rt, broker, 1)) {
+        (Some(first), Some(second)) => left == Left::DoneItems || first == 0 && second == 0,
+        _ => false,
+    }
+}
+
+/// How the one worker ended, of a second start where memory was refused in the first.
 fn start<Id: Names + Send + Sync, C: Send, R: Threads + Wait + Print + Sync>(
     rt: &R,
     alloc: Global,
     broker: &Broker<Id, C>,
-) -> Option<Result<Ended, BrokerFault>> {
-    let end = start_once(rt, alloc, broker)?;
-    match end {
-        Ok(Ended::Done(_)) => Some(end),
-        Ok(Ended::Stopped(_, _)) => None,
-        Ok(Ended::NoThread) => {
-            let _ = println!(rt; "refused start: NoThread");
-            start_again(rt, alloc, broker, true)
-        }
-        Ok(Ended::Fault(fault)) => {
-            say(rt, "start, its worker", fault);
-            let is_memory = fault == BrokerFault::Memory
-                || fault == BrokerFault::Book(BookFault::Memory);
-            if is_memory {
-                start_again(rt, alloc, broker, false)
-            } else {
-                None
-            }
-        }
-        Err(fault) => {
-            say(rt, "start", fault);
-            if fault == BrokerFault::Memory {
-                start_again(rt, alloc, broker, true)
-            } else {
-                None
-            }
+) -> Option<Ended> {
+    let first = broker.start(rt, alloc, Until::Drained, &Open);
+    if let Ok(ended) = &first {
+        if let Some(Ended::Done(items)) = only(ended) {
+            return Some(Ended::Done(items));
         }
     }
-}
-
-/// A second start, where each book has the rows of its done items, or has none.
-fn start_again<Id: Names + Send + Sync, C: Send, R: Threads + Wait + Sync>(
-    rt: &R,
-    alloc: Global,
-    broker: &Broker<Id, C>,
-    is_empty: bool,
-) -> Option<Result<Ended, BrokerFault>> {
-    for output in 0..2 {
-        let done = done_of(rt, broker, output)?;
-        if is_empty && done != 0 {
-            return None;
-        }
+    if !have(rt, broker, refusal(rt, &first)?) {
+        return None;
     }
-    start_once(rt, alloc, broker)
+    only(&broker.start(rt, alloc, Until::Drained, &Open).ok()?)
 }

@@ -1,34 +1,10 @@
 //! Gates that stop workers and make threads meet.
 
+use broker_fixtures::sees;
 use std::sync::atomic::{AtomicBool, AtomicUsize, Ordering};
-use std::thread;
 use worker::Gate;
 
-/// How often a thread looks before a test fails.
-const TURNS: usize = 100_000_000;
-
-/// Waits until a flag is raised, but not for ever; whether it was.
-pub(crate) fn sees(flag: &AtomicBool) -> bool {
-    for _ in 0..TURNS {
-        if flag.load(Ordering::SeqCst) {
-            return true;
-        }
-        thread::yield_now();
-    }
-    false
-}
-
-/// Lets every offer pass.
-#[derive(Drop)]
-pub(crate) struct Open;
-
-impl Gate for Open {
-    fn pass(&self, _input: usize, _index: usize, _output: usize) -> bool {
-        true
-    }
-}
-
-/// Answers false at one call, which is counted from 1, and true at every other.
+/// Counts the offers, and answers false at one of them, which is counted from 1.
 #[derive(Drop)]
 pub(crate) struct StopAt {
     calls: AtomicUsize,
@@ -42,6 +18,11 @@ impl StopAt {
             call,
         }
     }
+
+    /// How many offers there were.
+    pub(crate) fn offers(&self) -> usize {
+        self.calls.load(Ordering::SeqCst)
+    }
 }
 
 impl Gate for StopAt {
@@ -54,9 +35,26 @@ impl Gate for StopAt {
 /// At its first offers to one output partition a worker raises a flag and waits for the other one.
 #[derive(Drop)]
 pub(crate) struct Meet<'a> {
-    pub(crate) own: &'a AtomicBool,
-    pub(crate) other: &'a AtomicBool,
-    pub(crate) output: usize,
+    own: &'a AtomicBool,
+    other: &'a AtomicBool,
+    output: usize,
+}
+
+impl<'a> Meet<'a> {
+    /// The gate of the first or the second thread, whose flags these are.
+    pub(crate) fn new(
+        number: usize,
+        first: &'a AtomicBool,
+        second: &'a AtomicBool,
+        output: usize,
+    ) -> Meet<'a> {
+        let (own, other) = if number == 0 {
+            (first, second)
+        } else {
+            (second, first)
+        };
+        Meet { own, other, output }
+    }
 }
 
 impl Gate for Meet<'_> {

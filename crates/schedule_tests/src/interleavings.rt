@@ -37,7 +37,7 @@ const SPREAD: u64 = 61_803_403;
 const SHORT: u64 = 2_000;
 
 /// The actors, in the order of their numbers.
-#[derive(Clone, Copy, Debug, PartialEq, Eq)]
+#[derive(Clone, Copy)]
 enum Actor {
     FirstProducer,
     SecondProducer,

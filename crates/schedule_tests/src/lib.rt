@@ -1,10 +1,9 @@
 //! Tests of schedules by public calls: lists of the core's events, interleavings of what threads do with
-//! logs, books and the catalogue, workers that a gate stops at each offer, threads that meet, and a stream
-//! of batches where memory is refused.
+//! logs, books and the catalogue, workers that a gate stops at each offer, and threads that meet.
 #![tactic(auto)]
 
 #[cfg(test)]
-mod broker_calls;
+mod books;
 #[cfg(test)]
 mod core_lists;
 #[cfg(test)]
@@ -15,8 +14,6 @@ mod interleavings;
 mod making;
 #[cfg(test)]
 mod play;
-#[cfg(test)]
-mod refused;
 #[cfg(test)]
 mod rows;
 #[cfg(test)]

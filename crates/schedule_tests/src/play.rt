@@ -4,17 +4,19 @@
 
 ghost use Rattle.std.specs.Prelude.{◌≡◌};
 
-use crate::making::{BOTH, NULLS, batch_of, load_of, put_of};
+use crate::making::{NULLS, load_of, put_of};
 use crate::rows::has;
+use broker_fixtures::{advance, results_of};
 use bytes::Bytes;
 use catalogue::{Catalogue, Finder, Known};
+use fixtures::{BOTH, batch_of_value};
 use log_spec::{Event, Name, Refusal, Reply};
 use machine_spec::Table;
 use out_book::{Book, BookFault, Delivered};
 use part_log::{Cells, LogFault, Names, PartLog, Receipt};
 use std::alloc::Global;
 use std::sync::Wait;
-use worker::{Results, Walk, process};
+use worker::{Results, Walk};
 use world::World;
 
 /// How many cells each log has.
@@ -98,7 +100,7 @@ pub(crate) fn put<Id: Names, R: Wait>(
     core: &mut World,
     value: u8,
 ) -> Option<bool> {
-    let got = lane.log.append(rt, alloc, batch_of(alloc, value)?);
+    let got = lane.log.append(rt, alloc, batch_of_value(alloc, 1, value)?);
     let event = put_of(alloc, lane.input, value)?;
     Some(is_same_append(&got, core.step(alloc, &event)))
 }
@@ -159,25 +161,6 @@ pub(crate) fn mark<Id: Names, R: Wait + Drop, W: Wait>(
     Some(is_same_append(&got, core.step(alloc, &event)))
 }
 
-/// Makes the next item of a log the walk's last one, if it is there.
-fn advance<Id: Names>(log: &PartLog<Id>, walk: &mut Walk<Id>) -> bool {
-    if walk.partition() != log.partition() || walk.len() >= log.cells() {
-        return false;
-    }
-    let mut note = log.note(walk.len());
-    walk.next(log, &mut note)
-}
-
-/// The results of a walk's last item.
-fn process_last<Id: Names>(alloc: Global, log: &PartLog<Id>, walk: &Walk<Id>) -> Option<Results<Id>>
-    requires { Id.outputs ≡ 2 }
-{
-    if walk.partition() != log.partition() || walk.partition() >= 64 || walk.len() == 0 {
-        return None;
-    }
-    process(alloc, walk, log, 2).ok()
-}
-
 /// Whether there is something to offer: what is left of an item, or the next one, which is processed.
 fn has_next<Id: Names>(alloc: Global, lane: &mut Lane<Id>) -> Option<bool>
     requires { Id.outputs ≡ 2 }
@@ -188,7 +171,7 @@ fn has_next<Id: Names>(alloc: Global, lane: &mut Lane<Id>) -> Option<bool>
     if !advance(&lane.log, &mut lane.walk) {
         return Some(false);
     }
-    let results = process_last(alloc, &lane.log, &lane.walk)?;
+    let results = results_of(alloc, &lane.walk, &lane.log, 2)?;
     lane.results = Some(results);
     Some(true)
 }

@@ -21,7 +21,7 @@ fn holds(row: &Row, value: Option<u8>) -> bool {
     has_key && has_value && row.headers.list.is_empty()
 }
 
-/// Whether this is the row of a record of `making`.
+/// Whether this is the row of a record with the key `k`, at the timestamp 1000.
 pub(crate) fn is_row(row: &Row, want: &Seen) -> bool {
     let (offset, number, value) = *want;
     row.offset == offset && row.number == number && row.timestamp == 1000 && holds(row, value)

@@ -3,14 +3,15 @@
 
 ghost use Rattle.broker.specs.Layouts.{IsNamed};
 
-use crate::broker_calls::{deploy, end_of, holds, put, step};
-use crate::gates::{Meet, Open, StopAt, sees};
-use crate::making::{BOTH, NULLS};
-use crate::rows::Seen;
+use crate::books::has_first;
+use crate::gates::{Meet, StopAt};
+use crate::making::NULLS;
 use broker::{Broker, Ended, Parts, Stepped, Until};
+use broker_fixtures::{deploy, ends, put, sees, step};
 use catalogue::Catalogue;
+use fixtures::BOTH;
 use part_log::Names;
-use std::alloc::Global;
+use std::alloc::{AllocError, Global};
 use std::marker::Brand;
 use std::process::Abort;
 use std::sync::Wait;
@@ -19,11 +20,16 @@ use std::test::Fail;
 use std::thread;
 use std::thread::Threads;
 
-/// The rows of both records in an output partition.
-const ROWS: [[Seen; 2]; 2] = [
-    [(0, 0, Some(b'A')), (1, 0, None)],
-    [(0, 1, Some(b'A')), (1, 1, None)],
-];
+/// What is done to a new broker.
+#[derive(Clone, Copy, Debug)]
+enum Case {
+    /// A worker is stopped at the offer with this number, from 1, and another one goes on.
+    StopAt(usize),
+    /// Two starts at once, whose workers meet before an offer to this output partition.
+    StartTwice(usize),
+    /// A worker and steps at once; the worker waits before an offer to this output partition.
+    StartAndStep(usize),
+}
 
 /// Deploys a program, appends a record, and the same again.
 fn fill<Id: Names, H: Wait + Drop, R: Wait>(
@@ -31,23 +37,10 @@ fn fill<Id: Names, H: Wait + Drop, R: Wait>(
     alloc: Global,
     broker: &Broker<Id, Catalogue<H>>,
 ) -> bool {
-    deploy(rt, alloc, broker, "p1", &BOTH) == Some(0)
-        && put(rt, alloc, broker, b'A').is_some()
-        && deploy(rt, alloc, broker, "p2", &NULLS) == Some(2)
-        && put(rt, alloc, broker, b'B').is_some()
-}
-
-/// Whether so many items are done in an output partition, and the rows are theirs.
-fn has_first<Id: Names, C, R: Wait>(
-    rt: &R,
-    broker: &Broker<Id, C>,
-    output: usize,
-    done: usize,
-) -> bool {
-    if output >= 2 || done > 4 {
-        return false;
-    }
-    holds(rt, broker, output, done, &ROWS[output][..done / 2])
+    deploy(rt, alloc, broker, 0, &BOTH) == Some(0)
+        && put(rt, alloc, broker, 0, b'A').is_some()
+        && deploy(rt, alloc, broker, 0, &NULLS) == Some(2)
+        && put(rt, alloc, broker, 0, b'B').is_some()
 }
 
 /// Whether all is done in both output partitions.
@@ -55,88 +48,29 @@ fn has_all<Id: Names, C, R: Wait>(rt: &R, broker: &Broker<Id, C>) -> bool {
     has_first(rt, broker, 0, 4) && has_first(rt, broker, 1, 4)
 }
 
-fn parts<R: Wait>(rt: &R, alloc: Global) -> Result<Parts<Catalogue<&R>>, Fail> {
-    Ok(Parts::new(rt, alloc, 1, 2, 4)?)
-}
-
-/// A worker is stopped before one offer, and another one goes on.
-fn stop_at<Id: Names + Send + Sync, R: Threads + Wait + Abort + Sync>(
+/// Whether a worker that is stopped leaves what is before its offer, and the next one begins with that
+/// item and does the rest.
+fn goes_on<Id: Names + Send + Sync, C: Send, R: Threads + Wait + Sync>(
     rt: &R,
     alloc: Global,
-    parts: Parts<Catalogue<&R>>,
+    broker: &Broker<Id, C>,
     call: usize,
-) -> Result<(), Fail>
-    requires { IsNamed Id.cells Id.inputs Id.outputs parts }
-{
-    let broker: Broker<Id, Catalogue<&R>> = Broker::new(alloc, parts)?;
-    assert!(rt; fill(rt, alloc, &broker));
+) -> bool {
     let before = call.wrapping_sub(1);
-    let stopped = end_of(rt, alloc, &broker, Until::Drained, &StopAt::new(call));
-    assert_eq!(rt;
-        stopped,
-        Some(Ended::Stopped(before / 2, before % 2)),
-        "call {call}"
-    );
-    assert!(rt; has_first(rt, &broker, 0, call / 2), "call {call}");
-    assert!(rt; has_first(rt, &broker, 1, before / 2), "call {call}");
-    let end = end_of(rt, alloc, &broker, Until::Drained, &Open);
-    assert_eq!(rt; end, Some(Ended::Done(4)), "call {call}");
-    assert!(rt; has_all(rt, &broker), "call {call}");
-    Ok(())
-}
-
-fn stop_at_each<R: Threads + Wait + Abort + Sync>(rt: &R, alloc: Global) -> Result<(), Fail> {
-    for call in 1..=8 {
-        stop_at::<Brand, R>(rt, alloc, parts(rt, alloc)?, call)?;
-    }
-    Ok(())
-}
-
-#[test]
-fn a_worker_goes_on_where_one_was_stopped(rt: HostRuntime) -> Result<(), Fail> {
-    stop_at_each(&rt, rt.alloc())
-}
-
-/// Two starts at once, whose workers wait for each other before an offer to one output partition.
-fn start_twice<Id: Names + Send + Sync, R: Threads + Wait + Abort + Sync>(
-    rt: &R,
-    alloc: Global,
-    parts: Parts<Catalogue<&R>>,
-    output: usize,
-) -> Result<(), Fail>
-    requires { IsNamed Id.cells Id.inputs Id.outputs parts }
-{
-    let made: Broker<Id, Catalogue<&R>> = Broker::new(alloc, parts)?;
-    let broker = &made;
-    assert!(rt; fill(rt, alloc, broker));
-    let flags = [AtomicBool::new(false), AtomicBool::new(false)];
-    let (first, second) = (&flags[0], &flags[1]);
-    let one = move |number: usize| -> bool {
-        let (own, other) = if number == 0 {
-            (first, second)
-        } else {
-            (second, first)
-        };
-        let gate = Meet { own, other, output };
-        end_of(rt, alloc, broker, Until::Drained, &gate) == Some(Ended::Done(4))
-    };
-    for is_right in &thread::map_indices(rt, alloc, 2, &one)? {
-        assert!(rt; *is_right, "output {output}");
-    }
-    assert!(rt; has_all(rt, broker), "output {output}");
-    Ok(())
-}
-
-fn start_twice_each<R: Threads + Wait + Abort + Sync>(rt: &R, alloc: Global) -> Result<(), Fail> {
-    for turn in 0..20 {
-        start_twice::<Brand, R>(rt, alloc, parts(rt, alloc)?, turn % 2)?;
-    }
-    Ok(())
-}
-
-#[test]
-fn two_starts_at_once_take_each_item_once(rt: HostRuntime) -> Result<(), Fail> {
-    start_twice_each(&rt, rt.alloc())
+    let stopped = [Ended::Stopped(before / 2, before % 2)];
+    let (first, second) = (StopAt::new(call), StopAt::new(0));
+    ends(rt, alloc, broker, Until::Drained, &first, &stopped)
+        && has_first(rt, broker, 0, call / 2)
+        && has_first(rt, broker, 1, before / 2)
+        && ends(
+            rt,
+            alloc,
+            broker,
+            Until::Drained,
+            &second,
+            &[Ended::Done(4)],
+        )
+        && second.offers() == 8usize.wrapping_sub(before / 2 * 2)
 }
 
 /// Steps a book until nothing is left; whether no step was refused.
@@ -148,11 +82,9 @@ fn step_all<Id: Names, C, R: Wait>(
 ) -> bool {
     for _ in 0..5 {
         match step(rt, alloc, broker, output) {
-            Some(Stepped::Nothing) => return true,
-            Some(Stepped::Added(_)) => {}
-            None => return false,
+            Some(Stepped::Added(_)) => thread::yield_now(),
+            other => return other == Some(Stepped::Nothing),
         }
-        thread::yield_now();
     }
     false
 }
@@ -171,46 +103,91 @@ fn step_beside<Id: Names, C, R: Wait>(
     is_added && is_there && step_all(rt, alloc, broker, 0) && step_all(rt, alloc, broker, 1)
 }
 
-/// A worker and steps at once.
-fn start_and_step<Id: Names + Send + Sync, R: Threads + Wait + Abort + Sync>(
+/// Two threads at once, of which the second starts a worker too, or takes steps; whether both end
+/// well. A worker waits for the other thread before an offer to one output partition.
+fn meet<Id: Names + Send + Sync, C: Send, R: Threads + Wait + Sync>(
+    rt: &R,
+    alloc: Global,
+    broker: &Broker<Id, C>,
+    output: usize,
+    steps: bool,
+) -> Result<bool, AllocError> {
+    let flags = [AtomicBool::new(false), AtomicBool::new(false)];
+    let (first, second) = (&flags[0], &flags[1]);
+    let one = move |number: usize| -> bool {
+        if number == 1 && steps {
+            return step_beside(rt, alloc, broker, second, first);
+        }
+        let gate = Meet::new(number, first, second, output);
+        ends(rt, alloc, broker, Until::Drained, &gate, &[Ended::Done(4)])
+    };
+    let right = thread::map_indices(rt, alloc, 2, &one)?;
+    Ok(right.as_slice() == [true, true].as_slice())
+}
+
+/// Whether a case ends as it must, and in the end each row is there once.
+fn is_right<Id: Names + Send + Sync, R: Threads + Wait + Sync>(
     rt: &R,
     alloc: Global,
     parts: Parts<Catalogue<&R>>,
-    output: usize,
-) -> Result<(), Fail>
+    case: Case,
+) -> Result<bool, AllocError>
     requires { IsNamed Id.cells Id.inputs Id.outputs parts }
 {
-    let made: Broker<Id, Catalogue<&R>> = Broker::new(alloc, parts)?;
-    let broker = &made;
-    assert!(rt; fill(rt, alloc, broker));
-    let flags = [AtomicBool::new(false), AtomicBool::new(false)];
-    let (own, other) = (&flags[0], &flags[1]);
-    let one = move |number: usize| -> bool {
-        if number == 0 {
-            let gate = Meet { own, other, output };
-            end_of(rt, alloc, broker, Until::Drained, &gate) == Some(Ended::Done(4))
-        } else {
-            step_beside(rt, alloc, broker, other, own)
-        }
-    };
-    for is_right in &thread::map_indices(rt, alloc, 2, &one)? {
-        assert!(rt; *is_right, "output {output}");
+    let broker: Broker<Id, Catalogue<&R>> = Broker::new(alloc, parts)?;
+    let ends_well = fill(rt, alloc, &broker)
+        && match case {
+            Case::StopAt(call) => goes_on(rt, alloc, &broker, call),
+            Case::StartTwice(output) => meet(rt, alloc, &broker, output, false)?,
+            Case::StartAndStep(output) => meet(rt, alloc, &broker, output, true)?,
+        };
+    Ok(ends_well && has_all(rt, &broker))
+}
+
+fn try_each<R: Threads + Wait + Abort + Sync>(
+    rt: &R,
+    alloc: Global,
+    cases: &[Case],
+) -> Result<(), Fail> {
+    for case in cases {
+        let parts = Parts::new(rt, alloc, 1, 2, 5)?;
+        assert!(rt; is_right::<Brand, R>(rt, alloc, parts, *case)?, "{case:?}");
     }
-    assert!(rt; has_all(rt, broker), "output {output}");
     Ok(())
 }
 
-fn start_and_step_each<R: Threads + Wait + Abort + Sync>(
-    rt: &R,
-    alloc: Global,
-) -> Result<(), Fail> {
-    for turn in 0..20 {
-        start_and_step::<Brand, R>(rt, alloc, parts(rt, alloc)?, turn % 2)?;
+const STOPS: [Case; 8] = [
+    Case::StopAt(1),
+    Case::StopAt(2),
+    Case::StopAt(3),
+    Case::StopAt(4),
+    Case::StopAt(5),
+    Case::StopAt(6),
+    Case::StopAt(7),
+    Case::StopAt(8),
+];
+
+#[test]
+fn a_worker_goes_on_where_one_was_stopped(rt: HostRuntime) -> Result<(), Fail> {
+    try_each(&rt, rt.alloc(), &STOPS)
+}
+
+const TWICE: [Case; 2] = [Case::StartTwice(0), Case::StartTwice(1)];
+
+#[test]
+fn two_starts_at_once_take_each_item_once(rt: HostRuntime) -> Result<(), Fail> {
+    for _ in 0..10 {
+        try_each(&rt, rt.alloc(), &TWICE)?;
     }
     Ok(())
 }
+
+const BESIDE: [Case; 2] = [Case::StartAndStep(0), Case::StartAndStep(1)];
 
 #[test]
 fn a_worker_and_steps_take_each_item_once(rt: HostRuntime) -> Result<(), Fail> {
-    start_and_step_each(&rt, rt.alloc())
+    for _ in 0..10 {
+        try_each(&rt, rt.alloc(), &BESIDE)?;
+    }
+    Ok(())
 }

@@ -13,6 +13,7 @@ use std::marker::Brand;
 use std::process::Abort;
 use std::sync::Wait;
 use std::test::Fail;
+use std::thread;
 use std::thread::Threads;
 use worker::Open;
 
@@ -118,4 +119,123 @@ fn is_one(rows: AuditedRows<'_>, want: &Seen) -> bool {
         None => false,
     };
     is_first && left.next().is_none()
+}
+
+/// The values of the records whose receipts another thread audits, in order.
+const VALUES: [u8; 6] = [b'A', b'B', b'C', b'D', b'E', b'F'];
+
+/// How often the auditor looks before the test fails.
+const TURNS: usize = 1_000_000;
+
+/// What a thread does.
+#[derive(Drop)]
+enum Job<Id: Names> {
+    /// Audits receipts until each is processed.
+    Audit(Vec<Receipt<Id>>),
+    /// Runs a worker.
+    Work,
+}
+
+/// Appends records and closes the log; the receipts of the records.
+fn append_six<Id: Names, C, R: Wait>(
+    rt: &R,
+    alloc: Global,
+    broker: &Broker<Id, C>,
+) -> Option<Vec<Receipt<Id>>> {
+    let mut receipts = Vec::new(alloc);
+    for value in &VALUES {
+        receipts.push(put(rt, alloc, broker, 0, *value)?).ok()?;
+    }
+    broker.close(rt, alloc, 0).ok()?;
+    Some(receipts)
+}
+
+/// How many of the first receipts are processed in an output partition. None where one has other rows
+/// than its own record's.
+fn processed<Id: Names, C, R: Wait>(
+    rt: &R,
+    alloc: Global,
+    broker: &Broker<Id, C>,
+    output: usize,
+    receipts: &[Receipt<Id>],
+) -> Option<usize> {
+    if output >= broker.outputs() {
+        return None;
+    }
+    let book = broker.book(output).lock(rt);
+    let audits = broker.audit_all(alloc, receipts, &book).ok()?;
+    let mut count = 0usize;
+    let mut values = VALUES.as_slice();
+    for audit in audits {
+        match (audit, values.split_first()) {
+            (Audit::Processed(rows), Some((value, later))) => {
+                if !is_one(rows, &(count as u64, output, *value)) {
+                    return None;
+                }
+                count = count.wrapping_add(1);
+                values = later;
+            }
+            _ => return Some(count),
+        }
+    }
+    Some(count)
+}
+
+/// Audits receipts in each book in turn, until all are processed in both.
+fn audit_until_done<Id: Names, C, R: Wait>(
+    rt: &R,
+    alloc: Global,
+    broker: &Broker<Id, C>,
+    receipts: &[Receipt<Id>],
+) -> bool {
+    for _ in 0..TURNS {
+        let first = processed(rt, alloc, broker, 0, receipts);
+        let second = processed(rt, alloc, broker, 1, receipts);
+        if first.is_none() || second.is_none() {
+            return false;
+        }
+        if first == Some(6) && second == Some(6) {
+            return true;
+        }
+        thread::yield_now();
+    }
+    false
+}
+
+fn act<Id: Names + Send + Sync, C: Send, R: Threads + Wait + Sync>(
+    rt: &R,
+    alloc: Global,
+    broker: &Broker<Id, C>,
+    job: &Job<Id>,
+) -> bool {
+    match job {
+        Job::Audit(receipts) => audit_until_done(rt, alloc, broker, receipts),
+        Job::Work => ends(rt, alloc, broker, Until::Closed, &Open, &[Ended::Done(8)]),
+    }
+}
+
+#[test]
+fn receipts_are_audited_by_another_thread(rt: HostRuntime) -> Result<(), Fail> {
+    let alloc = rt.alloc();
+    audit_beside::<Brand, _>(&rt, alloc, Parts::new(&rt, alloc, 1, 2, 8)?)
+}
+
+/// A thread that gets the receipts audits them in each book in turn, beside a worker.
+fn audit_beside<Id: Names + Send + Sync, R: Threads + Wait + Abort + Sync>(
+    rt: &R,
+    alloc: Global,
+    parts: Parts<Catalogue<&R>>,
+) -> Result<(), Fail>
+    requires { IsNamed Id.cells Id.inputs Id.outputs parts }
+{
+    let made: Broker<Id, Catalogue<&R>> = Broker::new(alloc, parts)?;
+    let broker = &made;
+    assert_eq!(rt; deploy(rt, alloc, broker, 0, &BOTH), Some(0));
+    let mut jobs = Vec::new(alloc);
+    jobs.push(Job::Audit(append_six(rt, alloc, broker).ok_or("receipts")?))?;
+    jobs.push(Job::Work)?;
+    let one = move |job: Job<Id>| -> bool { act(rt, alloc, broker, &job) };
+    let right = thread::map_vec(rt, jobs, &one)?;
+    assert!(rt; right.as_slice() == [true, true].as_slice());
+    Ok(())
 }

@@ -1,21 +1,8 @@
 //! Gates that tests hold and stop workers with.
 
+use broker_fixtures::sees;
 use std::sync::atomic::{AtomicBool, Ordering};
-use std::thread;
 use worker::Gate;
-
-const TURNS: usize = 100_000_000;
-
-/// Waits until a flag is raised, but not for ever; whether it was.
-pub(crate) fn sees(flag: &AtomicBool) -> bool {
-    for _ in 0..TURNS {
-        if flag.load(Ordering::SeqCst) {
-            return true;
-        }
-        thread::yield_now();
-    }
-    false
-}
 
 /// Stops before one offer.
 #[derive(Drop)]

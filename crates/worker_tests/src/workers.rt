@@ -1,9 +1,9 @@
 ghost use Rattle.broker.specs.Layouts.{IsNamed};
 
 use crate::books::has;
-use crate::gates::{Hold, Pair, Shut, sees};
+use crate::gates::{Hold, Pair, Shut};
 use broker::{Broker, Ended, Parts, Until};
-use broker_fixtures::{deploy, ends, put};
+use broker_fixtures::{deploy, ends, put, sees};
 use catalogue::Catalogue;
 use fixtures::{BOTH, FORWARD};
 use part_log::Names;

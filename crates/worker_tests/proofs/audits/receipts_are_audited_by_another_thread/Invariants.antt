@@ -1,9 +1,9 @@
 use Rattle.std.proofs.Common.{[], get_or, length}
-use Rattle.schedule_tests.proofs.threads.stop_at_each.Given as goal
+use Rattle.worker_tests.proofs.audits.receipts_are_audited_by_another_thread.Given as goal
 
 -- the names of the cells that were just made
-abbrev pub ghosts-stop_at : goal.ghosts-stop_at
-ghosts-stop_at g a = record {
+abbrev pub ghosts-audit_beside : goal.ghosts-audit_beside
+ghosts-audit_beside g a = record {
   cells = λ input. get_or a.parts.cells input [];
   inputs = length a.parts.cells;
   outputs = a.parts.outputs;

@@ -1,9 +1,9 @@
 use Rattle.std.proofs.Common.{[], get_or, length}
-use Rattle.memory_tests.proofs.steps.make_and_step.Given as goal
+use Rattle.schedule_tests.proofs.threads.try_each.Given as goal
 
 -- the names of the cells that were just made
-abbrev pub ghosts-step_all : goal.ghosts-step_all
-ghosts-step_all g a = record {
+abbrev pub ghosts-is_right : goal.ghosts-is_right
+ghosts-is_right g a = record {
   cells = λ input. get_or a.parts.cells input [];
   inputs = length a.parts.cells;
   outputs = a.parts.outputs;
