@@ -18,6 +18,12 @@ uint32_t klog_c_fault_text(uint32_t fault, size_t place, uint8_t *buffer, size_t
 uint32_t klog_c_share(klog_handle *program, klog_handle *other);
 uint32_t klog_c_run(klog_handle *program, const struct asked *asked, const uint8_t *key, size_t key_length,
 		    const uint8_t *value, size_t value_length, klog_handle *outcome);
+uint32_t klog_c_transform(klog_handle *program, const klog_source *source, const uint8_t *bytes, size_t length,
+			  klog_handle *batches, klog_stop *stop);
+uint32_t klog_c_counts(klog_handle *batches, klog_counts *counts);
+uint32_t klog_c_reject(klog_handle *batches, size_t number, klog_reject *reject);
+uint32_t klog_c_output(klog_handle *batches, size_t number, klog_output *output);
+uint32_t klog_c_output_batches(klog_handle *batches, size_t number, uint8_t *buffer, size_t room);
 uint32_t klog_c_outcome(klog_handle *outcome, uint64_t *code, size_t *count);
 uint32_t klog_c_emission(klog_handle *outcome, size_t number, klog_emission *emission);
 uint32_t klog_c_emission_key(klog_handle *outcome, size_t number, uint8_t *buffer, size_t room);
@@ -98,6 +104,39 @@ uint32_t klog_share(klog_handle *program, klog_handle *other)
 	return klog_c_share(program, other);
 }
 
+uint32_t klog_transform(klog_handle *program, const klog_source *source, const uint8_t *bytes, size_t length,
+			klog_handle *batches, klog_stop *stop)
+{
+	if (!program || !source || !batches || !stop || program == batches || is_no_buffer(bytes, length))
+		return KLOG_NULL;
+	if (is_foreign(program) || is_foreign(batches))
+		return KLOG_KIND;
+	if (length > longest_buffer)
+		return KLOG_RANGE;
+	return klog_c_transform(program, source, bytes ? bytes : no_bytes, length, batches, stop);
+}
+
+uint32_t klog_counts_of(klog_handle *batches, klog_counts *counts)
+{
+	if (!batches || !counts)
+		return KLOG_NULL;
+	return is_foreign(batches) ? KLOG_KIND : klog_c_counts(batches, counts);
+}
+
+uint32_t klog_reject_at(klog_handle *batches, size_t number, klog_reject *reject)
+{
+	if (!batches || !reject)
+		return KLOG_NULL;
+	return is_foreign(batches) ? KLOG_KIND : klog_c_reject(batches, number, reject);
+}
+
+uint32_t klog_output_at(klog_handle *batches, size_t number, klog_output *output)
+{
+	if (!batches || !output)
+		return KLOG_NULL;
+	return is_foreign(batches) ? KLOG_KIND : klog_c_output(batches, number, output);
+}
+
 uint32_t klog_run(klog_handle *program, const klog_record *record, klog_handle *outcome)
 {
 	if (!program || !record || !outcome || program == outcome)
@@ -158,6 +197,12 @@ uint32_t klog_emission_value(klog_handle *outcome, size_t number, uint8_t *buffe
 {
 	uint32_t fault = copy_fault(outcome, buffer, room);
 	return fault ? fault : klog_c_emission_value(outcome, number, buffer ? buffer : no_bytes, room);
+}
+
+uint32_t klog_output_batches(klog_handle *batches, size_t number, uint8_t *buffer, size_t room)
+{
+	uint32_t fault = copy_fault(batches, buffer, room);
+	return fault ? fault : klog_c_output_batches(batches, number, buffer ? buffer : no_bytes, room);
 }
 
 uint32_t klog_explain(const uint8_t *image, size_t length, uint32_t table, int is_refused_alone, klog_handle *text)

@@ -1,4 +1,4 @@
-/* klog's engine as a library: load an eBPF program once, run it on records.
+/* klog's engine as a library: load an eBPF program once, run it on record batches or on single records.
  *
  * A program is loaded from its image, as `klog asm` or `tools/image.py` makes it. A load accepts exactly the
  * images that the verifier accepts, and what it accepts runs without a trap, within as many instructions as it
@@ -8,16 +8,16 @@
  * Every function but klog_free returns a number: KLOG_OK, or why it did nothing. After another number than
  * KLOG_OK each handle and each buffer is as it was.
  *
- * Handles. A `klog_handle` holds a program, an outcome, a text or nothing; one of zero bytes (KLOG_NOTHING) holds
- * nothing. Only the library reads or writes its fields, and no handle is copied: klog_share makes another
+ * Handles. A `klog_handle` holds a program, batches, an outcome, a text or nothing; one of zero bytes (KLOG_NOTHING)
+ * holds nothing. Only the library reads or writes its fields, and no handle is copied: klog_share makes another
  * handle of one program. klog_free ends what a handle holds; each handle that holds something is freed once.
  *
  * Threads. The library starts none, has no lock and no global state. A handle is given to one call at a time.
  * It may go to another thread, where the threads order that (a thread's start or its join, a mutex). Handles of
  * one program, made by klog_share, serve as many threads at the same time.
  *
- * Memory. Handles and buffers of one call do not overlap. The memory of a program and of an outcome comes from
- * malloc, realloc and free. */
+ * Memory. Handles and buffers of one call do not overlap. The memory of what a handle holds comes from malloc,
+ * realloc and free. */
 #ifndef KLOG_ENGINE_H
 #define KLOG_ENGINE_H
 
@@ -29,7 +29,8 @@ extern "C" {
 #endif
 
 /* What a call returns. Of a refused image it is 101 to 106, the faults I1 to I6, at a slot of 8 bytes of the
- * image, or 201 to 213, the faults V1 to V13, at an instruction. docs/faults.md has their causes and cures. */
+ * image, or 201 to 213, the faults V1 to V13, at an instruction. Of a refused record batch it is 301 to 309, the
+ * faults B1 to B9. docs/faults.md has their causes and cures. */
 enum {
 	KLOG_OK = 0,
 	KLOG_MEMORY = 1, /* memory ran out */
@@ -38,8 +39,10 @@ enum {
 	KLOG_LENGTH = 4, /* a key or a value is too long */
 	KLOG_ROOM = 5,   /* a buffer is too short */
 	KLOG_NULL = 6,   /* a null pointer, or one handle given twice */
+	KLOG_FULL = 7,   /* the offsets of records are used up */
 	KLOG_IMAGE = 100,
-	KLOG_VERIFIER = 200
+	KLOG_VERIFIER = 200,
+	KLOG_BATCH = 300
 };
 
 /* Bits of klog_emission.nulls. */
@@ -52,13 +55,48 @@ enum { KLOG_TABLE_ONE = 1, KLOG_TABLE_TWO = 2 };
 /* The most emissions of one record. */
 enum { KLOG_EMISSIONS = 16 };
 
-/* A program, an outcome, a text, or nothing. */
+/* A program, batches, an outcome, a text, or nothing. */
 typedef struct klog_handle {
 	unsigned char *at;
 	unsigned char full;
 } klog_handle;
 
 #define KLOG_NOTHING {0, 0}
+
+/* Where record batches are. */
+typedef struct klog_source {
+	uint64_t offset;  /* the first record's in its input partition, at most 2^62 */
+	size_t partition; /* the input partition, below 64 */
+	size_t outputs;   /* how many output partitions there are, 1 to 64 */
+} klog_source;
+
+/* Where a transform stopped. */
+typedef struct klog_stop {
+	size_t batch;    /* how many whole batches are before */
+	size_t byte;     /* how many bytes they have, and so where the next batch begins */
+	uint32_t record; /* of fault 308, the record of that batch, from 0; else 0 */
+} klog_stop;
+
+/* What a transform read. Its records are kept or rejected. */
+typedef struct klog_counts {
+	size_t batches;   /* how many batches */
+	uint64_t records; /* how many records they have */
+	uint64_t kept;    /* how many of these the program kept */
+	size_t codes;     /* how many codes rejected others */
+	size_t outputs;   /* how many output partitions there are */
+} klog_counts;
+
+/* How many records a code rejected. */
+typedef struct klog_reject {
+	uint64_t code;
+	uint64_t records;
+} klog_reject;
+
+/* What a transform gives to an output partition. */
+typedef struct klog_output {
+	uint64_t rows; /* how many rows: records in its batches */
+	size_t length; /* how many bytes its batches have, 0 without rows */
+} klog_output;
 
 /* A record, and where it is. */
 typedef struct klog_record {
@@ -89,8 +127,9 @@ uint32_t klog_load(const uint8_t *image, size_t length, uint32_t table, klog_han
 
 /* Writes the text of a fault as `klog` prints it ("I3 Register slot 0", "V7 RecordBounds at 2") to the front of a
  * buffer of `room` bytes, with no zero byte at its end, and its length to `*length`. `place` is what klog_load
- * gave. KLOG_ROOM: the buffer is too short; `*length` is what it needs. 64 bytes are enough for each text.
- * KLOG_NULL: `length` is null, or `buffer` is null and `room` is not 0. KLOG_MEMORY. */
+ * gave, or the record of klog_transform's stop ("B8 Record record 1"). KLOG_ROOM: the buffer is too short; `*length`
+ * is what it needs. 64 bytes are enough for each text. KLOG_NULL: `length` is null, or `buffer` is null and `room` is
+ * not 0. KLOG_MEMORY. */
 uint32_t klog_fault_text(uint32_t fault, size_t place, char *buffer, size_t room, size_t *length);
 
 /* Gives another owner of a program to `other`, which holds nothing or a program; that one is freed. The program
@@ -98,8 +137,38 @@ uint32_t klog_fault_text(uint32_t fault, size_t place, char *buffer, size_t room
  * null, or both are one handle. KLOG_MEMORY. */
 uint32_t klog_share(klog_handle *program, klog_handle *other);
 
-/* Runs a program on one record with no headers (header_count answers 0 there), into `outcome`, which holds nothing or an outcome; that one is
- * freed. KLOG_KIND: `program` holds no program, or `outcome` something else. KLOG_RANGE: a number of the record
+/* Runs a program on all records of the record batches (Kafka's format, magic 2, not compressed) that the `length`
+ * bytes are, one after the other, into `batches`, which holds nothing or batches; those are freed. Each output partition
+ * then has the rows that the program gives it, in order, as record batches that each take as many rows as they can;
+ * their offsets begin at 0. The offsets that the given batches carry are not read: the first record has
+ * `source->offset`, and each the one after the last.
+ *
+ * It is all or nothing. A fault of 301 to 309 says why the bytes begin with no batch after those up to `*stop`; so a
+ * call with `stop->byte` as the length transforms these. KLOG_FULL: after those, 10,000 records would go beyond the
+ * offset 2^62. Else `*stop` means nothing. KLOG_KIND: `program` holds no program, or `batches` something else.
+ * KLOG_RANGE: a number of the source is out of its range. KLOG_NULL: a pointer is null (`bytes` may be, with the length
+ * 0), or one handle is given twice. KLOG_MEMORY. The call copies the bytes once. */
+uint32_t klog_transform(klog_handle *program, const klog_source *source, const uint8_t *bytes, size_t length,
+			klog_handle *batches, klog_stop *stop);
+
+/* Tells what a transform read. KLOG_KIND: `batches` holds no batches. KLOG_NULL: a pointer is null. */
+uint32_t klog_counts_of(klog_handle *batches, klog_counts *counts);
+
+/* Tells how many records a code rejected, by its number from 0, below `codes`; the codes rise. KLOG_KIND: `batches`
+ * holds no batches. KLOG_RANGE: there is no such code. KLOG_NULL: a pointer is null. */
+uint32_t klog_reject_at(klog_handle *batches, size_t number, klog_reject *reject);
+
+/* Tells of an output partition, by its number from 0. KLOG_KIND: `batches` holds no batches. KLOG_RANGE: there is no
+ * such output partition. KLOG_NULL: a pointer is null. */
+uint32_t klog_output_at(klog_handle *batches, size_t number, klog_output *output);
+
+/* Copies the batches of an output partition to the front of a buffer of `room` bytes, of which the rest is as it was.
+ * KLOG_KIND, KLOG_RANGE: as above. KLOG_ROOM: the buffer is too short. KLOG_NULL: `batches` is null, or `buffer` is
+ * null and `room` is not 0. */
+uint32_t klog_output_batches(klog_handle *batches, size_t number, uint8_t *buffer, size_t room);
+
+/* Runs a program on one record with no headers (header_count answers 0 there), into `outcome`, which holds nothing or
+ * an outcome; that one is freed. KLOG_KIND: `program` holds no program, or `outcome` something else. KLOG_RANGE: a number of the record
  * is out of its range. KLOG_LENGTH: the key or the value is too long. KLOG_NULL: a pointer is null, one handle is
  * given twice, or a null key or value has a length. KLOG_MEMORY. */
 uint32_t klog_run(klog_handle *program, const klog_record *record, klog_handle *outcome);

@@ -1,8 +1,8 @@
 /* Calls each function of the C library in random order, from several threads that share one program, with random,
- * damaged and huge images and records, short buffers, null pointers and handles of every kind.
+ * damaged and huge images, records and record batches, short buffers, null pointers and handles of every kind.
  *	library_driver SECONDS THREADS SEED IMAGE ..
  * It fails where a fault is none of the function's, where a fault changes a handle or a buffer, or where the first
- * image, which forwards each record to output 0, gives another record than it was given. A sanitizer finds the rest:
+ * image, which forwards each record to output 0, gives another record or batch than it was given. A sanitizer finds the rest:
  *	cc -std=c99 -D_POSIX_C_SOURCE=200809L -g -fsanitize=address,undefined -fno-sanitize-recover -pthread -IFOLDER \
  *		tools/library_driver.c FOLDER/libklog.a -o library_driver */
 #include "klog_engine.h"
@@ -14,7 +14,7 @@
 #include <string.h>
 #include <time.h>
 
-enum { HANDLES = 6, IMAGES = 64, LONGEST = 200000, MOST_THREADS = 16 };
+enum { HANDLES = 8, IMAGES = 64, LONGEST = 200000, MOST_THREADS = 16 };
 
 struct image {
 	uint8_t *bytes;
@@ -26,7 +26,8 @@ struct worker {
 	uint64_t state;
 	unsigned long calls, runs;
 	klog_handle handles[HANDLES];
-	klog_handle forward, outcome;
+	klog_handle forward, outcome, batches;
+	unsigned long transforms;
 };
 
 static struct image images[IMAGES];
@@ -81,7 +82,7 @@ static size_t length_below(struct worker *w, size_t limit)
 }
 
 /* What a handle mostly holds, by its number. */
-enum { PROGRAMS = 0, OUTCOMES = 2, TEXTS = 4 };
+enum { PROGRAMS = 0, OUTCOMES = 2, TEXTS = 4, BATCHES = 6 };
 
 /* A handle that mostly holds what is asked for, any other, or none. */
 static klog_handle *handle(struct worker *w, size_t first)
@@ -136,7 +137,7 @@ static void load(struct worker *w)
 
 static void fault_text(struct worker *w)
 {
-	static const uint32_t faults[] = {0, 1, 2, 3, 4, 5, 6, 101, 102, 106, 107, 201, 213, 214};
+	static const uint32_t faults[] = {0, 1, 2, 3, 4, 5, 6, 7, 101, 102, 106, 107, 201, 213, 214, 301, 308, 309, 310};
 	size_t room = below(w, 80), length = 0;
 	char *text = (char *)block(w, room);
 	uint32_t of = one_in(w, 3) ? (uint32_t)number(w) : faults[below(w, sizeof faults / sizeof faults[0])];
@@ -269,6 +270,209 @@ static void explain(struct worker *w)
 	free(bytes);
 }
 
+/* ---- record batches, as the library writes them: no producer, offsets from 0 */
+
+static uint32_t crc_table[256];
+
+/* The table of CRC-32C, bit by bit. */
+static void make_crc_table(void)
+{
+	for (uint32_t k = 0; k < 256; k++) {
+		uint32_t x = k;
+		for (int bit = 0; bit < 8; bit++)
+			x = x & 1 ? x >> 1 ^ 0x82f63b78u : x >> 1;
+		crc_table[k] = x;
+	}
+}
+
+static uint32_t crc(const uint8_t *bytes, size_t length)
+{
+	uint32_t x = 0xffffffffu;
+	for (size_t k = 0; k < length; k++)
+		x = crc_table[(x ^ bytes[k]) & 255] ^ x >> 8;
+	return ~x;
+}
+
+static uint8_t *put_number(uint8_t *at, uint64_t number, int bytes)
+{
+	for (int k = bytes - 1; k >= 0; k--)
+		*at++ = (uint8_t)(number >> 8 * k);
+	return at;
+}
+
+/* A zigzag number of 7 bits a byte, the low ones first. */
+static uint8_t *put_varint(uint8_t *at, int64_t number)
+{
+	uint64_t x = (uint64_t)number << 1 ^ (uint64_t)(number >> 63);
+	for (; x >= 128; x >>= 7)
+		*at++ = (uint8_t)(x | 128);
+	*at++ = (uint8_t)x;
+	return at;
+}
+
+static size_t varint_size(int64_t number)
+{
+	uint8_t bytes[10];
+	return (size_t)(put_varint(bytes, number) - bytes);
+}
+
+/* The bytes of a part, or null. */
+static uint8_t *put_part(struct worker *w, uint8_t *at, int64_t length)
+{
+	at = put_varint(at, length);
+	for (int64_t k = 0; k < length; k++)
+		*at++ = (uint8_t)(w->state >> k % 57);
+	return at;
+}
+
+static uint8_t *put_record(struct worker *w, uint8_t *at, int64_t number, size_t longest)
+{
+	int64_t key = (int64_t)below(w, 24) - 1, value = (int64_t)below(w, longest) - 1;
+	int64_t header_key = (int64_t)below(w, 8), header_value = (int64_t)below(w, 8) - 1, headers = one_in(w, 4);
+	size_t size = 1 + 1 + varint_size(number) + varint_size(key) + (size_t)(key > 0 ? key : 0) + varint_size(value) +
+		      (size_t)(value > 0 ? value : 0) + 1;
+	if (headers)
+		size += 1 + (size_t)header_key + 1 + (size_t)(header_value > 0 ? header_value : 0);
+	at = put_varint(at, (int64_t)size);
+	*at++ = 0;
+	at = put_varint(at, 0);
+	at = put_varint(at, number);
+	at = put_part(w, at, key);
+	at = put_part(w, at, value);
+	at = put_varint(at, headers);
+	if (headers) {
+		at = put_part(w, at, header_key);
+		at = put_part(w, at, header_value);
+	}
+	return at;
+}
+
+/* Writes a batch, and returns its end. Its room is 61 and 70 bytes a record beside their values. */
+static uint8_t *put_batch(struct worker *w, uint8_t *at, uint64_t offset, size_t count, size_t longest)
+{
+	uint64_t time = below(w, 1ull << 62);
+	uint8_t *begin = at, *end = begin + 61;
+	for (size_t k = 0; k < count; k++)
+		end = put_record(w, end, (int64_t)k, longest);
+	at = put_number(at, offset, 8);
+	at = put_number(at, (uint64_t)(end - begin - 12), 4);
+	at = put_number(at, 0, 4);
+	*at++ = 2;
+	uint8_t *sum = at;
+	at = put_number(at + 4, 0, 2);
+	at = put_number(at, count - 1, 4);
+	at = put_number(at, time, 8);
+	at = put_number(at, time, 8);
+	at = put_number(at, ~0ull, 8);
+	at = put_number(at, ~0ull, 2);
+	at = put_number(at, ~0ull, 4);
+	put_number(at, count, 4);
+	put_number(sum, crc(sum + 4, (size_t)(end - sum - 4)), 4);
+	return end;
+}
+
+/* Some batches in a block of exactly their length, some of them damaged. */
+static uint8_t *some_batches(struct worker *w, size_t *length, size_t *batches, bool is_fine)
+{
+	size_t count = is_fine ? 1 + below(w, 3) : below(w, 4), longest = one_in(w, 6) ? 9000 : 80;
+	size_t records = one_in(w, 10) ? 300 : 20;
+	uint8_t *room = block(w, count * (61 + records * (longest + 70))), *end = room;
+	for (size_t k = 0; k < count; k++)
+		end = put_batch(w, end, below(w, 1000), 1 + below(w, records), longest);
+	*length = (size_t)(end - room);
+	*batches = count;
+	if (!is_fine) {
+		for (uint64_t k = below(w, 3); k && *length; k--)
+			room[below(w, one_in(w, 2) && *length > 70 ? 70 : *length)] ^= (uint8_t)(1u << below(w, 8));
+		if (one_in(w, 3) && *length)
+			*length = below(w, *length);
+	}
+	uint8_t *bytes = block(w, *length);
+	memcpy(bytes, room, *length);
+	free(room);
+	return bytes;
+}
+
+static bool is_batch_fault(uint32_t fault)
+{
+	return (fault >= 301 && fault <= 309) || fault == KLOG_FULL;
+}
+
+static void transform(struct worker *w)
+{
+	size_t length, count;
+	uint8_t *bytes = some_batches(w, &length, &count, one_in(w, 2));
+	klog_source source = {below(w, 1ull << 62), below(w, 64), 1 + below(w, 64)};
+	if (one_in(w, 6))
+		source = (klog_source){number(w), (size_t)number(w), (size_t)number(w)};
+	klog_stop stop = {7, 7, 7};
+	klog_handle *program = handle(w, PROGRAMS), *to = handle(w, BATCHES);
+	klog_handle before = to ? *to : (klog_handle)KLOG_NOTHING;
+	uint32_t fault = klog_transform(program, one_in(w, 60) ? NULL : &source, one_in(w, 60) ? NULL : bytes,
+					one_in(w, 60) ? ~(size_t)0 >> 1 << 1 : length, to, one_in(w, 60) ? NULL : &stop);
+	look("transform", fault, &before, to);
+	if (fault > KLOG_RANGE && fault != KLOG_NULL && !is_batch_fault(fault))
+		fail("transform", fault);
+	if (is_batch_fault(fault) && (stop.byte > length || stop.batch > count))
+		fail("transform's stop", fault);
+	w->transforms += fault == KLOG_OK;
+	free(bytes);
+}
+
+static void outputs(struct worker *w)
+{
+	klog_handle *batches = handle(w, BATCHES);
+	klog_counts counts = {0};
+	klog_reject reject;
+	klog_output told = {0};
+	uint32_t fault = klog_counts_of(batches, &counts);
+	if (fault != KLOG_OK && fault != (batches ? KLOG_KIND : KLOG_NULL))
+		fail("counts_of", fault);
+	if (counts.kept > counts.records || counts.codes > counts.records - counts.kept || counts.outputs > 64)
+		fail("counts_of's answer", fault);
+	size_t code = one_in(w, 2) ? (size_t)number(w) : below(w, counts.codes + 1);
+	uint32_t found = klog_reject_at(batches, code, &reject);
+	if (found != (fault ? fault : code < counts.codes ? KLOG_OK : KLOG_RANGE))
+		fail("reject_at", found);
+	size_t at = one_in(w, 4) ? (size_t)number(w) : below(w, counts.outputs + 1);
+	found = klog_output_at(batches, at, &told);
+	if (found != (fault ? fault : at < counts.outputs ? KLOG_OK : KLOG_RANGE))
+		fail("output_at", found);
+	if (found)
+		return;
+	size_t room = one_in(w, 2) ? told.length : below(w, 2 * told.length + 2);
+	uint8_t *buffer = block(w, room);
+	found = klog_output_batches(batches, at, one_in(w, 40) ? NULL : buffer, room);
+	if (found != KLOG_NULL && found != (room < told.length ? KLOG_ROOM : KLOG_OK))
+		fail("output_batches", found);
+	free(buffer);
+}
+
+/* The shared program forwards the one batch that it is given, byte by byte. */
+static void forward_batch(struct worker *w)
+{
+	uint8_t *room = block(w, 61 + 50 * 150), *end = put_batch(w, room, 0, 1 + below(w, 50), 80);
+	size_t length = (size_t)(end - room);
+	klog_source source = {below(w, 1ull << 61), below(w, 64), 1 + below(w, 64)};
+	klog_stop stop;
+	klog_counts counts;
+	klog_output told;
+	uint32_t fault = klog_transform(&w->forward, &source, room, length, &w->batches, &stop);
+	if (!fault)
+		fault = klog_counts_of(&w->batches, &counts);
+	if (!fault)
+		fault = klog_output_at(&w->batches, 0, &told);
+	if (fault || counts.batches != 1 || counts.records != counts.kept || counts.codes || counts.records != told.rows ||
+	    told.length != length)
+		fail("forward_batch", fault);
+	uint8_t *copied = block(w, length);
+	fault = klog_output_batches(&w->batches, 0, copied, length);
+	if (fault || memcmp(copied, room, length))
+		fail("forward_batch's bytes", fault);
+	free(copied);
+	free(room);
+}
+
 /* The shared program forwards the record that it is given. */
 static void forward(struct worker *w)
 {
@@ -297,18 +501,20 @@ static void forward(struct worker *w)
 static void *work(void *at)
 {
 	static void (*const calls[])(struct worker *) = {load, load, load, fault_text, share, explain,
-							 run, run, run, emissions, emissions, forward};
+							 run, run, run, emissions, emissions, forward,
+							 transform, transform, outputs, forward_batch};
 	struct worker *w = at;
 	while (time(NULL) < end) {
 		calls[below(w, sizeof calls / sizeof calls[0])](w);
 		if (one_in(w, 8))
-			klog_free(handle(w, 2 * below(w, 3)));
+			klog_free(handle(w, 2 * below(w, 4)));
 		w->calls++;
 	}
 	for (size_t k = 0; k < HANDLES; k++)
 		klog_free(&w->handles[k]);
 	klog_free(&w->forward);
 	klog_free(&w->outcome);
+	klog_free(&w->batches);
 	return NULL;
 }
 
@@ -335,7 +541,8 @@ int main(int argc, char **argv)
 	}
 	static struct worker workers[MOST_THREADS];
 	size_t threads = strtoul(argv[2], NULL, 10), place;
-	unsigned long calls = 0, runs = 0;
+	unsigned long calls = 0, runs = 0, transforms = 0;
+	make_crc_table();
 	for (int k = 4; k < argc; k++)
 		read_image(argv[k]);
 	if (threads < 1 || threads > MOST_THREADS ||
@@ -353,10 +560,11 @@ int main(int argc, char **argv)
 		pthread_join(workers[k].thread, NULL);
 		calls += workers[k].calls;
 		runs += workers[k].runs;
+		transforms += workers[k].transforms;
 	}
 	klog_free(&shared);
 	for (size_t k = 0; k < image_count; k++)
 		free(images[k].bytes);
-	printf("%lu calls, %lu of them runs, no fault\n", calls, runs);
+	printf("%lu calls, %lu of them runs and %lu transforms, no fault\n", calls, runs, transforms);
 	return 0;
 }

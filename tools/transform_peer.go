@@ -1,7 +1,7 @@
 // What a user would write instead of a klog program and `klog transform`: record batches in, a native filter or router,
 // record batches out, by sarama's codec, on one core. transform_speed.py builds it, with the codec's entries exported.
 //
-// transform_peer forward|route IN OUT ..
+// transform_peer forward|keep|route IN OUT ..
 package main
 
 import (
@@ -58,6 +58,17 @@ func routed(key []byte) int {
 	return int((hash ^ hash>>32) % 4)
 }
 
+// kept has the records whose value begins with 'A', as examples/c/filter_first_byte.c.
+func kept(records []*sarama.Record) []*sarama.Record {
+	some := make([]*sarama.Record, 0, len(records))
+	for _, r := range records {
+		if len(r.Value) > 0 && r.Value[0] == 'A' {
+			some = append(some, r)
+		}
+	}
+	return some
+}
+
 // next reads a batch; nil at the end.
 func next(in io.Reader) *sarama.RecordBatch {
 	head := make([]byte, 12)
@@ -89,6 +100,10 @@ func main() {
 	for batch := next(in); batch != nil; batch = next(in) {
 		if os.Args[1] == "forward" {
 			outs[0].write(batch, batch.Records)
+			continue
+		}
+		if os.Args[1] == "keep" {
+			outs[0].write(batch, kept(batch.Records))
 			continue
 		}
 		var parts [4][]*sarama.Record

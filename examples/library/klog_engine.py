@@ -2,12 +2,15 @@
 
     with Program(Engine("libklog.so"), image) as program:
         code, emissions = program.run(key, value)
+        made = program.transform(batches, offset=0, outputs=2)
 """
 import ctypes
+from collections import namedtuple
 from ctypes import POINTER, byref, c_size_t, c_uint32, c_uint64
 
 BYTES = ctypes.c_char_p
 NULL_KEY, NULL_VALUE = 1, 2
+FULL, BATCH = 7, 300
 MOST_KEY, MOST_VALUE = 4096, 1048576
 
 
@@ -24,8 +27,42 @@ class Emission(ctypes.Structure):
     _fields_ = [("output", c_size_t), ("key_length", c_size_t), ("value_length", c_size_t), ("nulls", c_uint32)]
 
 
+class Source(ctypes.Structure):
+    _fields_ = [("offset", c_uint64), ("partition", c_size_t), ("outputs", c_size_t)]
+
+
+class Stop(ctypes.Structure):
+    _fields_ = [("batch", c_size_t), ("byte", c_size_t), ("record", c_uint32)]
+
+
+class Counts(ctypes.Structure):
+    _fields_ = [("batches", c_size_t), ("records", c_uint64), ("kept", c_uint64), ("codes", c_size_t),
+                ("outputs", c_size_t)]
+
+
+class Reject(ctypes.Structure):
+    _fields_ = [("code", c_uint64), ("records", c_uint64)]
+
+
+class Output(ctypes.Structure):
+    _fields_ = [("rows", c_uint64), ("length", c_size_t)]
+
+
+# What a program makes of record batches: how many there were, their records, how many of these were kept, how many each
+# code rejected, and for each output its number of rows and its batches.
+Transformed = namedtuple("Transformed", "batches records kept rejects outputs")
+
+
 class Fault(Exception):
     """What the engine refuses, as `klog` prints it."""
+
+
+class BatchFault(Fault):
+    """The same of record batches: `batch` of them end at `byte`, and could be transformed alone."""
+
+    def __init__(self, text, stop):
+        super().__init__(f"batch {stop.batch} at byte {stop.byte}: {text}")
+        self.batch, self.byte = stop.batch, stop.byte
 
 
 class Engine:
@@ -42,6 +79,11 @@ class Engine:
         self.declare("klog_emission_at", handle, c_size_t, POINTER(Emission))
         self.declare("klog_emission_key", handle, c_size_t, BYTES, c_size_t)
         self.declare("klog_emission_value", handle, c_size_t, BYTES, c_size_t)
+        self.declare("klog_transform", handle, POINTER(Source), BYTES, c_size_t, handle, POINTER(Stop))
+        self.declare("klog_counts_of", handle, POINTER(Counts))
+        self.declare("klog_reject_at", handle, c_size_t, POINTER(Reject))
+        self.declare("klog_output_at", handle, c_size_t, POINTER(Output))
+        self.declare("klog_output_batches", handle, c_size_t, BYTES, c_size_t)
         self.declare("klog_free", handle)
         self.library.klog_free.restype = None
 
@@ -65,6 +107,7 @@ class Program:
     def __init__(self, engine, image, table=1):
         self.engine, self.library = engine, engine.library
         self.program, self.outcome, self.record, self.emission = Handle(), Handle(), Record(), Emission()
+        self.batches, self.source, self.stop, self.counts = Handle(), Source(), Stop(), Counts()
         self.code, self.count = c_uint64(), c_size_t()
         self.key, self.value = ctypes.create_string_buffer(MOST_KEY), ctypes.create_string_buffer(MOST_VALUE)
         self.key_bytes, self.value_bytes = memoryview(self.key), memoryview(self.value)
@@ -84,6 +127,7 @@ class Program:
 
     def free(self):
         self.library.klog_free(byref(self.outcome))
+        self.library.klog_free(byref(self.batches))
         self.library.klog_free(byref(self.program))
 
     def run(self, key, value, offset=0, timestamp=0, partition=0, outputs=1):
@@ -107,3 +151,28 @@ class Program:
         key = None if emission.nulls & NULL_KEY else bytes(self.key_bytes[:emission.key_length])
         value = None if emission.nulls & NULL_VALUE else bytes(self.value_bytes[:emission.value_length])
         return emission.output, key, value
+
+    def transform(self, batches, offset=0, partition=0, outputs=1):
+        """What the program makes of all records of some record batches, of which the first has this offset."""
+        library, source, stop = self.library, self.source, self.stop
+        source.offset, source.partition, source.outputs = offset, partition, outputs
+        fault = library.klog_transform(byref(self.program), byref(source), batches, len(batches), byref(self.batches),
+                                       byref(stop))
+        if fault > BATCH or fault == FULL:
+            raise BatchFault(self.engine.text(fault, stop.record), stop)
+        self.engine.check(fault or library.klog_counts_of(byref(self.batches), byref(self.counts)))
+        counts = self.counts
+        return Transformed(counts.batches, counts.records, counts.kept, [self.reject(k) for k in range(counts.codes)],
+                           [self.output(k) for k in range(outputs)])
+
+    def reject(self, number):
+        reject = Reject()
+        self.engine.check(self.library.klog_reject_at(byref(self.batches), number, byref(reject)))
+        return reject.code, reject.records
+
+    def output(self, number):
+        told = Output()
+        self.engine.check(self.library.klog_output_at(byref(self.batches), number, byref(told)))
+        room = ctypes.create_string_buffer(told.length)
+        self.engine.check(self.library.klog_output_batches(byref(self.batches), number, room, told.length))
+        return told.rows, room.raw

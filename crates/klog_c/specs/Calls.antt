@@ -23,12 +23,14 @@ abbrev pub program_in : Option Object → Option Program
 program_in (Some (object.Program program)) = Some program
 program_in (Some (object.Outcome outcome)) = None
 program_in (Some (object.Text text)) = None
+program_in (Some (object.Batches made)) = None
 program_in None = None
 
 abbrev pub outcome_in : Option Object → Option Outcome
 outcome_in (Some (object.Program program)) = None
 outcome_in (Some (object.Outcome outcome)) = Some outcome
 outcome_in (Some (object.Text text)) = None
+outcome_in (Some (object.Batches made)) = None
 outcome_in None = None
 
 -- the bytes of a text
@@ -36,12 +38,14 @@ abbrev pub text_in : Option Object → Option (List ℕ)
 text_in (Some (object.Program program)) = None
 text_in (Some (object.Outcome outcome)) = None
 text_in (Some (object.Text text)) = Some (string_bytes text)
+text_in (Some (object.Batches made)) = None
 text_in None = None
 
 abbrev pub kind_of : Object → ℕ
 kind_of (object.Program program) = 0
 kind_of (object.Outcome outcome) = 1
 kind_of (object.Text text) = 2
+kind_of (object.Batches made) = 3
 
 -- a handle that may be filled with an object of a kind: it holds nothing or one of the same kind
 abbrev pub takes_kind : Option Object → ℕ → Bool

@@ -4,3 +4,4 @@ pub mod Calls
 pub mod Outcomes
 pub mod Texts
 pub mod Explained
+pub mod Batches

@@ -4,6 +4,10 @@ use Rattle.machine_spec.specs.declared.instruction.IsaFault.{IsaFault}
 use Rattle.verifier_spec.specs.declared.fault.Check.{Check}
 use Rattle.verifier_spec.specs.declared.fault.LoadFault.{LoadFault}
 use Rattle.verifier_spec.specs.declared.fault.LoadFault.TheVariants.{Isa, Verify}
+use Rattle.wire_spec.specs.declared.fault.BatchFault.{BatchFault}
+use Rattle.wire_spec.specs.declared.fault.BatchFault.TheVariants as fault
+use Rattle.batch_transform.specs.declared.fault.Stop.{Stop}
+use Rattle.batch_transform.specs.declared.fault.Stop.TheVariants as stop
 
 abbrev pub isa_number : IsaFault → ℕ
 isa_number IsaFault.Size = 101
@@ -49,3 +53,39 @@ isa_place IsaFault.Memory = 0
 abbrev pub fault_place : LoadFault → ℕ
 fault_place (Isa fault) = isa_place fault
 fault_place (Verify fault) = fault.pc
+
+abbrev pub batch_number : BatchFault → ℕ
+batch_number fault.Short = 301
+batch_number fault.Length = 302
+batch_number fault.TooLarge = 303
+batch_number fault.Magic = 304
+batch_number fault.Crc = 305
+batch_number fault.Attributes = 306
+batch_number fault.Count = 307
+batch_number (fault.Record place) = 308
+batch_number fault.Timestamp = 309
+batch_number fault.Memory = 1
+
+-- of what stops a transform: B1 to B9 are 301 to 309
+abbrev pub stop_number : Stop → ℕ
+stop_number (stop.Batch why) = batch_number why
+stop_number stop.Full = 7
+stop_number stop.Memory = 1
+
+abbrev pub batch_record : BatchFault → ℕ
+batch_record fault.Short = 0
+batch_record fault.Length = 0
+batch_record fault.TooLarge = 0
+batch_record fault.Magic = 0
+batch_record fault.Crc = 0
+batch_record fault.Attributes = 0
+batch_record fault.Count = 0
+batch_record (fault.Record place) = place
+batch_record fault.Timestamp = 0
+batch_record fault.Memory = 0
+
+-- the record of its batch that a stop is about; 0 where it is about none
+abbrev pub stop_record : Stop → ℕ
+stop_record (stop.Batch why) = batch_record why
+stop_record stop.Full = 0
+stop_record stop.Memory = 0

@@ -3,11 +3,19 @@ use Rattle.std.specs.Prelude.{◌≡◌, ℕ, ◌⊎◌, ◌==◌, ◌&&◌, nat
 use Rattle.klog_c.specs.declared.faults.TheConstants.{MEMORY}
 use Rattle.klog_c.specs.Outcomes.{Copies}
 
+abbrev pub batch_fault_name : ℕ → List ℕ
+batch_fault_name n =
+    if n == 301 then codes "B1 Short" else if n == 302 then codes "B2 Length" else
+    if n == 303 then codes "B3 TooLarge" else if n == 304 then codes "B4 Magic" else
+    if n == 305 then codes "B5 Crc" else if n == 306 then codes "B6 Attributes" else
+    if n == 307 then codes "B7 Count" else if n == 308 then codes "B8 Record" else
+    if n == 309 then codes "B9 Timestamp" else codes "no fault"
+
 abbrev pub image_fault_name : ℕ → List ℕ
 image_fault_name n =
     if n == 101 then codes "I1 Size" else if n == 102 then codes "I2 Opcode" else
     if n == 103 then codes "I3 Register" else if n == 104 then codes "I4 Unused" else
-    if n == 105 then codes "I5 Wide" else if n == 106 then codes "I6 NotInProfile" else codes "no fault"
+    if n == 105 then codes "I5 Wide" else if n == 106 then codes "I6 NotInProfile" else batch_fault_name n
 
 abbrev pub register_fault_name : ℕ → List ℕ
 register_fault_name n =
@@ -28,13 +36,14 @@ name_of n =
     if n == 1 then codes "memory ran out" else if n == 2 then codes "a handle of nothing, or of another kind" else
     if n == 3 then codes "a number is out of its range" else if n == 4 then codes "a key or a value is too long" else
     if n == 5 then codes "a buffer is too short" else
-    if n == 6 then codes "a null pointer, or a handle given twice" else program_fault_name n
+    if n == 6 then codes "a null pointer, or a handle given twice" else
+    if n == 7 then codes "the offsets of records are used up" else program_fault_name n
 
--- an image's faults but its size's are at a slot, the verifier's at an instruction
+-- an image's faults but its size's are at a slot, the verifier's at an instruction, and one of a batch's at a record
 abbrev pub place_word : ℕ → List ℕ
 place_word n =
     if nat_le 102 n && nat_le n 106 then codes " slot " else
-    if nat_le 201 n && nat_le n 213 then codes " at " else []
+    if nat_le 201 n && nat_le n 213 then codes " at " else if n == 308 then codes " record " else []
 
 abbrev pub with_place : List ℕ → List ℕ → ℕ → List ℕ
 with_place name word place = if length word == 0 then name else name ++ (word ++ decimal place)

@@ -47,7 +47,7 @@ pub(crate) fn tell(object: &Object, code: &mut u64, count: &mut usize) -> u32
     ensures { definitions.Tells (outcome_in (Some object.now)) code.new count.new result }
 {
     match object {
-        Object::Program(_) | Object::Text(_) => KIND,
+        Object::Program(_) | Object::Text(_) | Object::Batches(_) => KIND,
         Object::Outcome(outcome) => {
             *code = code_of(outcome);
             *count = emissions_of(outcome).len();
@@ -100,7 +100,7 @@ pub(crate) fn tell_emission(object: &Object, number: usize, told: &mut Emitted) 
     ensures { definitions.TellsAt (outcome_in (Some object.now)) number told.new result }
 {
     match object {
-        Object::Program(_) | Object::Text(_) => KIND,
+        Object::Program(_) | Object::Text(_) | Object::Batches(_) => KIND,
         Object::Outcome(outcome) => tell_one(emissions_of(outcome), number, told),
     }
 }
@@ -148,7 +148,7 @@ pub(crate) fn copy_key(object: &Object, number: usize, buffer: &mut [u8]) -> u32
     ensures { definitions.CopiesAt (λ e. e.key) (outcome_in (Some object.now)) number buffer.old buffer.new result }
 {
     match object {
-        Object::Program(_) | Object::Text(_) => KIND,
+        Object::Program(_) | Object::Text(_) | Object::Batches(_) => KIND,
         Object::Outcome(outcome) => copy_one_key(emissions_of(outcome), number, buffer),
     }
 }
@@ -158,7 +158,7 @@ pub(crate) fn copy_value(object: &Object, number: usize, buffer: &mut [u8]) -> u
     ensures { definitions.CopiesAt (λ e. e.value) (outcome_in (Some object.now)) number buffer.old buffer.new result }
 {
     match object {
-        Object::Program(_) | Object::Text(_) => KIND,
+        Object::Program(_) | Object::Text(_) | Object::Batches(_) => KIND,
         Object::Outcome(outcome) => copy_one_value(emissions_of(outcome), number, buffer),
     }
 }

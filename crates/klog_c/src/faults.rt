@@ -3,8 +3,10 @@
 ghost use Rattle.std.specs.Prelude.{◌≡◌};
 ghost use Rattle.klog_c.specs.Numbers as definitions;
 
+use batch_transform::Stop;
 use machine_spec::IsaFault;
 use verifier_spec::{Check, LoadFault, VerifyFault};
+use wire_spec::BatchFault;
 
 /// The call did its work.
 pub(crate) const OK: u32 = 0;
@@ -23,6 +25,9 @@ pub(crate) const LENGTH: u32 = 4;
 
 /// A buffer is too short.
 pub(crate) const ROOM: u32 = 5;
+
+/// The offsets of records are used up.
+pub(crate) const FULL: u32 = 7;
 
 fn isa_number(fault: IsaFault) -> u32
     ensures { result ≡ definitions.isa_number fault }
@@ -91,5 +96,61 @@ pub(crate) fn fault_place(fault: LoadFault) -> usize
     match fault {
         LoadFault::Isa(fault) => isa_place(fault),
         LoadFault::Verify(VerifyFault { pc, kind: _ }) => pc,
+    }
+}
+
+fn batch_number(fault: BatchFault) -> u32
+    ensures { result ≡ definitions.batch_number fault }
+{
+    match fault {
+        BatchFault::Short => 301,
+        BatchFault::Length => 302,
+        BatchFault::TooLarge => 303,
+        BatchFault::Magic => 304,
+        BatchFault::Crc => 305,
+        BatchFault::Attributes => 306,
+        BatchFault::Count => 307,
+        BatchFault::Record(_) => 308,
+        BatchFault::Timestamp => 309,
+        BatchFault::Memory => MEMORY,
+    }
+}
+
+/// The number of what stops a transform: B1 to B9 are 301 to 309.
+pub(crate) fn stop_number(stop: Stop) -> u32
+    ensures { result ≡ definitions.stop_number stop }
+{
+    match stop {
+        Stop::Batch(fault) => batch_number(fault),
+        Stop::Full => FULL,
+        Stop::Memory => MEMORY,
+    }
+}
+
+fn batch_record(fault: BatchFault) -> u32
+    ensures { result ≡ definitions.batch_record fault }
+{
+    match fault {
+        BatchFault::Short => 0,
+        BatchFault::Length => 0,
+        BatchFault::TooLarge => 0,
+        BatchFault::Magic => 0,
+        BatchFault::Crc => 0,
+        BatchFault::Attributes => 0,
+        BatchFault::Count => 0,
+        BatchFault::Record(place) => place,
+        BatchFault::Timestamp => 0,
+        BatchFault::Memory => 0,
+    }
+}
+
+/// The record of its batch that a stop is about; 0 where it is about none.
+pub(crate) fn stop_record(stop: Stop) -> u32
+    ensures { result ≡ definitions.stop_record stop }
+{
+    match stop {
+        Stop::Batch(fault) => batch_record(fault),
+        Stop::Full => 0,
+        Stop::Memory => 0,
     }
 }

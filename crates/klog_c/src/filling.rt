@@ -17,6 +17,7 @@ fn kind_of(object: &Object) -> u32
         Object::Program(_) => 0,
         Object::Outcome(_) => 1,
         Object::Text(_) => 2,
+        Object::Batches(_) => 3,
     }
 }
 

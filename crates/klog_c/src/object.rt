@@ -1,4 +1,5 @@
 use crate::shared::Shared;
+use batch_transform::Transformed;
 use machine_spec::Outcome;
 
 /// What a handle of C's stands for.
@@ -10,4 +11,6 @@ pub enum Object {
     Outcome(Outcome),
     /// A text.
     Text(String),
+    /// What a program made of record batches.
+    Batches(Transformed),
 }

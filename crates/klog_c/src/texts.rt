@@ -7,6 +7,32 @@ use crate::emissions::copy;
 use crate::faults::MEMORY;
 use std::alloc::{AllocError, Global};
 
+fn batch_fault_name(number: u32) -> &'static str
+    ensures { result.now ≡ definitions.batch_fault_name number }
+{
+    if number == 301 {
+        "B1 Short"
+    } else if number == 302 {
+        "B2 Length"
+    } else if number == 303 {
+        "B3 TooLarge"
+    } else if number == 304 {
+        "B4 Magic"
+    } else if number == 305 {
+        "B5 Crc"
+    } else if number == 306 {
+        "B6 Attributes"
+    } else if number == 307 {
+        "B7 Count"
+    } else if number == 308 {
+        "B8 Record"
+    } else if number == 309 {
+        "B9 Timestamp"
+    } else {
+        "no fault"
+    }
+}
+
 fn image_fault_name(number: u32) -> &'static str
     ensures { result.now ≡ definitions.image_fault_name number }
 {
@@ -23,7 +49,7 @@ fn image_fault_name(number: u32) -> &'static str
     } else if number == 106 {
         "I6 NotInProfile"
     } else {
-        "no fault"
+        batch_fault_name(number)
     }
 }
 
@@ -84,6 +110,8 @@ fn name_of(number: u32) -> &'static str
         "a buffer is too short"
     } else if number == 6 {
         "a null pointer, or a handle given twice"
+    } else if number == 7 {
+        "the offsets of records are used up"
     } else {
         program_fault_name(number)
     }
@@ -97,6 +125,8 @@ fn place_word(number: u32) -> &'static str
         " slot "
     } else if 201 <= number && number <= 213 {
         " at "
+    } else if number == 308 {
+        " record "
     } else {
         ""
     }

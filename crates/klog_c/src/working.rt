@@ -82,7 +82,7 @@ pub(crate) fn share_into(alloc: Global, object: &Object, other: &mut Handle) -> 
     ensures { definitions.Shares (Some object.now) other.old.place.object other.new.place.object result }
 {
     match object {
-        Object::Outcome(_) | Object::Text(_) => KIND,
+        Object::Outcome(_) | Object::Text(_) | Object::Batches(_) => KIND,
         Object::Program(program) => match program.again() {
             Err(_) => MEMORY,
             Ok(shared) => fill(alloc, other, Object::Program(shared)),
@@ -122,7 +122,7 @@ pub(crate) fn run_into(
     ensures { definitions.Runs (definitions.program_in (Some object.now)) asked.now key.now value.now outcome.old.place.object outcome.new.place.object result }
 {
     match object {
-        Object::Outcome(_) | Object::Text(_) => KIND,
+        Object::Outcome(_) | Object::Text(_) | Object::Batches(_) => KIND,
         Object::Program(program) => {
             run_program(alloc, program.program(), asked, key, value, outcome)
         }

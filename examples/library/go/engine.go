@@ -1,0 +1,172 @@
+// klog's engine in Go: a loaded program, its runs on records and on record batches. CGO_CFLAGS names the folder of
+// klog_engine.h and CGO_LDFLAGS the library, as in ../run.sh.
+package main
+
+/*
+#include <klog_engine.h>
+
+static const uint8_t no_bytes[1];
+
+// A record is made here, since cgo passes C no Go memory with addresses of Go memory in it.
+static uint32_t run(klog_handle *program, const uint8_t *value, size_t length, uint64_t offset, size_t outputs,
+		    klog_handle *outcome)
+{
+	klog_record record = {
+		.value = value ? value : no_bytes, .value_length = length, .offset = offset, .outputs = outputs};
+	return klog_run(program, &record, outcome);
+}
+*/
+import "C"
+
+import (
+	"fmt"
+	"unsafe"
+)
+
+// bytesAt is the address of some bytes, nil where there are none.
+func bytesAt(bytes []byte) *C.uint8_t {
+	if len(bytes) == 0 {
+		return nil
+	}
+	return (*C.uint8_t)(unsafe.Pointer(&bytes[0]))
+}
+
+func fault(number C.uint32_t, place C.size_t) error {
+	if number == C.KLOG_OK {
+		return nil
+	}
+	var text [64]C.char
+	var length C.size_t
+	C.klog_fault_text(number, place, &text[0], C.size_t(len(text)), &length)
+	return fmt.Errorf("%s", C.GoStringN(&text[0], C.int(length)))
+}
+
+// Emission is what a program gives to an output partition; a nil slice is null.
+type Emission struct {
+	Output     int
+	Key, Value []byte
+}
+
+// Program is a loaded program, with room for an outcome and for batches. A goroutine at a time calls it.
+type Program struct {
+	program, outcome, batches C.klog_handle
+}
+
+func (p *Program) Load(image []byte) error {
+	var place C.size_t
+	return fault(C.klog_load(bytesAt(image), C.size_t(len(image)), C.KLOG_TABLE_ONE, &p.program, &place), place)
+}
+
+func (p *Program) Free() {
+	C.klog_free(&p.outcome)
+	C.klog_free(&p.batches)
+	C.klog_free(&p.program)
+}
+
+// Run runs the program on a value that is not null, with a null key.
+func (p *Program) Run(value []byte, offset uint64, outputs int) (uint64, []Emission, error) {
+	length, at := C.size_t(len(value)), C.uint64_t(offset)
+	number := C.run(&p.program, bytesAt(value), length, at, C.size_t(outputs), &p.outcome)
+	if err := fault(number, 0); err != nil {
+		return 0, nil, err
+	}
+	var code C.uint64_t
+	var count C.size_t
+	if err := fault(C.klog_outcome(&p.outcome, &code, &count), 0); err != nil {
+		return 0, nil, err
+	}
+	emissions := make([]Emission, count)
+	for k := range emissions {
+		if err := p.emission(C.size_t(k), &emissions[k]); err != nil {
+			return 0, nil, err
+		}
+	}
+	return uint64(code), emissions, nil
+}
+
+func (p *Program) emission(number C.size_t, to *Emission) error {
+	var sizes C.klog_emission
+	if err := fault(C.klog_emission_at(&p.outcome, number, &sizes), 0); err != nil {
+		return err
+	}
+	to.Output = int(sizes.output)
+	key, value := make([]byte, sizes.key_length), make([]byte, sizes.value_length)
+	if err := fault(C.klog_emission_key(&p.outcome, number, bytesAt(key), sizes.key_length), 0); err != nil {
+		return err
+	}
+	if err := fault(C.klog_emission_value(&p.outcome, number, bytesAt(value), sizes.value_length), 0); err != nil {
+		return err
+	}
+	if sizes.nulls&C.KLOG_NULL_KEY == 0 {
+		to.Key = key
+	}
+	if sizes.nulls&C.KLOG_NULL_VALUE == 0 {
+		to.Value = value
+	}
+	return nil
+}
+
+// Output is what an output partition gets of record batches: its number of rows, and their batches.
+type Output struct {
+	Rows    uint64
+	Batches []byte
+}
+
+// Transformed is what a program makes of record batches.
+type Transformed struct {
+	Batches       int
+	Records, Kept uint64
+	Rejects       map[uint64]uint64
+	Outputs       []Output
+}
+
+// BatchFault is why record batches are refused: the first Batches of them end at byte Bytes.
+type BatchFault struct {
+	Batches, Bytes int
+	Text           string
+}
+
+func (f *BatchFault) Error() string {
+	return fmt.Sprintf("batch %d at byte %d: %s", f.Batches, f.Bytes, f.Text)
+}
+
+// Transform runs the program on all records of some record batches, of which the first has this offset.
+func (p *Program) Transform(batches []byte, offset uint64, outputs int) (*Transformed, error) {
+	source := C.klog_source{offset: C.uint64_t(offset), outputs: C.size_t(outputs)}
+	var stop C.klog_stop
+	number := C.klog_transform(&p.program, &source, bytesAt(batches), C.size_t(len(batches)), &p.batches, &stop)
+	if err := fault(number, C.size_t(stop.record)); err != nil {
+		if number > C.KLOG_BATCH || number == C.KLOG_FULL {
+			return nil, &BatchFault{int(stop.batch), int(stop.byte), err.Error()}
+		}
+		return nil, err
+	}
+	var counts C.klog_counts
+	if err := fault(C.klog_counts_of(&p.batches, &counts), 0); err != nil {
+		return nil, err
+	}
+	made := &Transformed{Batches: int(counts.batches), Records: uint64(counts.records), Kept: uint64(counts.kept),
+		Rejects: map[uint64]uint64{}, Outputs: make([]Output, outputs)}
+	for k := C.size_t(0); k < counts.codes; k++ {
+		var reject C.klog_reject
+		if err := fault(C.klog_reject_at(&p.batches, k, &reject), 0); err != nil {
+			return nil, err
+		}
+		made.Rejects[uint64(reject.code)] = uint64(reject.records)
+	}
+	for k := range made.Outputs {
+		if err := p.output(C.size_t(k), &made.Outputs[k]); err != nil {
+			return nil, err
+		}
+	}
+	return made, nil
+}
+
+func (p *Program) output(number C.size_t, to *Output) error {
+	var told C.klog_output
+	if err := fault(C.klog_output_at(&p.batches, number, &told), 0); err != nil {
+		return err
+	}
+	to.Rows, to.Batches = uint64(told.rows), make([]byte, told.length)
+	return fault(C.klog_output_batches(&p.batches, number, bytesAt(to.Batches), told.length), 0)
+}

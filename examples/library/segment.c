@@ -1,0 +1,163 @@
+/* Runs a program on the record batches of a file, as a segment of a Kafka log has them, and writes the batches of each
+ * output partition to a file of its own.
+ *	segment IMAGE FILE OUT .. */
+#include <klog_engine.h>
+#include <stdio.h>
+#include <stdlib.h>
+#include <string.h>
+
+enum { LONGEST_IMAGE = 131072, ROOM = 16 << 20, FRONT = 12, MOST_OUTPUTS = 64 };
+
+/* An output partition: its file, and the offset of its next row. */
+struct output {
+	FILE *file;
+	uint64_t next;
+};
+
+static uint8_t bytes[ROOM], copied[2 * ROOM];
+
+/* Prints the text of a fault, and is the program's status. */
+static int print_fault(const char *call, uint32_t fault, size_t place)
+{
+	char text[64];
+	size_t length;
+	if (klog_fault_text(fault, place, text, sizeof text, &length) == KLOG_OK)
+		fprintf(stderr, "%s: %.*s\n", call, (int)length, text);
+	return 1;
+}
+
+static int load(const char *name, klog_handle *program)
+{
+	static uint8_t image[LONGEST_IMAGE + 1];
+	FILE *file = fopen(name, "rb");
+	if (!file) {
+		perror(name);
+		return 1;
+	}
+	size_t length = fread(image, 1, sizeof image, file), place = 0;
+	fclose(file);
+	uint32_t fault = klog_load(image, length, KLOG_TABLE_ONE, program, &place);
+	return fault ? print_fault(name, fault, place) : 0;
+}
+
+/* How many bytes the batch at the front has, by its length field. */
+static size_t batch_size(const uint8_t *batch)
+{
+	return FRONT + ((size_t)batch[8] << 24 | (size_t)batch[9] << 16 | (size_t)batch[10] << 8 | batch[11]);
+}
+
+/* How many of the bytes are whole batches. */
+static size_t whole(size_t length)
+{
+	size_t at = 0;
+	while (length - at >= FRONT && length - at >= batch_size(bytes + at))
+		at += batch_size(bytes + at);
+	return at;
+}
+
+/* Numbers the rows of batches from an offset on, as a broker does: the checksum of a batch does not cover its first
+ * eight bytes. Each batch has its number of records at byte 57. */
+static void renumber(uint8_t *batches, size_t length, uint64_t *next)
+{
+	for (size_t at = 0; at < length; at += batch_size(batches + at)) {
+		const uint8_t *count = batches + at + 57;
+		for (int k = 0; k < 8; k++)
+			batches[at + k] = (uint8_t)(*next >> (56 - 8 * k));
+		*next += (uint64_t)count[0] << 24 | count[1] << 16 | count[2] << 8 | count[3];
+	}
+}
+
+static int write_output(klog_handle *batches, size_t number, struct output *to)
+{
+	klog_output told;
+	uint32_t fault = klog_output_at(batches, number, &told);
+	if (!fault)
+		fault = klog_output_batches(batches, number, copied, sizeof copied);
+	if (fault)
+		return print_fault("output", fault, 0);
+	renumber(copied, told.length, &to->next);
+	if (fwrite(copied, 1, told.length, to->file) != told.length) {
+		perror("output");
+		return 1;
+	}
+	return 0;
+}
+
+static void print_rejects(klog_handle *batches, size_t codes)
+{
+	klog_reject reject;
+	for (size_t k = 0; k < codes && klog_reject_at(batches, k, &reject) == KLOG_OK; k++)
+		printf("rejected by %llu: %llu\n", (unsigned long long)reject.code, (unsigned long long)reject.records);
+}
+
+/* Transforms the whole batches of a piece of the file. */
+static int transform(klog_handle *program, klog_handle *batches, size_t length, klog_source *source,
+		     struct output *outputs)
+{
+	klog_stop stop;
+	klog_counts counts;
+	uint32_t fault = klog_transform(program, source, bytes, length, batches, &stop);
+	if (fault)
+		return print_fault("batch", fault, stop.record);
+	fault = klog_counts_of(batches, &counts);
+	if (fault)
+		return print_fault("counts", fault, 0);
+	printf("batches %zu records %llu kept %llu\n", counts.batches, (unsigned long long)counts.records,
+	       (unsigned long long)counts.kept);
+	print_rejects(batches, counts.codes);
+	source->offset += counts.records;
+	for (size_t k = 0; k < source->outputs; k++)
+		if (write_output(batches, k, &outputs[k]))
+			return 1;
+	return 0;
+}
+
+static int transform_file(klog_handle *program, const char *name, klog_source *source, struct output *outputs)
+{
+	klog_handle batches = KLOG_NOTHING;
+	FILE *file = fopen(name, "rb");
+	if (!file) {
+		perror(name);
+		return 1;
+	}
+	size_t length = 0, read, used;
+	int status = 0;
+	while (!status && (read = fread(bytes + length, 1, ROOM - length, file)) > 0) {
+		length += read;
+		used = whole(length);
+		status = transform(program, &batches, used ? used : length, source, outputs);
+		memmove(bytes, bytes + used, length - used);
+		length -= used;
+	}
+	if (!status && length)
+		status = transform(program, &batches, length, source, outputs);
+	fclose(file);
+	klog_free(&batches);
+	return status;
+}
+
+int main(int argc, char **argv)
+{
+	static struct output outputs[MOST_OUTPUTS];
+	klog_handle program = KLOG_NOTHING;
+	if (argc < 4 || argc > 3 + MOST_OUTPUTS) {
+		fprintf(stderr, "usage: segment IMAGE FILE OUT ..\n");
+		return 2;
+	}
+	klog_source source = {.outputs = (size_t)argc - 3};
+	int status = load(argv[1], &program);
+	for (size_t k = 0; !status && k < source.outputs; k++) {
+		outputs[k].file = fopen(argv[3 + k], "wb");
+		if (!outputs[k].file) {
+			perror(argv[3 + k]);
+			status = 1;
+		}
+	}
+	if (!status)
+		status = transform_file(&program, argv[2], &source, outputs);
+	for (size_t k = 0; k < source.outputs; k++)
+		if (outputs[k].file && fclose(outputs[k].file))
+			status = 1;
+	klog_free(&program);
+	return status;
+}
