@@ -19,5 +19,11 @@ pub overflow_add-count : goal.overflow_add-count
 overflow_add-count c =
     let one : TakesOne c.args.program.now c.loop-alloc.rest c.loop-alloc.stream c.pass_one.new.rest
     c.pass_one.new.stream = search rules in
-    omega (arith, one.some, one.within, c.loop-alloc.invariant.within, c.len-bounded.ensures.value,
-    c.len-bounded.ensures.bound)
+    omega (
+      arith,
+      one.some,
+      one.within,
+      c.loop-alloc.invariant.within,
+      c.len-bounded.ensures.value,
+      c.len-bounded.ensures.bound,
+    )
