@@ -51,7 +51,10 @@ impl Files for HostFiles<'_> {
     }
 
     fn write(&mut self, name: &str, content: &[u8]) -> io::Result<()> {
-        fs::write(self.rt, name, content)
+        match fs::metadata(self.rt, name) {
+            Ok(found) if !found.is_file() => fs::write(self.rt, name, content),
+            _ => replace(self.rt, name, content),
+        }
     }
 
     fn create(&mut self, name: &str) -> io::Result<Self::Writer> {
@@ -64,6 +67,22 @@ impl Files for HostFiles<'_> {
     fn close(&mut self, _name: &str, mut writer: Self::Writer) -> io::Result<()> {
         writer.flush()
     }
+}
+
+/// Writes a file beside another, and renames it over that: so a reader meets either of them whole, and a
+/// write that fails leaves the other one.
+fn replace(rt: &HostRuntime, name: &str, content: &[u8]) -> io::Result<()> {
+    let beside = format!(in rt.alloc(); "{name}.part")?;
+    let written = write_and_rename(rt, beside.as_str(), name, content);
+    if written.is_err() {
+        let _ = fs::remove_file(rt, beside.as_str());
+    }
+    written
+}
+
+fn write_and_rename(rt: &HostRuntime, from: &str, to: &str, content: &[u8]) -> io::Result<()> {
+    fs::write(rt, from, content)?;
+    fs::rename(rt, from, to)
 }
 
 /// The call that the system's words ask for, with leave to start threads. It fails before it begins
