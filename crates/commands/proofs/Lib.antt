@@ -6,3 +6,4 @@ pub mod RecheckLaws
 pub mod Said
 pub mod StopLaws
 pub mod Written
+pub mod ListLaws

@@ -1,6 +1,7 @@
 pub mod Appends
 pub mod Explanations
 pub mod Images
+pub mod Listings
 pub mod Puts
 pub mod Rechecks
 pub mod Sessions

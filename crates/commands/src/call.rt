@@ -18,6 +18,7 @@ use crate::dis::disassembly;
 use crate::explaining::{no_code_text, refusal_text, status_of_explained};
 use crate::files::Files;
 use crate::image::{Refused, check, read_image};
+use crate::listing::list;
 use crate::reading::{Unread, read_file, read_whole};
 use crate::rechecking::recheck;
 use crate::run::{Ended, run_script};
@@ -412,6 +413,9 @@ pub fn command<R: Threads + Wait + Sync, F: Files, I: Read, O: Write, E: Write>(
         Ok(Call::Disassemble(image)) => disassemble_file(alloc, files, stdout, stderr, image),
         Ok(Call::Explain(image, table, extent)) => {
             explain_file(alloc, files, stdout, stderr, image, table, extent)
+        }
+        Ok(Call::List(listing, file)) => {
+            list(alloc, listing, files, stdin, stdout, stderr, file)
         }
         Ok(Call::Recheck(list)) => recheck(alloc, files, stdout, stderr, list),
         Ok(Call::Run(script)) => run(rt, alloc, files, stdin, stdout, stderr, script),

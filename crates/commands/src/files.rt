@@ -35,4 +35,9 @@ pub trait Files {
     /// `open` does.
     fn close(&mut self, name: &str, writer: Self::Writer) -> io::Result<()>
         ensures { (held : List ℕ) → Self.Writer.contents writer ≡ Some held → OnOk result (IfSome (bytes self.new name.now) (λ known. known ≡ held)) };
+
+    /// Milliseconds since some time, where somebody watches standard error.
+    fn watched(&mut self) -> Option<u64> {
+        None
+    }
 }

@@ -1,8 +1,9 @@
 //! What a call of the program does: `command` does what its words ask for, with the files, standard
 //! input, output and error that it is given. `run` does the commands of a script, `check` verifies
 //! a program, `explain` prints what the verifier knows of one, `asm` makes the image of a program's
-//! text, `dis` prints that text, `recheck` verifies the programs of a list anew, and `transform` runs a
-//! program on record batches. A `Session` does a script line by line.
+//! text, `dis` prints that text, `recheck` verifies the programs of a list anew, `transform` runs a
+//! program on record batches, and `batches` and `records` list those of a file. A `Session` does a
+//! script line by line.
 #![tactic(auto)]
 
 mod appending;
@@ -13,7 +14,9 @@ mod dis;
 mod explaining;
 mod files;
 mod image;
+mod listing;
 mod printing;
+mod progress;
 mod reading;
 mod rechecking;
 mod run;
@@ -24,6 +27,7 @@ mod words;
 
 pub use crate::call::{command, tell_no_words};
 pub use crate::files::Files;
+pub use crate::listing::list;
 pub use crate::rechecking::recheck;
 pub use crate::session::Session;
 pub use crate::stop::Stop;

@@ -35,17 +35,7 @@ use std::marker::Model;
 use std::sync::Wait;
 use std::thread::Threads;
 use wire_spec::{MAX_KEY, MAX_VALUE, TIMESTAMP_END};
-use worker::Gate;
-
-/// Lets every offer pass.
-#[derive(Drop)]
-struct Open;
-
-impl Gate for Open {
-    fn pass(&self, _input: usize, _index: usize, _output: usize) -> bool {
-        true
-    }
-}
+use worker::Open;
 
 /// What a script works on once `partitions` made it: its broker, the finder that its first `deploy`
 /// made, and what is known of each name that it loaded. Contracts see how many input partitions it

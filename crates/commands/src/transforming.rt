@@ -5,17 +5,19 @@ ghost use Rattle.std.specs.Prelude.{◌≡◌, ◌≤◌, ◌+◌, length, IfOk}
 use crate::call::{DONE, FAILED, REFUSED, file_text, say, tell_memory, tell_text, tell_usage};
 use crate::files::Files;
 use crate::image::{Refused, read_image, refusal_of};
+use crate::progress::Progress;
 use crate::reading::{Unread, cause_of};
 use batch::BatchFault;
 use batch_reader::{BatchReader, Position, ReadFault};
 use bytes::Bytes;
+use fates::Counts;
 use log_item::Program;
 use log_spec::MAX_PARTITIONS;
 use machine_spec::Table;
 use std::alloc::{AllocError, Global};
 use std::io;
 use std::io::{Read, Write};
-use transform::{Outlet, OutletFault, StreamFault, Transform, TransformFault, transform_all};
+use transform::{Outlet, OutletFault, StreamFault, Transform, TransformFault, transform_watched};
 use verifier_spec::LoadFault;
 use wire_spec::MAX_PIECE;
 
@@ -134,7 +136,33 @@ fn halt_of(fault: StreamFault, position: Position) -> Halt {
     }
 }
 
-/// How many items and rows each output partition has, and how many records the input.
+/// The lines of how many items and rows each output partition has.
+fn push_outputs<W: Write>(
+    text: &mut String,
+    stream: &Transform<W>,
+    items: u64,
+) -> Result<(), AllocError> {
+    for output in 0..stream.outputs() {
+        let rows = stream.outlet(output).rows();
+        write!(text, "out {output} in 0 done {items} rows {rows}\n")?;
+    }
+    Ok(())
+}
+
+/// The lines of what became of the records of the input partition.
+fn push_records(text: &mut String, counts: &Counts, items: u64) -> Result<(), AllocError> {
+    let records = counts.records();
+    let unprogrammed = counts.unprogrammed();
+    let kept = counts.kept();
+    write!(text, "in 0 items {items} records {records} ")?;
+    write!(text, "unprogrammed {unprogrammed} kept {kept}\n")?;
+    for (code, count) in counts.rejects().iter() {
+        write!(text, "in 0 reject {code} count {count}\n")?;
+    }
+    Ok(())
+}
+
+/// The lines of a report, without the rows, after these batches.
 fn counts_text<W: Write>(
     alloc: Global,
     stream: &Transform<W>,
@@ -142,14 +170,8 @@ fn counts_text<W: Write>(
 ) -> Result<String, AllocError> {
     let items = batches.saturating_add(1);
     let mut text = String::new(alloc);
-    for output in 0..stream.outputs() {
-        let rows = stream.outlet(output).rows();
-        let line = format!(in alloc; "out {output} in 0 done {items} rows {rows}\n")?;
-        text.push_str(line.as_str())?;
-    }
-    let records = stream.offset();
-    let line = format!(in alloc; "in 0 items {items} records {records}\n")?;
-    text.push_str(line.as_str())?;
+    push_outputs(&mut text, stream, items)?;
+    push_records(&mut text, stream.counts(), items)?;
     Ok(text)
 }
 
@@ -168,7 +190,8 @@ fn write_files<F: Files, R: Read + Drop, E: Write>(
     let mut batches = BatchReader::new(alloc, reader, MAX_PIECE)?;
     let outlets = create_all(alloc, files, names)?;
     let mut stream = Transform::new(alloc, 0, 0, outlets);
-    let ended = transform_all(program, &mut batches, &mut stream);
+    let mut progress = Progress::new(alloc, files, stderr);
+    let ended = transform_watched(program, &mut batches, &mut stream, &mut progress);
     let position = batches.position();
     let counts = counts_text(alloc, &stream, position.batches);
     close_all(files, names, stream.into_outlets())?;

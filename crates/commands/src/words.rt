@@ -5,6 +5,7 @@ ghost use Rattle.std.specs.Option.{option_copied};
 ghost use Rattle.commands.specs.Explanations as definitions;
 ghost use Rattle.commands.specs.declared.words.Misuse.TheVariants.{Memory};
 
+use batch_text::Listing;
 use clap::error::ErrorKind;
 use clap::{Arg, ArgAction, ArgMatches};
 use explain::Extent;
@@ -23,6 +24,8 @@ pub enum Call<'a> {
     /// Prints what the verifier knows of a program. Fields: the image, the helper table, how much is
     /// listed.
     Explain(&'a str, Table, Extent),
+    /// Lists the batches or the records of a file.
+    List(Listing, &'a str),
     /// Verifies the programs that a list names anew.
     Recheck(&'a str),
     /// Does the commands of a script.
@@ -101,10 +104,12 @@ fn commands<'a>(alloc: Global) -> Result<clap::Command<'a>, AllocError> {
     clap::Command::new(alloc, "klog")
         .no_binary_name(true)
         .subcommand(of_files(alloc, "asm", "TEXT", "IMAGE")?)?
+        .subcommand(of_file(alloc, "batches", "FILE")?)?
         .subcommand(of_program(alloc, "check", "TABLE")?)?
         .subcommand(of_file(alloc, "dis", "IMAGE")?)?
         .subcommand(explain_command(alloc)?)?
         .subcommand(of_file(alloc, "recheck", "LIST")?)?
+        .subcommand(of_file(alloc, "records", "FILE")?)?
         .subcommand(of_file(alloc, "run", "SCRIPT")?)
 }
 
@@ -194,6 +199,15 @@ fn shown_of(first: Option<&str>, second: Option<&str>) -> Option<(Table, Extent)
     }
 }
 
+/// The call that lists a file, if the words ask for one.
+fn listing_of<'a>(matches: &ArgMatches<'a>) -> Option<Call<'a>> {
+    if let Some(batches) = matches.subcommand_matches("batches") {
+        return Some(Call::List(Listing::Batches, batches.get_str("FILE")?));
+    }
+    let records = matches.subcommand_matches("records")?;
+    Some(Call::List(Listing::Records, records.get_str("FILE")?))
+}
+
 fn asked<'a>(matches: &ArgMatches<'a>) -> Option<Call<'a>> {
     if let Some(asm) = matches.subcommand_matches("asm") {
         return Some(Call::Assemble(asm.get_str("TEXT")?, asm.get_str("IMAGE")?));
@@ -208,6 +222,9 @@ fn asked<'a>(matches: &ArgMatches<'a>) -> Option<Call<'a>> {
     if let Some(explain) = matches.subcommand_matches("explain") {
         let (table, extent) = shown_of(explain.get_str("TABLE"), explain.get_str("EXTENT"))?;
         return Some(Call::Explain(explain.get_str("IMAGE")?, table, extent));
+    }
+    if let Some(listing) = listing_of(matches) {
+        return Some(listing);
     }
     if let Some(recheck) = matches.subcommand_matches("recheck") {
         return Some(Call::Recheck(recheck.get_str("LIST")?));

@@ -8,6 +8,8 @@ mod failures;
 #[cfg(test)]
 mod images;
 #[cfg(test)]
+mod listings;
+#[cfg(test)]
 mod rechecks;
 #[cfg(test)]
 mod scripts;

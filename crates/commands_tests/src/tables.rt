@@ -46,13 +46,14 @@ const ROWS: [Row; 11] = [
     (
         &["transform", "table2", "header", "batches", "out"],
         "",
-        "out 0 in 0 done 3 rows 0\nin 0 items 3 records 5\n",
+        "out 0 in 0 done 3 rows 0\nin 0 items 3 records 5 unprogrammed 0 kept 3\n\
+        in 0 reject 1 count 1\nin 0 reject 2 count 1\n",
         0,
     ),
     (
         &["transform", "table2", "forward", "batches", "out"],
         "",
-        "out 0 in 0 done 3 rows 5\nin 0 items 3 records 5\n",
+        "out 0 in 0 done 3 rows 5\nin 0 items 3 records 5 unprogrammed 0 kept 5\n",
         0,
     ),
     (

@@ -1,15 +1,17 @@
 //! klog: a partitioned commit-log broker whose records pass through verified BPF programs. `klog
 //! run SCRIPT` does the commands of a script, `klog check IMAGE` verifies a program, `klog explain
 //! IMAGE` prints what the verifier knows of it, `klog asm TEXT IMAGE` makes the image of a program's
-//! text, `klog dis IMAGE` prints that text, and `klog recheck LIST` verifies the programs of a list
-//! anew.
+//! text, `klog dis IMAGE` prints that text, `klog recheck LIST` verifies the programs of a list anew,
+//! `klog transform IMAGE IN OUT ..` runs a program on record batches, and `klog batches FILE` and `klog
+//! records FILE` list those of a file.
 #![tactic(auto)]
 
 use commands::{Files, command, tell_no_words};
-use std::io::{BufWriter, Stdout, Write};
+use std::io::{BufWriter, IsTerminal, Stdout, Write};
 use std::process::ExitCode;
 use std::sync::Wait;
 use std::thread::Threads;
+use std::time::Instant;
 use std::{env, fs, io};
 
 /// A file that is written, or standard output.
@@ -39,6 +41,8 @@ impl<F: Write> Write for HostWriter<F> {
 #[derive(Drop)]
 struct HostFiles<'a> {
     rt: &'a HostRuntime,
+    /// When the program began, if somebody watches standard error.
+    start: Option<Instant>,
 }
 
 impl Files for HostFiles<'_> {
@@ -51,7 +55,10 @@ impl Files for HostFiles<'_> {
     }
 
     fn write(&mut self, name: &str, content: &[u8]) -> io::Result<()> {
-        fs::write(self.rt, name, content)
+        match fs::metadata(self.rt, name) {
+            Ok(found) if !found.is_file() => fs::write(self.rt, name, content),
+            _ => replace(self.rt, name, content),
+        }
     }
 
     fn create(&mut self, name: &str) -> io::Result<Self::Writer> {
@@ -64,6 +71,37 @@ impl Files for HostFiles<'_> {
     fn close(&mut self, _name: &str, mut writer: Self::Writer) -> io::Result<()> {
         writer.flush()
     }
+
+    fn watched(&mut self) -> Option<u64> {
+        let start = self.start?;
+        let passed = start.elapsed(self.rt).ok()?;
+        Some(passed.as_secs().saturating_mul(1000))
+    }
+}
+
+/// Writes a file beside another, and renames it over that: so a reader meets either of them whole, and a
+/// write that fails leaves the other one.
+fn replace(rt: &HostRuntime, name: &str, content: &[u8]) -> io::Result<()> {
+    let beside = format!(in rt.alloc(); "{name}.part")?;
+    let written = write_and_rename(rt, beside.as_str(), name, content);
+    if written.is_err() {
+        let _ = fs::remove_file(rt, beside.as_str());
+    }
+    written
+}
+
+fn write_and_rename(rt: &HostRuntime, from: &str, to: &str, content: &[u8]) -> io::Result<()> {
+    fs::write(rt, from, content)?;
+    fs::rename(rt, from, to)
+}
+
+/// When the program began, if standard error is a terminal.
+fn watched_since(rt: &HostRuntime) -> Option<Instant> {
+    if rt.stderr().is_terminal() {
+        Instant::now(rt).ok()
+    } else {
+        None
+    }
 }
 
 /// The call that the system's words ask for, with leave to start threads. It fails before it begins
@@ -74,7 +112,8 @@ fn called<T: Threads + Wait + Sync>(threads: &T, rt: &HostRuntime) -> io::Result
     for word in env::args(rt)?.skip(1) {
         words.push(word)?;
     }
-    let mut files = HostFiles { rt };
+    let start = watched_since(rt);
+    let mut files = HostFiles { rt, start };
     let mut stdout = BufWriter::new(alloc, rt.stdout())?;
     let mut stderr = rt.stderr();
     let mut stdin = rt.stdin();

@@ -8,6 +8,7 @@ ghost use Rattle.transform.specs.Transforms.{flow, Pushes, PutsEach, PutsOne, En
 
 use crate::outlet::{Outlet, OutletFault};
 use crate::owning::batch_bytes;
+use fates::Counts;
 use item_rows::{ItemRows, Origin, item_rows};
 use log_item::{Item, LoggedBatch, Program};
 use log_spec::Row;
@@ -19,6 +20,9 @@ use wire_spec::{Batch, MAX_RECORDS, TIMESTAMP_END};
 
 /// How many bytes of batches rows share while they wait, at most: 8 MiB and those of one batch.
 const MOST_SHARED: usize = 8_388_608;
+
+/// Fewer records than this are counted: 2^63.
+const MOST_COUNTED: u64 = 9_223_372_036_854_775_808;
 
 /// Why a batch is not transformed.
 #[derive(Clone, Copy, Debug, PartialEq, Eq, Drop, Error)]
@@ -54,6 +58,7 @@ pub struct Transform<W: Write> {
     outlets: Vec<Outlet<W>>,
     // At most as many bytes as the rows that wait share with batches.
     shared: usize,
+    counts: Counts,
 }
 
 impl<W: Write> Model for Transform<W> {
@@ -82,6 +87,7 @@ impl<W: Write> Transform<W> {
             offset,
             outlets,
             shared: 0,
+            counts: Counts::new(alloc),
         }
     }
 
@@ -90,6 +96,11 @@ impl<W: Write> Transform<W> {
         ensures { result ≡ self.now.offset }
     {
         self.offset
+    }
+
+    /// What became of the records, as a report counts them. No clause says so.
+    pub fn counts(&self) -> &Counts {
+        &self.counts
     }
 
     /// How many output partitions there are.
@@ -136,6 +147,7 @@ impl<W: Write> Transform<W> {
         let shared = self.shared.saturating_add(batch_bytes(&batch));
         let item = Item::Batch(LoggedBatch::new(batch));
         let rows = item_rows(self.alloc, &origin, Some(program), &item)?;
+        count(&mut self.counts, rows.counts())?;
         put_each(self.alloc, rows, &mut self.outlets)?;
         self.offset += item.records();
         self.shared = owned(&mut self.outlets, shared);
@@ -149,6 +161,15 @@ impl<W: Write> Transform<W> {
         ensures { EndsFlow self.old result self.new }
     {
         end_each(&mut self.outlets)
+    }
+}
+
+// Counts what became of a batch's records. There are fewer than 2^63, since their offsets are below 2^62.
+fn count(counts: &mut Counts, batch: &Counts) -> Result<(), AllocError> {
+    if counts.records().saturating_add(batch.records()) < MOST_COUNTED {
+        counts.add_all(batch)
+    } else {
+        Ok(())
     }
 }
 

@@ -13,4 +13,4 @@ pub use crate::backlog::{Backlog, BacklogFault};
 pub use crate::flow::{Transform, TransformFault};
 pub use crate::laws::{many_batches, rows_of_a_log};
 pub use crate::outlet::{Outlet, OutletFault};
-pub use crate::stream::{StreamFault, transform_all};
+pub use crate::stream::{StreamFault, Watch, transform_all, transform_watched};

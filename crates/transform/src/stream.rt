@@ -7,7 +7,7 @@ ghost use Rattle.transform.specs.Streams.{is_broken, PushesAll, TransformsAll};
 ghost use Rattle.transform.specs.declared.stream.StreamFault.TheVariants.{Read as Unread, Transform as Stopped};
 
 use crate::flow::{Transform, TransformFault};
-use batch_reader::{BatchReader, ReadFault};
+use batch_reader::{BatchReader, Position, ReadFault};
 use log_item::Program;
 use std::io::{Read, Write};
 use thiserror::Error;
@@ -40,6 +40,20 @@ impl From<TransformFault> for StreamFault {
     }
 }
 
+/// What looks at a stream after each batch.
+pub trait Watch {
+    /// How much of the reader was given so far, and how many records it had.
+    fn batch_done(&mut self, position: Position, records: u64);
+}
+
+/// Looks at nothing.
+#[derive(Drop)]
+struct Unwatched;
+
+impl Watch for Unwatched {
+    fn batch_done(&mut self, _position: Position, _records: u64) {}
+}
+
 /// Runs a program on all batches of a reader, one after the other, and writes all their rows. After a
 /// fault the rows of the batches before it are written too, unless an output partition failed:
 /// then each output partition has written whole batches of its rows, and that one maybe a beginning
@@ -52,7 +66,20 @@ pub fn transform_all<R: Read, W: Write>(
     requires { IsOpen reader.old }
     ensures { TransformsAll program.now reader.old stream.old result stream.new }
 {
-    let pushed = push_all(program, reader, stream);
+    transform_watched(program, reader, stream, &mut Unwatched)
+}
+
+/// The same, with a look at the stream after each batch.
+pub fn transform_watched<R: Read, W: Write, V: Watch>(
+    program: &Program,
+    reader: &mut BatchReader<R>,
+    stream: &mut Transform<W>,
+    watch: &mut V,
+) -> Result<(), StreamFault>
+    requires { IsOpen reader.old }
+    ensures { TransformsAll program.now reader.old stream.old result stream.new }
+{
+    let pushed = push_all(program, reader, stream, watch);
     if is_broken(&pushed) {
         return pushed;
     }
@@ -78,10 +105,11 @@ fn is_broken(pushed: &Result<(), StreamFault>) -> bool
 }
 
 // Runs a program on all batches of a reader.
-fn push_all<R: Read, W: Write>(
+fn push_all<R: Read, W: Write, V: Watch>(
     program: &Program,
     reader: &mut BatchReader<R>,
     stream: &mut Transform<W>,
+    watch: &mut V,
 ) -> Result<(), StreamFault>
     requires { IsOpen reader.old }
     ensures { PushesAll program.now reader.old stream.old result stream.new }
@@ -91,6 +119,7 @@ fn push_all<R: Read, W: Write>(
             None => return Ok(()),
             Some(batch) => stream.push(program, batch)?,
         }
+        watch.batch_done(reader.position(), stream.offset());
     }
     Err(StreamFault::Read(ReadFault::Read))
 }

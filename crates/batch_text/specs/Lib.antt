@@ -1,0 +1,3 @@
+pub mod Causes
+pub mod Lines
+pub mod Listings

@@ -1,0 +1,16 @@
+//! The text of record batches: a line for each batch of a reader's bytes, or the commands of a script
+//! that append its records again; and why bytes begin with no batch.
+#![tactic(auto)]
+
+mod cause;
+mod fields;
+mod hex;
+mod listing;
+mod next;
+mod records;
+mod sizes;
+
+pub use crate::cause::cause_text;
+pub use crate::fields::batch_text;
+pub use crate::listing::{ListFault, Listing, Refusal, list_all};
+pub use crate::records::record_text;

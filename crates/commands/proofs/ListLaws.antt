@@ -1,0 +1,59 @@
+-- What a listing printed, and a reader with a buffer.
+use Rattle.std.proofs.Common.{◌≡◌, ◌⊎◌, ℕ, List, [], Option, Some, None, Result, Ok, Err, subst, inl, inr}
+use Rattle.std.specs.Prelude.{if◌then◌else◌, ◌==◌}
+use Rattle.std.specs.Io.KnownBytes.{Keeps, prepend_known}
+use Rattle.std.specs.Io.Buffered.{reader_remaining, reader_buffer, reader_capacity, reader_inner}
+use Rattle.std.specs.declared.io.buffered.BufReader.{BufReader}
+use Rattle.std.proofs.KnownBytes.{Appends-kept, prepend_known-nil}
+use Rattle.wire_spec.specs.declared.record.Batch.{Batch}
+use Rattle.batch_text.specs.declared.listing.{Listing.Listing, ListFault.ListFault}
+use Rattle.batch_text.specs.declared.listing.ListFault.TheVariants as fault
+use Rattle.batch_text.specs.Listings.{Listed, Lists, ListsKnown, texts_of}
+use Rattle.commands.specs.Listings.{status_of_listed, ListsAs}
+
+listed_kept : (listing : Listing) (bytes : List ℕ) (batches : List Batch) (rest : List ℕ)
+    (before mid after : Option (List ℕ)) → Listed listing bytes batches rest before mid → Keeps mid after →
+    Listed listing bytes batches rest before after
+listed_kept listing bytes batches rest before mid after is keeps = record {
+  fit = is.fit;
+  bytes_are = is.bytes_are;
+  written = Appends-kept before mid after (texts_of listing 0 batches) is.written keeps;
+}
+
+kept : (listing : Listing) (bytes : List ℕ) (before mid after : Option (List ℕ)) (result : Result (Unit {0}) ListFault) →
+    ListsKnown listing bytes before result mid → Keeps mid after → ListsKnown listing bytes before result after
+kept listing bytes before mid after (Ok done) is keeps =
+    (is.0, listed_kept listing bytes is.0 [] before mid after is.1 keeps)
+kept listing bytes before mid after (Err (fault.Batch refusal)) is keeps =
+    (is.0, is.1, listed_kept listing bytes is.0 is.1 before mid after is.2 keeps, is.3, is.4, is.5, is.6, is.7)
+kept listing bytes before mid after (Err fault.Read) is keeps = tt
+kept listing bytes before mid after (Err fault.Write) is keeps = tt
+kept listing bytes before mid after (Err fault.Memory) is keeps = tt
+
+-- a listing whose text was flushed, with its status
+pub listed_as : (listing : Listing) (known before mid after : Option (List ℕ)) (result : Result (Unit {0}) ListFault)
+    (status : ℕ) → Lists listing known before result mid → Keeps mid after →
+    (status ≡ status_of_listed result) ⊎ (status ≡ 3) → ListsAs listing known status before after
+listed_as listing known before mid after result status lists keeps told bytes known_is =
+    elim told [
+      | inl is ↦ inr (result, is, kept listing bytes before mid after result (lists bytes known_is) keeps)
+      | inr three ↦ inl three
+    ]
+
+pub failed_as : (listing : Listing) (known before after : Option (List ℕ)) (status : ℕ) → status ≡ 3 →
+    ListsAs listing known status before after
+failed_as listing known before after status three bytes known_is = inl three
+
+pub same_source : (listing : Listing) (given known before after : Option (List ℕ)) (status : ℕ) → given ≡ known →
+    ListsAs listing given status before after → ListsAs listing known status before after
+same_source listing given known before after status same lists =
+    subst (λ (k : Option (List ℕ)). ListsAs listing k status before after) same lists
+
+by_parts : (capacity : ℕ) (buffer : List ℕ) (known : Option (List ℕ)) → capacity ≡ 65536 → buffer ≡ [] →
+    (if capacity == 0 then None else prepend_known buffer known) ≡ known
+by_parts capacity buffer known room empty = rw (room, empty) (prepend_known-nil known)
+
+-- a fresh buffer gives the reader's bytes
+pub fresh : {R A : Type 0} (remaining : R → Option (List ℕ)) (r : BufReader R A) → reader_capacity r ≡ 65536 →
+    reader_buffer r ≡ [] → reader_remaining remaining r ≡ remaining (reader_inner r)
+fresh remaining r room empty = by_parts (reader_capacity r) (reader_buffer r) (remaining (reader_inner r)) room empty

@@ -1,0 +1,120 @@
+//! The batches or the records of a file, listed.
+
+ghost use Rattle.std.specs.Prelude.{◌≡◌, ◌≤◌, ◌⊎◌};
+ghost use Rattle.std.specs.Io.KnownBytes.{Keeps};
+ghost use Rattle.commands.specs.Listings.{ListsAs, source_of, status_of, status_of_listed};
+
+use crate::call::{DONE, FAILED, REFUSED, file_text, tell_memory, tell_text};
+use crate::files::Files;
+use crate::reading::{Unread, cause_of};
+use batch_text::{ListFault, Listing, Refusal, cause_text, list_all};
+use std::alloc::{AllocError, Global};
+use std::io::{BufReader, Read, Write};
+use wire_spec::MAX_PIECE;
+
+/// Which bytes begin with no batch, and why, in a line.
+fn refusal_text(alloc: Global, refusal: &Refusal) -> Result<String, AllocError> {
+    let Refusal {
+        batches,
+        position,
+        fault,
+        bytes,
+    } = refusal;
+    let cause = cause_text(alloc, *fault, bytes)?;
+    format!(in alloc; "batch {batches} at byte {position}: {fault}: {cause}\n")
+}
+
+/// Says why no further batch of a file is listed, and answers the status.
+fn tell_fault<E: Write>(alloc: Global, stderr: &mut E, name: &str, fault: &ListFault) -> u8
+    ensures small { result ≤ 3 }
+    ensures told { (result ≡ status_of fault.now) ⊎ (result ≡ 3) }
+{
+    match fault {
+        ListFault::Batch(refusal) => tell_text(stderr, refusal_text(alloc, refusal), REFUSED),
+        ListFault::Read => tell_text(stderr, file_text(alloc, name), FAILED),
+        ListFault::Write => tell_text(stderr, file_text(alloc, "stdout"), FAILED),
+        ListFault::Memory => tell_memory(stderr),
+    }
+}
+
+/// Flushes standard output, says why a listing ended early, if it did, and answers the status.
+fn finish<O: Write, E: Write>(
+    alloc: Global,
+    listed: Result<(), ListFault>,
+    stdout: &mut O,
+    stderr: &mut E,
+    name: &str,
+) -> u8
+    ensures small { result ≤ 3 }
+    ensures kept { Keeps (O.contents stdout.old) (O.contents stdout.new) }
+    ensures told { (result ≡ status_of_listed listed) ⊎ (result ≡ 3) }
+{
+    let flushed = stdout.flush();
+    if let Err(fault) = &listed {
+        return tell_fault(alloc, stderr, name, fault);
+    }
+    match flushed {
+        Ok(()) => DONE,
+        Err(_) => tell_fault(alloc, stderr, name, &ListFault::Write),
+    }
+}
+
+/// Lists the batches of a reader with a buffer, and answers the status.
+fn list_buffered<R: Read, O: Write, E: Write>(
+    alloc: Global,
+    listing: Listing,
+    reader: &mut R,
+    stdout: &mut O,
+    stderr: &mut E,
+    name: &str,
+) -> u8
+    ensures small { result ≤ 3 }
+    ensures listed { ListsAs listing (R.remaining reader.old) result (O.contents stdout.old) (O.contents stdout.new) }
+{
+    let listed = list_all(alloc, listing, reader, stdout);
+    finish(alloc, listed, stdout, stderr, name)
+}
+
+/// Lists the batches of a reader, and answers the status.
+fn list_reader<R: Read + Drop, O: Write, E: Write>(
+    alloc: Global,
+    listing: Listing,
+    reader: R,
+    stdout: &mut O,
+    stderr: &mut E,
+    name: &str,
+) -> u8
+    ensures small { result ≤ 3 }
+    ensures listed { ListsAs listing (R.remaining reader) result (O.contents stdout.old) (O.contents stdout.new) }
+{
+    match BufReader::with_capacity(alloc, MAX_PIECE, reader) {
+        Ok(mut reader) => list_buffered(alloc, listing, &mut reader, stdout, stderr, name),
+        Err(_) => tell_memory(stderr),
+    }
+}
+
+/// Lists the batches, or the records, of a file; the name `stdin` is standard input. Answers the status: 0
+/// all are listed, 1 the bytes that follow begin with no batch, 3 a file, standard output or memory failed.
+pub fn list<F: Files, I: Read, O: Write, E: Write>(
+    alloc: Global,
+    listing: Listing,
+    files: &mut F,
+    stdin: &mut I,
+    stdout: &mut O,
+    stderr: &mut E,
+    name: &str,
+) -> u8
+    ensures small { result ≤ 3 }
+    ensures listed { ListsAs listing (source_of name.now (I.remaining stdin.old) (F.bytes files.old name.now)) result (O.contents stdout.old) (O.contents stdout.new) }
+{
+    if name == "stdin" {
+        return list_reader(alloc, listing, stdin, stdout, stderr, name);
+    }
+    match files.open(name) {
+        Ok(reader) => list_reader(alloc, listing, reader, stdout, stderr, name),
+        Err(error) => match cause_of(&error) {
+            Unread::File => tell_text(stderr, file_text(alloc, name), FAILED),
+            Unread::Memory => tell_memory(stderr),
+        },
+    }
+}
