@@ -15,9 +15,13 @@ pub(crate) fn say<R: Print>(rt: &R, call: &str, fault: BrokerFault) {
 }
 
 pub(crate) fn image(alloc: Global) -> Option<Bytes> {
-    match Bytes::copy_from_slice(alloc, &BOTH) {
-        Ok(image) => Some(image),
-        Err(_) => Bytes::copy_from_slice(alloc, &BOTH).ok(),
+    copied(alloc, &BOTH)
+}
+
+fn copied(alloc: Global, bytes: &[u8]) -> Option<Bytes> {
+    match Bytes::copy_from_slice(alloc, bytes) {
+        Ok(copy) => Some(copy),
+        Err(_) => Bytes::copy_from_slice(alloc, bytes).ok(),
     }
 }
 
