@@ -7,14 +7,15 @@ use Rattle.wire_spec.specs.declared.fault.BatchFault.{BatchFault}
 use Rattle.wire_spec.specs.declared.fault.BatchFault.TheVariants as fault
 use Rattle.wire_spec.specs.declared.limits.TheConstants.{TIMESTAMP_END}
 use Rattle.machine_spec.specs.Image.{Program}
-use Rattle.batch_transform.specs.declared.{fault.Stop.Stop, fault.BatchPlace.BatchPlace}
+use Rattle.batch_transform.specs.declared.{fault.Stop.Stop, fault.BatchPlace.BatchPlace, pass.Transformed.Transformed}
 use Rattle.batch_transform.specs.declared.fault.Stop.TheVariants as stop
-use Rattle.batch_transform.specs.Transformed.{TransformsBatches}
-use Rattle.klog_c.specs.Calls.{takes_kind}
+use Rattle.batch_transform.specs.Transformed.{IsTransformed, TransformsBatches}
+use Rattle.klog_c.specs.Calls.{Fills, takes_kind}
 use Rattle.klog_c.specs.Numbers.{batch_number, stop_number}
 use Rattle.klog_c.specs.Batches.{is_source, origin_of, stopped_at, IsStop, TransformsSource}
 use Rattle.klog_c.specs.declared.faults.TheConstants.{MEMORY, KIND}
 use Rattle.klog_c.specs.declared.object.Object.{Object}
+use Rattle.klog_c.specs.declared.object.Object.TheVariants as object
 use Rattle.klog_c.specs.declared.{transforming.Source.Source, transforming.Stopped.Stopped}
 
 pub record IsInRange (source : Source) : Type 0 where
@@ -76,3 +77,14 @@ stopped program source bytes before place why stops =
       number_is = refl;
       place_is = refl;
     })
+
+-- what was made is put into a handle that takes it
+pub filled : (program : Program) (source : Source) (bytes : List ℕ) (before after : Option Object) (told : Stopped)
+    (made : Transformed) (number : ℕ) → IsTransformed program (origin_of source) bytes made →
+    Fills (object.Batches made) before after number → TransformsSource program source bytes before after told number
+filled program source bytes before after told made zero is (now, takes) = (made, now, is)
+filled program source bytes before after told made (suc number) is (same, why) = (
+  same,
+  λ memory kind. absurd (kind (why memory).0),
+  λ kind. (why (λ e. omega (arith, e, kind))).1,
+)

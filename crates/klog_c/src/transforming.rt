@@ -68,7 +68,6 @@ fn stopped_at(place: BatchPlace, stop: Stop) -> Stopped
 }
 
 /// Puts what a program makes of batches from a place in range into a handle.
-#[tactic(auto, using(crate::proofs::Sources::stopped))]
 fn transform_source(
     alloc: Global,
     program: &Program,
