@@ -52,6 +52,14 @@ const LARGE: Shape = Shape {
     headers: 0,
 };
 
+const LONGEST: Shape = Shape {
+    name: "3 of 1,048,576 bytes",
+    records: 3,
+    key: None,
+    value: 1_048_576,
+    headers: 0,
+};
+
 const HEADED: Shape = Shape {
     name: "1,000 of 4 headers",
     records: 1_000,
@@ -326,6 +334,7 @@ fn compare<R: Print + Clock>(rt: &R, alloc: Global, shape: &Shape, times: u32) -
 fn compare_all<R: Print + Clock>(rt: &R, alloc: Global, times: u32) -> io::Result<()> {
     compare(rt, alloc, &SMALL, times)?;
     compare(rt, alloc, &LARGE, times)?;
+    compare(rt, alloc, &LONGEST, times)?;
     compare(rt, alloc, &HEADED, times)
 }
 
