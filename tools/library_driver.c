@@ -316,12 +316,12 @@ static size_t varint_size(int64_t number)
 	return (size_t)(put_varint(bytes, number) - bytes);
 }
 
-/* The bytes of a part, or null. */
-static uint8_t *put_part(struct worker *w, uint8_t *at, int64_t length)
+/* The bytes of a part, or null; only bits of the mask are set. */
+static uint8_t *put_part(struct worker *w, uint8_t *at, int64_t length, uint8_t mask)
 {
 	at = put_varint(at, length);
 	for (int64_t k = 0; k < length; k++)
-		*at++ = (uint8_t)(w->state >> k % 57);
+		*at++ = (uint8_t)(w->state >> k % 57) & mask;
 	return at;
 }
 
@@ -337,12 +337,13 @@ static uint8_t *put_record(struct worker *w, uint8_t *at, int64_t number, size_t
 	*at++ = 0;
 	at = put_varint(at, 0);
 	at = put_varint(at, number);
-	at = put_part(w, at, key);
-	at = put_part(w, at, value);
+	at = put_part(w, at, key, 255);
+	at = put_part(w, at, value, 255);
 	at = put_varint(at, headers);
 	if (headers) {
-		at = put_part(w, at, header_key);
-		at = put_part(w, at, header_value);
+		/* A header's key is UTF-8. */
+		at = put_part(w, at, header_key, 127);
+		at = put_part(w, at, header_value, 255);
 	}
 	return at;
 }
