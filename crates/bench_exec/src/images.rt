@@ -1,5 +1,6 @@
 //! A program of an image, on records with random values.
 
+use crate::abreast::time_abreast;
 use crate::{Fitting, records_of, time};
 use bytes::Bytes;
 use machine_spec::Table;
@@ -19,7 +20,7 @@ fn mixed(number: u64) -> u64 {
 }
 
 /// The value of the record with this number: 64 bytes.
-fn value_of(alloc: Global, record: u64) -> Option<Bytes> {
+pub(crate) fn value_of(alloc: Global, record: u64) -> Option<Bytes> {
     let mut bytes = Vec::new(alloc);
     for part in 0..8 {
         let number = mixed(record.wrapping_mul(8).wrapping_add(part));
@@ -58,12 +59,13 @@ fn time_both<R: Print + Clock>(
             rounds.saturating_mul(1024),
         )?;
         time(rt, alloc, "1,024 records", &program, records, rounds)?;
+        time_abreast(rt, alloc, &program, rounds)?;
     }
     Ok(())
 }
 
 /// Times the program of an image: four times on one record, and on 1,024 records whose values
-/// differ. It prints nothing where memory runs out.
+/// differ, one after another and abreast. It prints nothing where memory runs out.
 pub(crate) fn time_image<R: Print + Clock>(
     rt: &R,
     alloc: Global,

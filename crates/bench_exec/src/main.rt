@@ -3,6 +3,7 @@
 //! record and on 1,024. With none it times programs of one kind of instruction each.
 #![tactic(auto)]
 
+mod abreast;
 mod images;
 mod kinds;
 
