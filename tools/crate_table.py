@@ -1,10 +1,10 @@
 #!/usr/bin/env python3
-"""Prints the table of docs/PROVING.md: for each crate its lines, its tests, its must-fail edits and, where asked for, the
-processor seconds of its proof from nothing.
+"""Prints for each crate its lines, its tests, its must-fail edits and, where asked for, the processor seconds of its proof.
 
-    tools/crate_table.py                lines, tests and edits alone, in a second
-    tools/crate_table.py --prove        also proves each crate in a fresh clone of what is committed, by one job, lowest first
-    tools/crate_table.py --times FILE   also the processor seconds of proofs, tests and edits in a whole run of the gate
+    tools/crate_table.py                       lines, tests and edits alone, in a second
+    tools/crate_table.py --prove               also proves each crate in a fresh clone of what is committed, by one job, lowest first
+    tools/crate_table.py --times FILE [ROWS]   the table of docs/PROVING.md: what proofs, tests and edits took in a whole run of the
+                                               gate, of the 15 crates that took most, or ROWS of them, and the sums of others and all
 
 FILE has a line for each call of `rattle`: its folder, its words, and then user, system and elapsed seconds and kilobytes, as
 GNU time writes them with -f "$PWD $* %U %S %e %M". A copy of the kit whose bin/rattle is a script of such a call makes it.
@@ -62,24 +62,35 @@ def times(path):
     return proofs, tests, edits
 
 
-def print_times(path):
-    """The table with what a gate took."""
+def shown(seconds, number=0):
+    return f"{seconds:.0f}" * (seconds >= 1) + f" ({number})" * (number > 0)
+
+
+def print_row(name, row):
+    code, specs, proofs, proved, tried, number, edited, edits = row
+    print(f"| {name} | {code} / {specs} / {proofs} | {shown(proved)} | {shown(tried, number)} | {shown(edited, edits)} |")
+
+
+def print_times(path, most):
+    """The table with what a gate took: the crates that took most, the sum of the others, and that of all."""
     proofs, tried, edited = times(path)
-    shown = lambda seconds, number: f"{seconds:.0f}" * (seconds >= 1) + f" ({number})" * (number > 0)
-    print("| crate | lines of code / specs / proofs | proof, s | tests, s (number) | edits, s (number) |\n|---|---|---|---|---|")
-    sums = collections.Counter()
+    rows = {}
     for crate in crates():
         code = lines(crate, "src", ".rt"), lines(crate, "specs", ".antt"), lines(crate, "proofs", ".antt")
-        number, edits = tests(crate), len(glob.glob(f"{TOP}/crates/{crate}/must-fail/*.edit"))
-        row = *code, proofs[crate], tried[crate], number, edited[crate], edits
-        sums.update(dict(enumerate(row)))
-        print(f"| `{crate}` | {code[0]} / {code[1]} / {code[2]} | {shown(proofs[crate], 0)} | {shown(tried[crate], number)} | {shown(edited[crate], edits)} |")
-    print(f"| all | {sums[0]} / {sums[1]} / {sums[2]} | {shown(sums[3], 0)} | {shown(sums[4], sums[5])} | {shown(sums[6], sums[7])} |")
+        edits = len(glob.glob(f"{TOP}/crates/{crate}/must-fail/*.edit"))
+        rows[f"`{crate}`"] = *code, proofs[crate], tried[crate], tests(crate), edited[crate], edits
+    order = sorted(rows, key=lambda crate: -(rows[crate][3] + rows[crate][4] + rows[crate][6]))
+    print("| crate | lines of code / specs / proofs | proof, s | tests, s (number) | edits, s (number) |\n|---|---|---|---|---|")
+    for crate in order[:most]:
+        print_row(crate, rows[crate])
+    if order[most:]:
+        print_row("the others", [sum(column) for column in zip(*(rows[crate] for crate in order[most:]))])
+    print_row("all", [sum(column) for column in zip(*rows.values())])
 
 
 def main():
     if sys.argv[1:2] == ["--times"]:
-        return print_times(sys.argv[2])
+        return print_times(sys.argv[2], int(sys.argv[3]) if sys.argv[3:] else 15)
     prove = sys.argv[1:] == ["--prove"]
     print("| crate | code | specs | proofs | seconds | tests | edits |\n|---|---|---|---|---|---|---|")
     with tempfile.TemporaryDirectory() as room:
