@@ -1,72 +1,41 @@
 ghost use Rattle.std.specs.Prelude.{◌≤◌};
 ghost use Rattle.wire_spec.specs.declared.limits.TheConstants.{TIMESTAMP_END};
 
-use batch::encode;
+use crate::batches::program_of;
+use crate::streams::{damaged, put};
 use batch_transform::{BatchPlace, Stop, Transformed, transform_batches};
-use bytes::Bytes;
-use fixtures::{FORWARD, batch_of, batch_of_value};
+use fixtures::{FORWARD, batch_of_value};
 use item_rows::Origin;
 use log_item::Program;
-use machine_spec::Table;
 use std::alloc::Global;
 use std::test::Fail;
-use wire_spec::{Batch, BatchFault, TIMESTAMP_END};
+use wire_spec::{BatchFault, TIMESTAMP_END};
 
 /// ldxb r0, [r1] after a test for one byte of the value; exit: the first byte is the reject code.
-const REJECT: [u8; 32] = [
+const REJECT: [u8; 40] = [
     0xb7, 0, 0, 0, 0, 0, 0, 0, // mov64 r0, 0
     0x25, 2, 1, 0, 0, 0, 0, 0, // jgt r2, 0, +1
     0x95, 0, 0, 0, 0, 0, 0, 0, // exit
     0x71, 0x10, 0, 0, 0, 0, 0, 0, // ldxb r0, [r1]
+    0x95, 0, 0, 0, 0, 0, 0, 0, // exit
 ];
 
-fn program_of(alloc: Global, image: &[u8]) -> Result<Program, Fail> {
-    let image = Bytes::copy_from_slice(alloc, image)?;
-    match Program::new(alloc, &image, Table::One) {
-        Ok(program) => Ok(program),
-        Err(_) => Err(Fail::from("a program")),
-    }
-}
-
-fn put_batch(alloc: Global, bytes: &mut Vec<u8>, batch: Option<Batch>) -> Result<(), Fail> {
-    let batch = batch.ok_or("a batch")?;
-    if !batch::fits(&batch) {
-        return Err(Fail::from("a batch that fits"));
-    }
-    bytes.extend_from_slice(&encode(alloc, &batch)?)?;
-    Ok(())
-}
-
-/// The bytes of two batches of 3 and 2 records without key and value, 82 and 75 bytes: the first `len` of
-/// them, and one changed.
-fn damaged(alloc: Global, len: usize, place: usize) -> Result<Vec<u8>, Fail> {
-    let mut bytes = Vec::new(alloc);
-    put_batch(alloc, &mut bytes, batch_of(alloc, 3, 1000))?;
-    put_batch(alloc, &mut bytes, batch_of(alloc, 2, 1000))?;
-    bytes.truncate(len);
-    if place < bytes.len() {
-        bytes[place] ^= 1;
-    }
-    Ok(bytes)
-}
-
-/// What a program makes of batches, with how many outputs there are.
+/// What a program makes of batches for two outputs.
 fn made(
     alloc: Global,
-    image: &[u8],
+    program: &Program,
     offset: u64,
     bytes: &[u8],
     place: &mut BatchPlace,
-) -> Result<Result<Transformed, Stop>, Fail>
+) -> Result<Transformed, Stop>
     requires { offset ≤ TIMESTAMP_END }
 {
-    let program = program_of(alloc, image)?;
     let origin = Origin {
         input: 7,
         offset,
         outputs: 2,
     };
-    Ok(transform_batches(alloc, &program, &origin, bytes, place))
+    transform_batches(alloc, program, &origin, bytes, place)
 }
 
 /// Damage: how many bytes are left, and which is changed; why the transform stops, if it does; how many
@@ -84,14 +53,14 @@ const DAMAGES: [Damage; 7] = [
 ];
 
 /// Whether a transform ends as it should.
-fn ends_so(alloc: Global, damage: &Damage) -> Result<bool, Fail> {
+fn ends_so(alloc: Global, program: &Program, damage: &Damage) -> Result<bool, Fail> {
     let (len, changed, stop, batch, byte) = *damage;
     let bytes = damaged(alloc, len, changed)?;
     let mut place = BatchPlace {
         batch: 99,
         byte: 99,
     };
-    match made(alloc, &FORWARD, 5, &bytes, &mut place)? {
+    match made(alloc, program, 5, &bytes, &mut place) {
         Err(why) => Ok(Some(why) == stop && place == BatchPlace { batch, byte }),
         Ok(found) => Ok(stop.is_none() && found.batches == batch && bytes.len() == byte),
     }
@@ -99,8 +68,9 @@ fn ends_so(alloc: Global, damage: &Damage) -> Result<bool, Fail> {
 
 #[test]
 fn stops_at_the_first_fault(rt: HostRuntime) -> Result<(), Fail> {
+    let program = program_of(rt.alloc(), &FORWARD)?;
     for damage in &DAMAGES {
-        assert!(rt; ends_so(rt.alloc(), damage)?, "{damage:?}");
+        assert!(rt; ends_so(rt.alloc(), &program, damage)?, "{damage:?}");
     }
     Ok(())
 }
@@ -114,34 +84,46 @@ fn sizes(alloc: Global, found: &Transformed) -> Result<Vec<(u64, usize)>, Fail> 
     Ok(list)
 }
 
+/// The rows and the bytes of each output, and how many records were read and kept. None where codes are
+/// counted.
+fn summed(
+    alloc: Global,
+    found: &Transformed,
+) -> Result<Option<(Vec<(u64, usize)>, u64, u64)>, Fail> {
+    let sizes = sizes(alloc, found)?;
+    if !found.rejects.is_empty() {
+        return Ok(None);
+    }
+    Ok(Some((sizes, found.counts.records(), found.counts.kept())))
+}
+
 #[test]
 fn rows_of_two_batches_are_in_one(rt: HostRuntime) -> Result<(), Fail> {
     let alloc = rt.alloc();
+    let program = program_of(alloc, &FORWARD)?;
     let mut place = BatchPlace { batch: 0, byte: 0 };
-    let bytes = damaged(alloc, 157, 999)?;
-    let found = made(alloc, &FORWARD, 0, &bytes, &mut place)?;
+    let found = made(alloc, &program, 0, &damaged(alloc, 157, 999)?, &mut place);
     let found = found.ok().ok_or("batches")?;
+    let (sizes, records, kept) = summed(alloc, &found)?.ok_or("no codes")?;
     // A header and 5 records of 7 bytes.
-    assert_eq!(rt;
-        sizes(alloc, &found)?.as_slice(),
-        [(5, 96), (0, 0)].as_slice()
-    );
-    assert_eq!(rt; found.counts.records(), 5);
-    assert_eq!(rt; found.counts.kept(), 5);
-    assert!(rt; found.rejects.is_empty());
+    assert_eq!(rt; sizes.as_slice(), [(5, 96), (0, 0)].as_slice());
+    assert_eq!(rt; (records, kept), (5, 5));
     Ok(())
 }
 
-/// What the records of batches of two and three values, the bytes 9 and 3, are rejected by.
-fn rejects(alloc: Global) -> Result<Vec<(u64, u64)>, Fail> {
+/// Batches of two, three and one values: the bytes 9, 3 and 0.
+fn put_values(alloc: Global, bytes: &mut Vec<u8>) -> Result<(), Fail> {
+    put(alloc, bytes, batch_of_value(alloc, 2, 9))?;
+    put(alloc, bytes, batch_of_value(alloc, 3, 3))?;
+    put(alloc, bytes, batch_of_value(alloc, 1, 0))
+}
+
+/// What the records of those batches are rejected by.
+fn rejects(alloc: Global, program: &Program) -> Result<Vec<(u64, u64)>, Fail> {
     let mut bytes = Vec::new(alloc);
-    put_batch(alloc, &mut bytes, batch_of_value(alloc, 2, 9))?;
-    put_batch(alloc, &mut bytes, batch_of_value(alloc, 3, 3))?;
-    put_batch(alloc, &mut bytes, batch_of_value(alloc, 1, 0))?;
+    put_values(alloc, &mut bytes)?;
     let mut place = BatchPlace { batch: 0, byte: 0 };
-    let mut image = Vec::from_slice(alloc, &REJECT)?;
-    image.extend_from_slice(&[0x95, 0, 0, 0, 0, 0, 0, 0])?;
-    let found = made(alloc, &image, 0, &bytes, &mut place)?;
+    let found = made(alloc, program, 0, &bytes, &mut place);
     let found = found.ok().ok_or("batches")?;
     if found.counts.kept() != 1 || found.counts.records() != 6 {
         return Err(Fail::from("one kept record of six"));
@@ -151,8 +133,9 @@ fn rejects(alloc: Global) -> Result<Vec<(u64, u64)>, Fail> {
 
 #[test]
 fn counts_rejects_by_rising_code(rt: HostRuntime) -> Result<(), Fail> {
+    let program = program_of(rt.alloc(), &REJECT)?;
     assert_eq!(rt;
-        rejects(rt.alloc())?.as_slice(),
+        rejects(rt.alloc(), &program)?.as_slice(),
         [(3, 3), (9, 2)].as_slice()
     );
     Ok(())
@@ -161,12 +144,13 @@ fn counts_rejects_by_rising_code(rt: HostRuntime) -> Result<(), Fail> {
 #[test]
 fn stops_where_offsets_end(rt: HostRuntime) -> Result<(), Fail> {
     let alloc = rt.alloc();
+    let program = program_of(alloc, &FORWARD)?;
     let bytes = damaged(alloc, 157, 999)?;
     let mut place = BatchPlace { batch: 9, byte: 9 };
-    let found = made(alloc, &FORWARD, TIMESTAMP_END - 10_002, &bytes, &mut place)?;
+    let found = made(alloc, &program, TIMESTAMP_END - 10_002, &bytes, &mut place);
     assert_eq!(rt; found.err(), Some(Stop::Full));
     assert_eq!(rt; place, BatchPlace { batch: 1, byte: 82 });
-    let found = made(alloc, &FORWARD, TIMESTAMP_END - 10_003, &bytes, &mut place)?;
+    let found = made(alloc, &program, TIMESTAMP_END - 10_003, &bytes, &mut place);
     assert!(rt; found.is_ok());
     Ok(())
 }
