@@ -1,6 +1,10 @@
-//! Tests of what is explained of a program.
+//! Tests of texts by public calls: programs and their images, explanations, lines of scripts.
 #![tactic(auto)]
 
+#[cfg(test)]
+mod asm_faults;
+#[cfg(test)]
+mod asm_words;
 #[cfg(test)]
 mod hints;
 #[cfg(test)]
@@ -11,6 +15,8 @@ mod images;
 mod listings;
 #[cfg(test)]
 mod reasons;
+#[cfg(test)]
+mod script_lines;
 #[cfg(test)]
 mod tables;
 #[cfg(test)]
