@@ -89,9 +89,13 @@ fn are_audited<Id: Names, C, R: Wait>(
         return false;
     }
     let book = broker.book(output).lock(rt);
-    let Ok(audits) = broker.audit_all(alloc, receipts, &book) else {
-        return false;
-    };
+    match broker.audit_all(alloc, receipts, &book) {
+        Ok(audits) => are_audits(audits, want),
+        Err(_) => false,
+    }
+}
+
+fn are_audits(audits: Vec<Audit<'_>>, want: &[Option<Seen>]) -> bool {
     let mut rest = want;
     for audit in audits {
         match rest.split_first() {

@@ -2,6 +2,7 @@
 
 use broker::Broker;
 use broker_fixtures::is_row;
+use out_book::Book;
 use part_log::Names;
 use std::sync::Wait;
 
@@ -22,6 +23,10 @@ pub(crate) fn has<Id: Names, C, R: Wait>(
         return false;
     }
     let book = broker.book(output).lock(rt);
+    has_rows(&book, input, done, want)
+}
+
+fn has_rows<Id: Names>(book: &Book<Id>, input: usize, done: usize, want: &[Seen]) -> bool {
     if input >= book.inputs() || book.done(input) != done {
         return false;
     }

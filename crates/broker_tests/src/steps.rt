@@ -5,6 +5,7 @@ use broker::{Broker, Parts, Stepped};
 use broker_fixtures::{audited, deploy, put, step};
 use catalogue::Catalogue;
 use fixtures::FORWARD;
+use out_book::Book;
 use part_log::Names;
 use std::alloc::Global;
 use std::marker::Brand;
@@ -50,9 +51,17 @@ fn step_again<Id: Names, C, R: Wait>(
     if output >= broker.outputs() {
         return None;
     }
-    let _some = broker.inputs();
     let mut guard = broker.book(output).lock(rt);
-    let book = &mut *guard;
+    step_late(rt, alloc, broker, &mut *guard)
+}
+
+fn step_late<Id: Names, C, R: Wait>(
+    rt: &R,
+    alloc: Global,
+    broker: &Broker<Id, C>,
+    book: &mut Book<Id>,
+) -> Option<Stepped> {
+    let _some = broker.inputs();
     let done = book.done(0);
     if done >= broker.cells(0) {
         return None;
