@@ -3,7 +3,7 @@
 
 Not part of the build. From the top of the repository:
 
-    tools/refuse_each.py [CRATE [WORD]]
+    tools/refuse_each.py [CRATE [WORD]]       or a path, as `out/tests`, of its built tests in place of CRATE
 
 The crate is memory_tests if none is named. `rt test` proves it and builds its tests. Then each test runs once with no request
 refused, and once for each request that it made in that run, with that one refused. With a word only the tests run whose names have
@@ -61,15 +61,19 @@ def series(program, test, folder):
     return passed == count, count
 
 
+def built(folder):
+    """The tests of the crate in a folder, proved and built."""
+    if subprocess.run(["rt", "test"], cwd=folder, stdout=subprocess.DEVNULL, check=False).returncode:
+        sys.exit(f"rt test failed in {folder}")
+    return f"{folder}/out/{os.path.basename(folder)}_tests"
+
+
 def main(words):
     if len(words) > 2 or words and words[0].startswith("-"):
         sys.exit(__doc__)
     crate = words[0] if words else "memory_tests"
     word = words[1] if len(words) > 1 else ""
-    crate_folder = f"{TOP}/crates/{crate}"
-    if subprocess.run(["rt", "test"], cwd=crate_folder, stdout=subprocess.DEVNULL, check=False).returncode:
-        sys.exit(f"rt test failed in {crate_folder}")
-    program = f"{crate_folder}/out/{crate}_tests"
+    program = os.path.abspath(crate) if "/" in crate else built(f"{TOP}/crates/{crate}")
     listed = subprocess.run([program, "--list"], stdout=subprocess.PIPE, text=True, check=True).stdout
     tests = [it.removesuffix(": test") for it in listed.splitlines() if it.endswith(": test") and word in it]
     start = time.monotonic()

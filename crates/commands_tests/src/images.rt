@@ -1,4 +1,4 @@
-use crate::shelf::{FORWARD, called_with, empty_shelf};
+use crate::shelf::{FORWARD, answers, empty_shelf, file_answers};
 use commands::Files;
 use std::test::Fail;
 
@@ -26,14 +26,9 @@ const IMAGES: [(&[u8], &str, &str, u8); 8] = [
 
 #[test]
 fn checks_images(rt: HostRuntime) -> Result<(), Fail> {
-    let alloc = rt.alloc();
-    for (image, want_out, want_err, want) in IMAGES {
-        let mut files = empty_shelf(alloc);
-        files.write("image", image)?;
-        let (status, out, err) = called_with(&rt, alloc, &mut files, &["check", "image"], b"")?;
-        assert!(rt; out.as_str() == want_out, "{out}{err}");
-        assert!(rt; err.as_str() == want_err, "{err}");
-        assert!(rt; status == want, "{status}");
+    for (image, out, err, status) in &IMAGES {
+        let want = (*status, *out, *err);
+        file_answers(&rt, rt.alloc(), &["check", "image"], ("image", image), want)?;
     }
     Ok(())
 }
@@ -115,36 +110,44 @@ registers are r0 to r10
 
 #[test]
 fn explains_images(rt: HostRuntime) -> Result<(), Fail> {
-    let alloc = rt.alloc();
-    for (words, image, want_out, want_err, want) in EXPLAINED {
-        let mut files = empty_shelf(alloc);
-        files.write("image", image)?;
-        let (status, out, err) = called_with(&rt, alloc, &mut files, words, b"")?;
-        assert!(rt; out.as_str() == want_out, "{out}{err}");
-        assert!(rt; err.as_str() == want_err, "{err}");
-        assert!(rt; status == want, "{status}");
+    for (words, image, out, err, status) in &EXPLAINED {
+        let want = (*status, *out, *err);
+        file_answers(&rt, rt.alloc(), words, ("image", image), want)?;
     }
     Ok(())
 }
+
+/// How many bytes an image has, what is said of it on standard error and the status.
+const GREATEST: [(usize, &str, &str, u8); 2] = [
+    (131_073, "I1 Size\n", "line 2: I1 Size\n", 1),
+    (131_072, "file endless\n", "file endless\n", 3),
+];
 
 /// An image of 16,384 slots and a byte is not distinguished from one of which no end is read, and
 /// one of 16,384 slots is.
 #[test]
 fn reads_one_byte_past_the_greatest_image(rt: HostRuntime) -> Result<(), Fail> {
     let alloc = rt.alloc();
-    let script = "partitions 1 1 8\nload a endless";
-    for (count, words, want_err, want) in [
-        (131_073, ["check", "endless"], "I1 Size\n", 1),
-        (131_073, ["run", "stdin"], "line 2: I1 Size\n", 1),
-        (131_072, ["check", "endless"], "file endless\n", 3),
-        (131_072, ["run", "stdin"], "file endless\n", 3),
-    ] {
+    for (count, checked, run, status) in &GREATEST {
+        let bytes = vec![in alloc; 0; *count]?;
+        let file = ("endless", bytes.as_slice());
+        file_answers(
+            &rt,
+            alloc,
+            &["check", "endless"],
+            file,
+            (*status, "", *checked),
+        )?;
         let mut files = empty_shelf(alloc);
-        let bytes = vec![in alloc; 0; count]?;
         files.write("endless", &bytes)?;
-        let (status, out, err) = called_with(&rt, alloc, &mut files, &words, script.as_bytes())?;
-        assert!(rt; out.as_str() == "" && err.as_str() == want_err, "{err}");
-        assert!(rt; status == want, "{status}");
+        let script = b"partitions 1 1 8\nload a endless";
+        answers(
+            &rt,
+            &mut files,
+            &["run", "stdin"],
+            script,
+            (*status, "", *run),
+        )?;
     }
     Ok(())
 }

@@ -1,7 +1,7 @@
 //! Calls that list the batches and the records of a file.
 
 use crate::scripts::BEGIN;
-use crate::shelf::{BATCHES, Shelf, called, called_with, empty_shelf};
+use crate::shelf::{BATCHES, Shelf, answers, called, called_with, empty_shelf, file_answers};
 use commands::Files;
 use std::alloc::Global;
 use std::process::Abort;
@@ -72,11 +72,8 @@ fn each_call<R: Threads + Wait + Abort + Sync>(rt: &R, alloc: Global) -> Result<
         files.write(name, &BATCHES)?;
     }
     files.write("none", &[])?;
-    for (words, status, want_out, want_err) in CALLS {
-        let (found, out, err) = called_with(rt, alloc, &mut files, words, &BATCHES)?;
-        assert!(rt; err.as_str() == want_err, "{words:?}: {err}");
-        assert!(rt; out.as_str() == want_out, "{words:?}: {out}");
-        assert_eq!(rt; found, status, "{words:?}");
+    for (words, status, out, err) in &CALLS {
+        answers(rt, &mut files, words, &BATCHES, (*status, *out, *err))?;
     }
     Ok(())
 }
@@ -218,14 +215,17 @@ fn damaged(alloc: Global, damage: &Damage) -> Result<Vec<u8>, Fail> {
 
 fn each_damage<R: Threads + Wait + Abort + Sync>(rt: &R, alloc: Global) -> Result<(), Fail> {
     for damage in &DAMAGES {
-        let words = damage.3;
-        let mut files = empty_shelf(alloc);
-        files.write("damaged", &damaged(alloc, damage)?)?;
-        let want = format!(in alloc; "batch 1 at byte 70: {words}\n")?;
-        let (status, out, err) = called_with(rt, alloc, &mut files, &["batches", "damaged"], b"")?;
-        assert!(rt; err.as_str() == want.as_str(), "{words}: {err}");
-        assert!(rt; out.as_str() == PLAIN_LINE, "{words}: {out}");
-        assert_eq!(rt; status, 1, "{words}");
+        let cause = damage.3;
+        let bytes = damaged(alloc, damage)?;
+        let err = format!(in alloc; "batch 1 at byte 70: {cause}\n")?;
+        let want = (1, PLAIN_LINE, err.as_str());
+        file_answers(
+            rt,
+            alloc,
+            &["batches", "damaged"],
+            ("damaged", bytes.as_slice()),
+            want,
+        )?;
     }
     Ok(())
 }

@@ -1,6 +1,6 @@
 //! Lists of programs that are verified anew.
 
-use crate::shelf::{Shelf, called_with, empty_shelf};
+use crate::shelf::{Shelf, answers, empty_shelf};
 use crate::tables::FIRST_HEADER;
 use commands::Files;
 use std::alloc::Global;
@@ -96,14 +96,16 @@ const LISTS: [Row; 22] = [
 
 #[test]
 fn rechecks_the_programs_of_a_list(rt: HostRuntime) -> Result<(), Fail> {
-    let alloc = rt.alloc();
-    for (list, want_out, want_err, want) in LISTS {
-        let mut files = program_shelf(alloc)?;
+    let mut files = program_shelf(rt.alloc())?;
+    for (list, out, err, status) in &LISTS {
         files.write("list", list.as_bytes())?;
-        let (status, out, err) = called_with(&rt, alloc, &mut files, &["recheck", "list"], b"")?;
-        assert!(rt; out.as_str() == want_out, "{list:?}: {out}");
-        assert!(rt; err.as_str() == want_err, "{list:?}: {err}");
-        assert!(rt; status == want, "{list:?}: {status}");
+        answers(
+            &rt,
+            &mut files,
+            &["recheck", "list"],
+            b"",
+            (*status, *out, *err),
+        )?;
     }
     Ok(())
 }
@@ -111,16 +113,20 @@ fn rechecks_the_programs_of_a_list(rt: HostRuntime) -> Result<(), Fail> {
 /// Standard input is no list, and a list is text.
 #[test]
 fn reports_a_list_that_can_not_be_read(rt: HostRuntime) -> Result<(), Fail> {
-    let alloc = rt.alloc();
-    for (name, want_err) in [("stdin", "file stdin\n"), ("binary", "file binary\n")] {
-        let mut files = program_shelf(alloc)?;
-        files.write("binary", b"a\n\xff\n")?;
-        let (status, out, err) = called_with(&rt, alloc, &mut files, &["recheck", name], b"a\n")?;
-        assert!(rt;
-            out.as_str() == "" && err.as_str() == want_err,
-            "{name}: {out}{err}"
-        );
-        assert!(rt; status == 3, "{name}: {status}");
-    }
-    Ok(())
+    let mut files = program_shelf(rt.alloc())?;
+    files.write("binary", b"a\n\xff\n")?;
+    answers(
+        &rt,
+        &mut files,
+        &["recheck", "stdin"],
+        b"a\n",
+        (3, "", "file stdin\n"),
+    )?;
+    answers(
+        &rt,
+        &mut files,
+        &["recheck", "binary"],
+        b"a\n",
+        (3, "", "file binary\n"),
+    )
 }

@@ -1,165 +1,194 @@
-use crate::shelf::called;
+use crate::shelf::script_answers;
 use std::alloc::Global;
+use std::process::Abort;
+use std::sync::Wait;
 use std::test::Fail;
+use std::thread::Threads;
 
 pub(crate) const BEGIN: &str =
     "partitions 1 1 8\nload fwd hex:b70100000000000085000000030000009500000000000000\n";
 
+/// Forwards a record.
+const FORWARDING: &str =
+    "partitions 1 1 8\nload fwd hex:b70100000000000085000000030000009500000000000000\n\
+    deploy 0 fwd\nput 0 1000 6b 76\ngo\n";
+
+const FORWARDED: &str =
+    "load fwd version 1\ndeploy 0 index 0 fwd version 1\nappend 0 index 1 base 0\n\
+    row 0 0 0 0 1000 6b 76 0\n\
+    out 0 in 0 done 2 rows 1\nin 0 items 2 records 1 unprogrammed 0 kept 1\n";
+
 #[test]
 fn forwards_a_record(rt: HostRuntime) -> Result<(), Fail> {
-    let alloc = rt.alloc();
-    let printed = "load fwd version 1\ndeploy 0 index 0 fwd version 1\nappend 0 index 1 base 0\n\
-        row 0 0 0 0 1000 6b 76 0\n\
-        out 0 in 0 done 2 rows 1\nin 0 items 2 records 1 unprogrammed 0 kept 1\n";
-    let script = format!(in alloc; "{BEGIN}deploy 0 fwd\nput 0 1000 6b 76\ngo\n")?;
-    for words in [["run", "stdin"], ["run", "script"]] {
-        let (status, out, err) = called(&rt, alloc, &words, script.as_str())?;
-        assert!(rt; status == 0);
-        assert!(rt; out.as_str() == printed, "{out}");
-        assert!(rt; err.as_str() == "", "{err}");
-    }
-    Ok(())
+    let want = (0, FORWARDED, "");
+    script_answers(&rt, rt.alloc(), &["run", "stdin"], FORWARDING, want)?;
+    script_answers(&rt, rt.alloc(), &["run", "script"], FORWARDING, want)
+}
+
+/// Lines after those of `BEGIN`, with what is then printed on both outputs and the status.
+const ENDS: [(&str, &str, &str, u8); 18] = [
+    ("", "load fwd version 1\n", "", 0),
+    ("\n# nothing\n\n", "load fwd version 1\n", "", 0),
+    ("frob\n", "load fwd version 1\n", "line 3: S1 Syntax\n", 1),
+    ("\ngo \n", "load fwd version 1\n", "line 4: S1 Syntax\n", 1),
+    (
+        "partitions 1 1 8",
+        "load fwd version 1\n",
+        "line 3: S2 Order\n",
+        1,
+    ),
+    (
+        "deploy 0 other",
+        "load fwd version 1\n",
+        "line 3: S2 Order\n",
+        1,
+    ),
+    (
+        "deploy 1 other",
+        "load fwd version 1\n",
+        "line 3: S2 Order\n",
+        1,
+    ),
+    (
+        "deploy 1 fwd",
+        "load fwd version 1\n",
+        "line 3: P1 Partition\n",
+        1,
+    ),
+    (
+        "deploy 1180591620717411303424 fwd",
+        "load fwd version 1\n",
+        "line 3: P1 Partition\n",
+        1,
+    ),
+    (
+        "put 1 4611686018427387904 - -",
+        "load fwd version 1\n",
+        "line 3: S3 Range\n",
+        1,
+    ),
+    (
+        "put 1 4611686018427387903 - -",
+        "load fwd version 1\n",
+        "line 3: P1 Partition\n",
+        1,
+    ),
+    (
+        "load f.d forward.bin",
+        "load fwd version 1\n",
+        "line 3: C1 Name\n",
+        1,
+    ),
+    (
+        "load f.d nothing.bin",
+        "load fwd version 1\n",
+        "file nothing.bin\n",
+        3,
+    ),
+    ("load a hex:0", "load fwd version 1\n", "file hex:0\n", 3),
+    (
+        "load a hex:",
+        "load fwd version 1\n",
+        "line 3: I1 Size\n",
+        1,
+    ),
+    (
+        "load a hex:71100000000000009500000000000000",
+        "load fwd version 1\n",
+        "line 3: V7 RecordBounds at 0\n",
+        1,
+    ),
+    (
+        "load a hex:b70b000000000000",
+        "load fwd version 1\n",
+        "line 3: I3 Register slot 0\n",
+        1,
+    ),
+    (
+        "load fwd forward.bin",
+        "load fwd version 1\nload fwd version 2\n",
+        "",
+        0,
+    ),
+];
+
+/// The lines have their answer.
+fn ends_so<R: Threads + Wait + Abort + Sync>(
+    rt: &R,
+    alloc: Global,
+    row: &(&str, &str, &str, u8),
+) -> Result<(), Fail> {
+    let (rest, out, err, status) = *row;
+    let script = format!(in alloc; "{BEGIN}{rest}")?;
+    script_answers(
+        rt,
+        alloc,
+        &["run", "stdin"],
+        script.as_str(),
+        (status, out, err),
+    )
 }
 
 #[test]
 fn reports_where_a_script_ends(rt: HostRuntime) -> Result<(), Fail> {
-    let alloc = rt.alloc();
-    for (rest, out, err, status) in [
-        ("", "load fwd version 1\n", "", 0),
-        ("\n# nothing\n\n", "load fwd version 1\n", "", 0),
-        ("frob\n", "load fwd version 1\n", "line 3: S1 Syntax\n", 1),
-        ("\ngo \n", "load fwd version 1\n", "line 4: S1 Syntax\n", 1),
-        (
-            "partitions 1 1 8",
-            "load fwd version 1\n",
-            "line 3: S2 Order\n",
-            1,
-        ),
-        (
-            "deploy 0 other",
-            "load fwd version 1\n",
-            "line 3: S2 Order\n",
-            1,
-        ),
-        (
-            "deploy 1 other",
-            "load fwd version 1\n",
-            "line 3: S2 Order\n",
-            1,
-        ),
-        (
-            "deploy 1 fwd",
-            "load fwd version 1\n",
-            "line 3: P1 Partition\n",
-            1,
-        ),
-        (
-            "deploy 1180591620717411303424 fwd",
-            "load fwd version 1\n",
-            "line 3: P1 Partition\n",
-            1,
-        ),
-        (
-            "put 1 4611686018427387904 - -",
-            "load fwd version 1\n",
-            "line 3: S3 Range\n",
-            1,
-        ),
-        (
-            "put 1 4611686018427387903 - -",
-            "load fwd version 1\n",
-            "line 3: P1 Partition\n",
-            1,
-        ),
-        (
-            "load f.d forward.bin",
-            "load fwd version 1\n",
-            "line 3: C1 Name\n",
-            1,
-        ),
-        (
-            "load f.d nothing.bin",
-            "load fwd version 1\n",
-            "file nothing.bin\n",
-            3,
-        ),
-        ("load a hex:0", "load fwd version 1\n", "file hex:0\n", 3),
-        (
-            "load a hex:",
-            "load fwd version 1\n",
-            "line 3: I1 Size\n",
-            1,
-        ),
-        (
-            "load a hex:71100000000000009500000000000000",
-            "load fwd version 1\n",
-            "line 3: V7 RecordBounds at 0\n",
-            1,
-        ),
-        (
-            "load a hex:b70b000000000000",
-            "load fwd version 1\n",
-            "line 3: I3 Register slot 0\n",
-            1,
-        ),
-        (
-            "load fwd forward.bin",
-            "load fwd version 1\nload fwd version 2\n",
-            "",
-            0,
-        ),
-    ] {
-        let script = format!(in alloc; "{BEGIN}{rest}")?;
-        let (reported, printed, fault) = called(&rt, alloc, &["run", "stdin"], script.as_str())?;
-        assert!(rt; fault.as_str() == err, "{rest}: {fault}");
-        assert!(rt; printed.as_str() == out, "{rest}: {printed}");
-        assert!(rt; reported == status, "{rest}: {reported}");
+    for row in &ENDS {
+        ends_so(&rt, rt.alloc(), row)?;
     }
     Ok(())
 }
 
+/// Scripts, with what they print on both outputs and their status.
+const FIRST: [(&str, &str, &str, u8); 18] = [
+    ("", "", "", 0),
+    ("go", "", "line 1: S2 Order\n", 1),
+    ("append 0 nothing", "", "line 1: S2 Order\n", 1),
+    ("#\ngo", "", "line 2: S2 Order\n", 1),
+    ("load x nothing", "", "line 1: S2 Order\n", 1),
+    ("frob", "", "line 1: S1 Syntax\n", 1),
+    ("partitions 1 65 8", "", "line 1: S3 Range\n", 1),
+    ("partitions 0 1 8", "", "line 1: S3 Range\n", 1),
+    ("partitions 1 1 0", "", "line 1: S3 Range\n", 1),
+    (
+        "partitions 1 1 1\nput 0 0 - -\nput 0 0 - -",
+        "append 0 index 0 base 0\n",
+        "line 3: L1 Full\n",
+        1,
+    ),
+    (
+        "partitions 2 1 1\nclose 1\nclose 1",
+        "close 1 index 0\n",
+        "line 3: L2 Closed\n",
+        1,
+    ),
+    ("partitions 2 1 1\nclose 2", "", "line 2: P1 Partition\n", 1),
+    ("close 0", "", "line 1: S2 Order\n", 1),
+    ("fetch 0 0 1", "", "line 1: S2 Order\n", 1),
+    ("partitions 1 1 1\nfetch 0 0", "", "line 2: S1 Syntax\n", 1),
+    (
+        "partitions 1 1 1\nfetch 1 0 1",
+        "",
+        "line 2: P1 Partition\n",
+        1,
+    ),
+    (
+        "partitions 1 1 1\nfetch 1180591620717411303424 0 1",
+        "",
+        "line 2: P1 Partition\n",
+        1,
+    ),
+    (
+        "partitions 1 1 1\nfetch 0 1180591620717411303424 1180591620717411303424",
+        "none\n",
+        "",
+        0,
+    ),
+];
+
 #[test]
 fn needs_partitions_first(rt: HostRuntime) -> Result<(), Fail> {
-    let alloc = rt.alloc();
-    for (script, err, status) in [
-        ("", "", 0),
-        ("go", "line 1: S2 Order\n", 1),
-        ("append 0 nothing", "line 1: S2 Order\n", 1),
-        ("#\ngo", "line 2: S2 Order\n", 1),
-        ("load x nothing", "line 1: S2 Order\n", 1),
-        ("frob", "line 1: S1 Syntax\n", 1),
-        ("partitions 1 65 8", "line 1: S3 Range\n", 1),
-        ("partitions 0 1 8", "line 1: S3 Range\n", 1),
-        ("partitions 1 1 0", "line 1: S3 Range\n", 1),
-        (
-            "partitions 1 1 1\nput 0 0 - -\nput 0 0 - -",
-            "line 3: L1 Full\n",
-            1,
-        ),
-        (
-            "partitions 2 1 1\nclose 1\nclose 1",
-            "line 3: L2 Closed\n",
-            1,
-        ),
-        ("partitions 2 1 1\nclose 2", "line 2: P1 Partition\n", 1),
-        ("close 0", "line 1: S2 Order\n", 1),
-        ("fetch 0 0 1", "line 1: S2 Order\n", 1),
-        ("partitions 1 1 1\nfetch 0 0", "line 2: S1 Syntax\n", 1),
-        ("partitions 1 1 1\nfetch 1 0 1", "line 2: P1 Partition\n", 1),
-        (
-            "partitions 1 1 1\nfetch 1180591620717411303424 0 1",
-            "line 2: P1 Partition\n",
-            1,
-        ),
-        (
-            "partitions 1 1 1\nfetch 0 1180591620717411303424 1180591620717411303424",
-            "",
-            0,
-        ),
-    ] {
-        let (reported, _out, fault) = called(&rt, alloc, &["run", "script"], script)?;
-        assert!(rt; fault.as_str() == err, "{script}: {fault}");
-        assert!(rt; reported == status, "{script}: {reported}");
+    for (script, out, err, status) in &FIRST {
+        let want = (*status, *out, *err);
+        script_answers(&rt, rt.alloc(), &["run", "script"], script, want)?;
     }
     Ok(())
 }
@@ -172,20 +201,27 @@ fn bytes_word(alloc: Global, count: usize) -> Result<String, Fail> {
     Ok("61".repeat(alloc, count)?)
 }
 
+/// How many bytes a key and a value have, the status, and what is printed on both outputs.
+const LIMITS: [(usize, usize, u8, &str, &str); 4] = [
+    (4096, 0, 0, "append 0 index 0 base 0\n", ""),
+    (4097, 0, 1, "", "line 2: S3 Range\n"),
+    (0, 1_048_576, 0, "append 0 index 0 base 0\n", ""),
+    (0, 1_048_577, 1, "", "line 2: S3 Range\n"),
+];
+
+/// A script that puts a record with a key and a value of so many bytes.
+fn put_script(alloc: Global, key: usize, value: usize) -> Result<String, Fail> {
+    let key = bytes_word(alloc, key)?;
+    let value = bytes_word(alloc, value)?;
+    Ok(format!(in alloc; "partitions 1 1 8\nput 0 0 {key} {value}\n")?)
+}
+
 #[test]
 fn limits_keys_and_values(rt: HostRuntime) -> Result<(), Fail> {
-    let alloc = rt.alloc();
-    for (key, value, err) in [
-        (4096, 0, ""),
-        (4097, 0, "line 2: S3 Range\n"),
-        (0, 1_048_576, ""),
-        (0, 1_048_577, "line 2: S3 Range\n"),
-    ] {
-        let key = bytes_word(alloc, key)?;
-        let value = bytes_word(alloc, value)?;
-        let script = format!(in alloc; "partitions 1 1 8\nput 0 0 {key} {value}\n")?;
-        let (_reported, _out, fault) = called(&rt, alloc, &["run", "script"], script.as_str())?;
-        assert!(rt; fault.as_str() == err, "{fault}");
+    for (key, value, status, out, err) in LIMITS {
+        let script = put_script(rt.alloc(), key, value)?;
+        let want = (status, out, err);
+        script_answers(&rt, rt.alloc(), &["run", "script"], script.as_str(), want)?;
     }
     Ok(())
 }

@@ -1,6 +1,6 @@
 //! Scripts over several partitions that their brokers refuse.
 
-use crate::shelf::called;
+use crate::shelf::script_answers;
 use std::test::Fail;
 
 /// Scripts that a log or a partition's number ends, with what they print on both outputs.
@@ -70,12 +70,9 @@ const REFUSED: [(&str, &str, &str); 13] = [
 
 #[test]
 fn reports_what_logs_refuse(rt: HostRuntime) -> Result<(), Fail> {
-    let alloc = rt.alloc();
-    for (script, printed, reported) in REFUSED {
-        let (status, out, err) = called(&rt, alloc, &["run", "script"], script)?;
-        assert!(rt; err.as_str() == reported, "{script}: {err}");
-        assert!(rt; out.as_str() == printed, "{script}: {out}");
-        assert!(rt; status == 1, "{script}: {status}");
+    for (script, out, err) in &REFUSED {
+        let words = ["run", "script"];
+        script_answers(&rt, rt.alloc(), &words, script, (1, *out, *err))?;
     }
     Ok(())
 }

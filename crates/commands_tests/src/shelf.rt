@@ -5,6 +5,7 @@ use std::alloc::Global;
 use std::collections::BTreeMap;
 use std::io;
 use std::io::{Cursor, Read, Write};
+use std::process::Abort;
 use std::sync::Wait;
 use std::test::Fail;
 use std::thread::Threads;
@@ -135,6 +136,16 @@ pub(crate) fn called_with<R: Threads + Wait + Sync>(
     Ok((status, out, err))
 }
 
+/// A script as a file, and some other files.
+fn script_shelf(alloc: Global, script: &str) -> io::Result<Shelf> {
+    let mut files = empty_shelf(alloc);
+    files.write("forward.bin", &FORWARD)?;
+    files.write("script", script.as_bytes())?;
+    files.write("bad", b"go\xff")?;
+    files.write("batches.bin", &BATCHES)?;
+    Ok(files)
+}
+
 /// The same with a script as a file and as standard input, and some other files.
 pub(crate) fn called<R: Threads + Wait + Sync>(
     rt: &R,
@@ -142,12 +153,54 @@ pub(crate) fn called<R: Threads + Wait + Sync>(
     words: &[&str],
     script: &str,
 ) -> Result<(u8, String, String), Fail> {
-    let mut files = empty_shelf(alloc);
-    files.write("forward.bin", &FORWARD)?;
-    files.write("script", script.as_bytes())?;
-    files.write("bad", b"go\xff")?;
-    files.write("batches.bin", &BATCHES)?;
+    let mut files = script_shelf(alloc, script)?;
     called_with(rt, alloc, &mut files, words, script.as_bytes())
+}
+
+/// What a call is to answer: its status, and what it writes to standard output and error.
+pub(crate) type Answer<'a> = (u8, &'a str, &'a str);
+
+/// A call over these files has this answer.
+pub(crate) fn answers<R: Threads + Wait + Abort + Sync>(
+    rt: &R,
+    files: &mut Shelf,
+    words: &[&str],
+    input: &[u8],
+    want: Answer<'_>,
+) -> Result<(), Fail> {
+    let (status, out, err) = called_with(rt, files.alloc, files, words, input)?;
+    assert!(rt; err.as_str() == want.2, "{words:?}: {err}");
+    assert!(rt; out.as_str() == want.1, "{words:?}: {out}");
+    assert_eq!(rt; status, want.0, "{words:?}");
+    Ok(())
+}
+
+/// A call over one file has this answer.
+pub(crate) fn file_answers<R: Threads + Wait + Abort + Sync>(
+    rt: &R,
+    alloc: Global,
+    words: &[&str],
+    file: (&str, &[u8]),
+    want: Answer<'_>,
+) -> Result<(), Fail> {
+    let mut files = empty_shelf(alloc);
+    files.write(file.0, file.1)?;
+    answers(rt, &mut files, words, b"", want)
+}
+
+/// A call has this answer with a script as a file and as standard input, and some other files.
+pub(crate) fn script_answers<R: Threads + Wait + Abort + Sync>(
+    rt: &R,
+    alloc: Global,
+    words: &[&str],
+    script: &str,
+    want: Answer<'_>,
+) -> Result<(), Fail> {
+    let (status, out, err) = called(rt, alloc, words, script)?;
+    assert!(rt; err.as_str() == want.2, "{words:?}, {script}: {err}");
+    assert!(rt; out.as_str() == want.1, "{words:?}, {script}: {out}");
+    assert_eq!(rt; status, want.0, "{words:?}, {script}");
+    Ok(())
 }
 
 /// mov64 r1, 0; call 3; exit

@@ -1,4 +1,4 @@
-use crate::shelf::{Shelf, called_with, empty_shelf};
+use crate::shelf::{Shelf, answers, empty_shelf, file_answers};
 use commands::Files;
 use std::alloc::Global;
 use std::test::Fail;
@@ -24,11 +24,8 @@ fn text_shelf(alloc: Global) -> Result<Shelf, Fail> {
 
 #[test]
 fn writes_the_image_of_a_text(rt: HostRuntime) -> Result<(), Fail> {
-    let alloc = rt.alloc();
-    let mut files = text_shelf(alloc)?;
-    let (status, out, err) = called_with(&rt, alloc, &mut files, &["asm", "text", "image"], b"")?;
-    assert!(rt; err.as_str() == "" && out.as_str() == "", "{err}{out}");
-    assert!(rt; status == 0, "{status}");
+    let mut files = text_shelf(rt.alloc())?;
+    answers(&rt, &mut files, &["asm", "text", "image"], b"", (0, "", ""))?;
     let image = files.files.get("image").ok_or("no image")?;
     assert!(rt; image.as_slice() == PROGRAM_IMAGE.as_slice());
     Ok(())
@@ -36,13 +33,8 @@ fn writes_the_image_of_a_text(rt: HostRuntime) -> Result<(), Fail> {
 
 #[test]
 fn prints_the_text_of_an_image(rt: HostRuntime) -> Result<(), Fail> {
-    let alloc = rt.alloc();
-    let mut files = empty_shelf(alloc);
-    files.write("image", &PROGRAM_IMAGE)?;
-    let (status, out, err) = called_with(&rt, alloc, &mut files, &["dis", "image"], b"")?;
-    assert!(rt; err.as_str() == "" && out.as_str() == PROGRAM, "{err}{out}");
-    assert!(rt; status == 0, "{status}");
-    Ok(())
+    let file = ("image", PROGRAM_IMAGE.as_slice());
+    file_answers(&rt, rt.alloc(), &["dis", "image"], file, (0, PROGRAM, ""))
 }
 
 /// Calls that print nothing, with what they write to standard error and their status.
@@ -64,15 +56,9 @@ const REFUSED: [(&[&str], &str, u8); 8] = [
 /// No refused text leaves an image.
 #[test]
 fn reports_why_no_text_is_read_or_written(rt: HostRuntime) -> Result<(), Fail> {
-    let alloc = rt.alloc();
-    let mut files = text_shelf(alloc)?;
-    for (words, reported, want) in REFUSED {
-        let (status, out, err) = called_with(&rt, alloc, &mut files, words, b"")?;
-        assert!(rt;
-            err.as_str() == reported && out.as_str() == "",
-            "{words:?}: {err}{out}"
-        );
-        assert!(rt; status == want, "{words:?}: {status}");
+    let mut files = text_shelf(rt.alloc())?;
+    for (words, err, status) in &REFUSED {
+        answers(&rt, &mut files, words, b"", (*status, "", *err))?;
     }
     assert!(rt; files.files.get("image").is_none());
     Ok(())

@@ -1,6 +1,7 @@
 use crate::scripts::BEGIN;
-use crate::shelf::{called, empty_shelf};
+use crate::shelf::{empty_shelf, script_answers};
 use commands::{command, tell_no_words};
+use std::alloc::Global;
 use std::io;
 use std::io::{Cursor, Write};
 use std::test::Fail;
@@ -19,20 +20,27 @@ impl Write for Full {
     }
 }
 
+const USAGE: &str = "usage: klog COMMAND FILE ...\n";
+
+/// Why there are no words, what is said of it, and the status.
+const UNHAD: [(io::ErrorKind, &str, u8); 2] = [
+    (io::ErrorKind::InvalidData, USAGE, 2),
+    (io::ErrorKind::OutOfMemory, "memory\n", 3),
+];
+
+/// What is said where there are no words, and the status.
+fn told(alloc: Global, kind: io::ErrorKind) -> Result<(String, u8), Fail> {
+    let mut stderr = Vec::new(alloc);
+    let status = tell_no_words(&mut stderr, &io::Error::from(kind));
+    Ok((String::from_utf8(stderr).ok().ok_or("text")?, status))
+}
+
 #[test]
 fn words_that_can_not_be_had(rt: HostRuntime) -> Result<(), Fail> {
-    for (kind, text, status) in [
-        (
-            io::ErrorKind::InvalidData,
-            "usage: klog COMMAND FILE ...\n",
-            2,
-        ),
-        (io::ErrorKind::OutOfMemory, "memory\n", 3),
-    ] {
-        let mut stderr = Vec::new(rt.alloc());
-        assert!(rt; tell_no_words(&mut stderr, &io::Error::from(kind)) == status);
-        let reported = String::from_utf8(stderr).ok().ok_or("text")?;
-        assert!(rt; reported.as_str() == text, "{reported}");
+    for (kind, text, status) in UNHAD {
+        let found = told(rt.alloc(), kind)?;
+        assert!(rt; found.0.as_str() == text, "{}", found.0);
+        assert_eq!(rt; found.1, status);
     }
     Ok(())
 }
@@ -65,28 +73,20 @@ const NO_CALLS: [&[&str]; 24] = [
     &["run", "-x"],
 ];
 
+/// Scripts that can not be read, and what is said of them.
+const UNREAD: [(&str, &str); 3] = [
+    ("nothing", "file nothing\n"),
+    ("-", "file -\n"),
+    ("bad", "file bad\n"),
+];
+
 #[test]
 fn refuses_words(rt: HostRuntime) -> Result<(), Fail> {
-    let alloc = rt.alloc();
-    let usage = "usage: klog COMMAND FILE ...\n";
-    for words in NO_CALLS {
-        let (status, out, err) = called(&rt, alloc, words, "")?;
-        assert!(rt; status == 2, "{words:?}: {status}");
-        assert!(rt;
-            out.as_str() == "" && err.as_str() == usage,
-            "{words:?}: {err}"
-        );
+    for words in &NO_CALLS {
+        script_answers(&rt, rt.alloc(), words, "", (2, "", USAGE))?;
     }
-    for (name, fault) in [
-        ("nothing", "file nothing\n"),
-        ("-", "file -\n"),
-        ("bad", "file bad\n"),
-    ] {
-        let (status, out, err) = called(&rt, alloc, &["run", name], "")?;
-        assert!(rt;
-            status == 3 && out.as_str() == "" && err.as_str() == fault,
-            "{name}: {err}"
-        );
+    for (name, err) in &UNREAD {
+        script_answers(&rt, rt.alloc(), &["run", *name], "", (3, "", *err))?;
     }
     Ok(())
 }

@@ -99,10 +99,12 @@ fn fill_log<Id: Names, R: Wait + Print>(rt: &R, alloc: Global, log: &PartLog<Id>
 }
 
 fn program(alloc: Global, image: &[u8]) -> Option<Arc<Program>> {
-    match program_of(alloc, image) {
-        Some(program) => Some(program),
-        None => program_of(alloc, image),
+    for _ in 0..2 {
+        if let Some(program) = program_of(alloc, image) {
+            return Some(program);
+        }
     }
+    None
 }
 
 /// Whether the log has this many items, after a fault for want of memory.

@@ -3,7 +3,7 @@
 use crate::calls::{append, close, deploy, find, finder, items, load};
 use broker::Broker;
 use broker_fixtures::Ending;
-use catalogue::Catalogue;
+use catalogue::{Catalogue, Finder, Known};
 use part_log::Names;
 use std::alloc::Global;
 use std::sync::Wait;
@@ -35,16 +35,42 @@ fn program_calls<Id: Names, H: Wait + Drop, R: Wait + Print>(
 ) -> Result<(), Ending> {
     let mut first = finder(rt, alloc, broker).ok_or(Ending::Wrong("finder"))?;
     let mut second = finder(rt, alloc, broker).ok_or(Ending::Wrong("finder"))?;
+    calls_by(rt, alloc, broker, &mut first, &mut second)
+}
+
+fn calls_by<Id: Names, H: Wait + Drop, R: Wait + Print>(
+    rt: &R,
+    alloc: Global,
+    broker: &Broker<Id, Catalogue<H>>,
+    first: &mut Finder,
+    second: &mut Finder,
+) -> Result<(), Ending> {
     let known = load(rt, alloc, broker, None).ok_or(Ending::Wrong("load"))?;
-    if find(rt, alloc, &mut first, &known) != Some(1) {
+    load_again(rt, alloc, broker, first, &known)?;
+    if deploy(rt, alloc, broker, second, &known) == Some((0, 2)) {
+        Ok(())
+    } else {
+        Err(Ending::Wrong("deploy"))
+    }
+}
+
+/// A find of what is known, another load, and a find of it.
+fn load_again<Id: Names, H: Wait + Drop, R: Wait + Print>(
+    rt: &R,
+    alloc: Global,
+    broker: &Broker<Id, Catalogue<H>>,
+    finder: &mut Finder,
+    known: &Known,
+) -> Result<(), Ending> {
+    if find(rt, alloc, finder, known) != Some(1) {
         return Err(Ending::Wrong("find"));
     }
-    let _later = load(rt, alloc, broker, Some(&known)).ok_or(Ending::Wrong("load again"))?;
-    if find(rt, alloc, &mut first, &known) != Some(2) {
-        return Err(Ending::Wrong("find again"));
+    if load(rt, alloc, broker, Some(known)).is_none() {
+        return Err(Ending::Wrong("load again"));
     }
-    if deploy(rt, alloc, broker, &mut second, &known) != Some((0, 2)) {
-        return Err(Ending::Wrong("deploy"));
+    if find(rt, alloc, finder, known) == Some(2) {
+        Ok(())
+    } else {
+        Err(Ending::Wrong("find again"))
     }
-    Ok(())
 }

@@ -19,10 +19,12 @@ pub(crate) fn image(alloc: Global) -> Option<Bytes> {
 }
 
 fn copied(alloc: Global, bytes: &[u8]) -> Option<Bytes> {
-    match Bytes::copy_from_slice(alloc, bytes) {
-        Ok(copy) => Some(copy),
-        Err(_) => Bytes::copy_from_slice(alloc, bytes).ok(),
+    for _ in 0..2 {
+        if let Ok(copy) = Bytes::copy_from_slice(alloc, bytes) {
+            return Some(copy);
+        }
     }
+    None
 }
 
 /// A batch of two records with the key `k` and this byte as their value.

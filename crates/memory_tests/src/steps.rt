@@ -6,7 +6,7 @@ use crate::rows::{done_in, done_of};
 use broker::{Broker, BrokerFault, Stepped};
 use broker_fixtures::{Ending, step_book};
 use catalogue::Catalogue;
-use out_book::BookFault;
+use out_book::{Book, BookFault};
 use part_log::Names;
 use std::alloc::Global;
 use std::sync::Wait;
@@ -50,7 +50,16 @@ fn step<Id: Names, C, R: Wait + Print>(
         return None;
     }
     let mut guard = broker.book(output).lock(rt);
-    let book = &mut *guard;
+    step_twice(rt, alloc, broker, &mut *guard)
+}
+
+/// A step of a book over input partition 0, or the one after a refused one.
+fn step_twice<Id: Names, C, R: Print>(
+    rt: &R,
+    alloc: Global,
+    broker: &Broker<Id, C>,
+    book: &mut Book<Id>,
+) -> Option<Stepped> {
     let before = done_in(book)?;
     match step_book(alloc, broker, book, 0)? {
         Ok(stepped) => Some(stepped),

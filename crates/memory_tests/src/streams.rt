@@ -32,9 +32,11 @@ impl Read for Slice<'_> {
 }
 
 fn is_memory(fault: StreamFault) -> bool {
-    fault == StreamFault::Batch(BatchFault::Memory)
-        || fault == StreamFault::Broker(BrokerFault::Memory)
-        || fault == StreamFault::Broker(BrokerFault::Log(LogFault::Memory))
+    matches!(
+        fault,
+        StreamFault::Batch(BatchFault::Memory)
+            | StreamFault::Broker(BrokerFault::Memory | BrokerFault::Log(LogFault::Memory))
+    )
 }
 
 /// The same batch so often.

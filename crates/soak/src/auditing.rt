@@ -11,23 +11,26 @@ use std::thread;
 
 const TURNS: usize = 10_000_000;
 
-/// How many records an auditor appends, each as a batch of its own.
-pub const AUDITED: usize = 20;
+/// How many records an auditor appends beside that number of records, each as a batch of its own.
+pub(crate) fn audited_beside(records: usize) -> usize {
+    (records / 1_000).max(20)
+}
 
 /// The most rows that a record gives in all outputs.
 const MOST_ROWS: usize = 2;
 
-/// Appends records and audits each in every book. None where one is not processed in time, or has
+/// Appends the records with these numbers and audits each in every book. None where one is not processed in time, or has
 /// more rows than a program emits.
 pub(crate) fn audit_all<Id: Names, C, R: Wait>(
     rt: &R,
     alloc: Global,
     broker: &Broker<Id, C>,
     first: usize,
+    end: usize,
 ) -> Option<()> {
-    for turn in 0..AUDITED {
-        let batch = batch_of(alloc, first.wrapping_add(turn), 1)?;
-        let receipt = broker.append(rt, alloc, turn % INPUTS, batch).ok()?;
+    for number in first..end {
+        let batch = batch_of(alloc, number, 1)?;
+        let receipt = broker.append(rt, alloc, number % INPUTS, batch).ok()?;
         if rows_of(rt, broker, &receipt)? > MOST_ROWS {
             return None;
         }

@@ -2,7 +2,7 @@
 
 ghost use Rattle.broker.specs.Layouts.{IsNamed};
 
-use crate::auditing::{AUDITED, audit_all};
+use crate::auditing::{audit_all, audited_beside};
 use crate::comparing::{Compared, compare};
 use crate::deploying::{deploy_all, versions};
 use crate::gates::Chance;
@@ -45,6 +45,9 @@ pub struct Soaked {
     /// How often workers were started, and how many of them a gate stopped.
     pub starts: u64,
     pub stops: u64,
+    /// How many versions were deployed, and how often a receipt was audited in a book with its item done.
+    pub deployments: u64,
+    pub audits: u64,
     /// How many records are in the logs once, and how many more there are.
     pub once: u64,
     pub again: u64,
@@ -58,6 +61,34 @@ pub struct Soaked {
 struct Runs {
     starts: u64,
     stops: u64,
+}
+
+/// What no soak comes to.
+pub const NOTHING: Soaked = Soaked {
+    starts: 0,
+    stops: 0,
+    deployments: 0,
+    audits: 0,
+    once: 0,
+    again: 0,
+    rows: 0,
+    different: 0,
+};
+
+impl Soaked {
+    /// What these soaks and another come to together.
+    pub(crate) fn and(self, other: Soaked) -> Soaked {
+        Soaked {
+            starts: self.starts.wrapping_add(other.starts),
+            stops: self.stops.wrapping_add(other.stops),
+            deployments: self.deployments.wrapping_add(other.deployments),
+            audits: self.audits.wrapping_add(other.audits),
+            once: self.once.wrapping_add(other.once),
+            again: self.again.wrapping_add(other.again),
+            rows: self.rows.wrapping_add(other.rows),
+            different: self.different.wrapping_add(other.different),
+        }
+    }
 }
 
 const NO_RUNS: Runs = Runs {
@@ -110,6 +141,8 @@ pub(crate) fn soak<Id: Names + Send + Sync, R: Threads + Wait + Sync>(
     Some(Soaked {
         starts: runs.starts,
         stops: runs.stops,
+        deployments: DEPLOYERS.wrapping_mul(versions(records)) as u64,
+        audits: (AUDITORS * OUTPUTS).wrapping_mul(audited_beside(records)) as u64,
         once: found.once,
         again: found.again,
         rows: found.rows,
@@ -155,8 +188,15 @@ impl<'a, 'r, Id: Names + Send + Sync, R: Threads + Wait + Sync> Players<'a, 'r, 
             return self.deploy(number, first, versions(self.records));
         }
         let number = number.wrapping_sub(DEPLOYERS);
-        let first = self.records.wrapping_add(number.wrapping_mul(AUDITED));
-        audit_all(self.rt, self.alloc, self.broker, first)
+        let each = audited_beside(self.records);
+        let first = self.records.wrapping_add(number.wrapping_mul(each));
+        audit_all(
+            self.rt,
+            self.alloc,
+            self.broker,
+            first,
+            first.wrapping_add(each),
+        )
     }
 
     /// Starts workers again and again until all players have ended.
@@ -192,7 +232,8 @@ impl<'a, 'r, Id: Names + Send + Sync, R: Threads + Wait + Sync> Players<'a, 'r, 
         if stops(&last)? > 0 {
             return None;
         }
-        let count = self.records.wrapping_add(AUDITORS * AUDITED);
+        let audited = AUDITORS.wrapping_mul(audited_beside(self.records));
+        let count = self.records.wrapping_add(audited);
         let versions = versions(self.records);
         compare(self.rt, self.alloc, self.broker, &receipts, count, versions)
     }

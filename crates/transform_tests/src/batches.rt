@@ -75,36 +75,32 @@ fn two_outlets(alloc: Global) -> Result<Vec<Outlet<Vec<u8>>>, AllocError>
     Ok(outlets)
 }
 
-/// What output 1 has before the end and after it, of batches with these counts of records and bytes
-/// of a value.
-fn outputs_of(
+/// Pushes batches with these counts of records and bytes of a value.
+fn push_all(
     alloc: Global,
+    program: &Program,
+    stream: &mut Transform<Vec<u8>>,
     given: &[(usize, usize)],
-) -> Result<(Vec<(i64, usize)>, Vec<(i64, usize)>), Fail> {
-    let program = program_of(alloc, &SECOND)?;
-    let mut stream = Transform::new(alloc, 0, 0, two_outlets(alloc)?);
+) -> Result<(), Fail> {
     for (count, bytes) in given {
         let batch = batch_with(alloc, *count, *bytes).ok_or("a batch")?;
-        stream.push(&program, batch)?;
+        stream.push(program, batch)?;
     }
-    let early = written(alloc, &stream, 1)?;
-    stream.end()?;
-    if !written(alloc, &stream, 0)?.is_empty() {
-        return Err(Fail::from("no row in output 0"));
-    }
-    Ok((early, written(alloc, &stream, 1)?))
+    Ok(())
 }
 
-/// The batches in an output.
-fn written(
+/// Whether an output has these batches.
+fn has(
     alloc: Global,
     stream: &Transform<Vec<u8>>,
     output: usize,
-) -> Result<Vec<(i64, usize)>, Fail> {
+    want: &[(i64, usize)],
+) -> Result<bool, Fail> {
     if output >= stream.outputs() {
-        return Err(Fail::from("an output"));
+        return Ok(false);
     }
-    batches_in(alloc, stream.outlet(output).writer().as_slice())
+    let found = batches_in(alloc, stream.outlet(output).writer().as_slice())?;
+    Ok(found.as_slice() == want)
 }
 
 /// Batches that are pushed, as the numbers of their records and of the bytes of a value; the batches of
@@ -132,36 +128,53 @@ const FILLINGS: [Filling<'static>; 6] = [
     ),
 ];
 
-/// Whether the batches of rows are these.
-fn fills(alloc: Global, filling: &Filling<'_>) -> Result<bool, Fail> {
+/// Whether a stream of two outputs gives the batches of rows to the second one, and none to the first.
+fn is_filled(
+    alloc: Global,
+    program: &Program,
+    stream: &mut Transform<Vec<u8>>,
+    filling: &Filling<'_>,
+) -> Result<bool, Fail> {
     let (given, early, all) = *filling;
-    let found = outputs_of(alloc, given)?;
-    Ok(found.0.as_slice() == early && found.1.as_slice() == all)
+    push_all(alloc, program, stream, given)?;
+    let is_early = has(alloc, stream, 1, early)?;
+    stream.end()?;
+    Ok(is_early && has(alloc, stream, 0, &[])? && has(alloc, stream, 1, all)?)
+}
+
+/// Whether the batches of rows are these.
+fn fills(alloc: Global, program: &Program, filling: &Filling<'_>) -> Result<bool, Fail> {
+    let mut stream = Transform::new(alloc, 0, 0, two_outlets(alloc)?);
+    is_filled(alloc, program, &mut stream, filling)
 }
 
 #[test]
 fn batches_fill_up_to_their_limits(rt: HostRuntime) -> Result<(), Fail> {
+    let program = program_of(rt.alloc(), &SECOND)?;
     for filling in &FILLINGS {
-        assert!(rt; fills(rt.alloc(), filling)?, "{filling:?}");
+        assert!(rt; fills(rt.alloc(), &program, filling)?, "{filling:?}");
     }
     Ok(())
 }
 
 /// The offset after a batch of two records is pushed at an offset, if it is taken.
-fn offset_after(alloc: Global, offset: u64) -> Result<(bool, u64), Fail>
+fn offset_after(alloc: Global, program: &Program, offset: u64) -> Result<(bool, u64), Fail>
     requires { offset ≤ TIMESTAMP_END }
 {
-    let program = program_of(alloc, &FORWARD)?;
     let mut stream = Transform::new(alloc, 63, offset, two_outlets(alloc)?);
     let batch = batch_of(alloc, 2, 1000).ok_or("a batch")?;
-    let taken = stream.push(&program, batch).is_ok();
+    let taken = stream.push(program, batch).is_ok();
     Ok((taken, stream.offset()))
 }
 
 #[test]
 fn offsets_end_below_two_to_the_62(rt: HostRuntime) -> Result<(), Fail> {
+    let program = program_of(rt.alloc(), &FORWARD)?;
     let last = TIMESTAMP_END - 10_000;
-    assert!(rt; offset_after(rt.alloc(), last)? == (true, last + 2));
-    assert!(rt; offset_after(rt.alloc(), last + 1)? == (false, last + 1));
+    assert_eq!(rt; offset_after(rt.alloc(), &program, last)?, (true, last + 2));
+    assert_eq!(rt;
+        offset_after(rt.alloc(), &program, last + 1)?,
+        (false, last + 1)
+    );
     Ok(())
 }

@@ -4,23 +4,28 @@ use crate::batches::{batches_in, program_of};
 use batch::encode;
 use batch_reader::{BatchReader, Position, ReadFault};
 use fixtures::{FORWARD, batch_of};
+use log_item::Program;
 use std::alloc::{AllocError, Global};
 use std::io::Cursor;
 use std::test::Fail;
 use transform::{Outlet, StreamFault, Transform, transform_all};
-use wire_spec::BatchFault;
+use wire_spec::{Batch, BatchFault};
 
-/// The bytes of two batches of 3 and 2 records without key and value: 82 and 75 bytes.
-fn two_batches(alloc: Global) -> Result<Vec<u8>, Fail> {
-    let mut bytes = Vec::new(alloc);
-    for count in [3, 2] {
-        let batch = batch_of(alloc, count, 1000).ok_or("a batch")?;
-        if !batch::fits(&batch) {
-            return Err(Fail::from("a batch that fits"));
-        }
-        bytes.extend_from_slice(&encode(alloc, &batch)?)?;
+/// Writes a batch at the end.
+pub(crate) fn put(alloc: Global, bytes: &mut Vec<u8>, batch: Option<Batch>) -> Result<(), Fail> {
+    let batch = batch.ok_or("a batch")?;
+    if !batch::fits(&batch) {
+        return Err(Fail::from("a batch that fits"));
     }
-    Ok(bytes)
+    let written = encode(alloc, &batch)?;
+    bytes.extend_from_slice(&written)?;
+    Ok(())
+}
+
+/// Writes two batches of 3 and 2 records without key and value: 82 and 75 bytes.
+fn put_two(alloc: Global, bytes: &mut Vec<u8>) -> Result<(), Fail> {
+    put(alloc, bytes, batch_of(alloc, 3, 1000))?;
+    put(alloc, bytes, batch_of(alloc, 2, 1000))
 }
 
 fn one_outlet(alloc: Global) -> Result<Vec<Outlet<Vec<u8>>>, AllocError>
@@ -31,29 +36,32 @@ fn one_outlet(alloc: Global) -> Result<Vec<Outlet<Vec<u8>>>, AllocError>
     Ok(outlets)
 }
 
-/// How a stream of these bytes ended, read in pieces of this size, how much of it was given, and the
-/// batches of its rows.
-fn ended(
-    alloc: Global,
-    bytes: Vec<u8>,
-    piece: usize,
-) -> Result<(Result<(), StreamFault>, Position, Vec<(i64, usize)>), Fail>
-    requires { (1 ≤ piece) × (piece ≤ 65536) }
-{
-    let program = program_of(alloc, &FORWARD)?;
-    let mut reader = BatchReader::new(alloc, Cursor::new(bytes), piece)?;
-    let mut stream = Transform::new(alloc, 0, 0, one_outlet(alloc)?);
-    let result = transform_all(&program, &mut reader, &mut stream);
+/// How a stream ended, how much of it was given, and the batches of its rows.
+type End = (Result<(), StreamFault>, Position, Vec<(i64, usize)>);
+
+/// What a stream of one output has written.
+fn written(alloc: Global, stream: &Transform<Vec<u8>>) -> Result<Vec<(i64, usize)>, Fail> {
     if stream.outputs() == 0 {
         return Err(Fail::from("an output"));
     }
-    let written = batches_in(alloc, stream.outlet(0).writer().as_slice())?;
-    Ok((result, reader.position(), written))
+    batches_in(alloc, stream.outlet(0).writer().as_slice())
+}
+
+/// How a stream of these bytes ends, read in pieces of this size.
+fn ended(alloc: Global, program: &Program, bytes: Vec<u8>, piece: usize) -> Result<End, Fail>
+    requires { (1 ≤ piece) × (piece ≤ 65536) }
+{
+    let mut reader = BatchReader::new(alloc, Cursor::new(bytes), piece)?;
+    let mut stream = Transform::new(alloc, 0, 0, one_outlet(alloc)?);
+    let result = transform_all(program, &mut reader, &mut stream);
+    let position = reader.position();
+    Ok((result, position, written(alloc, &stream)?))
 }
 
 /// The first `len` bytes of the two batches, one of them changed.
-fn damaged(alloc: Global, len: usize, place: usize) -> Result<Vec<u8>, Fail> {
-    let mut bytes = two_batches(alloc)?;
+pub(crate) fn damaged(alloc: Global, len: usize, place: usize) -> Result<Vec<u8>, Fail> {
+    let mut bytes = Vec::new(alloc);
+    put_two(alloc, &mut bytes)?;
     bytes.truncate(len);
     if place < bytes.len() {
         bytes[place] ^= 1;
@@ -85,25 +93,34 @@ fn rows_of(batches: &[(i64, usize)]) -> usize {
 }
 
 /// Whether a stream ends as it should.
-fn ends_so(alloc: Global, damage: &Damage, piece: usize) -> Result<bool, Fail>
-    requires { (1 ≤ piece) × (piece ≤ 65536) }
-{
-    let (len, place, refusal, batches, bytes, rows) = *damage;
-    let found = ended(alloc, damaged(alloc, len, place)?, piece)?;
+fn is_end(end: &End, damage: &Damage) -> bool {
+    let (_, _, refusal, batches, bytes, rows) = *damage;
     let result = match refusal {
         Some(fault) => Err(StreamFault::Read(ReadFault::Batch(fault))),
         None => Ok(()),
     };
-    let counted = rows_of(&found.2);
-    Ok(found.0 == result && found.1 == Position { batches, bytes } && counted == rows)
+    end.0 == result && end.1 == Position { batches, bytes } && rows_of(&end.2) == rows
+}
+
+/// Whether a stream that is read in pieces of this size ends as it should.
+fn ends_so(alloc: Global, program: &Program, damage: &Damage, piece: usize) -> Result<bool, Fail>
+    requires { (1 ≤ piece) × (piece ≤ 65536) }
+{
+    let bytes = damaged(alloc, damage.0, damage.1)?;
+    let end = ended(alloc, program, bytes, piece)?;
+    Ok(is_end(&end, damage))
 }
 
 #[test]
 fn rows_before_a_fault_are_written(rt: HostRuntime) -> Result<(), Fail> {
+    let program = program_of(rt.alloc(), &FORWARD)?;
     for damage in &DAMAGES {
-        assert!(rt; ends_so(rt.alloc(), damage, 1)?, "{damage:?}");
-        assert!(rt; ends_so(rt.alloc(), damage, 7)?, "{damage:?}");
-        assert!(rt; ends_so(rt.alloc(), damage, 65_536)?, "{damage:?}");
+        for piece in [1, 7, 65_536] {
+            assert!(rt;
+                ends_so(rt.alloc(), &program, damage, piece)?,
+                "{damage:?}, {piece}"
+            );
+        }
     }
     Ok(())
 }

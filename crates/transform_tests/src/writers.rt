@@ -2,6 +2,7 @@ ghost use Rattle.std.specs.Prelude.{◌≡◌, length, IfOk};
 
 use crate::batches::program_of;
 use fixtures::{FORWARD, batch_of};
+use log_item::Program;
 use std::alloc::{AllocError, Global};
 use std::io;
 use std::io::Write;
@@ -49,12 +50,15 @@ fn one_outlet(alloc: Global, room: usize) -> Result<Vec<Outlet<Narrow>>, AllocEr
     Ok(outlets)
 }
 
-/// How the end of a stream of one record went whose writer takes this many bytes, and how many it has.
-fn ended(alloc: Global, room: usize) -> Result<(Result<(), TransformFault>, usize), Fail> {
-    let program = program_of(alloc, &FORWARD)?;
+/// How the end of a stream of one record goes whose writer takes this many bytes, and how many it has.
+fn ended(
+    alloc: Global,
+    program: &Program,
+    room: usize,
+) -> Result<(Result<(), TransformFault>, usize), Fail> {
     let mut stream = Transform::new(alloc, 0, 0, one_outlet(alloc, room)?);
     let batch = batch_of(alloc, 1, 1000).ok_or("a batch")?;
-    stream.push(&program, batch)?;
+    stream.push(program, batch)?;
     let result = stream.end();
     if stream.outputs() == 0 {
         return Err(Fail::from("an output"));
@@ -71,20 +75,17 @@ const FAILED: TransformFault = TransformFault::Output {
 const ROOMS: [(usize, bool); 4] = [(0, true), (67, true), (68, false), (1000, false)];
 
 /// Whether a stream fails for its writer, or not, and the writer has what it could take.
-fn ends(alloc: Global, room: usize, fails: bool) -> Result<bool, Fail> {
-    let found = ended(alloc, room)?;
-    let as_said = if fails {
-        found.0 == Err(FAILED)
-    } else {
-        found.0 == Ok(())
-    };
-    Ok(as_said && found.1 == room.min(68))
+fn ends(alloc: Global, program: &Program, room: usize, fails: bool) -> Result<bool, Fail> {
+    let found = ended(alloc, program, room)?;
+    let want = if fails { Err(FAILED) } else { Ok(()) };
+    Ok(found.0 == want && found.1 == room.min(68))
 }
 
 #[test]
 fn a_writer_that_fails_ends_the_stream(rt: HostRuntime) -> Result<(), Fail> {
+    let program = program_of(rt.alloc(), &FORWARD)?;
     for (room, fails) in ROOMS {
-        assert!(rt; ends(rt.alloc(), room, fails)?, "{room}");
+        assert!(rt; ends(rt.alloc(), &program, room, fails)?, "{room}");
     }
     Ok(())
 }

@@ -1,7 +1,20 @@
-//! Tests of the verifier by its public calls: abstract states and annotations.
+//! Tests of the verifier and of loads by public calls: abstract states and annotations, which programs are
+//! accepted and why others are refused, and programs by the states of some of their instructions.
 #![tactic(auto)]
 
 #[cfg(test)]
+mod addresses;
+#[cfg(test)]
 mod annotations;
 #[cfg(test)]
+mod forms;
+#[cfg(test)]
+mod images;
+#[cfg(test)]
+mod loads;
+#[cfg(test)]
+mod sparse;
+#[cfg(test)]
 mod states;
+#[cfg(test)]
+mod tables;

@@ -6,6 +6,14 @@ use std::alloc::{AllocError, Global};
 use std::process::Abort;
 use std::test::*;
 
+/// A stream, the batches that it gave, written one after the other, and why there is no further one.
+#[derive(Drop)]
+struct Stream {
+    feed: Feed,
+    written: Vec<u8>,
+    fault: Option<BatchFault>,
+}
+
 /// Writes a batch at the end; a batch that doesn't fit is left out.
 fn put(alloc: Global, out: &mut Vec<u8>, batch: &Batch) -> Result<(), AllocError> {
     if !fits(batch) {
@@ -31,6 +39,47 @@ fn drain(
     Ok(None)
 }
 
+impl Stream {
+    fn new(alloc: Global) -> Stream {
+        Stream {
+            feed: Feed::new(alloc),
+            written: Vec::new(alloc),
+            fault: None,
+        }
+    }
+
+    /// Writes the batches that are there now.
+    fn drain(&mut self, alloc: Global) -> Result<(), AllocError> {
+        self.fault = drain(alloc, &mut self.feed, &mut self.written)?;
+        Ok(())
+    }
+
+    /// Feeds bytes in pieces of one size, and writes what is there after each.
+    fn take(&mut self, alloc: Global, bytes: &[u8], size: usize) -> Result<(), AllocError> {
+        for piece in bytes.chunks(size.max(1)) {
+            self.feed.feed(piece)?;
+            self.drain(alloc)?;
+        }
+        Ok(())
+    }
+
+    /// Feeds bytes in three parts, and then writes what is there.
+    fn take_parts(
+        &mut self,
+        alloc: Global,
+        bytes: &[u8],
+        cut: usize,
+        second: usize,
+    ) -> Result<(), AllocError> {
+        let (first, others) = bytes.split_at(cut.min(bytes.len()));
+        let (second, third) = others.split_at(second.min(others.len()));
+        self.feed.feed(first)?;
+        self.feed.feed(second)?;
+        self.feed.feed(third)?;
+        self.drain(alloc)
+    }
+}
+
 /// The bytes of three batches.
 fn three(alloc: Global) -> Result<Vec<u8>, AllocError> {
     let mut bytes = Vec::from_slice(alloc, ONE)?;
@@ -39,21 +88,11 @@ fn three(alloc: Global) -> Result<Vec<u8>, AllocError> {
     Ok(bytes)
 }
 
-/// The batches of bytes that are fed in pieces of one size, written one after the other.
-fn of_pieces(alloc: Global, bytes: &[u8], size: usize) -> Result<Vec<u8>, AllocError> {
-    let mut feed = Feed::new(alloc);
-    let mut out = Vec::new(alloc);
-    for piece in bytes.chunks(size.max(1)) {
-        feed.feed(piece)?;
-        drain(alloc, &mut feed, &mut out)?;
-    }
-    Ok(out)
-}
-
 fn are_given(rt: &impl Abort, alloc: Global, bytes: &[u8]) -> Result<(), AllocError> {
     for size in 1..=bytes.len() {
-        let out = of_pieces(alloc, bytes, size)?;
-        assert_eq!(rt; out.as_slice(), bytes);
+        let mut stream = Stream::new(alloc);
+        stream.take(alloc, bytes, size)?;
+        assert_eq!(rt; stream.written.as_slice(), bytes);
     }
     Ok(())
 }
@@ -65,25 +104,24 @@ fn pieces_of_any_size(rt: HostRuntime) -> Result<(), Fail> {
     Ok(())
 }
 
-/// The batches of bytes that are fed in three parts before the first is asked for.
-fn of_parts(alloc: Global, bytes: &[u8], cut: usize, second: usize) -> Result<Vec<u8>, AllocError> {
-    let (first, others) = bytes.split_at(cut.min(bytes.len()));
-    let (second, third) = others.split_at(second.min(others.len()));
-    let mut feed = Feed::new(alloc);
-    feed.feed(first)?;
-    feed.feed(second)?;
-    feed.feed(third)?;
-    let mut out = Vec::new(alloc);
-    drain(alloc, &mut feed, &mut out)?;
-    Ok(out)
+/// The bytes are given where they are cut there and after so many more.
+fn is_given_at(
+    rt: &impl Abort,
+    alloc: Global,
+    bytes: &[u8],
+    cut: usize,
+    second: usize,
+) -> Result<(), AllocError> {
+    let mut stream = Stream::new(alloc);
+    stream.take_parts(alloc, bytes, cut, second)?;
+    assert_eq!(rt; stream.written.as_slice(), bytes);
+    Ok(())
 }
 
 fn are_given_at_cuts(rt: &impl Abort, alloc: Global, bytes: &[u8]) -> Result<(), AllocError> {
     for cut in 0..=bytes.len() {
-        let near = of_parts(alloc, bytes, cut, 1)?;
-        assert_eq!(rt; near.as_slice(), bytes);
-        let far = of_parts(alloc, bytes, cut, 75)?;
-        assert_eq!(rt; far.as_slice(), bytes);
+        is_given_at(rt, alloc, bytes, cut, 1)?;
+        is_given_at(rt, alloc, bytes, cut, 75)?;
     }
     Ok(())
 }
@@ -95,13 +133,18 @@ fn parts_that_are_fed_at_once(rt: HostRuntime) -> Result<(), Fail> {
     Ok(())
 }
 
+/// Whether a byte more gives a batch.
+fn gives(feed: &mut Feed, piece: &[u8]) -> Result<bool, AllocError> {
+    feed.feed(piece)?;
+    Ok(matches!(feed.next(), Ok(Some(_))))
+}
+
 /// After which byte of a stream each batch is given.
 fn ends_of_batches(alloc: Global, bytes: &[u8]) -> Result<Vec<usize>, AllocError> {
     let mut feed = Feed::new(alloc);
     let mut ends = Vec::new(alloc);
     for (index, piece) in bytes.chunks(1).enumerate() {
-        feed.feed(piece)?;
-        if let Ok(Some(_batch)) = feed.next() {
+        if gives(&mut feed, piece)? {
             ends.push(index.wrapping_add(1))?;
         }
     }
@@ -119,12 +162,11 @@ fn byte_by_byte(rt: HostRuntime) -> Result<(), Fail> {
 
 /// What a stream is refused with after each piece.
 fn faults_of(alloc: Global, pieces: &[&[u8]]) -> Result<Vec<Option<BatchFault>>, AllocError> {
-    let mut feed = Feed::new(alloc);
+    let mut stream = Stream::new(alloc);
     let mut faults = Vec::new(alloc);
     for piece in pieces {
-        feed.feed(piece)?;
-        let mut out = Vec::new(alloc);
-        faults.push(drain(alloc, &mut feed, &mut out)?)?;
+        stream.take(alloc, piece, usize::MAX)?;
+        faults.push(stream.fault)?;
     }
     Ok(faults)
 }
@@ -150,29 +192,34 @@ const DAMAGE: &[(usize, u8, BatchFault)] = &[
     (69, 1, BatchFault::Crc),
 ];
 
-/// The batches before the damage, written, and the fault that is then returned twice.
-fn of_damaged(
-    alloc: Global,
-    at: usize,
-    byte: u8,
-    size: usize,
-) -> Result<(Vec<u8>, Option<BatchFault>, Option<BatchFault>), AllocError> {
-    let mut damaged = Vec::from_slice(alloc, ONE)?;
-    if let Some(place) = damaged.get_mut(at) {
+/// A batch, a damaged one and another one.
+fn damaged(alloc: Global, at: usize, byte: u8) -> Result<Vec<u8>, AllocError> {
+    let mut bytes = Vec::from_slice(alloc, TWO)?;
+    let start = bytes.len();
+    bytes.extend_from_slice(ONE)?;
+    if let Some(place) = bytes.get_mut(at.saturating_add(start)) {
         *place = byte;
     }
-    let mut bytes = Vec::from_slice(alloc, TWO)?;
-    bytes.extend_from_slice(&damaged)?;
     bytes.extend_from_slice(ONE)?;
-    let mut feed = Feed::new(alloc);
-    let mut out = Vec::new(alloc);
-    let mut first = None;
-    for piece in bytes.chunks(size.max(1)) {
-        feed.feed(piece)?;
-        first = drain(alloc, &mut feed, &mut out)?;
-    }
-    let again = drain(alloc, &mut feed, &mut out)?;
-    Ok((out, first, again))
+    Ok(bytes)
+}
+
+/// A stream gives the batch before the damage, and the fault twice.
+fn is_refused(
+    rt: &impl Abort,
+    alloc: Global,
+    bytes: &[u8],
+    size: usize,
+    fault: BatchFault,
+) -> Result<(), AllocError> {
+    let mut stream = Stream::new(alloc);
+    stream.take(alloc, bytes, size)?;
+    assert_eq!(rt; stream.written.as_slice(), TWO);
+    assert_eq!(rt; stream.fault, Some(fault));
+    stream.drain(alloc)?;
+    assert_eq!(rt; stream.written.as_slice(), TWO);
+    assert_eq!(rt; stream.fault, Some(fault));
+    Ok(())
 }
 
 fn are_refused(
@@ -181,11 +228,9 @@ fn are_refused(
     rows: &[(usize, u8, BatchFault)],
 ) -> Result<(), AllocError> {
     for (at, byte, fault) in rows {
+        let bytes = damaged(alloc, *at, *byte)?;
         for size in [1, 7, 64, 300] {
-            let (out, first, again) = of_damaged(alloc, *at, *byte, size)?;
-            assert_eq!(rt; out.as_slice(), TWO);
-            assert_eq!(rt; first, Some(*fault));
-            assert_eq!(rt; again, Some(*fault));
+            is_refused(rt, alloc, &bytes, size, *fault)?;
         }
     }
     Ok(())

@@ -1,7 +1,0 @@
-//! Tests of the assembler, by its public calls.
-#![tactic(auto)]
-
-#[cfg(test)]
-mod faults;
-#[cfg(test)]
-mod words;

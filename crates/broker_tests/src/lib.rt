@@ -1,0 +1,36 @@
+//! Tests of logs, the catalogue, workers, books and fetches, by the public calls of `broker` and of the crates
+//! below it.
+#![tactic(auto)]
+
+#[cfg(test)]
+mod audits;
+#[cfg(test)]
+mod books;
+#[cfg(test)]
+mod deploys;
+#[cfg(test)]
+mod fetched;
+#[cfg(test)]
+mod fetches;
+#[cfg(test)]
+mod gates;
+#[cfg(test)]
+mod heads;
+#[cfg(test)]
+mod loads;
+#[cfg(test)]
+mod logs;
+#[cfg(test)]
+mod names;
+#[cfg(test)]
+mod offers;
+#[cfg(test)]
+mod since;
+#[cfg(test)]
+mod steps;
+#[cfg(test)]
+mod streams;
+#[cfg(test)]
+mod threads;
+#[cfg(test)]
+mod workers;
