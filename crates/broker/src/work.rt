@@ -12,7 +12,6 @@ use out_book::{BookFault, Room};
 use part_log::{Names, PartLog, Trail};
 use std::alloc::{AllocError, Global};
 use std::sync::Wait;
-use std::thread;
 use worker::{Delivery, Gate, Walk, process};
 
 /// The worker of an input partition, and what it works with.
@@ -113,14 +112,10 @@ impl<'a, Id: Names, C, R: Wait, G: Gate> Worker<'a, Id, C, R, G> {
         ensures partition { walk.new.partition ≡ walk.old.partition }
         ensures next { length walk.new.items ≡ length walk.old.items + 1 }
     {
-        for _ in self.rt.forever() {
-            let mut note = log.note(walk.len());
-            if walk.next(log, &mut note) {
-                return;
-            }
-            thread::yield_now();
+        let mut note = log.wait_for(self.rt, walk.len());
+        if !walk.next(log, &mut note) {
+            unreachable!();
         }
-        unreachable!()
     }
 
     /// Processes the walk's last item, and offers its rows to every output partition.
