@@ -16,20 +16,37 @@ use std::sync::Wait;
 use std::test::Fail;
 use std::thread::Threads;
 
-/// An offset, the offset after the last row from there on, and at most how many places were looked at.
-const SINCE: [(u64, u64, u64); 6] = [
-    (0, 600, 10),
-    (1, 600, 10),
-    (300, 600, 10),
-    (599, 600, 10),
-    (600, 600, 10),
-    (u64::MAX, u64::MAX, 10),
+/// An input, an offset, the offset after the last row of that input from there on, and the least and most
+/// places that are looked at.
+type Since = (usize, u64, u64, u64, u64);
+
+const ONE_RUN: [Since; 7] = [
+    (0, 0, 600, 0, 10),
+    (0, 1, 600, 1, 10),
+    (0, 300, 600, 1, 10),
+    (0, 599, 600, 1, 10),
+    (0, 600, 600, 1, 10),
+    (0, u64::MAX, u64::MAX, 1, 10),
+    (1, 7, 7, 0, 0),
+];
+
+/// Once 300 rows of input 1 and 300 more of input 0 were added.
+const RUNS: [Since; 9] = [
+    (0, 0, 900, 0, 10),
+    (0, 599, 900, 1, 10),
+    (0, 600, 900, 1, 10),
+    (0, 601, 900, 1, 10),
+    (0, 899, 900, 1, 10),
+    (0, 900, 900, 1, 10),
+    (1, 0, 300, 0, 9),
+    (1, 299, 300, 1, 9),
+    (2, 7, 7, 0, 0),
 ];
 
 #[test]
 fn rows_are_found_from_an_offset_on(rt: HostRuntime) -> Result<(), Fail> {
     let alloc = rt.alloc();
-    look_up::<Brand, _>(&rt, alloc, Parts::new(&rt, alloc, 1, 1, 8)?)
+    look_up::<Brand, _>(&rt, alloc, Parts::new(&rt, alloc, 2, 1, 8)?)
 }
 
 /// Six hundred rows stand in three segments.
@@ -42,19 +59,44 @@ fn look_up<Id: Names + Send + Sync, R: Threads + Wait + Sync + Abort>(
 {
     let broker: Broker<Id, Catalogue<&R>> = Broker::new(alloc, parts)?;
     assert_eq!(rt; deploy(rt, alloc, &broker, 0, &FORWARD), Some(0));
+    assert_eq!(rt; deploy(rt, alloc, &broker, 1, &FORWARD), Some(0));
     assert_eq!(rt; segments(rt, &broker), (0, 0));
-    assert_eq!(rt; since(rt, &broker, 7), Some((7, 0)));
-    let batch = stamped(alloc, 600).ok_or("a batch")?;
-    broker.append(rt, alloc, 0, batch)?;
-    assert!(rt; drain(rt, alloc, &broker));
+    assert_eq!(rt; since(rt, &broker, 0, 7), Some((7, 0)));
+    assert!(rt; add(rt, alloc, &broker, 0, 600));
     assert_eq!(rt; segments(rt, &broker), (600, 3));
     assert_eq!(rt; stamps(rt, alloc, &broker, 250, 10), Some((10, 1250, 9)));
-    for (offset, end, most) in SINCE {
-        let (found, looks) = since(rt, &broker, offset).ok_or("rising rows")?;
-        assert_eq!(rt; found, end);
-        assert!(rt; looks >= 1 && looks <= most);
-    }
+    assert!(rt; are_found(rt, &broker, &ONE_RUN));
+    assert!(rt; add(rt, alloc, &broker, 1, 300) && add(rt, alloc, &broker, 0, 300));
+    assert_eq!(rt; segments(rt, &broker), (1200, 5));
+    assert!(rt; are_found(rt, &broker, &RUNS));
     Ok(())
+}
+
+/// Appends a batch of `count` records to an input, whose rows are then added to output 0.
+fn add<Id: Names + Send + Sync, C: Send, R: Threads + Wait + Sync>(
+    rt: &R,
+    alloc: Global,
+    broker: &Broker<Id, C>,
+    input: usize,
+    count: usize,
+) -> bool {
+    match stamped(alloc, count) {
+        Some(batch) => {
+            broker.append(rt, alloc, input, batch).is_ok() && drain(rt, alloc, broker)
+        }
+        None => false,
+    }
+}
+
+/// Whether each search finds what it should.
+fn are_found<Id: Names, C, R: Wait>(rt: &R, broker: &Broker<Id, C>, rows: &[Since]) -> bool {
+    for (input, offset, end, least, most) in rows {
+        match since(rt, broker, *input, *offset) {
+            Some((found, looks)) if found == *end && *least <= looks && looks <= *most => {}
+            _ => return false,
+        }
+    }
+    true
 }
 
 /// How many rows output 0 has, and how many segments.
@@ -64,14 +106,19 @@ fn segments<Id: Names, C, R: Wait>(rt: &R, broker: &Broker<Id, C>) -> (usize, us
     (book.len(), book.segments())
 }
 
-/// The offset after the last row of output 0 that has this offset or a greater one, and how many
-/// places were looked at. None where the rows are not one for each offset from there on.
-fn since<Id: Names, C, R: Wait>(rt: &R, broker: &Broker<Id, C>, offset: u64) -> Option<(u64, u64)> {
+/// The offset after the last row of output 0 from an input that has this offset or a greater one, and how
+/// many places were looked at. None where the rows are not one for each offset from there on.
+fn since<Id: Names, C, R: Wait>(
+    rt: &R,
+    broker: &Broker<Id, C>,
+    input: usize,
+    offset: u64,
+) -> Option<(u64, u64)> {
     let _some = broker.outputs();
     let book = broker.book(0).lock(rt);
     let mut probes = Probes::new();
     let mut next = offset;
-    for row in book.rows_since(0, offset, &mut probes) {
+    for row in book.rows_since(input, offset, &mut probes) {
         if row.offset != next {
             return None;
         }

@@ -2,6 +2,6 @@ pub mod DoneLaws
 pub mod BookLaws
 pub mod Origins
 pub mod TieLaws
-pub mod IndexLaws
+pub mod Runs
 pub mod Rising
-pub mod SearchLaws
+pub mod Searches

@@ -9,6 +9,7 @@ mod laws;
 mod probes;
 mod room;
 mod rows;
+mod run;
 mod search;
 mod sharing;
 
