@@ -1,6 +1,4 @@
-use Rattle.std.proofs.Common.{◌≡◌, List, Result, Ok, Err, IfOk, subst}
-use Rattle.std.specs.Prelude.{Vec}
-use Rattle.machine_spec.specs.declared.outcome.Outcome.{Outcome}
+use Rattle.std.proofs.Common.{Result, Ok, Err, IfOk, subst}
 use Rattle.machine_spec.specs.Image.{Program}
 use Rattle.exec.specs.Abreast.{AreOutcomes}
 use Rattle.log_item.specs.Programs.{RunsSafelyOnEach}
