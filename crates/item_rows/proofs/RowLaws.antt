@@ -5,7 +5,7 @@ use Rattle.std.proofs.Common.{sym, ap, subst, ◌∙◌, append_assoc, arith}
 use Rattle.std.specs.Prelude.{◌==◌, IfOk}
 use Rattle.std.specs.List.{AllByRecursion}
 use Rattle.std.proofs.lemmas.Bool.Decides.{nat_tests}
-use Rattle.std.proofs.lemmas.List.{take_more, length-take, length-append, length-set, append-nil, drop_all}
+use Rattle.std.proofs.lemmas.List.{length-append, length-set, append-nil, drop_all}
 use Rattle.std.proofs.lemmas.List.{get_or-set_same, get_or-set_other}
 use Rattle.std.proofs.lemmas.Option.{get_or_from_slice_get}
 use Rattle.wire_spec.specs.declared.{record.Record.Record, record.Batch.Batch}
@@ -13,10 +13,10 @@ use Rattle.machine_spec.specs.declared.{outcome.Emission.Emission, outcome.Outco
 use Rattle.machine_spec.specs.Image.{Program}
 use Rattle.machine_spec.specs.Meaning.{Means}
 use Rattle.log_spec.specs.declared.row.Row.{Row}
-use Rattle.log_spec.specs.Logs.{Item as LogItem, Records, rows_to, rows_of, row_of, place_of, IsRecordRows}
+use Rattle.log_spec.specs.Logs.{Item as LogItem, Records, rows_to, rows_of, row_of, IsRecordRows}
 use Rattle.log_spec.specs.Logs.{IsRecordsRows, FitsLog}
 use Rattle.log_spec.proofs.FittingRows.{batch_rows_fit}
-use Rattle.log_spec.proofs.LogLaws.{rows_to-next, records-next}
+use Rattle.log_spec.proofs.LogLaws.{rows_to-next}
 use Rattle.fates.specs.declared.fate.Fate.{Fate}
 use Rattle.fates.specs.Fates.{IsFate, AreRecordsFates}
 use Rattle.fates.specs.Totals.{Totals, AreCountsWith, AreItemCounts}
@@ -119,31 +119,6 @@ pub record_made : (first : ℕ) (program program' : Option Program) (place : Pla
 record_made first program program' place given fate one two same is adds =
     subst (λ (p : Option Program). IsFate p place given fate
     × Adds first one two (λ q here. IsRecordRows q p place given here)) same (is, adds)
-
--- one more record of a batch
-pub records_more : (first input outputs : ℕ) (program : Option Program) (batch : Batch) (offset : ℕ) (givens : List Record)
-    (k at : ℕ) (given : Record) (one two three : List (List Row)) → k < length givens →
-    given ≡ get_or givens k given → at ≡ offset + k →
-    Adds first one two (λ q here. IsRecordsRows input q outputs program batch offset (take k givens) here) →
-    Adds first two three (λ q here. IsRecordRows q program (place_of input outputs at batch given) given here) →
-    Adds first one three (λ q here. IsRecordsRows input q outputs program batch offset (take (k + 1) givens) here)
-records_more first input outputs program batch offset givens k at given one two three lt is place earlier here =
-    adds_then first one two three (λ q here. IsRecordsRows input q outputs program batch offset (take k givens) here)
-    (λ q here. IsRecordRows q program (place_of input outputs at batch given) given here)
-    (λ q here. IsRecordsRows input q outputs program batch offset (take (k + 1) givens) here) earlier here join
-  where
-    join : (q : ℕ) (here later : List Row) → IsRecordsRows input q outputs program batch offset (take k givens) here →
-        IsRecordRows q program (place_of input outputs at batch given) given later →
-        IsRecordsRows input q outputs program batch offset (take (k + 1) givens) (here ++ later)
-    join q here later before now =
-        let count : at ≡ offset + length (take k givens) = omega (arith, length-take k givens) in
-        let now' : IsRecordRows q program (place_of input outputs (offset + length (take k givens)) batch given) given
-        later =
-        subst (λ (o : ℕ). IsRecordRows q program (place_of input outputs o batch given) given later) count now in
-        let longer : take (k + 1) givens ≡ take k givens ++ given ∷ [] = take_more givens k given lt
-        ∙ ap (λ (g : Record). take k givens ++ g ∷ []) (sym is) in
-        subst (λ (gs : List Record). IsRecordsRows input q outputs program batch offset gs (here ++ later)) (sym longer)
-        (records-next input q outputs program batch offset (take k givens) given here later before now')
 
 -- the row of an emission in its output
 pub row_added : (first : ℕ) (place : Place) (number : ℕ) (emission : Emission) (old new : List (List Row))

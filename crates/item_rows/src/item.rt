@@ -1,6 +1,7 @@
-ghost use Rattle.std.specs.Prelude.{◌≡◌, ◌<◌, IfOk, option_map};
+ghost use Rattle.std.specs.Prelude.{◌≡◌, ◌<◌, ◌≤◌, IfOk, option_map};
 ghost use Rattle.std.specs.Arc.{arc_value};
 ghost use Rattle.fates.specs.Totals.{AreItemCounts};
+ghost use Rattle.log_spec.specs.Logs.{records_in};
 ghost use Rattle.log_item.specs.Items.{item_view};
 ghost use Rattle.item_rows.specs.ItemRows.{IsOrigin, GivesRows, AreItemRows, AreRowsFrom, Adds};
 
@@ -43,6 +44,20 @@ fn push_item(
     }
 }
 
+/// For how many of an item's rows each of `count` output partitions has room at first: somewhat more
+/// than its share where each record gives one row. Its list then seldom grows.
+fn room(program: Option<&Program>, item: &Item, count: usize) -> usize
+    requires { 0 < count }
+    ensures { result ≤ records_in (item_view item.now) }
+{
+    if program.is_none() {
+        return 0;
+    }
+    let records = item.records() as usize;
+    let share = records / count;
+    records.min(share + share / 8)
+}
+
 /// The rows of an item in `count` output partitions from `first` on, and the counts of its records.
 fn rows_from(
     alloc: Global,
@@ -52,11 +67,12 @@ fn rows_from(
     first: usize,
     count: usize,
 ) -> Result<ItemRows, AllocError>
-    requires { IsOrigin origin.now }
+    requires origin { IsOrigin origin.now }
+    requires some { 0 < count }
     ensures { IfOk result (λ made. AreItemCounts origin.now.input origin.now.outputs (option_map (λ p. p.now) program.entry) origin.now.offset (item_view item.now) made.counts
         × AreRowsFrom first count origin.now (option_map (λ p. p.now) program.entry) (item_view item.now) made.rows) }
 {
-    let mut all = empty(alloc, count)?;
+    let mut all = empty(alloc, count, room(program, item, count))?;
     let counts = push_item(alloc, origin, program, item, first, all.as_mut_slice())?;
     ItemRows::new(alloc, all, counts)
 }

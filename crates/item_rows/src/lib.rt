@@ -2,9 +2,11 @@
 //! records: each record is run once.
 #![tactic(auto)]
 
+mod batch_run;
 mod item;
 mod laws;
 mod origin;
+mod outcomes;
 mod records;
 mod rows;
 

@@ -34,6 +34,15 @@ impl OutputRows {
         }
     }
 
+    /// No rows, and room for so many.
+    fn with_capacity(alloc: Global, rows: usize) -> Result<OutputRows, AllocError>
+        ensures { IfOk result (λ made. made ≡ []) }
+    {
+        Ok(OutputRows {
+            list: Vec::with_capacity(alloc, rows)?,
+        })
+    }
+
     /// Adds a row.
     pub(crate) fn push(&mut self, row: Row) -> Result<(), AllocError>
         ensures { OnOk result (self.new ≡ self.old ++ row ∷ []) }
@@ -58,14 +67,19 @@ impl OutputRows {
     }
 }
 
-/// No rows in each of `outputs` output partitions.
+/// No rows in each of `outputs` output partitions, and room for so many in each.
 #[tactic(auto, using(crate::proofs::RowLaws::empty_more, crate::proofs::RowLaws::empty_none))]
-pub(crate) fn empty(alloc: Global, outputs: usize) -> Result<Vec<OutputRows>, AllocError>
+pub(crate) fn empty(
+    alloc: Global,
+    outputs: usize,
+    room: usize,
+) -> Result<Vec<OutputRows>, AllocError>
     ensures { IfOk result (λ all. AreEmpty outputs all.items) }
 {
     let mut all = Vec::with_capacity(alloc, outputs)?;
     for _ in 0..outputs {
-        all.push(OutputRows::new(alloc))?;
+        let none = OutputRows::with_capacity(alloc, room)?;
+        all.push(none)?;
     }
     Ok(all)
 }

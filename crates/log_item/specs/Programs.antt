@@ -1,8 +1,10 @@
 -- What loading an image returns, and what holds of every run of a program.
-use Rattle.std.specs.Prelude.{◌≡◌, ℕ, ◌+◌, ◌<◌, ◌≤◌, pos, ◌≤ℤ◌, ◌⊎◌, true, List, length, slice_get, Option, Some, None}
+use Rattle.std.specs.Prelude.{◌≡◌, ℕ, ◌+◌, ◌<◌, ◌≤◌, pos, ◌≤ℤ◌, ◌⊎◌, true, List, length, get_or}
+use Rattle.std.specs.Prelude.{slice_get, Option, Some, None}
 use Rattle.std.specs.Prelude.{Result, Ok, Err, IsSome, unsigned_abs}
 use Rattle.machine_spec.specs.declared.{instruction.Instruction.Instruction, instruction.Placed.Placed}
-use Rattle.machine_spec.specs.declared.{outcome.Outcome.Outcome, helper.Argument.Argument, summary.Summary.Summary}
+use Rattle.wire_spec.specs.declared.record.Record.{Record}
+use Rattle.machine_spec.specs.declared.{outcome.Outcome.Outcome, outcome.Place.Place, helper.Argument.Argument, summary.Summary.Summary}
 use Rattle.machine_spec.specs.declared.summary.Direction.TheVariants.{Read, Write}
 use Rattle.machine_spec.specs.Values.{Registers}
 use Rattle.machine_spec.specs.Summaries.{summary_of}
@@ -52,3 +54,10 @@ pub record RunsSafely (program : Program) (input : Input) (outcome : Outcome) : 
   pub bound : count ≤ length code
   pub no_trap : (n : ℕ) (s : State) → Reaches program input n s → trap_at program input s ≡ None
   pub reads : (n : ℕ) (s : State) → Reaches program input n s → ReadsWithin program input s
+
+-- a program runs safely to the outcome with the same number on each of these records, at its place
+pub record RunsSafelyOnEach (program : Program) (given : List Record) (places : List Place) (outcomes : List Outcome) :
+    Type 0 where
+  pub long : length outcomes ≡ length given
+  pub each : (i : ℕ) (g : Record) (p : Place) (o : Outcome) → i < length given →
+      RunsSafely program (record { given = get_or given i g; place = get_or places i p }) (get_or outcomes i o)

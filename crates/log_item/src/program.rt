@@ -1,5 +1,6 @@
 ghost use Rattle.std.specs.Prelude.{◌≡◌, ℕ, IfOk};
-ghost use Rattle.log_item.specs.Programs.{ProgramIs, RunsSafely};
+ghost use Rattle.exec.specs.Abreast.{AreGiven};
+ghost use Rattle.log_item.specs.Programs.{ProgramIs, RunsSafely, RunsSafelyOnEach};
 ghost use Rattle.machine_spec.specs.Image.{program_of};
 ghost use Rattle.machine_spec.specs.Meaning.{IsPlace, Means};
 ghost use Rattle.machine_spec.specs.declared.outcome.Outcome.{Outcome};
@@ -56,5 +57,19 @@ impl Program {
             × IfOk result (λ answer. answer ≡ outcome) }
     {
         exec::run(alloc, &self.verified, given, place)
+    }
+
+    /// What the program means on each of these records, at its place, in order. Many records at once
+    /// take less time than one after the other. It fails only where memory runs out.
+    pub fn run_all(
+        &self,
+        alloc: Global,
+        given: &[Record],
+        places: &[Place],
+    ) -> Result<Vec<Outcome>, AllocError>
+        requires { AreGiven given.now places.now }
+        ensures { IfOk result (λ outcomes. RunsSafelyOnEach self.now given.now places.now outcomes.items) }
+    {
+        exec::run_all(alloc, &self.verified, given, places)
     }
 }

@@ -1,7 +1,7 @@
 use Rattle.std.proofs.Common.{◌≡◌, ◌≤◌, ◌+◌, length}
 use Rattle.log_spec.specs.Logs.{rows_to}
 use Rattle.item_rows.specs.ItemRows.{Adds}
-use Rattle.item_rows.proofs.records.push_rows.Given as goal
+use Rattle.item_rows.proofs.outcomes.push_rows.Given as goal
 
 abbrev pub invariant-loop-emission : goal.invariant-loop-emission
 invariant-loop-emission l =

@@ -6,7 +6,7 @@ use Rattle.machine_spec.specs.declared.outcome.Emission.{Emission}
 use Rattle.log_spec.specs.Logs.{rows_to}
 use Rattle.item_rows.specs.ItemRows.{Adds}
 use Rattle.item_rows.proofs.RowLaws.{emissions_more}
-use Rattle.item_rows.proofs.records.push_rows.Goals as goal
+use Rattle.item_rows.proofs.outcomes.push_rows.Goals as goal
 
 pub loop-emission-preserved : goal.loop-emission-preserved
 loop-emission-preserved c = (
