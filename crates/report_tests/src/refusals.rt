@@ -89,30 +89,34 @@ fn snapshot_of<Id: Names, C, R: Wait + Print>(
     alloc: Global,
     broker: &Broker<Id, C>,
 ) -> Option<Snapshot<Id>> {
-    match gather(rt, alloc, broker) {
-        Ok(snapshot) => Some(snapshot),
-        Err(fault) => {
-            let _ = println!(rt; "refused gather: {fault}");
-            if fault != BrokerFault::Memory {
-                return None;
+    for _ in 0..2 {
+        match gather(rt, alloc, broker) {
+            Ok(snapshot) => return Some(snapshot),
+            Err(fault) => {
+                let _ = println!(rt; "refused gather: {fault}");
+                if fault != BrokerFault::Memory {
+                    return None;
+                }
             }
-            gather(rt, alloc, broker).ok()
         }
     }
+    None
 }
 
 /// Whether the report is the right one, after a refused write at the second try.
 fn is_written<Id: Names, R: Print>(rt: &R, alloc: Global, snapshot: &Snapshot<Id>) -> bool {
     let mut text: Vec<u8> = Vec::new(alloc);
-    if let Err(fault) = write(alloc, snapshot, &mut text) {
-        let _ = println!(rt; "refused write: {fault}");
-        if fault != ReportFault::Memory || !WANT.as_bytes().starts_with(text.as_slice()) {
-            return false;
-        }
+    for _ in 0..2 {
         text.clear();
-        if write(alloc, snapshot, &mut text).is_err() {
-            return false;
+        match write(alloc, snapshot, &mut text) {
+            Ok(()) => return text.as_slice() == WANT.as_bytes(),
+            Err(fault) => {
+                let _ = println!(rt; "refused write: {fault}");
+                if fault != ReportFault::Memory || !WANT.as_bytes().starts_with(text.as_slice()) {
+                    return false;
+                }
+            }
         }
     }
-    text.as_slice() == WANT.as_bytes()
+    false
 }
