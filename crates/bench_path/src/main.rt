@@ -1,6 +1,6 @@
 //! Times record batches on their whole way through a program on one core: read, run, written as batches
 //! of four output partitions. The first argument is how many turns are taken, the others name files of
-//! images. Each turn reads ten batches of a shape from memory, and the best turn is printed, beside one
+//! images. Each turn reads the batches of a shape from memory, and the best turn is printed, beside one
 //! that reads the batches alone. With no argument the program does nothing.
 #![tactic(auto)]
 
@@ -10,7 +10,7 @@ mod sink;
 mod stream;
 
 use crate::sink::Sink;
-use crate::stream::{BATCHES, Shape, stream_of};
+use crate::stream::{Shape, stream_of};
 use batch::Feed;
 use batch_reader::BatchReader;
 use bytes::Bytes;
@@ -24,24 +24,34 @@ use std::{env, fs, io};
 use transform::{Outlet, Transform, transform_all};
 use wire_spec::MAX_PIECE;
 
-const SHAPES: [Shape; 3] = [
+const SHAPES: [Shape; 4] = [
     Shape {
         name: "10,000 of 64 bytes",
+        batches: 10,
         records: 10_000,
         value: 64,
         headers: 0,
     },
     Shape {
         name: "15 of 65,536 bytes",
+        batches: 10,
         records: 15,
         value: 65_536,
         headers: 0,
     },
     Shape {
         name: "1,000 of 4 headers",
+        batches: 10,
         records: 1_000,
         value: 64,
         headers: 4,
+    },
+    Shape {
+        name: "500 of 200 bytes",
+        batches: 200,
+        records: 500,
+        value: 200,
+        headers: 0,
     },
 ];
 
@@ -79,7 +89,7 @@ fn transformed(alloc: Global, program: &Program, bytes: &[u8]) -> io::Result<u64
 /// How many records the batches have that a feed holds whole.
 fn records_in(feed: &mut Feed) -> io::Result<u64> {
     let mut records = 0u64;
-    for _ in 0..=BATCHES {
+    for _ in 0..u64::MAX {
         match feed.next() {
             Ok(Some(batch)) => records = records.wrapping_add(batch.records.list.len() as u64),
             Ok(None) => return Ok(records),

@@ -7,13 +7,11 @@ use std::io;
 use std::io::ErrorKind;
 use wire_spec::{Header, Record};
 
-/// How many batches a stream has.
-pub const BATCHES: usize = 10;
-
-/// What the records of a batch are like; the length is of bytes.
+/// How many batches a stream has, and what their records are like; the length is of bytes.
 #[derive(Drop)]
 pub struct Shape {
     pub name: &'static str,
+    pub batches: usize,
     pub records: usize,
     pub value: usize,
     pub headers: usize,
@@ -71,7 +69,7 @@ pub fn stream_of(alloc: Global, shape: &Shape) -> io::Result<Vec<u8>> {
     }
     let bytes = encode(alloc, &batch)?;
     let mut stream = Vec::new(alloc);
-    for _ in 0..BATCHES {
+    for _ in 0..shape.batches {
         stream.extend_from_slice(&bytes)?;
     }
     Ok(stream)

@@ -1,5 +1,6 @@
 pub mod AppendLaws
 pub mod BatchLaws
+pub mod FileLaws
 pub mod Loaded
 pub mod Marks
 pub mod RecheckLaws

@@ -1,5 +1,6 @@
 pub mod Appends
 pub mod Explanations
+pub mod FileTransforms
 pub mod Images
 pub mod Listings
 pub mod Puts

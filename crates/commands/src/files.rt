@@ -1,6 +1,6 @@
 //! The files that a command reads and writes.
 
-ghost use Rattle.std.specs.Prelude.{◌≡◌, ℕ, List, [], Option, Some, None, IfOk, OnOk, IfSome};
+ghost use Rattle.std.specs.Prelude.{◌≡◌, ◌≢◌, ℕ, Bool, true, false, List, [], Option, Some, None, IfOk, OnOk, IfSome};
 
 use std::io;
 use std::io::{Read, Write};
@@ -9,6 +9,9 @@ use std::io::{Read, Write};
 pub trait Files {
     /// The bytes that a named file has, where they are known.
     ghost bytes: { Self → List ℕ → Option (List ℕ) } = { λ _ _. None };
+
+    /// Whether what is written to a file piece by piece is known.
+    ghost tells: { Bool } = { false };
 
     /// What an opened file is read by.
     type Reader: Read + Drop;
@@ -29,12 +32,13 @@ pub trait Files {
     /// Makes a file empty, to be written piece by piece; the name `stdout` is standard output. It fails
     /// as `open` does.
     fn create(&mut self, name: &str) -> io::Result<Self::Writer>
-        ensures { IfOk result (λ writer. IfSome (Self.Writer.contents writer) (λ known. known ≡ [])) };
+        ensures { tells ≡ true → IfOk result (λ writer. Self.Writer.contents writer ≡ Some []) };
 
     /// Ends a file that was created under this name: it holds what its writer has, or the call fails as
-    /// `open` does.
+    /// `open` does. Files of other names stay.
     fn close(&mut self, name: &str, writer: Self::Writer) -> io::Result<()>
-        ensures { (held : List ℕ) → Self.Writer.contents writer ≡ Some held → OnOk result (IfSome (bytes self.new name.now) (λ known. known ≡ held)) };
+        ensures held { (held : List ℕ) → Self.Writer.contents writer ≡ Some held → OnOk result (IfSome (bytes self.new name.now) (λ known. known ≡ held)) }
+        ensures kept { (other : List ℕ) → other ≢ name.now → bytes self.new other ≡ bytes self.old other };
 
     /// Milliseconds since some time, where somebody watches standard error.
     fn watched(&mut self) -> Option<u64> {

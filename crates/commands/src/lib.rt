@@ -31,3 +31,4 @@ pub use crate::listing::list;
 pub use crate::rechecking::recheck;
 pub use crate::session::Session;
 pub use crate::stop::Stop;
+pub use crate::transforming::transform;

@@ -44,6 +44,8 @@ pub struct Backlog {
     taken: usize,
     // At most as many bytes as the rows that wait take in batches.
     bytes: usize,
+    // How many bytes of batches came before the first row that waits, once that was said.
+    since: Option<u64>,
 }
 
 impl Model for Backlog {
@@ -69,6 +71,7 @@ impl Backlog {
             rows: Vec::new(alloc),
             taken: 0,
             bytes: 0,
+            since: None,
         }
     }
 
@@ -157,6 +160,36 @@ impl Backlog {
         own_rows(self.alloc, &mut self.rows, self.taken)
     }
 
+    /// How many bytes of batches came before the first row that waits, where that is one of a batch that
+    /// came after `start` of them or was asked about before. None where no row waits.
+    pub(crate) fn since(&mut self, start: u64) -> Option<u64>
+        ensures { self.new ≡ self.old }
+    {
+        if self.len() == 0 {
+            self.since = None;
+        } else if self.since.is_none() {
+            self.since = Some(start);
+        }
+        self.since
+    }
+
+    /// Copies the bytes of the rows that wait, as `own` does, where the first of them came before
+    /// `limit` bytes of batches. From then on all came after `end` of them. Returns whether there was memory for that.
+    pub(crate) fn own_before(&mut self, limit: u64, end: u64) -> bool
+        ensures { self.new ≡ self.old }
+    {
+        match self.since {
+            Some(since) if since < limit => {
+                if self.own().is_err() {
+                    return false;
+                }
+                self.since = Some(end);
+                true
+            }
+            _ => true,
+        }
+    }
+
     // The bytes of the batch of the first rows that wait.
     fn first(&self) -> Result<FirstBatch, AllocError>
         requires { 0 < length self.now.rows }
@@ -180,26 +213,42 @@ impl Backlog {
         self.place += count as u64;
         self.taken += count;
         self.bytes = self.bytes.saturating_sub(size);
+        self.since = None;
     }
 }
 
-// Adds rows at the end of those that are not taken, which are then all. An `Err` changes nothing of
-// those.
+// Adds rows at the end of those that are not taken, which are then all. The list keeps its room, unless
+// the rows have as much. An `Err` changes nothing of those.
 fn extend(rows: &mut Vec<Row>, taken: &mut usize, mut more: Vec<Row>) -> Result<(), AllocError>
     requires { taken.old ≤ length rows.old.items }
     ensures ok { OnOk result ((taken.new ≡ 0) × (rows.new.items ≡ drop taken.old rows.old.items ++ more.items)) }
     ensures err { OnErr result ((taken.new ≤ length rows.new.items) × (drop taken.new rows.new.items ≡ drop taken.old rows.old.items)) }
 {
-    if *taken == rows.len() {
+    if *taken == rows.len() && rows.capacity() <= more.capacity() {
         *rows = more;
         *taken = 0;
         return Ok(());
     }
-    if *taken > 0 {
-        *rows = rows.split_off(*taken)?;
-        *taken = 0;
-    }
+    remove_first(rows, taken)?;
     rows.append(&mut more)
+}
+
+// Removes the rows that are taken. An `Err` changes nothing.
+fn remove_first(rows: &mut Vec<Row>, taken: &mut usize) -> Result<(), AllocError>
+    requires { taken.old ≤ length rows.old.items }
+    ensures ok { OnOk result ((taken.new ≡ 0) × (rows.new.items ≡ drop taken.old rows.old.items)) }
+    ensures err { OnErr result ((taken.new ≡ taken.old) × (rows.new.items ≡ rows.old.items)) }
+{
+    if *taken == 0 {
+        return Ok(());
+    }
+    let mut rest = rows.split_off(*taken)?;
+    rows.clear();
+    if rows.append(&mut rest).is_err() {
+        *rows = rest;
+    }
+    *taken = 0;
+    Ok(())
 }
 
 // At most as many bytes as the rows take in batches.

@@ -18,8 +18,8 @@ use std::marker::Model;
 use thiserror::Error;
 use wire_spec::{Batch, MAX_RECORDS, TIMESTAMP_END};
 
-/// How many bytes of batches rows share while they wait, at most: 8 MiB and those of one batch.
-const MOST_SHARED: usize = 8_388_608;
+/// How many bytes of batches rows share while they wait, at most: 12 MiB and those of one batch.
+const MOST_SHARED: u64 = 12_582_912;
 
 /// Fewer records than this are counted: 2^63.
 const MOST_COUNTED: u64 = 9_223_372_036_854_775_808;
@@ -56,8 +56,8 @@ pub struct Transform<W: Write> {
     input: usize,
     offset: u64,
     outlets: Vec<Outlet<W>>,
-    // At most as many bytes as the rows that wait share with batches.
-    shared: usize,
+    // How many bytes the batches have that came so far.
+    passed: u64,
     counts: Counts,
 }
 
@@ -86,7 +86,7 @@ impl<W: Write> Transform<W> {
             input,
             offset,
             outlets,
-            shared: 0,
+            passed: 0,
             counts: Counts::new(alloc),
         }
     }
@@ -128,7 +128,7 @@ impl<W: Write> Transform<W> {
 
     /// Runs a program on the records of the next batch, in order, each once, and puts the rows into
     /// the output partitions, which write each batch that is full then. Rows that wait share their
-    /// bytes with the batches of at most 8 MiB; those of older ones are copied. It fails where the batch
+    /// bytes with the batches of at most 12 MiB; those of older ones are copied. It fails where the batch
     /// might reach the offset 2^62, or where memory runs out before a row is put; then nothing
     /// changes. It fails with an output partition as `Outlet::put` does; then each output partition
     /// has written whole batches of its rows, and that one maybe a beginning of one more.
@@ -144,13 +144,14 @@ impl<W: Write> Transform<W> {
             offset: self.offset,
             outputs: self.outlets.len(),
         };
-        let shared = self.shared.saturating_add(batch_bytes(&batch));
+        let start = self.passed;
+        self.passed = start.saturating_add(batch_bytes(&batch) as u64);
         let item = Item::Batch(LoggedBatch::new(batch));
         let rows = item_rows(self.alloc, &origin, Some(program), &item)?;
         count(&mut self.counts, rows.counts())?;
         put_each(self.alloc, rows, &mut self.outlets)?;
         self.offset += item.records();
-        self.shared = owned(&mut self.outlets, shared);
+        own_old(&mut self.outlets, start, self.passed);
         Ok(())
     }
 
@@ -173,28 +174,40 @@ fn count(counts: &mut Counts, batch: &Counts) -> Result<(), AllocError> {
     }
 }
 
-// Copies the bytes of all rows that wait, where they may share too many with batches; returns how many
-// they may share then.
-fn owned<W: Write>(outlets: &mut [Outlet<W>], shared: usize) -> usize
+// Copies the bytes of rows that wait, where all of them may share too many with batches. The last batch
+// came after `start` bytes of batches, and there are `end` with it.
+fn own_old<W: Write>(outlets: &mut [Outlet<W>], start: u64, end: u64)
     ensures { outlets.new ≡ outlets.old }
 {
-    if shared > MOST_SHARED && own_each(outlets) {
-        0
-    } else {
-        shared
+    let first = first_since(outlets, start);
+    if end.saturating_sub(first) > MOST_SHARED {
+        own_each(outlets, end.saturating_sub(MOST_SHARED / 2), end);
     }
 }
 
-// Whether the bytes of all rows that wait were copied; else memory ran out.
-fn own_each<W: Write>(outlets: &mut [Outlet<W>]) -> bool
+// How many bytes of batches came before the first row that waits, or more where none does.
+fn first_since<W: Write>(outlets: &mut [Outlet<W>], start: u64) -> u64
+    ensures { outlets.new ≡ outlets.old }
+{
+    let mut first = u64::MAX;
+    for output in 0..outlets.len() {
+        if let Some(since) = outlets[output].since(start) {
+            first = first.min(since);
+        }
+    }
+    first
+}
+
+// Copies the bytes of the rows that wait in each output partition whose first came before `limit` bytes
+// of batches, as far as there is memory.
+fn own_each<W: Write>(outlets: &mut [Outlet<W>], limit: u64, end: u64)
     ensures { outlets.new ≡ outlets.old }
 {
     for output in 0..outlets.len() {
-        if outlets[output].own().is_err() {
-            return false;
+        if !outlets[output].own_before(limit, end) {
+            return;
         }
     }
-    true
 }
 
 // Puts the rows of an item into each output partition.

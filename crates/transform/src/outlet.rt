@@ -111,6 +111,20 @@ impl<W: Write> Outlet<W> {
         self.backlog.own()
     }
 
+    /// As `Backlog::since`.
+    pub(crate) fn since(&mut self, start: u64) -> Option<u64>
+        ensures { self.new ≡ self.old }
+    {
+        self.backlog.since(start)
+    }
+
+    /// As `Backlog::own_before`.
+    pub(crate) fn own_before(&mut self, limit: u64, end: u64) -> bool
+        ensures { self.new ≡ self.old }
+    {
+        self.backlog.own_before(limit, end)
+    }
+
     /// Writes the batches of all rows that wait; none waits then. It fails where memory runs out, and
     /// where the writer fails or takes no byte. Then whole batches of those rows were written, and
     /// where the writer failed, a beginning of one more; what waits is not said.

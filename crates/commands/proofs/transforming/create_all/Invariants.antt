@@ -1,5 +1,7 @@
-use Rattle.std.proofs.Common.{◌≡◌, length}
+use Rattle.std.proofs.Common.{◌≡◌, true, length}
+use Rattle.std.specs.Prelude.{All}
+use Rattle.commands.specs.FileTransforms.{IsFresh}
 use Rattle.commands.proofs.transforming.create_all.Given as goal
 
-abbrev pub invariant-loop-index : goal.invariant-loop-index
-invariant-loop-index g l = length l.outlets.items ≡ l.index
+abbrev pub invariant-loop-output : goal.invariant-loop-output
+invariant-loop-output g l = (length l.outlets.items ≡ l.output) × (g.F.Files.tells ≡ true → All IsFresh l.outlets.items)

@@ -1,0 +1,314 @@
+-- What the files of a transform have.
+use Rattle.std.proofs.Common.{◌≡◌, ◌≢◌, ◌⊎◌, ℕ, ◌+◌, ◌<◌, ◌≤◌, Bool, true, false, List, [], ◌∷◌, ◌++◌, length, Option, Some, None}
+use Rattle.std.proofs.Common.{Result, Ok, Err, refl, sym, subst, inl, inr, ⊎_elim, arith}
+use Rattle.std.specs.Prelude.{◌-◌, All, IfSome, string_bytes}
+use Rattle.std.specs.declared.string.String.{String}
+use Rattle.std.specs.Io.KnownBytes.{IsAtEnd}
+use Rattle.std.proofs.lemmas.Bool.{cases_lt}
+use Rattle.std.proofs.lemmas.List.{get_or_append_left, get_or_push, length_push, length-map}
+use Rattle.wire_spec.specs.declared.record.Batch.{Batch}
+use Rattle.machine_spec.specs.Image.{Program, program_of}
+use Rattle.machine_spec.specs.declared.helper.Table.{Table}
+use Rattle.log_spec.specs.declared.row.Row.{Row}
+use Rattle.batch.specs.Streams.{Open}
+use Rattle.batch_reader.specs.declared.reader.ReadFault.TheVariants as read
+use Rattle.batch_reader.specs.Readings.{Inlet, inlet, BeginsBadly}
+use Rattle.transform.specs.declared.{stream.StreamFault.StreamFault, outlet.OutletFault.OutletFault}
+use Rattle.transform.specs.declared.stream.StreamFault.TheVariants as fault
+use Rattle.transform.specs.declared.flow.TransformFault.TheVariants as stop
+use Rattle.transform.specs.declared.outlet.OutletFault.TheVariants as outlet
+use Rattle.transform.specs.Backlogs.{Waiting, waiting}
+use Rattle.transform.specs.Outlets.{Outflow, outflow, with_rows, WroteBatches}
+use Rattle.transform.specs.Streams.{TransformsAll}
+use Rattle.transform.specs.Transforms.{Flow, flow, output_at, AreRows, AreRowsOfALog, AreFlowRows, FillsAll, FillsSome}
+use Rattle.transform.specs.Transforms.{StopsFilling, Finished, Broken}
+use Rattle.script.specs.Words.{word_at}
+use Rattle.commands.specs.declared.transforming.Halt.{Halt}
+use Rattle.commands.specs.declared.transforming.Halt.TheVariants as halt
+use Rattle.commands.specs.FileTransforms.{names_of, AreDistinct, HasRows, IsFresh, HasWritten, HaveWritten, StreamsAs}
+use Rattle.commands.specs.FileTransforms.{TransformsAs, CallTransforms, IsUnloaded, status_of, status_of_halt}
+use Rattle.commands.specs.Images.{first_bytes}
+use Rattle.commands.specs.Listings.{source_of}
+
+-- ---- One file after the other
+
+pub held_none : (names : List (List ℕ)) (files : List ℕ → Option (List ℕ)) → HaveWritten names [] files
+held_none names files output lt within = absurd (omega arith)
+
+pub held_more : (names : List (List ℕ)) (before after : List ℕ → Option (List ℕ)) (index : ℕ) (done : List Outflow)
+    (last : Outflow) → AreDistinct names → index ≡ length done → HaveWritten names done before →
+    (index + 2 < length names → HasWritten last (after (word_at names (index + 2)))) →
+    ((other : List ℕ) → (index + 2 < length names → other ≢ word_at names (index + 2)) → after other ≡ before other) →
+    HaveWritten names (done ++ last ∷ []) after
+held_more names before after index done last distinct is earlier now kept output lt within =
+    ⊎_elim old new (cases_lt output index)
+  where
+    old : output < index → HasWritten (output_at (done ++ last ∷ []) output) (after (word_at names (output + 2)))
+    old below =
+        let there : output < length done = omega (arith, below, is) in
+        let same : output_at (done ++ last ∷ []) output ≡ output_at done output =
+        get_or_append_left done (last ∷ []) (outflow None (waiting 0 [])) output there in
+        let file : after (word_at names (output + 2)) ≡ before (word_at names (output + 2)) =
+        kept (word_at names (output + 2))
+        (λ in_names e. distinct (output + 2) (index + 2) (omega (arith, below)) in_names (sym e)) in
+        subst (λ (f : Option (List ℕ)). HasWritten (output_at (done ++ last ∷ []) output) f) (sym file)
+        (subst (λ (o : Outflow). HasWritten o (before (word_at names (output + 2)))) (sym same)
+        (earlier output there within))
+
+    new : index ≤ output → HasWritten (output_at (done ++ last ∷ []) output) (after (word_at names (output + 2)))
+    new le =
+        let same : output ≡ index = omega (arith, length_push done last, lt, le, is) in
+        let at : output_at (done ++ last ∷ []) output ≡ last =
+        get_or_push done last (outflow None (waiting 0 [])) output (omega (arith, same, is)) in
+        subst (λ (o : Outflow). HasWritten o (after (word_at names (output + 2)))) (sym at)
+        (subst (λ (k : ℕ). k + 2 < length names → HasWritten last (after (word_at names (k + 2)))) (sym same) now within)
+
+-- ---- What a file has of rows
+
+if_known : (file : Option (List ℕ)) (bytes : List ℕ) (P : List ℕ → Type 0) → IfSome file (λ known. known ≡ bytes) →
+    P bytes → IfSome file P
+if_known None bytes P h p = tt
+if_known (Some known) bytes P h p = subst P (sym h) p
+
+has_rows : (program : Program) (batches : List Batch) (outputs output : ℕ) (broken : Bool) (rows : List Row)
+    (rest : Waiting) (written file : Option (List ℕ)) → AreRowsOfALog →
+    AreRows 0 output outputs program 0 batches rows → WroteBatches (waiting 0 rows) (Some []) rest written →
+    (broken ≡ false → rest.rows ≡ []) →
+    ((held : List ℕ) → written ≡ Some held → IfSome file (λ known. known ≡ held)) →
+    IfSome file (HasRows program batches outputs output broken)
+has_rows program batches outputs output broken rows rest None file law are wrote all held = absurd wrote.written
+has_rows program batches outputs output broken rows rest (Some bytes) file law are wrote all held =
+    if_known file bytes (HasRows program batches outputs output broken) (held bytes refl) (record {
+      rows = rows;
+      are_rows = λ name version. law 0 output outputs version name program batches rows are;
+      written = wrote.batches;
+      rest = rest;
+      are_written = wrote.are;
+      bytes_are = wrote.written;
+      all = all;
+    })
+
+-- the same of an output partition that was fresh
+from_fresh : (program : Program) (batches : List Batch) (outputs output : ℕ) (broken : Bool) (rows : List Row)
+    (rest : Waiting) (old new : Outflow) (file : Option (List ℕ)) → AreRowsOfALog → IsFresh old →
+    AreRows 0 output outputs program 0 batches rows →
+    WroteBatches (with_rows old.waits rows) old.written rest new.written → (broken ≡ false → rest.rows ≡ []) →
+    HasWritten new file → IfSome file (HasRows program batches outputs output broken)
+from_fresh program batches outputs output broken rows rest old new file law fresh are wrote all held =
+    has_rows program batches outputs output broken rows rest new.written file law are
+    (subst (λ (o : Outflow). WroteBatches (with_rows o.waits rows) o.written rest new.written) fresh wrote) all held
+
+finished_one : (program : Program) (batches : List Batch) (outputs output : ℕ) (broken : Bool) (old new : Outflow)
+    (file : Option (List ℕ)) → AreRowsOfALog → IsFresh old →
+    ((rows : List Row) × AreRows 0 output outputs program 0 batches rows × FillsAll rows old new) →
+    HasWritten new file → IfSome file (HasRows program batches outputs output broken)
+finished_one program batches outputs output broken old new file law fresh (rows, are, fills) held =
+    from_fresh program batches outputs output broken rows new.waits old new file law fresh are fills.0 (λ e. fills.1)
+    held
+
+filled_some : (program : Program) (batches : List Batch) (outputs output : ℕ) (old new : Outflow)
+    (file : Option (List ℕ)) → AreRowsOfALog → IsFresh old →
+    ((rows : List Row) × AreRows 0 output outputs program 0 batches rows × FillsSome rows old new) →
+    HasWritten new file → IfSome file (HasRows program batches outputs output true)
+filled_some program batches outputs output old new file law fresh (rows, are, fills) held =
+    from_fresh program batches outputs output true rows fills.0 old new file law fresh are fills.1 (λ e. absurd cc) held
+
+-- ---- All files
+
+-- the file of each output partition has what its writer had
+abbrev AllWritten : List Outflow → ℕ → (ℕ → Option (List ℕ)) → Type 0
+AllWritten outputs count files = (q : ℕ) → q < count → HasWritten (output_at outputs q) (files q)
+
+fresh_at : (fresh : List Outflow) (q : ℕ) → All IsFresh fresh → q < length fresh → IsFresh (output_at fresh q)
+fresh_at fresh q all lt = all q (outflow None (waiting 0 [])) lt
+
+all_finished : (program : Program) (batches : List Batch) (fresh now : List Outflow) (broken : Bool)
+    (files : ℕ → Option (List ℕ)) → AreRowsOfALog → All IsFresh fresh → Finished (flow 0 0 fresh) program batches now →
+    AllWritten now (length fresh) files → (q : ℕ) → q < length fresh →
+    IfSome (files q) (HasRows program batches (length fresh) q broken)
+all_finished program batches fresh now broken files law new finished held q lt =
+    finished_one program batches (length fresh) q broken (output_at fresh q) (output_at now q) (files q) law
+    (fresh_at fresh q new lt) (finished.each q lt) (held q lt)
+
+all_broken : (program : Program) (batches : List Batch) (fresh now : List Outflow) (output : ℕ) (why : OutletFault)
+    (files : ℕ → Option (List ℕ)) → AreRowsOfALog → All IsFresh fresh →
+    Broken (flow 0 0 fresh) program batches now output why →
+    ((rows : List Row) (old new : Outflow) → StopsFilling rows old why new → FillsSome rows old new) →
+    AllWritten now (length fresh) files → (q : ℕ) → q < length fresh →
+    IfSome (files q) (HasRows program batches (length fresh) q true)
+all_broken program batches fresh now output why files law new broken stops held q lt =
+    filled_some program batches (length fresh) q (output_at fresh q) (output_at now q) (files q) law
+    (fresh_at fresh q new lt) (⊎_elim here there (same_or_not q output)) (held q lt)
+  where
+    here : q ≡ output → (rows : List Row) × AreRows 0 q (length fresh) program 0 batches rows
+        × FillsSome rows (output_at fresh q) (output_at now q)
+    here is =
+        subst (λ (k : ℕ). (rows : List Row) × AreRows 0 k (length fresh) program 0 batches rows
+        × FillsSome rows (output_at fresh k) (output_at now k)) (sym is)
+        (broken.here.0, broken.here.1, stops broken.here.0 (output_at fresh output) (output_at now output) broken.here.2)
+
+    there : q ≢ output → (rows : List Row) × AreRows 0 q (length fresh) program 0 batches rows
+        × FillsSome rows (output_at fresh q) (output_at now q)
+    there not = broken.others q lt not
+
+    same_or_not : (a b : ℕ) → (a ≡ b) ⊎ (a ≢ b)
+    same_or_not a b =
+        ⊎_elim (λ less. inr (λ e. omega (arith, less, e)))
+        (λ le. ⊎_elim (λ more. inr (λ e. omega (arith, more, e))) (λ ge. inl (omega (arith, le, ge))) (cases_lt b a))
+        (cases_lt a b)
+
+streamed : (program : Program) (bytes : List ℕ) (fresh : List Outflow) (result : Result (Unit {0}) StreamFault)
+    (now : Flow) (files : ℕ → Option (List ℕ)) → AreRowsOfALog → All IsFresh fresh →
+    TransformsAll program (inlet (Open []) (Some bytes)) (flow 0 0 fresh) result now →
+    AllWritten now.outputs (length fresh) files → StreamsAs program bytes (length fresh) (status_of result) files
+streamed program bytes fresh (Ok done) now files law new (batches, rest, begins, ends) held =
+    let b = begins bytes refl in
+    inr (
+      Ok done,
+      refl,
+      record {
+        batches = batches;
+        rest = b.0;
+        begin = b.1;
+        ends = subst IsAtEnd b.2 ends.1;
+        each = all_finished program batches fresh now.outputs false files law new ends.0 held;
+      },
+    )
+streamed program bytes fresh (Err (fault.Read (read.Batch why))) now files law new (batches, rest, begins, ends) held =
+    let b = begins bytes refl in
+    inr (
+      Err (fault.Read (read.Batch why)),
+      refl,
+      record {
+        batches = batches;
+        rest = b.0;
+        begin = b.1;
+        ends = subst (λ (r : Option (List ℕ)). BeginsBadly r why) b.2 ends.1;
+        each = all_finished program batches fresh now.outputs false files law new ends.0 held;
+      },
+    )
+streamed program bytes fresh (Err (fault.Read read.Read)) now files law new ends held = inl refl
+streamed program bytes fresh (Err (fault.Read read.Memory)) now files law new ends held = inl refl
+streamed program bytes fresh (Err (fault.Transform stop.Full)) now files law new (batches, rest, begins, ends) held =
+    let b = begins bytes refl in
+    inr (
+      Err (fault.Transform stop.Full),
+      refl,
+      record {
+        batches = batches;
+        rest = b.0;
+        begin = b.1;
+        ends = tt;
+        each = all_finished program batches fresh now.outputs false files law new ends held;
+      },
+    )
+streamed program bytes fresh (Err (fault.Transform stop.Memory)) now files law new ends held = inl refl
+streamed program bytes fresh (Err (fault.Transform (stop.Output output outlet.Full))) now files law new
+    (batches, rest, begins, ends) held =
+    let b = begins bytes refl in
+    inr (
+      Err (fault.Transform (stop.Output output outlet.Full)),
+      refl,
+      record {
+        batches = batches;
+        rest = b.0;
+        begin = b.1;
+        ends = tt;
+        each = all_broken program batches fresh now.outputs output outlet.Full files law new ends
+            (λ rows old after stops. stops) held;
+      },
+    )
+streamed program bytes fresh (Err (fault.Transform (stop.Output output outlet.Memory))) now files law new ends held =
+    inl refl
+streamed program bytes fresh (Err (fault.Transform (stop.Output output outlet.Write))) now files law new ends held =
+    inl refl
+
+count_of : (program : Program) (bytes : List ℕ) (fresh : List Outflow) (result : Result (Unit {0}) StreamFault)
+    (now : Flow) → TransformsAll program (inlet (Open []) (Some bytes)) (flow 0 0 fresh) result now →
+    length now.outputs ≡ length fresh
+count_of program bytes fresh (Ok done) now (batches, rest, begins, ends) = ends.0.count
+count_of program bytes fresh (Err (fault.Read (read.Batch why))) now (batches, rest, begins, ends) = ends.0.count
+count_of program bytes fresh (Err (fault.Read read.Read)) now (batches, rest, begins, ends) = ends.0.count
+count_of program bytes fresh (Err (fault.Read read.Memory)) now (batches, rest, begins, ends) = ends.0.count
+count_of program bytes fresh (Err (fault.Transform stop.Full)) now (batches, rest, begins, ends) = ends.count
+count_of program bytes fresh (Err (fault.Transform stop.Memory)) now (batches, rest, begins, ends) = ends.count
+count_of program bytes fresh (Err (fault.Transform (stop.Output output why))) now (batches, rest, begins, ends) =
+    ends.count
+
+-- what is known of a stream of known bytes into fresh output partitions, whose files are the words from the third on
+pub record IsStream (program : Program) (bytes : List ℕ) (fresh : List Outflow) (reader : Inlet) (start : Flow) : Type 0
+  where
+    pub law : AreRowsOfALog
+    pub new : All IsFresh fresh
+    pub reader_is : reader ≡ inlet (Open []) (Some bytes)
+    pub start_is : start ≡ flow 0 0 fresh
+
+pub wrote_files : (program : Program) (bytes : List ℕ) (names : List (List ℕ)) (count : ℕ) (fresh outs : List Outflow)
+    (reader : Inlet) (start : Flow) (result : Result (Unit {0}) StreamFault) (now : Flow)
+    (files : List ℕ → Option (List ℕ)) → IsStream program bytes fresh reader start → length fresh ≡ count →
+    count + 2 ≡ length names → TransformsAll program reader start result now → outs ≡ now.outputs →
+    HaveWritten names outs files →
+    StreamsAs program bytes count (status_of result) (λ output. files (word_at names (output + 2)))
+wrote_files program bytes names count fresh outs reader start result now files is many of_names does same held =
+    let from : TransformsAll program reader (flow 0 0 fresh) result now =
+    subst (λ (f : Flow). TransformsAll program reader f result now) is.start_is does in
+    let known : TransformsAll program (inlet (Open []) (Some bytes)) (flow 0 0 fresh) result now =
+    subst (λ (r : Inlet). TransformsAll program r (flow 0 0 fresh) result now) is.reader_is from in
+    let long : length now.outputs ≡ length fresh = count_of program bytes fresh result now known in
+    let held_now : HaveWritten names now.outputs files =
+    subst (λ (os : List Outflow). HaveWritten names os files) same held in
+    subst (λ (n : ℕ). StreamsAs program bytes n (status_of result) (λ output. files (word_at names (output + 2)))) many
+    (streamed program bytes fresh result now (λ output. files (word_at names (output + 2))) is.law is.new known
+    (λ q lt. held_now q (omega (arith, lt, long)) (omega (arith, lt, many, of_names))))
+
+-- ---- The call
+
+pub many_names : {A : Type 0} (words : List (String A)) → length (names_of words) ≡ length words
+many_names words = length-map words string_bytes
+
+-- the image has a program, which is run on the bytes
+pub called : (table : Table) (names : List (List ℕ)) (stdin : Option (List ℕ))
+    (before mid after : List ℕ → Option (List ℕ)) (status : ℕ) (program : Program) (first : List ℕ) →
+    first ≡ word_at names 0 →
+    ((image : List ℕ) → before first ≡ Some image → program ≡ program_of (first_bytes image) table) →
+    ((other : List ℕ) → mid other ≡ before other) →
+    (AreDistinct names → (bytes : List ℕ) → source_of (word_at names 1) stdin (mid (word_at names 1)) ≡ Some bytes →
+    StreamsAs program bytes (length names - 2) status (λ output. after (word_at names (output + 2)))) →
+    CallTransforms table names stdin before after status
+called table names stdin before mid after status program first is loaded kept streams image bytes distinct known source =
+    let image_is : before first ≡ Some image =
+    subst (λ (n : List ℕ). before n ≡ Some image) (sym is) known in
+    let source_is : source_of (word_at names 1) stdin (mid (word_at names 1)) ≡ Some bytes =
+    subst (λ (f : Option (List ℕ)). source_of (word_at names 1) stdin f ≡ Some bytes) (sym (kept (word_at names 1)))
+    source in
+    inr (subst
+    (λ (p : Program). StreamsAs p bytes (length names - 2) status (λ output. after (word_at names (output + 2))))
+    (loaded image image_is) (streams distinct bytes source_is))
+
+-- the image has none
+unloaded_as : (program : Program) (bytes : List ℕ) (outputs : ℕ) (halted : Halt) (files : ℕ → Option (List ℕ)) →
+    IsUnloaded program halted → TransformsAs program bytes outputs (status_of_halt halted) files
+unloaded_as program bytes outputs (halt.Image fault) files is = inl (fault, is, refl)
+unloaded_as program bytes outputs (halt.File word) files is = inr (inl refl)
+unloaded_as program bytes outputs halt.Memory files is = inr (inl refl)
+unloaded_as program bytes outputs (halt.Batch position fault) files is = absurd is
+unloaded_as program bytes outputs halt.Full files is = absurd is
+
+pub uncalled : (table : Table) (names : List (List ℕ)) (stdin : Option (List ℕ))
+    (before after : List ℕ → Option (List ℕ)) (halted : Halt) (first : List ℕ) → first ≡ word_at names 0 →
+    ((image : List ℕ) → before first ≡ Some image → IsUnloaded (program_of (first_bytes image) table) halted) →
+    CallTransforms table names stdin before after (status_of_halt halted)
+uncalled table names stdin before after halted first is refused image bytes distinct known source =
+    unloaded_as (program_of (first_bytes image) table) bytes (length names - 2) halted
+    (λ output. after (word_at names (output + 2)))
+    (refused image (subst (λ (n : List ℕ). before n ≡ Some image) (sym is) known))
+
+-- the status that is answered may be that there was no memory to say why
+pub told_as : (table : Table) (names : List (List ℕ)) (stdin : Option (List ℕ))
+    (before after : List ℕ → Option (List ℕ)) (status told : ℕ) →
+    CallTransforms table names stdin before after status → (told ≡ status) ⊎ (told ≡ 3) →
+    CallTransforms table names stdin before after told
+told_as table names stdin before after status told does (inl same) =
+    subst (λ (s : ℕ). CallTransforms table names stdin before after s) (sym same) does
+told_as table names stdin before after status told does (inr three) =
+    λ image bytes distinct known source. inr (inl three)

@@ -1,0 +1,12 @@
+use Rattle.std.proofs.Common.{◌≡◌, ◌≤◌, ◌+◌, length}
+use Rattle.commands.specs.FileTransforms.{names_of, AreDistinct, HaveWritten}
+use Rattle.commands.proofs.transforming.close_all.Given as goal
+
+abbrev pub invariant-loop-outlet : goal.invariant-loop-outlet
+invariant-loop-outlet g l =
+    (goal.iterator-loop-outlet g).can_next l.outlet-iterator
+    × (goal.iterator-loop-outlet g).is_finite l.outlet-iterator
+    × (l.output ≡ length l.yielded)
+    × (l.output + (goal.iterator-loop-outlet g).remaining l.outlet-iterator
+    ≤ (goal.iterator-loop-outlet g).remaining l.initial.outlet-iterator)
+    × (AreDistinct (names_of l.words) → HaveWritten (names_of l.words) l.yielded (g.F.Files.bytes l.files))

@@ -1,0 +1,163 @@
+-- What `transform` writes to the files of output partitions.
+use Rattle.std.specs.Prelude.{◌≡◌, ◌≢◌, ◌⊎◌, ℕ, ◌+◌, ◌-◌, ◌<◌, Bool, false, List, [], length, map, Option, Some, Result}
+use Rattle.std.specs.Prelude.{Ok, Err, ⊤, IfSome, string_bytes}
+use Rattle.std.specs.List.{concat}
+use Rattle.std.specs.declared.string.String.{String}
+use Rattle.wire_spec.specs.declared.{record.Batch.Batch, fault.BatchFault.BatchFault}
+use Rattle.wire_spec.specs.declared.fault.BatchFault.TheVariants as batch
+use Rattle.machine_spec.specs.Image.{Program, program_of}
+use Rattle.machine_spec.specs.declared.helper.Table.{Table}
+use Rattle.verifier_spec.specs.Loading.{IsRefusedWith}
+use Rattle.verifier_spec.specs.declared.fault.LoadFault.{LoadFault}
+use Rattle.log_spec.specs.declared.row.Row.{Row}
+use Rattle.log_spec.specs.Logs.{IsRowsOf}
+use Rattle.batch.specs.Batches.{AreBatches}
+use Rattle.batch_reader.specs.declared.reader.ReadFault.TheVariants as read
+use Rattle.batch_reader.specs.Readings.{BeginsBadly}
+use Rattle.transform.specs.declared.stream.StreamFault.{StreamFault}
+use Rattle.transform.specs.declared.stream.StreamFault.TheVariants as fault
+use Rattle.transform.specs.declared.flow.TransformFault.TheVariants as stop
+use Rattle.transform.specs.declared.outlet.OutletFault.TheVariants as outlet
+use Rattle.transform.specs.Backlogs.{Waiting, waiting}
+use Rattle.transform.specs.Outlets as outlets
+use Rattle.transform.specs.Streams.{is_broken}
+use Rattle.transform.specs.Transforms.{log_of, output_at}
+use Rattle.script.specs.Words.{word_at}
+use Rattle.commands.specs.declared.transforming.Halt.{Halt}
+use Rattle.commands.specs.declared.transforming.Halt.TheVariants as halt
+use Rattle.commands.specs.Images.{first_bytes}
+use Rattle.commands.specs.Listings.{source_of}
+
+-- ---- the words
+
+-- the names that the words of a call are
+abbrev pub names_of : {A : Type 0} → List (String A) → List (List ℕ)
+names_of words = map string_bytes words
+
+-- no two names are the same
+abbrev pub AreDistinct : List (List ℕ) → Type 0
+AreDistinct names = (one other : ℕ) → one < other → other < length names → word_at names other ≢ word_at names one
+
+-- ---- what a file has
+
+-- A file has whole batches of the rows that a program gives to an output partition of batches, one after the other: these
+-- are the rows of the log of the program's mark and the batches. It has all of them, unless writing was broken off.
+pub record HasRows (program : Program) (batches : List Batch) (outputs output : ℕ) (broken : Bool) (bytes : List ℕ)
+    : Type 0 where
+  pub rows : List Row
+  pub are_rows : (name : List ℕ) (version : ℕ) →
+      IsRowsOf 0 output outputs (log_of name version program batches) (1 + length batches) rows
+  pub written : List (List ℕ)
+  pub rest : Waiting
+  pub are_written : outlets.AreBatches (waiting 0 rows) written rest
+  pub bytes_are : bytes ≡ concat written
+  pub all : broken ≡ false → rest.rows ≡ []
+
+-- how a transform ends at the bytes that are left: none are, or they begin with no batch, and why
+abbrev pub EndsAt : Result (Unit {0}) StreamFault → List ℕ → Type 0
+EndsAt (Ok done) rest = rest ≡ []
+EndsAt (Err (fault.Read (read.Batch why))) rest = BeginsBadly (Some rest) why
+EndsAt (Err (fault.Read read.Read)) rest = ⊤
+EndsAt (Err (fault.Read read.Memory)) rest = ⊤
+EndsAt (Err (fault.Transform why)) rest = ⊤
+
+-- A program was run on the batches that bytes begin with, up to their end or to a fault, and the files of the output
+-- partitions have their rows.
+pub record Transformed (program : Program) (bytes : List ℕ) (outputs : ℕ) (result : Result (Unit {0}) StreamFault)
+    (files : ℕ → Option (List ℕ)) : Type 0 where
+  pub batches : List Batch
+  pub rest : List ℕ
+  pub begin : AreBatches bytes batches rest
+  pub ends : EndsAt result rest
+  pub each : (output : ℕ) → output < outputs →
+      IfSome (files output) (HasRows program batches outputs output (is_broken result))
+
+-- ---- the status
+
+-- the status of bytes that begin with no batch
+abbrev pub status_of_batch : BatchFault → ℕ
+status_of_batch batch.Short = 1
+status_of_batch batch.Length = 1
+status_of_batch batch.TooLarge = 1
+status_of_batch batch.Magic = 1
+status_of_batch batch.Crc = 1
+status_of_batch batch.Attributes = 1
+status_of_batch batch.Count = 1
+status_of_batch (batch.Record place) = 1
+status_of_batch batch.Timestamp = 1
+status_of_batch batch.Memory = 3
+
+-- the status of a transform that ends so: 1 at bytes that begin with no batch, and where offsets are used up
+abbrev pub status_of : Result (Unit {0}) StreamFault → ℕ
+status_of (Ok done) = 0
+status_of (Err (fault.Read (read.Batch why))) = status_of_batch why
+status_of (Err (fault.Read read.Read)) = 3
+status_of (Err (fault.Read read.Memory)) = 3
+status_of (Err (fault.Transform stop.Full)) = 1
+status_of (Err (fault.Transform stop.Memory)) = 3
+status_of (Err (fault.Transform (stop.Output output outlet.Full))) = 1
+status_of (Err (fault.Transform (stop.Output output outlet.Memory))) = 3
+status_of (Err (fault.Transform (stop.Output output outlet.Write))) = 3
+
+-- the status by what is reported
+abbrev pub status_of_halt : Halt → ℕ
+status_of_halt (halt.Image _) = 1
+status_of_halt (halt.Batch _ _) = 1
+status_of_halt halt.Full = 1
+status_of_halt (halt.File _) = 3
+status_of_halt halt.Memory = 3
+
+-- the status of a call that ends so
+abbrev pub status_of_ended : Result (Unit {0}) Halt → ℕ
+status_of_ended (Ok done) = 0
+status_of_ended (Err halted) = status_of_halt halted
+
+-- A transform of known bytes ends with this status: 0 all was done, 1 the bytes before a fault were transformed; or it is
+-- 3, where a file or memory failed.
+abbrev pub StreamsAs : Program → List ℕ → ℕ → ℕ → (ℕ → Option (List ℕ)) → Type 0
+StreamsAs program bytes outputs status files = (status ≡ 3) ⊎ ((result : Result (Unit {0}) StreamFault)
+    × (status ≡ status_of result) × Transformed program bytes outputs result files)
+
+-- The same of a program that may be refused.
+abbrev pub TransformsAs : Program → List ℕ → ℕ → ℕ → (ℕ → Option (List ℕ)) → Type 0
+TransformsAs program bytes outputs status files = ((fault : LoadFault) × IsRefusedWith program fault × (status ≡ 1))
+    ⊎ StreamsAs program bytes outputs status files
+
+-- What a call does whose words name an image, a file of batches and a file for each output partition, no two of them the
+-- same: files had these bytes before and have those after, and standard input these.
+abbrev pub CallTransforms : Table → List (List ℕ) → Option (List ℕ) → (List ℕ → Option (List ℕ)) →
+    (List ℕ → Option (List ℕ)) → ℕ → Type 0
+CallTransforms table names stdin before after status = (image bytes : List ℕ) → AreDistinct names →
+    before (word_at names 0) ≡ Some image →
+    source_of (word_at names 1) stdin (before (word_at names 1)) ≡ Some bytes →
+    TransformsAs (program_of (first_bytes image) table) bytes (length names - 2) status
+    (λ output. after (word_at names (output + 2)))
+
+-- ---- on the way
+
+-- why an image has no program: it is refused, or it couldn't be read
+abbrev pub IsUnloaded : Program → Halt → Type 0
+IsUnloaded program (halt.Image fault) = IsRefusedWith program fault
+IsUnloaded program (halt.File word) = ⊤
+IsUnloaded program halt.Memory = ⊤
+IsUnloaded program (halt.Batch position fault) = ⊥
+IsUnloaded program halt.Full = ⊥
+
+-- the program that was asked for, or why there is none
+abbrev pub IsLoaded : Program → Result Program Halt → Type 0
+IsLoaded asked (Ok program) = program ≡ asked
+IsLoaded asked (Err halted) = IsUnloaded asked halted
+
+-- an output partition before its first row, whose writer tells that it has nothing
+abbrev pub IsFresh : outlets.Outflow → Type 0
+IsFresh o = o ≡ outlets.outflow (Some []) (waiting 0 [])
+
+-- a file has what an output partition's writer had, where both are known
+abbrev pub HasWritten : outlets.Outflow → Option (List ℕ) → Type 0
+HasWritten o file = (held : List ℕ) → o.written ≡ Some held → IfSome file (λ known. known ≡ held)
+
+-- the files of the first output partitions have what their writers had; the names of the files are the words from the
+-- third on
+abbrev pub HaveWritten : List (List ℕ) → List outlets.Outflow → (List ℕ → Option (List ℕ)) → Type 0
+HaveWritten names outputs files = (output : ℕ) → output < length outputs → output + 2 < length names →
+    HasWritten (output_at outputs output) (files (word_at names (output + 2)))
