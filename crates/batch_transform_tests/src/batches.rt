@@ -105,11 +105,11 @@ fn stops_at_the_first_fault(rt: HostRuntime) -> Result<(), Fail> {
     Ok(())
 }
 
-/// Of each output the number of rows and of bytes.
-fn sizes(alloc: Global, found: &Transformed) -> Result<Vec<(u64, usize)>, Fail> {
+/// Of each output the number of rows, of batches and of bytes.
+fn sizes(alloc: Global, found: &Transformed) -> Result<Vec<(u64, usize, usize)>, Fail> {
     let mut list = Vec::new(alloc);
     for output in &found.outputs {
-        list.push((output.rows, output.bytes.len()))?;
+        list.push((output.rows, output.batches, output.bytes.len()))?;
     }
     Ok(list)
 }
@@ -124,11 +124,31 @@ fn rows_of_two_batches_are_in_one(rt: HostRuntime) -> Result<(), Fail> {
     // A header and 5 records of 7 bytes.
     assert_eq!(rt;
         sizes(alloc, &found)?.as_slice(),
-        [(5, 96), (0, 0)].as_slice()
+        [(5, 1, 96), (0, 0, 0)].as_slice()
     );
     assert_eq!(rt; found.counts.records(), 5);
     assert_eq!(rt; found.counts.kept(), 5);
     assert!(rt; found.rejects.is_empty());
+    Ok(())
+}
+
+/// The sizes of the outputs of batches of 10,000 records and of one.
+fn sizes_of_many(alloc: Global) -> Result<Vec<(u64, usize, usize)>, Fail> {
+    let mut bytes = Vec::new(alloc);
+    put_batch(alloc, &mut bytes, batch_of(alloc, 10_000, 1000))?;
+    put_batch(alloc, &mut bytes, batch_of(alloc, 1, 1000))?;
+    let mut place = BatchPlace { batch: 0, byte: 0 };
+    let found = made(alloc, &FORWARD, 0, &bytes, &mut place)?;
+    sizes(alloc, &found.ok().ok_or("batches")?)
+}
+
+#[test]
+fn rows_past_a_batch_are_in_the_next(rt: HostRuntime) -> Result<(), Fail> {
+    // 64 records of 7 bytes, 8,128 of 8 and 1,808 of 9 after a header, and one of 7 after another.
+    assert_eq!(rt;
+        sizes_of_many(rt.alloc())?.as_slice(),
+        [(10_001, 2, 81_873), (0, 0, 0)].as_slice()
+    );
     Ok(())
 }
 
