@@ -16,8 +16,10 @@ struct asked {
 uint32_t klog_c_load(const uint8_t *image, size_t length, uint32_t table, klog_handle *program, size_t *place);
 uint32_t klog_c_fault_text(uint32_t fault, size_t place, uint8_t *buffer, size_t room, size_t *length);
 uint32_t klog_c_share(klog_handle *program, klog_handle *other);
+uint32_t klog_c_add_header(klog_handle *headers, const uint8_t *key, size_t key_length, const uint8_t *value,
+			   size_t value_length, bool is_value_null);
 uint32_t klog_c_run(klog_handle *program, const struct asked *asked, const uint8_t *key, size_t key_length,
-		    const uint8_t *value, size_t value_length, klog_handle *outcome);
+		    const uint8_t *value, size_t value_length, klog_handle *headers, klog_handle *outcome);
 uint32_t klog_c_transform(klog_handle *program, const klog_source *source, const uint8_t *bytes, size_t length,
 			  klog_handle *batches, klog_stop *stop);
 uint32_t klog_c_counts(klog_handle *batches, klog_counts *counts);
@@ -28,6 +30,9 @@ uint32_t klog_c_outcome(klog_handle *outcome, uint64_t *code, size_t *count);
 uint32_t klog_c_emission(klog_handle *outcome, size_t number, klog_emission *emission);
 uint32_t klog_c_emission_key(klog_handle *outcome, size_t number, uint8_t *buffer, size_t room);
 uint32_t klog_c_emission_value(klog_handle *outcome, size_t number, uint8_t *buffer, size_t room);
+uint32_t klog_c_emission_header(klog_handle *outcome, size_t number, size_t at, klog_header *header);
+uint32_t klog_c_emission_header_key(klog_handle *outcome, size_t number, size_t at, uint8_t *buffer, size_t room);
+uint32_t klog_c_emission_header_value(klog_handle *outcome, size_t number, size_t at, uint8_t *buffer, size_t room);
 uint32_t klog_c_explain(const uint8_t *image, size_t length, uint32_t table, bool is_refused_alone,
 			klog_handle *text);
 uint32_t klog_c_text(klog_handle *text, uint8_t *buffer, size_t room, size_t *length);
@@ -137,13 +142,29 @@ uint32_t klog_output_at(klog_handle *batches, size_t number, klog_output *output
 	return is_foreign(batches) ? KLOG_KIND : klog_c_output(batches, number, output);
 }
 
+uint32_t klog_add_header(klog_handle *headers, const uint8_t *key, size_t key_length, const uint8_t *value,
+			 size_t value_length)
+{
+	if (!headers || is_no_buffer(key, key_length) || is_no_buffer(value, value_length))
+		return KLOG_NULL;
+	if (is_foreign(headers))
+		return KLOG_KIND;
+	if (key_length > longest_buffer || value_length > longest_buffer)
+		return KLOG_LENGTH;
+	return klog_c_add_header(headers, key ? key : no_bytes, key_length, value ? value : no_bytes, value_length, !value);
+}
+
 uint32_t klog_run(klog_handle *program, const klog_record *record, klog_handle *outcome)
 {
+	klog_handle none = KLOG_NOTHING;
 	if (!program || !record || !outcome || program == outcome)
 		return KLOG_NULL;
 	if (is_no_buffer(record->key, record->key_length) || is_no_buffer(record->value, record->value_length))
 		return KLOG_NULL;
-	if (is_foreign(program) || is_foreign(outcome))
+	klog_handle *headers = record->headers ? record->headers : &none;
+	if (headers == program || headers == outcome)
+		return KLOG_NULL;
+	if (is_foreign(program) || is_foreign(outcome) || is_foreign(headers))
 		return KLOG_KIND;
 	if (record->key_length > longest_buffer || record->value_length > longest_buffer)
 		return KLOG_LENGTH;
@@ -155,7 +176,7 @@ uint32_t klog_run(klog_handle *program, const klog_record *record, klog_handle *
 		.nulls = (record->key ? 0u : KLOG_NULL_KEY) + (record->value ? 0u : KLOG_NULL_VALUE),
 	};
 	return klog_c_run(program, &asked, record->key ? record->key : no_bytes, record->key_length,
-			  record->value ? record->value : no_bytes, record->value_length, outcome);
+			  record->value ? record->value : no_bytes, record->value_length, headers, outcome);
 }
 
 uint32_t klog_outcome(klog_handle *outcome, uint64_t *code, size_t *count)
@@ -197,6 +218,25 @@ uint32_t klog_emission_value(klog_handle *outcome, size_t number, uint8_t *buffe
 {
 	uint32_t fault = copy_fault(outcome, buffer, room);
 	return fault ? fault : klog_c_emission_value(outcome, number, buffer ? buffer : no_bytes, room);
+}
+
+uint32_t klog_emission_header(klog_handle *outcome, size_t number, size_t at, klog_header *header)
+{
+	if (!outcome || !header)
+		return KLOG_NULL;
+	return is_foreign(outcome) ? KLOG_KIND : klog_c_emission_header(outcome, number, at, header);
+}
+
+uint32_t klog_emission_header_key(klog_handle *outcome, size_t number, size_t at, uint8_t *buffer, size_t room)
+{
+	uint32_t fault = copy_fault(outcome, buffer, room);
+	return fault ? fault : klog_c_emission_header_key(outcome, number, at, buffer ? buffer : no_bytes, room);
+}
+
+uint32_t klog_emission_header_value(klog_handle *outcome, size_t number, size_t at, uint8_t *buffer, size_t room)
+{
+	uint32_t fault = copy_fault(outcome, buffer, room);
+	return fault ? fault : klog_c_emission_header_value(outcome, number, at, buffer ? buffer : no_bytes, room);
 }
 
 uint32_t klog_output_batches(klog_handle *batches, size_t number, uint8_t *buffer, size_t room)

@@ -8,16 +8,16 @@
  * Every function but klog_free returns a number: KLOG_OK, or why it did nothing. After another number than
  * KLOG_OK each handle and each buffer is as it was.
  *
- * Handles. A `klog_handle` holds a program, batches, an outcome, a text or nothing; one of zero bytes (KLOG_NOTHING)
- * holds nothing. Only the library reads or writes its fields, and no handle is copied: klog_share makes another
- * handle of one program. klog_free ends what a handle holds; each handle that holds something is freed once.
+ * Handles. A `klog_handle` holds a program, batches, headers, an outcome, a text or nothing; one of zero bytes
+ * (KLOG_NOTHING) holds nothing. Only the library reads or writes its fields, and no handle is copied: klog_share makes
+ * another handle of one program. klog_free ends what a handle holds; each handle that holds something is freed once.
  *
  * Threads. The library starts none, has no lock and no global state. A handle is given to one call at a time.
  * It may go to another thread, where the threads order that (a thread's start or its join, a mutex). Handles of
  * one program, made by klog_share, serve as many threads at the same time.
  *
  * Memory. Handles and buffers of one call do not overlap. The memory of what a handle holds comes from malloc,
- * realloc and free. */
+ * realloc and free. A length that no memory has (above PTRDIFF_MAX) is KLOG_LENGTH or KLOG_RANGE before other faults. */
 #ifndef KLOG_ENGINE_H
 #define KLOG_ENGINE_H
 
@@ -40,22 +40,23 @@ enum {
 	KLOG_ROOM = 5,   /* a buffer is too short */
 	KLOG_NULL = 6,   /* a null pointer, or one handle given twice */
 	KLOG_FULL = 7,   /* the offsets of records are used up */
+	KLOG_TEXT = 8,   /* a header's key is not UTF-8 */
 	KLOG_IMAGE = 100,
 	KLOG_VERIFIER = 200,
 	KLOG_BATCH = 300
 };
 
-/* Bits of klog_emission.nulls. */
+/* Bits of klog_emission.nulls and of klog_header.nulls. */
 enum { KLOG_NULL_KEY = 1, KLOG_NULL_VALUE = 2 };
 
 /* The helper tables of programs: what a program calls by number is a helper of its table. Table 1 has the helpers 1
  * to 9, table 2 those and 10 to 12, which read headers. */
 enum { KLOG_TABLE_ONE = 1, KLOG_TABLE_TWO = 2 };
 
-/* The most emissions of one record. */
-enum { KLOG_EMISSIONS = 16 };
+/* The most emissions of one record, and the most headers. */
+enum { KLOG_EMISSIONS = 16, KLOG_HEADERS = 16 };
 
-/* A program, batches, an outcome, a text, or nothing. */
+/* A program, batches, headers, an outcome, a text, or nothing. */
 typedef struct klog_handle {
 	unsigned char *at;
 	unsigned char full;
@@ -94,11 +95,12 @@ typedef struct klog_reject {
 
 /* What a transform gives to an output partition. */
 typedef struct klog_output {
-	uint64_t rows; /* how many rows: records in its batches */
-	size_t length; /* how many bytes its batches have, 0 without rows */
+	uint64_t rows;  /* how many rows: records in its batches */
+	size_t length;  /* how many bytes its batches have, 0 without rows */
+	size_t batches; /* how many batches they are */
 } klog_output;
 
-/* A record, and where it is. */
+/* A record, and where it is. Begin with zeros ({0}): a field that is left out is then null or 0. */
 typedef struct klog_record {
 	const uint8_t *key; /* NULL for a null key, with the length 0 */
 	size_t key_length;  /* 0 to 4,096 bytes */
@@ -108,6 +110,7 @@ typedef struct klog_record {
 	uint64_t timestamp;   /* in milliseconds, below 2^62 */
 	size_t partition;     /* the input partition, below 64 */
 	size_t outputs;       /* how many output partitions there are, 1 to 64 */
+	klog_handle *headers; /* its headers, by klog_add_header; NULL or a handle of nothing: none */
 } klog_record;
 
 /* What is emitted to an output partition. */
@@ -116,7 +119,15 @@ typedef struct klog_emission {
 	size_t key_length;   /* in bytes, 0 for a null key */
 	size_t value_length; /* in bytes, 0 for a null value */
 	uint32_t nulls;      /* KLOG_NULL_KEY, KLOG_NULL_VALUE */
+	size_t header_count; /* how many headers, 0 to KLOG_HEADERS */
 } klog_emission;
+
+/* A header of what is emitted. */
+typedef struct klog_header {
+	size_t key_length;   /* in bytes */
+	size_t value_length; /* in bytes, 0 for a null value */
+	uint32_t nulls;      /* KLOG_NULL_VALUE, or 0 */
+} klog_header;
 
 /* Loads the image of `length` bytes, by a helper table, into `program`, which holds nothing or a program; that one
  * is freed. A refused image is 101 to 106 or 201 to 213, and `*place` is then its slot or its instruction; else
@@ -167,10 +178,18 @@ uint32_t klog_output_at(klog_handle *batches, size_t number, klog_output *output
  * null and `room` is not 0. */
 uint32_t klog_output_batches(klog_handle *batches, size_t number, uint8_t *buffer, size_t room);
 
-/* Runs a program on one record with no headers (header_count answers 0 there), into `outcome`, which holds nothing or
- * an outcome; that one is freed. KLOG_KIND: `program` holds no program, or `outcome` something else. KLOG_RANGE: a number of the record
- * is out of its range. KLOG_LENGTH: the key or the value is too long. KLOG_NULL: a pointer is null, one handle is
- * given twice, or a null key or value has a length. KLOG_MEMORY. */
+/* Adds a header at the end of `headers`, which holds nothing or headers. Its key is UTF-8 of 0 to 255 bytes, its value
+ * 0 to 4,096 bytes, or null with the length 0; both are copied. What `headers` holds serves any number of runs, which
+ * leave it as it was; klog_free begins anew. The first fault is returned: KLOG_NULL, `headers` is null, or `key` or
+ * `value` is null and its length is not 0; KLOG_KIND, `headers` holds something else; KLOG_LENGTH, the key or the value
+ * is too long; KLOG_TEXT, the key is not UTF-8; KLOG_RANGE, there are KLOG_HEADERS headers. KLOG_MEMORY. */
+uint32_t klog_add_header(klog_handle *headers, const uint8_t *key, size_t key_length, const uint8_t *value,
+			 size_t value_length);
+
+/* Runs a program on one record, into `outcome`, which holds nothing or an outcome; that one is freed. The first fault is
+ * returned: KLOG_NULL, a pointer is null, one handle is given twice, or a null key or value has a length; KLOG_KIND,
+ * `program` holds no program, or the record's `headers` hold something else; KLOG_RANGE, a number of the record is out
+ * of its range; KLOG_LENGTH, the key or the value is too long; KLOG_KIND, `outcome` holds something else. KLOG_MEMORY. */
 uint32_t klog_run(klog_handle *program, const klog_record *record, klog_handle *outcome);
 
 /* Tells the reject code, 0 where the record is kept, and how many emissions there are, 0 to KLOG_EMISSIONS; a
@@ -186,6 +205,16 @@ uint32_t klog_emission_at(klog_handle *outcome, size_t number, klog_emission *em
  * KLOG_NULL: `outcome` is null, or `buffer` is null and `room` is not 0. */
 uint32_t klog_emission_key(klog_handle *outcome, size_t number, uint8_t *buffer, size_t room);
 uint32_t klog_emission_value(klog_handle *outcome, size_t number, uint8_t *buffer, size_t room);
+
+/* Tells of a header of an emission, by both numbers from 0, the header's below `header_count`. KLOG_KIND: `outcome` holds
+ * no outcome. KLOG_RANGE: it has no such emission, or that one no such header. KLOG_NULL: a pointer is null. */
+uint32_t klog_emission_header(klog_handle *outcome, size_t number, size_t at, klog_header *header);
+
+/* Copies the key, or the value, of a header of an emission to the front of a buffer of `room` bytes, of which the rest is
+ * as it was. Of null there are no bytes. KLOG_KIND, KLOG_RANGE: as above. KLOG_ROOM: the buffer is too short.
+ * KLOG_NULL: `outcome` is null, or `buffer` is null and `room` is not 0. */
+uint32_t klog_emission_header_key(klog_handle *outcome, size_t number, size_t at, uint8_t *buffer, size_t room);
+uint32_t klog_emission_header_value(klog_handle *outcome, size_t number, size_t at, uint8_t *buffer, size_t room);
 
 /* Explains why the verifier accepts or refuses an image by a helper table, as `klog explain` prints it, into `text`,
  * which holds nothing or a text; that one is freed. Where `is_refused_alone` is not 0, only the instructions that

@@ -31,9 +31,10 @@ ar x "$kit/c/liblibc_c.a"
 
 rm -f "$folder/libklog.a"
 ar rcs "$folder/libklog.a" ./*.o
-echo '{ global: klog_load; klog_fault_text; klog_share; klog_run; klog_outcome; klog_emission_at; klog_emission_key;
-  klog_emission_value; klog_transform; klog_counts_of; klog_reject_at; klog_output_at;
-  klog_output_batches; klog_explain; klog_text; klog_free; local: *; };' >exported
+echo '{ global: klog_load; klog_fault_text; klog_share; klog_add_header; klog_run; klog_outcome; klog_emission_at;
+  klog_emission_key; klog_emission_value; klog_emission_header; klog_emission_header_key; klog_emission_header_value;
+  klog_transform; klog_counts_of; klog_reject_at; klog_output_at; klog_output_batches; klog_explain; klog_text; klog_free;
+  local: *; };' >exported
 "$cc" -shared -Wl,-soname,libklog.so -Wl,--version-script=exported -Wl,-z,defs -o "$folder/libklog.so" ./*.o
 cp "$top/include/klog_engine.h" "$folder/"
 cat >"$folder/klog.pc" <<END

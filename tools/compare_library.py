@@ -1,23 +1,27 @@
 #!/usr/bin/env python3
-"""Compares the C library with the second implementation (second_machine.py) on random programs and records.
+"""Compares the C library with the second implementation (second_machine.py), or with `klog run`, on random programs.
 
 Not part of the build. With a folder that tools/build_library.sh made:
 
-    tools/compare_library.py FOLDER/libklog.so [COUNT [SEED]]
+    tools/compare_library.py FOLDER/libklog.so [COUNT [SEED [KLOG]]]
 
-Each program is loaded, and run on ten records and on some record batches, some of them damaged. It prints the first
-image on which the fault's text, an outcome, an output's batches or the counts differ, and ends with status 1; else how
-many were compared.
+Each program is loaded, and run on ten records with headers and on some record batches, some of them damaged. It prints
+the first image on which the fault's text, an outcome, an output's batches or the counts differ, and ends with status 1;
+else how many were compared. With KLOG, the program `klog`, each program is that of a script that appends some batches
+to one input: klog_run's outcomes on their records are compared with the rows and the counts of `klog run`.
 """
+import collections
 import os
 import random
+import struct
+import subprocess
 import sys
 
 sys.path.insert(0, os.path.join(os.path.dirname(os.path.abspath(__file__)), "..", "examples", "library"))
 
-from compare import accepted_image, some_batch, some_bytes, some_image
+from compare import accepted_image, some_batch, some_bytes, some_header, some_image
 from klog_engine import Engine, Fault, Program, Transformed
-from second_broker import Record, fetched, read_batch
+from second_broker import Record, fetched, read_batch, spell
 from second_machine import Refused, decode, run, verify
 
 
@@ -30,27 +34,46 @@ def verdict(image, table):
     return code, verify(code, table)
 
 
+def header_image(rng):
+    """An image that copies from headers, emits the record or not, and ends with what the last call answered."""
+    slot = lambda opcode, imm: struct.pack("<BBhi", opcode, 1 if opcode == 0xB7 else 0, 0, imm)
+    code = b"".join(some_header(rng) for _ in range(rng.choice([1, 1, 2])))
+    if rng.random() < 0.7:
+        code += slot(0xB7, rng.choice([0, 0, 1])) + slot(0x85, 3)
+    return code + slot(0x95, 0)
+
+
+def some_program(rng, table):
+    if table == 2 and rng.random() < 0.5:
+        return header_image(rng)
+    return accepted_image(rng, table) if rng.random() < 0.5 else some_image(rng)
+
+
+def some_headers(rng):
+    count = rng.choice([0, 0, 0, 1, 1, 2, 3, 16])
+    return [(rng.choice([b"", b"h", "ä".encode(), b"name", b"n" * 255]), some_bytes(rng)) for _ in range(count)]
+
+
 def some_place(rng):
     offset, timestamp = (rng.choice([0, 1, 999, (1 << 62) - 1, rng.randrange(1 << 62)]) for _ in range(2))
     return offset, timestamp, rng.choice([0, 1, 63])
 
 
-def expected(code, key, value, place, outputs):
-    end = run(code, Record(0, key, value, []), outputs, place)
-    if isinstance(end, int):
-        return end, []
-    return 0, [(output, key, value) for output, key, value, _ in end]
+def expected(code, record, place, outputs):
+    end = run(code, record, outputs, place)
+    return (end, []) if isinstance(end, int) else (0, [tuple(emitted) for emitted in end])
 
 
 def compare_runs(rng, program, code):
     """How many records were kept, of ten; None where an outcome differs."""
     kept = 0
     for _ in range(10):
-        key, value, place, outputs = some_bytes(rng), some_bytes(rng), some_place(rng), rng.choice([1, 2, 64])
-        found = program.run(key, value, *place, outputs)
-        wanted = expected(code, key, value, place, outputs)
+        record = Record(0, some_bytes(rng), some_bytes(rng), some_headers(rng))
+        place, outputs = some_place(rng), rng.choice([1, 2, 64])
+        found = program.run(record.key, record.value, *place, outputs, record.headers)
+        wanted = expected(code, record, place, outputs)
         if found != wanted:
-            print("key %r value %r place %r outputs %d: %r, not %r" % (key, value, place, outputs, found, wanted))
+            print("%r place %r outputs %d: %r, not %r" % (record, place, outputs, found, wanted))
             return None
         kept += found[0] == 0
     return kept
@@ -58,11 +81,11 @@ def compare_runs(rng, program, code):
 
 def row_batches(rows):
     """The rows of an output as record batches, each with as many as it takes."""
-    written, place = b"", 0
+    written, place = [], 0
     while place < len(rows):
-        batch = fetched(rows, place, 10000)
-        written, place = written + batch, place + int.from_bytes(batch[57:61], "big")
-    return written
+        written.append(fetched(rows, place, 10000))
+        place += int.from_bytes(written[-1][57:61], "big")
+    return len(rows), len(written), b"".join(written)
 
 
 def expected_batches(code, data, offset, partition, outputs):
@@ -84,7 +107,7 @@ def expected_batches(code, data, offset, partition, outputs):
                     rows[output].append((time, key, value, headers))
         batches, at = batches + 1, at + used
     return Transformed(batches, records, records - sum(rejects.values()), sorted(rejects.items()),
-                       [(len(some), row_batches(some)) for some in rows])
+                       [row_batches(some) for some in rows])
 
 
 def compare_batches(rng, program, code):
@@ -120,21 +143,77 @@ def compare(rng, engine, image, table):
         return 0, 0, 0
 
 
+# ---- beside `klog run`
+
+def broker(klog, image, table, batches, outputs):
+    """The rows of each output and the counts of reject codes, by a script; or the fault of the image."""
+    lines = ["partitions 1 %d 64" % outputs, "load a hex:%s%s" % (image.hex(), " 2" if table == 2 else ""), "deploy 0 a"]
+    lines += ["append 0 hex:" + batch.hex() for batch in batches] + ["go"]
+    lines += ["fetch %d 0 10000" % output for output in range(outputs)]
+    ran = subprocess.run([klog, "run", "stdin"], input="\n".join(lines).encode(), capture_output=True, text=False)
+    if ran.returncode:
+        return ran.stderr.decode().rstrip("\n").removeprefix("line 2: ")
+    printed = ran.stdout.decode().splitlines()
+    rejects = {int(words[3]): int(words[5]) for words in map(str.split, printed) if words[2:3] == ["reject"]}
+    rows = []
+    for line in printed[len(printed) - outputs:]:
+        base, records, _ = (0, [], 0) if line == "none" else read_batch(bytes.fromhex(line))
+        rows.append([(base + record.delta, record.key, record.value, record.headers) for record in records])
+    return rows, rejects
+
+
+def library(engine, image, table, batches, outputs):
+    """The same by klog_run on each record."""
+    rows, rejects, offset = [[] for _ in range(outputs)], collections.Counter(), 0
+    try:
+        with Program(engine, image, table) as program:
+            for base, records, _ in map(read_batch, batches):
+                for record in records:
+                    time = base + record.delta
+                    code, emissions = program.run(record.key, record.value, offset, time, 0, outputs, record.headers)
+                    offset += 1
+                    if code:
+                        rejects[code] += 1
+                    for output, key, value, headers in emissions:
+                        rows[output].append((time, key, value, headers))
+    except Fault as fault:
+        return str(fault)
+    return rows, dict(rejects)
+
+
+def compare_script(rng, engine, klog, image, table):
+    """Whether an image was accepted, and its records and rows by one script; None where something differs."""
+    outputs = rng.choice([1, 2, 5])
+    batches = []
+    for _ in range(rng.choice([1, 2, 3])):
+        count = rng.choice([1, 2, 5, 10])
+        records = [Record(rng.choice([0, 7]), some_bytes(rng), some_bytes(rng), some_headers(rng)) for _ in range(count)]
+        batches.append(spell(records, rng.choice([0, 1000, (1 << 62) - 8]), -1, 0))
+    wanted, found = broker(klog, image, table, batches, outputs), library(engine, image, table, batches, outputs)
+    if found != wanted:
+        print("batches %r outputs %d: %r, not %r" % ([batch.hex() for batch in batches], outputs, found, wanted))
+        return None
+    if isinstance(found, str):
+        return 0, 0, 0
+    return 1, sum(int.from_bytes(batch[57:61], "big") for batch in batches), sum(map(len, found[0]))
+
+
 def main():
-    if not 2 <= len(sys.argv) <= 4:
-        sys.exit("usage: tools/compare_library.py LIBRARY [COUNT [SEED]]")
+    if not 2 <= len(sys.argv) <= 5:
+        sys.exit("usage: tools/compare_library.py LIBRARY [COUNT [SEED [KLOG]]]")
     count = int(sys.argv[2]) if len(sys.argv) > 2 else 1000
     rng, engine = random.Random(int(sys.argv[3]) if len(sys.argv) > 3 else 1), Engine(sys.argv[1])
-    accepted = kept = records = 0
+    klog = sys.argv[4] if len(sys.argv) > 4 else None
+    accepted = first = second = 0
     for _ in range(count):
         table = rng.choice([1, 2])
-        image = accepted_image(rng, table) if rng.random() < 0.5 else some_image(rng)
-        answer = compare(rng, engine, image, table)
+        image = some_program(rng, table)
+        answer = compare_script(rng, engine, klog, image, table) if klog else compare(rng, engine, image, table)
         if answer is None:
             sys.exit("table %d image %s" % (table, image.hex()))
-        accepted, kept, records = accepted + answer[0], kept + answer[1], records + answer[2]
-    print("%d programs, %d of them accepted, %d of their records kept, %d records in batches"
-          % (count, accepted, kept, records))
+        accepted, first, second = accepted + answer[0], first + answer[1], second + answer[2]
+    what = "%d records and %d rows as `klog run` has them" if klog else "%d of their records kept, %d records in batches"
+    print("%d programs, %d of them accepted, %s" % (count, accepted, what % (first, second)))
 
 
 if __name__ == "__main__":

@@ -11,9 +11,10 @@ topic of four partitions. One is killed (SIGKILL) and started again at each of f
 records are written; its offsets are sent; its commit is asked and not done; its commit is done and not answered. The
 other is stopped (SIGSTOP) for longer than the group waits, so that its partitions are given away meanwhile, before and
 after it sent its offsets; and once its offsets are refused with nothing else changed. On the way the program's file is
-replaced by one that is refused, and then by another program. The outputs are read by a consumer of committed records,
-and compared, partition by partition, with what plain Python makes of the records, by the programs that the members said
-and the offsets from which on. A run takes some two minutes, most of them waiting.
+replaced by one that is refused, and then by another program. Each record has a header, which its outputs have too. The
+outputs are read by a consumer of committed records, and compared, partition by partition, with what plain Python makes
+of the records, by the programs that the members said and the offsets from which on. A run takes some two minutes, most
+of them waiting.
 """
 import os
 import random
@@ -119,7 +120,7 @@ class Run:
         for start in range(first, last, 250):
             for partition, records in enumerate(self.records):
                 for key, value in records[start:min(start + 250, last)]:
-                    producer.produce("in", value, key, partition, timestamp=1700000000000)
+                    producer.produce("in", value, key, partition, timestamp=1700000000000, headers=[("of", value)])
             producer.flush()
             if not self.is_over.is_set():
                 time.sleep(0.1)
@@ -188,7 +189,7 @@ class Run:
         for p, records in enumerate(self.records):
             for (key, value), digest in zip(records, programs[p]):
                 for output, *row in forms[digest](key, value):
-                    wanted[OUTPUTS[output], p].append(tuple(row))
+                    wanted[OUTPUTS[output], p].append((*row, [("of", value)]))
         self.switches = [programs[p].index(names[1]) for p in range(PARTITIONS)]
         return wanted
 
@@ -206,7 +207,7 @@ class Run:
                 elif message.error():
                     self.fail(message.error())
                 else:
-                    found[place].append((message.key(), message.value()))
+                    found[place].append((message.key(), message.value(), message.headers()))
         consumer.close()
         return found
 

@@ -1,5 +1,5 @@
 /* Calls each function of the C library in random order, from several threads that share one program, with random,
- * damaged and huge images, records and record batches, short buffers, null pointers and handles of every kind.
+ * damaged and huge images, records, headers and record batches, short buffers, null pointers and handles of every kind.
  *	library_driver SECONDS THREADS SEED IMAGE ..
  * It fails where a fault is none of the function's, where a fault changes a handle or a buffer, or where the first
  * image, which forwards each record to output 0, gives another record or batch than it was given. A sanitizer finds the rest:
@@ -14,20 +14,28 @@
 #include <string.h>
 #include <time.h>
 
-enum { HANDLES = 8, IMAGES = 64, LONGEST = 200000, MOST_THREADS = 16 };
+enum { HANDLES = 10, IMAGES = 64, LONGEST = 200000, MOST_THREADS = 16 };
 
 struct image {
 	uint8_t *bytes;
 	size_t length;
 };
 
+/* A header as it was given; `value` is null for a null value. */
+struct header {
+	uint8_t *key, *value;
+	size_t key_length, value_length;
+};
+
 struct worker {
 	pthread_t thread;
 	uint64_t state;
-	unsigned long calls, runs;
+	unsigned long calls, runs, transforms, headers;
 	klog_handle handles[HANDLES];
-	klog_handle forward, outcome, batches;
-	unsigned long transforms;
+	klog_handle forward, given, outcome, batches;
+	/* What `given` holds. */
+	struct header kept[KLOG_HEADERS];
+	size_t kept_count;
 };
 
 static struct image images[IMAGES];
@@ -82,7 +90,7 @@ static size_t length_below(struct worker *w, size_t limit)
 }
 
 /* What a handle mostly holds, by its number. */
-enum { PROGRAMS = 0, OUTCOMES = 2, TEXTS = 4, BATCHES = 6 };
+enum { PROGRAMS = 0, OUTCOMES = 2, TEXTS = 4, BATCHES = 6, HEADERS = 8 };
 
 /* A handle that mostly holds what is asked for, any other, or none. */
 static klog_handle *handle(struct worker *w, size_t first)
@@ -137,7 +145,7 @@ static void load(struct worker *w)
 
 static void fault_text(struct worker *w)
 {
-	static const uint32_t faults[] = {0, 1, 2, 3, 4, 5, 6, 7, 101, 102, 106, 107, 201, 213, 214, 301, 308, 309, 310};
+	static const uint32_t faults[] = {0, 1, 2, 3, 4, 5, 6, 7, 8, 9, 101, 102, 106, 107, 201, 213, 214, 301, 308, 309, 310};
 	size_t room = below(w, 80), length = 0;
 	char *text = (char *)block(w, room);
 	uint32_t of = one_in(w, 3) ? (uint32_t)number(w) : faults[below(w, sizeof faults / sizeof faults[0])];
@@ -165,6 +173,70 @@ static void share(struct worker *w)
 	look("share", fault, &before, to);
 	if (fault > KLOG_KIND && fault != KLOG_NULL)
 		fail("share", fault);
+}
+
+/* Some bytes of text in a block of their length. */
+static uint8_t *some_text(struct worker *w, size_t length)
+{
+	uint8_t *bytes = block(w, length);
+	for (size_t k = 0; k < length; k++)
+		bytes[k] &= 127;
+	if (length > 1 && one_in(w, 4))
+		memcpy(bytes + below(w, length - 1), "\xc3\xa4", 2);
+	return bytes;
+}
+
+/* The first fault of a header that is one of the first 16 of its handle. */
+static uint32_t header_fault(const struct header *h, bool is_text)
+{
+	if (h->key_length > 255 || h->value_length > 4096)
+		return KLOG_LENGTH;
+	return is_text ? KLOG_OK : KLOG_TEXT;
+}
+
+static struct header some_header(struct worker *w, bool is_fine)
+{
+	struct header h = {NULL, NULL, 0, 0};
+	h.key_length = length_below(w, is_fine ? 256 : 300);
+	h.value_length = one_in(w, 4) ? 0 : length_below(w, is_fine ? 4097 : 5000);
+	h.key = some_text(w, h.key_length);
+	h.value = one_in(w, 4) ? NULL : block(w, h.value_length);
+	if (!h.value)
+		h.value_length = 0;
+	return h;
+}
+
+static void free_header(struct header *h)
+{
+	free(h->key);
+	free(h->value);
+}
+
+static void add_header(struct worker *w)
+{
+	struct header h = some_header(w, !one_in(w, 4));
+	bool is_text = true;
+	if (h.key_length && one_in(w, 8)) {
+		h.key[below(w, h.key_length)] = 255;
+		is_text = false;
+	}
+	klog_handle *to = handle(w, HEADERS), before = to ? *to : (klog_handle)KLOG_NOTHING;
+	bool is_null = one_in(w, 40), is_long = one_in(w, 60);
+	uint32_t fault = klog_add_header(to, is_null ? NULL : h.key, h.key_length, h.value,
+					 is_long ? ~(size_t)0 : h.value_length);
+	look("add_header", fault, &before, to);
+	if (!to || (is_null && h.key_length) || (is_long && !h.value)) {
+		if (fault != KLOG_NULL)
+			fail("add_header's null", fault);
+	} else if (fault == KLOG_KIND ? !before.full : is_long ? fault != KLOG_LENGTH : false) {
+		fail("add_header", fault);
+	} else if (fault != KLOG_KIND && !is_long) {
+		uint32_t first = header_fault(&h, is_text);
+		if (first ? fault != first : fault != KLOG_OK && fault != KLOG_RANGE)
+			fail("add_header's fault", fault);
+		w->headers += fault == KLOG_OK;
+	}
+	free_header(&h);
 }
 
 /* A record whose parts are blocks of their own. */
@@ -197,8 +269,12 @@ static void run(struct worker *w)
 		given.value_length = given.value ? (size_t)-1 : given.value_length;
 	klog_handle *program = handle(w, PROGRAMS), *outcome = handle(w, OUTCOMES);
 	klog_handle before = outcome ? *outcome : (klog_handle)KLOG_NOTHING;
+	given.headers = one_in(w, 3) ? NULL : handle(w, HEADERS);
+	klog_handle headers = given.headers ? *given.headers : (klog_handle)KLOG_NOTHING;
 	uint32_t fault = klog_run(program, one_in(w, 60) ? NULL : &given, outcome);
 	look("run", fault, &before, outcome);
+	if (given.headers != outcome)
+		look("run's headers", KLOG_KIND, &headers, given.headers);
 	if (fault > KLOG_LENGTH && fault != KLOG_NULL)
 		fail("run", fault);
 	w->runs += fault == KLOG_OK;
@@ -206,13 +282,29 @@ static void run(struct worker *w)
 	free((void *)r.value);
 }
 
-static void copy(struct worker *w, klog_handle *outcome, size_t at, size_t length, bool is_key)
+/* What is copied of an emission. */
+enum part { KEY, VALUE, HEADER_KEY, HEADER_VALUE };
+
+static uint32_t copied(klog_handle *outcome, size_t at, size_t header, enum part part, uint8_t *buffer, size_t room)
+{
+	switch (part) {
+	case KEY:
+		return klog_emission_key(outcome, at, buffer, room);
+	case VALUE:
+		return klog_emission_value(outcome, at, buffer, room);
+	case HEADER_KEY:
+		return klog_emission_header_key(outcome, at, header, buffer, room);
+	default:
+		return klog_emission_header_value(outcome, at, header, buffer, room);
+	}
+}
+
+static void copy(struct worker *w, klog_handle *outcome, size_t at, size_t header, enum part part, size_t length)
 {
 	size_t room = one_in(w, 2) ? length : length_below(w, 70000);
 	uint8_t *buffer = block(w, room), *before = block(w, room);
 	memcpy(before, buffer, room);
-	uint32_t fault = is_key ? klog_emission_key(outcome, at, buffer, room)
-				: klog_emission_value(outcome, at, buffer, room);
+	uint32_t fault = copied(outcome, at, header, part, buffer, room);
 	if (fault != (room < length ? KLOG_ROOM : KLOG_OK))
 		fail("copy", fault);
 	size_t changed = fault ? 0 : length;
@@ -220,6 +312,25 @@ static void copy(struct worker *w, klog_handle *outcome, size_t at, size_t lengt
 		fail("copy's rest", fault);
 	free(buffer);
 	free(before);
+}
+
+static void emitted_header(struct worker *w, klog_handle *outcome, size_t at, size_t count)
+{
+	klog_header told = {0};
+	size_t header = one_in(w, 4) ? (size_t)number(w) : below(w, count + 1);
+	uint32_t fault = klog_emission_header(outcome, at, header, &told);
+	if (fault != (header < count ? KLOG_OK : KLOG_RANGE))
+		fail("emission_header", fault);
+	uint8_t byte;
+	if (fault && (klog_emission_header_key(outcome, at, header, &byte, 1) != fault ||
+		      klog_emission_header_value(outcome, at, header, &byte, 1) != fault))
+		fail("emission_header's copies", fault);
+	if (fault)
+		return;
+	if (told.key_length > 255 || told.value_length > 4096 || (told.nulls && told.nulls != KLOG_NULL_VALUE))
+		fail("emission_header's answer", fault);
+	copy(w, outcome, at, header, HEADER_KEY, told.key_length);
+	copy(w, outcome, at, header, HEADER_VALUE, told.value_length);
 }
 
 static void emissions(struct worker *w)
@@ -239,10 +350,12 @@ static void emissions(struct worker *w)
 		fail("emission_at", found);
 	if (found)
 		return;
-	if (told.output >= 64 || told.key_length > 4096 || told.value_length > 1048576 || told.nulls > 3)
+	if (told.output >= 64 || told.key_length > 4096 || told.value_length > 1048576 || told.nulls > 3 ||
+	    told.header_count > KLOG_HEADERS)
 		fail("emission_at's answer", found);
-	copy(w, outcome, at, told.key_length, true);
-	copy(w, outcome, at, told.value_length, false);
+	copy(w, outcome, at, 0, KEY, told.key_length);
+	copy(w, outcome, at, 0, VALUE, told.value_length);
+	emitted_header(w, outcome, at, told.header_count);
 }
 
 static void explain(struct worker *w)
@@ -420,6 +533,19 @@ static void transform(struct worker *w)
 	free(bytes);
 }
 
+/* How many batches some bytes are. */
+static size_t batch_count(const uint8_t *bytes, size_t length)
+{
+	size_t count = 0, at = 0;
+	for (; at + 12 <= length; count++) {
+		const uint8_t *rest = bytes + at + 8;
+		at += 12 + ((size_t)rest[0] << 24 | (size_t)rest[1] << 16 | (size_t)rest[2] << 8 | rest[3]);
+	}
+	if (at != length)
+		fail("batches", (uint32_t)at);
+	return count;
+}
+
 static void outputs(struct worker *w)
 {
 	klog_handle *batches = handle(w, BATCHES);
@@ -446,6 +572,8 @@ static void outputs(struct worker *w)
 	found = klog_output_batches(batches, at, one_in(w, 40) ? NULL : buffer, room);
 	if (found != KLOG_NULL && found != (room < told.length ? KLOG_ROOM : KLOG_OK))
 		fail("output_batches", found);
+	if (!found && batch_count(buffer, told.length) != told.batches)
+		fail("output_batches' count", (uint32_t)told.batches);
 	free(buffer);
 }
 
@@ -464,7 +592,7 @@ static void forward_batch(struct worker *w)
 	if (!fault)
 		fault = klog_output_at(&w->batches, 0, &told);
 	if (fault || counts.batches != 1 || counts.records != counts.kept || counts.codes || counts.records != told.rows ||
-	    told.length != length)
+	    told.length != length || told.batches != 1)
 		fail("forward_batch", fault);
 	uint8_t *copied = block(w, length);
 	fault = klog_output_batches(&w->batches, 0, copied, length);
@@ -474,10 +602,54 @@ static void forward_batch(struct worker *w)
 	free(room);
 }
 
+static void forget_headers(struct worker *w)
+{
+	klog_free(&w->given);
+	while (w->kept_count)
+		free_header(&w->kept[--w->kept_count]);
+}
+
+/* Changes what `given` holds, or leaves it for one more record. */
+static void keep_headers(struct worker *w)
+{
+	if (one_in(w, 12))
+		forget_headers(w);
+	for (uint64_t k = below(w, 4); k; k--) {
+		struct header h = some_header(w, true);
+		uint32_t fault = klog_add_header(&w->given, h.key, h.key_length, h.value, h.value_length);
+		if (fault != (w->kept_count < KLOG_HEADERS ? KLOG_OK : KLOG_RANGE))
+			fail("keep_headers", fault);
+		if (fault)
+			free_header(&h);
+		else
+			w->kept[w->kept_count++] = h;
+	}
+}
+
+static void compare_header(struct worker *w, size_t at)
+{
+	const struct header *h = &w->kept[at];
+	klog_header told;
+	uint32_t fault = klog_emission_header(&w->outcome, 0, at, &told);
+	if (fault || told.key_length != h->key_length || told.value_length != h->value_length ||
+	    told.nulls != (h->value ? 0 : KLOG_NULL_VALUE))
+		fail("forward's header", fault);
+	uint8_t *key = block(w, h->key_length), *value = block(w, h->value_length);
+	fault = klog_emission_header_key(&w->outcome, 0, at, key, h->key_length);
+	if (!fault)
+		fault = klog_emission_header_value(&w->outcome, 0, at, value, h->value_length);
+	if (fault || memcmp(key, h->key, h->key_length) || (h->value && memcmp(value, h->value, h->value_length)))
+		fail("forward's header's bytes", fault);
+	free(key);
+	free(value);
+}
+
 /* The shared program forwards the record that it is given. */
 static void forward(struct worker *w)
 {
 	klog_record r = record(w, true);
+	keep_headers(w);
+	r.headers = &w->given;
 	uint64_t code;
 	size_t count;
 	klog_emission told;
@@ -488,8 +660,10 @@ static void forward(struct worker *w)
 		fail("forward", fault);
 	fault = klog_emission_at(&w->outcome, 0, &told);
 	if (fault || told.output || told.nulls || told.key_length != r.key_length ||
-	    told.value_length != r.value_length)
+	    told.value_length != r.value_length || told.header_count != w->kept_count)
 		fail("forward's emission", fault);
+	for (size_t k = 0; k < w->kept_count; k++)
+		compare_header(w, k);
 	uint8_t *value = block(w, told.value_length);
 	fault = klog_emission_value(&w->outcome, 0, value, told.value_length);
 	if (fault || memcmp(value, r.value, told.value_length))
@@ -502,18 +676,19 @@ static void forward(struct worker *w)
 static void *work(void *at)
 {
 	static void (*const calls[])(struct worker *) = {load, load, load, fault_text, share, explain,
-							 run, run, run, emissions, emissions, forward,
-							 transform, transform, outputs, forward_batch};
+							 add_header, add_header, run, run, run, emissions, emissions,
+							 forward, transform, transform, outputs, forward_batch};
 	struct worker *w = at;
 	while (time(NULL) < end) {
 		calls[below(w, sizeof calls / sizeof calls[0])](w);
 		if (one_in(w, 8))
-			klog_free(handle(w, 2 * below(w, 4)));
+			klog_free(handle(w, 2 * below(w, 5)));
 		w->calls++;
 	}
 	for (size_t k = 0; k < HANDLES; k++)
 		klog_free(&w->handles[k]);
 	klog_free(&w->forward);
+	forget_headers(w);
 	klog_free(&w->outcome);
 	klog_free(&w->batches);
 	return NULL;
@@ -542,7 +717,7 @@ int main(int argc, char **argv)
 	}
 	static struct worker workers[MOST_THREADS];
 	size_t threads = strtoul(argv[2], NULL, 10), place;
-	unsigned long calls = 0, runs = 0, transforms = 0;
+	unsigned long calls = 0, runs = 0, transforms = 0, headers = 0;
 	make_crc_table();
 	for (int k = 4; k < argc; k++)
 		read_image(argv[k]);
@@ -562,10 +737,12 @@ int main(int argc, char **argv)
 		calls += workers[k].calls;
 		runs += workers[k].runs;
 		transforms += workers[k].transforms;
+		headers += workers[k].headers;
 	}
 	klog_free(&shared);
 	for (size_t k = 0; k < image_count; k++)
 		free(images[k].bytes);
-	printf("%lu calls, %lu of them runs and %lu transforms, no fault\n", calls, runs, transforms);
+	printf("%lu calls, %lu of them runs, %lu transforms and %lu added headers, no fault\n", calls, runs, transforms,
+	       headers);
 	return 0;
 }

@@ -16,8 +16,8 @@ members as there are cores to use, on one machine or on many: the group shares t
   member left open, and refuses one that only seemed dead.
 - IMAGE is looked at between two polls. A new one is taken up, and each partition's first offset that it is run on is
   said. One that the verifier refuses is said too, and the program before it goes on. Replace the file by a rename.
-- Headers are not carried over. A program sees the number of the partition modulo 64. A record that klog does not take
-  (a key above 4,096 bytes, a value above 1,048,576, no timestamp) ends the member, with its place.
+- A program sees the number of the partition modulo 64. A record that klog does not take (a key above 4,096 bytes, a
+  value above 1,048,576, more than 16 headers, no timestamp) ends the member, with its place.
 
 What fails for good ends the process with status 1: let a supervisor start it again. SIGTERM ends it after the
 transaction that is under way.
@@ -164,21 +164,23 @@ class Member:
         if self.said.get(partition) != self.image.digest:
             say(f"{self.input} {partition} from offset {offset} on: program {self.image.digest}")
             self.said[partition] = self.image.digest
+        headers = [(name.encode(), text) for name, text in message.headers() or ()]
         try:
             code, emissions = self.image.program.run(
-                message.key(), message.value(), offset, timestamp, partition % PARTITIONS, len(self.outputs))
+                message.key(), message.value(), offset, timestamp, partition % PARTITIONS, len(self.outputs), headers)
         except Fault as fault:
             raise Fault(f"{self.input} {partition} offset {offset}: {fault}") from None
         counts["outputs"] += len(emissions)
         if code:
             counts[f"rejected with code {code}"] += 1
-        for output, key, value in emissions:
-            self.produce(self.outputs[output], value, key, partition, timestamp)
+        for output, key, value, headers in emissions:
+            self.produce(self.outputs[output], value, key, partition, timestamp, headers)
 
-    def produce(self, topic, value, key, partition, timestamp):
+    def produce(self, topic, value, key, partition, timestamp, headers):
+        named = [(name.decode(), text) for name, text in headers]
         while True:
             try:
-                return self.producer.produce(topic, value, key, partition, timestamp=timestamp)
+                return self.producer.produce(topic, value, key, partition, timestamp=timestamp, headers=named)
             except BufferError:  # the client's queue is full: send some of it
                 self.producer.poll(1)
 

@@ -1,7 +1,7 @@
 """klog's engine in Python: the calls of libklog.so (include/klog_engine.h), without packages.
 
     with Program(Engine("libklog.so"), image) as program:
-        code, emissions = program.run(key, value)
+        code, emissions = program.run(key, value, headers=[(b"trace", b"7f")])
         made = program.transform(batches, offset=0, outputs=2)
 """
 import ctypes
@@ -12,6 +12,7 @@ BYTES = ctypes.c_char_p
 NULL_KEY, NULL_VALUE = 1, 2
 FULL, BATCH = 7, 300
 MOST_KEY, MOST_VALUE = 4096, 1048576
+MOST_HEADER_KEY, MOST_HEADER_VALUE = 255, 4096
 
 
 class Handle(ctypes.Structure):
@@ -20,11 +21,17 @@ class Handle(ctypes.Structure):
 
 class Record(ctypes.Structure):
     _fields_ = [("key", BYTES), ("key_length", c_size_t), ("value", BYTES), ("value_length", c_size_t),
-                ("offset", c_uint64), ("timestamp", c_uint64), ("partition", c_size_t), ("outputs", c_size_t)]
+                ("offset", c_uint64), ("timestamp", c_uint64), ("partition", c_size_t), ("outputs", c_size_t),
+                ("headers", POINTER(Handle))]
 
 
 class Emission(ctypes.Structure):
-    _fields_ = [("output", c_size_t), ("key_length", c_size_t), ("value_length", c_size_t), ("nulls", c_uint32)]
+    _fields_ = [("output", c_size_t), ("key_length", c_size_t), ("value_length", c_size_t), ("nulls", c_uint32),
+                ("header_count", c_size_t)]
+
+
+class Header(ctypes.Structure):
+    _fields_ = [("key_length", c_size_t), ("value_length", c_size_t), ("nulls", c_uint32)]
 
 
 class Source(ctypes.Structure):
@@ -45,11 +52,11 @@ class Reject(ctypes.Structure):
 
 
 class Output(ctypes.Structure):
-    _fields_ = [("rows", c_uint64), ("length", c_size_t)]
+    _fields_ = [("rows", c_uint64), ("length", c_size_t), ("batches", c_size_t)]
 
 
 # What a program makes of record batches: how many there were, their records, how many of these were kept, how many each
-# code rejected, and for each output its number of rows and its batches.
+# code rejected, and for each output its number of rows, its number of batches and their bytes.
 Transformed = namedtuple("Transformed", "batches records kept rejects outputs")
 
 
@@ -74,11 +81,15 @@ class Engine:
         self.declare("klog_load", BYTES, c_size_t, c_uint32, handle, POINTER(c_size_t))
         self.declare("klog_fault_text", c_uint32, c_size_t, BYTES, c_size_t, POINTER(c_size_t))
         self.declare("klog_share", handle, handle)
+        self.declare("klog_add_header", handle, BYTES, c_size_t, BYTES, c_size_t)
         self.declare("klog_run", handle, POINTER(Record), handle)
         self.declare("klog_outcome", handle, POINTER(c_uint64), POINTER(c_size_t))
         self.declare("klog_emission_at", handle, c_size_t, POINTER(Emission))
         self.declare("klog_emission_key", handle, c_size_t, BYTES, c_size_t)
         self.declare("klog_emission_value", handle, c_size_t, BYTES, c_size_t)
+        self.declare("klog_emission_header", handle, c_size_t, c_size_t, POINTER(Header))
+        self.declare("klog_emission_header_key", handle, c_size_t, c_size_t, BYTES, c_size_t)
+        self.declare("klog_emission_header_value", handle, c_size_t, c_size_t, BYTES, c_size_t)
         self.declare("klog_transform", handle, POINTER(Source), BYTES, c_size_t, handle, POINTER(Stop))
         self.declare("klog_counts_of", handle, POINTER(Counts))
         self.declare("klog_reject_at", handle, c_size_t, POINTER(Reject))
@@ -108,6 +119,8 @@ class Program:
         self.engine, self.library = engine, engine.library
         self.program, self.outcome, self.record, self.emission = Handle(), Handle(), Record(), Emission()
         self.batches, self.source, self.stop, self.counts = Handle(), Source(), Stop(), Counts()
+        self.headers, self.header = Handle(), Header()
+        self.headers_at = ctypes.pointer(self.headers)
         self.code, self.count = c_uint64(), c_size_t()
         self.key, self.value = ctypes.create_string_buffer(MOST_KEY), ctypes.create_string_buffer(MOST_VALUE)
         self.key_bytes, self.value_bytes = memoryview(self.key), memoryview(self.value)
@@ -128,18 +141,27 @@ class Program:
     def free(self):
         self.library.klog_free(byref(self.outcome))
         self.library.klog_free(byref(self.batches))
+        self.library.klog_free(byref(self.headers))
         self.library.klog_free(byref(self.program))
 
-    def run(self, key, value, offset=0, timestamp=0, partition=0, outputs=1):
-        """The reject code, 0 where the record is kept, and the emissions: output, key and value, None for null."""
+    def run(self, key, value, offset=0, timestamp=0, partition=0, outputs=1, headers=()):
+        """The reject code, 0 where the record is kept, and the emissions: output, key, value and headers; None is null."""
         record = self.record
         record.key, record.key_length = key, len(key or b"")
         record.value, record.value_length = value, len(value or b"")
         record.offset, record.timestamp, record.partition, record.outputs = offset, timestamp, partition, outputs
+        record.headers = self.added(headers) if headers else None
         fault = self.library.klog_run(*self.run_words) or self.library.klog_outcome(*self.outcome_words)
         if fault:
             self.engine.check(fault)
         return self.code.value, [self.emitted(number) for number in range(self.count.value)]
+
+    def added(self, headers):
+        """The handle of these headers alone, each a key and a value."""
+        self.library.klog_free(self.headers_at)
+        for key, value in headers:
+            self.engine.check(self.library.klog_add_header(self.headers_at, key, len(key), value, len(value or b"")))
+        return self.headers_at
 
     def emitted(self, number):
         library, emission = self.library, self.emission
@@ -150,7 +172,18 @@ class Program:
             self.engine.check(fault)
         key = None if emission.nulls & NULL_KEY else bytes(self.key_bytes[:emission.key_length])
         value = None if emission.nulls & NULL_VALUE else bytes(self.value_bytes[:emission.value_length])
-        return emission.output, key, value
+        headers = [self.emitted_header(number, at) for at in range(emission.header_count)]
+        return emission.output, key, value, headers
+
+    def emitted_header(self, number, at):
+        library, header, outcome = self.library, self.header, self.outcome_at
+        fault = (library.klog_emission_header(outcome, number, at, byref(header))
+                 or library.klog_emission_header_key(outcome, number, at, self.key, MOST_HEADER_KEY)
+                 or library.klog_emission_header_value(outcome, number, at, self.value, MOST_HEADER_VALUE))
+        if fault:
+            self.engine.check(fault)
+        value = None if header.nulls & NULL_VALUE else bytes(self.value_bytes[:header.value_length])
+        return bytes(self.key_bytes[:header.key_length]), value
 
     def transform(self, batches, offset=0, partition=0, outputs=1):
         """What the program makes of all records of some record batches, of which the first has this offset."""
@@ -175,4 +208,4 @@ class Program:
         self.engine.check(self.library.klog_output_at(byref(self.batches), number, byref(told)))
         room = ctypes.create_string_buffer(told.length)
         self.engine.check(self.library.klog_output_batches(byref(self.batches), number, room, told.length))
-        return told.rows, room.raw
+        return told.rows, told.batches, room.raw

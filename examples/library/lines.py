@@ -1,5 +1,5 @@
 #!/usr/bin/env python3
-"""Runs a program on each line of standard input as a value with a null key, and prints what it makes of it.
+"""Runs a program on each line of standard input as a value with a null key and a header, and prints what it makes of it.
 
 lines.py LIBRARY IMAGE < TEXT, where LIBRARY is libklog.so
 """
@@ -15,10 +15,12 @@ def shown(part):
 def main(library, image):
     with open(image, "rb") as file, Program(Engine(library), file.read()) as program:
         for offset, line in enumerate(sys.stdin.buffer.read().splitlines()):
-            code, emissions = program.run(None, line, offset, outputs=2)
+            code, emissions = program.run(None, line, offset, outputs=2, headers=[(b"line", b"%d" % (offset + 1))])
             print(f"{shown(line)}: " + (f"rejected with code {code}" if code else f"kept, emissions {len(emissions)}"))
-            for output, key, value in emissions:
+            for output, key, value, headers in emissions:
                 print(f"  to {output} key {shown(key)} value {shown(value)}")
+                for name, text in headers:
+                    print(f"    header {shown(name)} {shown(text)}")
 
 
 if __name__ == "__main__":

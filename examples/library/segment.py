@@ -35,7 +35,7 @@ def main(library, image, name, *outs):
             offset, kept = offset + made.records, kept + made.kept
             for code, count in made.rejects:
                 rejects[code] = rejects.get(code, 0) + count
-            for k, (count, written) in enumerate(made.outputs):
+            for k, (count, _, written) in enumerate(made.outputs):
                 files_out[k].write(renumbered(written, rows[k]))
                 rows[k] += count
     print(f"records {offset} kept {kept} rejected {rejects} rows {rows}")

@@ -1,2 +1,3 @@
+pub mod CountLaws
 pub mod PassLaws
 pub mod MadeLaws

@@ -7,6 +7,7 @@ use Rattle.std.proofs.lemmas.List.{length-append, length-drop}
 use Rattle.std.proofs.lemmas.Option.{same_Some}
 use Rattle.machine_spec.specs.Image.{Program}
 use Rattle.wire_spec.specs.declared.record.Batch.{Batch}
+use Rattle.wire_spec.proofs.Varints.{IsBytes}
 use Rattle.log_spec.specs.declared.row.Row.{Row}
 use Rattle.batch.specs.Batches.{AreBatches as Begins}
 use Rattle.fates.specs.Totals.{Totals, AreCountsWith}
@@ -19,6 +20,7 @@ use Rattle.batch_transform.specs.declared.{stream.Stream.Stream, pass.Transforme
 use Rattle.batch_transform.specs.declared.{ending.OutputBatches.OutputBatches}
 use Rattle.batch_transform.specs.Transformed.{AreFates, AreOutputBatches, IsTransformed}
 use Rattle.batch_transform.specs.Passes.{flow_of, StartsAt, HavePassed, Ends, AreEnds, Finishes}
+use Rattle.batch_transform.proofs.CountLaws.{spelled}
 
 -- ---- each output partition
 
@@ -61,6 +63,8 @@ each_empties (old ∷ olds) [] h k lt = absurd h
 record Holds (new : Outflow) (made : OutputBatches) : Type 0 where
   pub bytes_are : new.written ≡ Some made.bytes.items
   pub rows_are : made.rows ≡ new.waits.place + length new.waits.rows
+  pub batches_are : (batches : List Batch) → Begins made.bytes.items batches [] → made.batches ≡ length batches
+  pub each_byte : IsBytes made.bytes.items
 
 holds_at : (olds : List Outflow) (mades : List OutputBatches) (h : AreEnds olds mades) (k : ℕ) (one : OutputBatches) →
     slice_get mades k ≡ Some one → (k < length olds) × Holds (output_at (news olds mades h) k) one
@@ -69,7 +73,12 @@ holds_at (old ∷ olds) (made ∷ mades) h zero one at =
     let same : made ≡ one = same_Some made one at in (
       omega arith,
       subst (λ (m : OutputBatches). Holds h.0.new m) same
-          (record { bytes_are = h.0.bytes_are; rows_are = h.0.rows_are }),
+          (record {
+            bytes_are = h.0.bytes_are;
+            rows_are = h.0.rows_are;
+            batches_are = h.0.batches_are;
+            each_byte = h.0.each_byte;
+          }),
     )
 holds_at (old ∷ olds) (made ∷ mades) h (suc k) one at =
     let rest = holds_at olds mades h.1 k one at in (omega (arith, rest.0), rest.1)
@@ -95,18 +104,24 @@ output_made : (origin : Origin) (program : Program) (batches : List Batch) (outp
     AreRows origin.input output origin.outputs program origin.offset batches rows →
     FillsAll rows (outflow (Some []) (waiting 0 [])) new → Holds new one →
     AreOutputBatches origin program batches output one
-output_made origin program batches output rows new one are (wrote, none) holds = record {
-  rows = rows;
-  rows_are = are;
-  written = wrote.batches;
-  rest = new.waits;
-  written_are = wrote.are;
-  none_left = none;
-  bytes_are = appended one.bytes.items (concat wrote.batches) new.written holds.bytes_are wrote.written;
-  count_is =
-      let all = same_rows (waiting 0 rows) new.waits wrote.batches wrote.are in
-      omega (arith, all, holds.rows_are);
-}
+output_made origin program batches output rows new one are (wrote, none) holds =
+    let bytes : one.bytes.items ≡ concat wrote.batches =
+    appended one.bytes.items (concat wrote.batches) new.written holds.bytes_are wrote.written in
+    let found = spelled (waiting 0 rows) new.waits wrote.batches wrote.are (subst IsBytes bytes holds.each_byte) in
+    let counted = holds.batches_are found.0 (subst (λ (x : List ℕ). Begins x found.0 []) (sym bytes) found.1) in
+    record {
+      rows = rows;
+      rows_are = are;
+      written = wrote.batches;
+      rest = new.waits;
+      written_are = wrote.are;
+      none_left = none;
+      bytes_are = bytes;
+      count_is =
+          let all = same_rows (waiting 0 rows) new.waits wrote.batches wrote.are in
+          omega (arith, all, holds.rows_are);
+      batches_are = counted ∙ found.2;
+    }
 
 -- ---- all of it
 

@@ -1,9 +1,11 @@
 -- What is known between two batches, and of each step.
-use Rattle.std.specs.Prelude.{◌≡◌, ◌≢◌, ℕ, ◌+◌, ◌<◌, ◌≤◌, List, [], ◌∷◌, ◌++◌, length, drop, Some, Result, Ok, Err, ⊤}
+use Rattle.std.specs.Prelude.{◌≡◌, ◌≢◌, ℕ, ◌+◌, ◌<◌, ◌≤◌, List, [], ◌∷◌, ◌++◌, length, drop, slice_index, Option, Some, None, Result}
+use Rattle.std.specs.Prelude.{Ok, Err, ⊤, nat_lt, if◌then◌else◌}
+use Rattle.std.specs.Int.{w32}
 use Rattle.wire_spec.specs.declared.record.Batch.{Batch}
 use Rattle.wire_spec.specs.declared.fault.BatchFault.TheVariants.{Memory as NoMemory}
 use Rattle.wire_spec.specs.declared.limits.TheConstants.{TIMESTAMP_END, MAX_RECORDS}
-use Rattle.wire_spec.specs.BatchReading.{batch_at}
+use Rattle.wire_spec.specs.BatchReading.{number_at, batch_at}
 use Rattle.machine_spec.specs.Image.{Program}
 use Rattle.log_spec.specs.Logs.{Records}
 use Rattle.batch.specs.Batches.{AreBatches as Begins}
@@ -103,12 +105,26 @@ PassesAll program bytes start (Err stop.Full) rest count now =
     HavePassed program bytes start rest count now × (TIMESTAMP_END < now.offset + MAX_RECORDS)
 PassesAll program bytes start (Err stop.Memory) rest count now = length rest ≤ length bytes
 
+-- how many bytes the batch at the front has by its batchLength; `None` where fewer are there
+abbrev pub first_size : List ℕ → Option ℕ
+first_size bytes =
+    if nat_lt (length bytes) 12 then None else
+    if nat_lt (length bytes) (number_at w32 8 bytes + 12) then None else Some (number_at w32 8 bytes + 12)
+
+-- where the bytes are batches, the first of them were counted
+pub record AreCounted (bytes rest : List ℕ) (count : ℕ) : Type 0 where
+  pub within : count + length rest ≤ length bytes
+  pub later : (batches : List Batch) → Begins bytes batches [] →
+      (others : List Batch) × Begins rest others [] × (count + length others ≡ length batches)
+
 -- what an output partition holds in the end
 pub record Ends (old : Outflow) (made : OutputBatches) : Type 0 where
   pub new : Outflow
   pub empties : Empties old new
   pub bytes_are : new.written ≡ Some made.bytes.items
   pub rows_are : made.rows ≡ new.waits.place + length new.waits.rows
+  pub batches_are : (batches : List Batch) → Begins made.bytes.items batches [] → made.batches ≡ length batches
+  pub each_byte : (i : ℕ) → slice_index made.bytes.items i < 256
 
 -- the same of each
 abbrev pub AreEnds : List Outflow → List OutputBatches → Type 0

@@ -39,6 +39,7 @@ pub record AreOutputBatches (origin : Origin) (program : Program) (batches : Lis
   pub none_left : rest.rows ≡ []
   pub bytes_are : made.bytes.items ≡ concat written
   pub count_is : made.rows ≡ length rows
+  pub batches_are : made.batches ≡ length written
 
 -- the bytes are batches, and this is what the program makes of them
 pub record IsTransformed (program : Program) (origin : Origin) (bytes : List ℕ) (made : Transformed) : Type 0 where

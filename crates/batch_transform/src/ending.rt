@@ -3,6 +3,7 @@
 ghost use Rattle.std.specs.Prelude.{IfOk};
 ghost use Rattle.batch_transform.specs.Passes.{Ends, AreEnds};
 
+use crate::counting::count_batches;
 use std::alloc::{AllocError, Global};
 use transform::Outlet;
 
@@ -11,6 +12,8 @@ use transform::Outlet;
 pub struct OutputBatches {
     /// How many rows there are.
     pub rows: u64,
+    /// How many batches they are in.
+    pub batches: usize,
     /// The batches, one after the other.
     pub bytes: Vec<u8>,
 }
@@ -22,9 +25,12 @@ fn end_one(mut outlet: Outlet<Vec<u8>>) -> Result<OutputBatches, AllocError>
     let Ok(()) = outlet.end() else {
         return Err(AllocError);
     };
+    let rows = outlet.rows();
+    let bytes = outlet.into_writer();
     Ok(OutputBatches {
-        rows: outlet.rows(),
-        bytes: outlet.into_writer(),
+        rows,
+        batches: count_batches(&bytes),
+        bytes,
     })
 }
 

@@ -2,6 +2,7 @@
 //! batches again, and what became of the records.
 #![tactic(auto)]
 
+mod counting;
 mod ending;
 mod fault;
 mod pass;

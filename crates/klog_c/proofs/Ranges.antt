@@ -1,13 +1,22 @@
--- What a run is given is in the ranges of the machine's.
-use Rattle.std.specs.Prelude.{◌≡◌, ℕ, Bool, true, false, not, if◌then◌else◌, List, length, ◌≤◌}
-use mathlib.Core.Path.{refl}
+-- What a run is given is in the ranges of the machine's, and what comes of it.
+use Rattle.std.specs.Prelude.{◌≡◌, ℕ, zero, suc, Bool, true, false, not, nat_le, if◌then◌else◌, List, length, ◌≤◌}
+use Rattle.std.specs.Prelude.{Option, Some, None, Result, Ok, Err, IfOk, IfSome}
+use mathlib.Core.Path.{refl, sym, subst, ◌∙◌}
 use Rattle.std.proofs.Common.{arith}
+use Rattle.std.specs.Str.{is_utf8}
+use Rattle.std.proofs.lemmas.Str.{IsUtf8-from_is_utf8}
 use Rattle.std.proofs.lemmas.Bool.{and_parts, leb-true, ltb-true}
-use Rattle.wire_spec.specs.declared.limits.TheConstants.{MAX_KEY, MAX_VALUE}
-use Rattle.machine_spec.specs.Machine.{bytes_of}
+use Rattle.wire_spec.specs.declared.limits.TheConstants.{MAX_KEY, MAX_VALUE, MAX_HEADERS, MAX_HEADER_VALUE}
+use Rattle.wire_spec.specs.declared.{record.Header.Header, record.Record.Record}
+use Rattle.wire_spec.specs.RecordSpelling.{HeaderFits, RecordFits}
+use Rattle.machine_spec.specs.Image.{Program}
 use Rattle.machine_spec.specs.Meaning.{IsPlace}
-use Rattle.verifier_spec.specs.StandsFor.{IsWithinLimits}
-use Rattle.klog_c.specs.Calls.{run_fault, input_of, place_of, is_in_range, is_key_null, is_value_null, part_of, is_part_fitting}
+use Rattle.klog_c.specs.RecordParts.{part_of, is_part_fitting}
+use Rattle.klog_c.specs.Calls.{run_fault, record_of, place_of, is_in_range, is_key_null, is_value_null}
+use Rattle.klog_c.specs.Calls.{are_parts_fitting, GivesRecord, RunsTo, RunsGiven, Runs}
+use Rattle.klog_c.specs.Headers.{AreHeaders, header_of, are_parts_short, header_fault}
+use Rattle.klog_c.specs.declared.faults.TheConstants.{KIND}
+use Rattle.klog_c.specs.declared.object.Object.{Object}
 use Rattle.klog_c.specs.declared.running.Asked.{Asked}
 
 both : (a b : Bool) → ◌≡◌ {A = ℕ} (if not a then 3 else if not b then 4 else 0) 0 → (a ≡ true) × (b ≡ true)
@@ -30,20 +39,83 @@ in_range asked range =
       outputs = leb-true _ _ outputs.1;
     }
 
+-- ---- parts and headers
+
+fits : (is_null : Bool) (bytes : List ℕ) (most : ℕ) → is_part_fitting is_null bytes most ≡ true
+    → IfSome (part_of is_null bytes) (λ part. length part ≤ most)
+fits true bytes most fitting = tt
+fits false bytes most fitting = leb-true _ _ fitting
+
+-- a header without a fault
+three : (a b c : Bool) → ◌≡◌ {A = ℕ} (if not a then 4 else if not b then 8 else if c then 3 else 0) 0 →
+    (a ≡ true) × (b ≡ true)
+three true true c none = (refl, refl)
+three true false c none = absurd (cc (none))
+three false b c none = absurd (cc (none))
+
+pub header_fits : (count : ℕ) (key value : List ℕ) (is_null : Bool) (header : Header) →
+    header_fault count key is_null value ≡ 0 → header ≡ header_of key is_null value → HeaderFits header
+header_fits count key value is_null header none is =
+    let tests = three (are_parts_short key is_null value) (is_utf8 key) (nat_le MAX_HEADERS count) none in
+    let short = and_parts _ _ tests.0 in
+    subst HeaderFits (sym is) (record {
+      key = leb-true _ _ short.0;
+      text = IsUtf8-from_is_utf8 key tests.1;
+      value = fits is_null value MAX_HEADER_VALUE short.1;
+    })
+
+-- ---- records
+
+-- the record of a run without a fault
+pub record_fits : (asked : Asked) (key value : List ℕ) (headers : List Header) → run_fault asked key value ≡ 0 →
+    AreHeaders headers → RecordFits (record_of asked key value headers)
+record_fits asked key value headers none are =
+    let parts = and_parts _ _ (both _ _ none).1 in
+    record {
+      timestamp = record { sfits = omega arith };
+      key = fits (is_key_null asked.nulls) key MAX_KEY parts.0;
+      value = fits (is_value_null asked.nulls) value MAX_VALUE parts.1;
+      count = are.0;
+      headers = are.1;
+    }
+
 pub place_is : (asked : Asked) (key value : List ℕ) → run_fault asked key value ≡ 0 → IsPlace (place_of asked)
 place_is asked key value none = in_range asked (both _ _ none).0
 
-fits : (is_null : Bool) (bytes : List ℕ) (most : ℕ) → is_part_fitting is_null bytes most ≡ true
-    → length (bytes_of (part_of is_null bytes)) ≤ most
-fits true bytes most fitting = omega arith
-fits false bytes most fitting = leb-true _ _ fitting
+-- what is asked of a run's record
+pub given_is : (held : Option (List Header)) (asked : Asked) (key value : List ℕ) (given : Result Record ℕ) →
+    GivesRecord held asked key value given → IfOk given (λ x. RecordFits x × IsPlace (place_of asked))
+given_is None asked key value (Ok given) is = absurd (cc (is))
+given_is None asked key value (Err number) is = tt
+given_is (Some headers) asked key value (Ok given) is = (is.2, place_is asked key value is.1)
+given_is (Some headers) asked key value (Err number) is = tt
 
-pub limits_are : (asked : Asked) (key value : List ℕ) → run_fault asked key value ≡ 0
-    → IsWithinLimits (input_of asked key value)
-limits_are asked key value none =
-    let parts = and_parts _ _ (both _ _ none).1 in
-    record {
-      key = fits (is_key_null asked.nulls) key MAX_KEY parts.0;
-      value = fits (is_value_null asked.nulls) value MAX_VALUE parts.1;
-      headers = record { few = omega arith; keys = λ position. omega arith; values = λ position. omega arith };
-    }
+-- no fault of what a run is given is that of a handle
+not_kind : (asked : Asked) (key value : List ℕ) → run_fault asked key value ≡ KIND → ⊥
+not_kind asked key value e = which (is_in_range asked) (are_parts_fitting asked key value) e
+  where
+    which : (a b : Bool) → ◌≡◌ {A = ℕ} (if not a then 3 else if not b then 4 else 0) 2 → ⊥
+    which true true e = absurd (cc (e))
+    which true false e = absurd (cc (e))
+    which false b e = absurd (cc (e))
+
+-- a run on the record of what C gives
+pub ran : (program : Option Program) (held : Option (List Header)) (asked : Asked) (key value : List ℕ)
+    (given : Result Record ℕ) (before after : Option Object) (number : ℕ) → GivesRecord held asked key value given →
+    RunsGiven program (place_of asked) given before after number → Runs program held asked key value before after number
+ran None held asked key value given before after number gives runs = runs
+ran (Some program) None asked key value (Ok given) before after number gives runs = absurd (cc (gives))
+ran (Some program) None asked key value (Err fault) before after number gives runs = (runs.0, cc (gives, runs.1))
+ran (Some program) (Some headers) asked key value (Ok given) before after zero gives runs =
+    subst (λ (x : Record). RunsTo program (record { given = x; place = place_of asked }) after) gives.0 runs
+ran (Some program) (Some headers) asked key value (Ok given) before after (suc number) gives runs = (
+  runs.0,
+  λ memory kind. absurd (kind (runs.1 memory).0),
+  λ kind. (runs.1 (λ e. omega (arith, e, kind))).1,
+)
+ran (Some program) (Some headers) asked key value (Err fault) before after zero gives runs = absurd (gives.0 (sym runs.1))
+ran (Some program) (Some headers) asked key value (Err fault) before after (suc number) gives runs = (
+  runs.0,
+  λ memory kind. runs.1 ∙ gives.1 (λ e. memory (runs.1 ∙ e)),
+  λ kind. absurd (not_kind asked key value (sym (gives.1 (λ e. omega (arith, e, runs.1, kind))) ∙ (sym runs.1 ∙ kind))),
+)

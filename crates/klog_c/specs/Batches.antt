@@ -22,6 +22,7 @@ batches_in (Some (object.Program program)) = None
 batches_in (Some (object.Outcome outcome)) = None
 batches_in (Some (object.Text text)) = None
 batches_in (Some (object.Batches made)) = Some made
+batches_in (Some (object.Headers headers)) = None
 batches_in None = None
 
 -- ---- a transform
@@ -95,7 +96,7 @@ TellsReject None at told number = number ≡ KIND
 TellsReject (Some made) at told number = TellsListed (slice_get made.rejects.items at) told number
 
 abbrev pub told_of : OutputBatches → OutputTold
-told_of made = record { rows = made.rows; length = length made.bytes.items }
+told_of made = record { rows = made.rows; length = length made.bytes.items; batches = made.batches }
 
 -- what is told of an output partition, by its number; RANGE where there is none
 abbrev pub TellsOne : Option OutputBatches → OutputTold → ℕ → Type 0

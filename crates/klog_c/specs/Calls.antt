@@ -1,9 +1,10 @@
 -- What the calls of C's answer. A number is 0 where the call did its work.
 use Rattle.std.specs.Prelude.{◌≡◌, ◌≢◌, ℕ, zero, suc, ◌%◌, pos, Bool, true, false}
-use Rattle.std.specs.Prelude.{not, ◌&&◌, ◌||◌, ◌==◌, nat_le, nat_lt, if◌then◌else◌}
-use Rattle.std.specs.Prelude.{List, [], length, Option, Some, None, option_map, is_none, Err, string_bytes}
-use Rattle.wire_spec.specs.declared.record.Record.{Record}
+use Rattle.std.specs.Prelude.{not, ◌&&◌, ◌==◌, nat_le, nat_lt, if◌then◌else◌}
+use Rattle.std.specs.Prelude.{List, [], ◌∷◌, ◌++◌, length, Option, Some, None, option_map, is_none, Result, Ok, Err, string_bytes}
+use Rattle.wire_spec.specs.declared.{record.Header.Header, record.Record.Record}
 use Rattle.wire_spec.specs.declared.limits.TheConstants.{MAX_KEY, MAX_VALUE, TIMESTAMP_END}
+use Rattle.wire_spec.specs.RecordSpelling.{RecordFits}
 use Rattle.machine_spec.specs.declared.{outcome.Outcome.Outcome, outcome.Place.Place}
 use Rattle.machine_spec.specs.{Image.Program, Image.program_of, declared.helper.Table.Table}
 use Rattle.machine_spec.specs.Machine.{Input}
@@ -12,6 +13,8 @@ use Rattle.verifier_spec.specs.declared.fault.LoadFault.{LoadFault}
 use Rattle.verifier_spec.specs.Loading.{IsAccepted}
 use Rattle.log_item.specs.Programs.{ProgramIs}
 use Rattle.klog_c.specs.Numbers.{fault_number, fault_place}
+use Rattle.klog_c.specs.RecordParts.{part_of, is_part_fitting}
+use Rattle.klog_c.specs.Headers.{header_of, header_fault}
 use Rattle.klog_c.specs.declared.faults.TheConstants.{MEMORY, KIND, RANGE, LENGTH}
 use Rattle.klog_c.specs.declared.object.Object.{Object}
 use Rattle.klog_c.specs.declared.object.Object.TheVariants as object
@@ -24,6 +27,7 @@ program_in (Some (object.Program program)) = Some program
 program_in (Some (object.Outcome outcome)) = None
 program_in (Some (object.Text text)) = None
 program_in (Some (object.Batches made)) = None
+program_in (Some (object.Headers headers)) = None
 program_in None = None
 
 abbrev pub outcome_in : Option Object → Option Outcome
@@ -31,6 +35,7 @@ outcome_in (Some (object.Program program)) = None
 outcome_in (Some (object.Outcome outcome)) = Some outcome
 outcome_in (Some (object.Text text)) = None
 outcome_in (Some (object.Batches made)) = None
+outcome_in (Some (object.Headers headers)) = None
 outcome_in None = None
 
 -- the bytes of a text
@@ -39,13 +44,24 @@ text_in (Some (object.Program program)) = None
 text_in (Some (object.Outcome outcome)) = None
 text_in (Some (object.Text text)) = Some (string_bytes text)
 text_in (Some (object.Batches made)) = None
+text_in (Some (object.Headers headers)) = None
 text_in None = None
+
+-- the headers that were added; to a handle of nothing none was
+abbrev pub headers_in : Option Object → Option (List Header)
+headers_in (Some (object.Program program)) = None
+headers_in (Some (object.Outcome outcome)) = None
+headers_in (Some (object.Text text)) = None
+headers_in (Some (object.Batches made)) = None
+headers_in (Some (object.Headers headers)) = Some headers
+headers_in None = Some []
 
 abbrev pub kind_of : Object → ℕ
 kind_of (object.Program program) = 0
 kind_of (object.Outcome outcome) = 1
 kind_of (object.Text text) = 2
 kind_of (object.Batches made) = 3
+kind_of (object.Headers headers) = 4
 
 -- a handle that may be filled with an object of a kind: it holds nothing or one of the same kind
 abbrev pub takes_kind : Option Object → ℕ → Bool
@@ -89,6 +105,17 @@ abbrev pub Shares : Option Object → Option Object → Option Object → ℕ �
 Shares held before after zero = (program_in held ≡ program_in after) × (is_none (program_in after) ≡ false)
 Shares held before after (suc number) = (after ≡ before) × (suc number ≢ MEMORY → suc number ≡ KIND)
 
+-- ---- headers
+
+-- the handle holds one header more; or it is as it was, also where it holds something else
+abbrev pub AddsHeader : Option (List Header) → List ℕ → Bool → List ℕ → Option Object → Option Object → ℕ → Type 0
+AddsHeader None key is_null value before after number = (after ≡ before) × (number ≡ KIND)
+AddsHeader (Some held) key is_null value before after zero =
+    (after ≡ Some (object.Headers (held ++ header_of key is_null value ∷ [])))
+    × (header_fault (length held) key is_null value ≡ 0)
+AddsHeader (Some held) key is_null value before after (suc number) = (after ≡ before)
+    × (suc number ≢ MEMORY → suc number ≡ header_fault (length held) key is_null value)
+
 -- ---- runs
 
 -- where a record is, for the machine
@@ -112,29 +139,21 @@ is_key_null nulls = nulls % 2 == 1
 abbrev pub is_value_null : ℕ → Bool
 is_value_null nulls = nat_le 2 nulls
 
--- a part of a record: null, or these bytes
-abbrev pub part_of : Bool → List ℕ → Option (List ℕ)
-part_of is_null bytes = if is_null then None else Some bytes
-
--- a part that is null is not too long, whatever stands beside it
-abbrev pub is_part_fitting : Bool → List ℕ → ℕ → Bool
-is_part_fitting is_null bytes most = is_null || nat_le (length bytes) most
-
 abbrev pub are_parts_fitting : Asked → List ℕ → List ℕ → Bool
 are_parts_fitting asked key value =
     is_part_fitting (is_key_null asked.nulls) key MAX_KEY && is_part_fitting (is_value_null asked.nulls) value MAX_VALUE
 
--- the record that a program runs on: a key and a value, and no headers
-abbrev pub record_of : Asked → List ℕ → List ℕ → Record
-record_of asked key value = record {
+-- the record that a program runs on
+abbrev pub record_of : Asked → List ℕ → List ℕ → List Header → Record
+record_of asked key value headers = record {
   timestamp_delta = pos 0;
   key = part_of (is_key_null asked.nulls) key;
   value = part_of (is_value_null asked.nulls) value;
-  headers = [];
+  headers = headers;
 }
 
-abbrev pub input_of : Asked → List ℕ → List ℕ → Input
-input_of asked key value = record { given = record_of asked key value; place = place_of asked }
+abbrev pub input_of : Asked → List ℕ → List ℕ → List Header → Input
+input_of asked key value headers = record { given = record_of asked key value headers; place = place_of asked }
 
 -- the first fault of what a run is given, or 0
 abbrev pub run_fault : Asked → List ℕ → List ℕ → ℕ
@@ -146,9 +165,32 @@ abbrev pub RunsTo : Program → Input → Option Object → Type 0
 RunsTo program input after =
     (outcome : Outcome) × (n : ℕ) × (after ≡ Some (object.Outcome outcome)) × Means program input outcome n
 
-abbrev pub Runs : Option Program → Asked → List ℕ → List ℕ → Option Object → Option Object → ℕ → Type 0
-Runs None asked key value before after number = (after ≡ before) × (number ≡ KIND)
-Runs (Some program) asked key value before after zero = RunsTo program (input_of asked key value) after
-Runs (Some program) asked key value before after (suc number) =
+-- there is a program; `None` for the headers is a handle of something else
+abbrev pub Runs :
+    Option Program → Option (List Header) → Asked → List ℕ → List ℕ → Option Object → Option Object → ℕ → Type 0
+Runs None headers asked key value before after number = (after ≡ before) × (number ≡ KIND)
+Runs (Some program) None asked key value before after number = (after ≡ before) × (number ≡ KIND)
+Runs (Some program) (Some headers) asked key value before after zero =
+    RunsTo program (input_of asked key value headers) after
+Runs (Some program) (Some headers) asked key value before after (suc number) =
     (after ≡ before) × (suc number ≢ MEMORY → suc number ≢ KIND → suc number ≡ run_fault asked key value)
     × (suc number ≡ KIND → takes_kind before 1 ≡ false)
+
+-- ---- between the two
+
+-- the record of a run that has no fault, and else the first fault
+abbrev pub GivesRecord : Option (List Header) → Asked → List ℕ → List ℕ → Result Record ℕ → Type 0
+GivesRecord None asked key value given = given ≡ Err KIND
+GivesRecord (Some headers) asked key value (Ok given) =
+    (given ≡ record_of asked key value headers) × (run_fault asked key value ≡ 0) × RecordFits given
+GivesRecord (Some headers) asked key value (Err number) =
+    (number ≢ 0) × (number ≢ MEMORY → number ≡ run_fault asked key value)
+
+-- the handle holds what the program means on a record; or it is as it was, also where there is no record
+abbrev pub RunsGiven : Option Program → Place → Result Record ℕ → Option Object → Option Object → ℕ → Type 0
+RunsGiven None place given before after number = (after ≡ before) × (number ≡ KIND)
+RunsGiven (Some program) place (Err fault) before after number = (after ≡ before) × (number ≡ fault)
+RunsGiven (Some program) place (Ok given) before after zero =
+    RunsTo program (record { given = given; place = place }) after
+RunsGiven (Some program) place (Ok given) before after (suc number) =
+    (after ≡ before) × (suc number ≢ MEMORY → (suc number ≡ KIND) × (takes_kind before 1 ≡ false))

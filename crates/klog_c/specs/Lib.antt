@@ -1,5 +1,7 @@
 pub mod Handles
 pub mod Numbers
+pub mod RecordParts
+pub mod Headers
 pub mod Calls
 pub mod Outcomes
 pub mod Texts

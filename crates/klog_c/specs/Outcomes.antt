@@ -2,10 +2,11 @@
 use Rattle.std.specs.Prelude.{◌≡◌, ℕ, zero, suc, ◌+◌, ◌≤◌, List, [], ◌++◌}
 use Rattle.std.specs.Prelude.{length, drop, slice_get, is_none, if◌then◌else◌}
 use Rattle.std.specs.Prelude.{Option, Some, None, unwrap_or}
+use Rattle.wire_spec.specs.declared.record.Header.{Header}
 use Rattle.machine_spec.specs.declared.{outcome.Outcome.Outcome, outcome.Emission.Emission}
 use Rattle.machine_spec.specs.declared.outcome.Outcome.TheVariants.{Kept, Rejected}
 use Rattle.klog_c.specs.declared.faults.TheConstants.{KIND, RANGE, ROOM}
-use Rattle.klog_c.specs.declared.emissions.Emitted.{Emitted}
+use Rattle.klog_c.specs.declared.{emissions.Emitted.Emitted, emitted_headers.HeaderTold.HeaderTold}
 
 -- the reject code, 0 where the record is kept
 abbrev pub code_of : Outcome → ℕ
@@ -41,6 +42,7 @@ description_of emission = record {
   key_length = length_of emission.key;
   value_length = length_of emission.value;
   nulls = nulls_of emission.key emission.value;
+  header_count = length emission.headers;
 }
 
 -- what is told of an emission of an outcome, by its number; RANGE where there is none
@@ -67,3 +69,37 @@ abbrev pub CopiesAt :
     (Emission → Option (List ℕ)) → Option Outcome → ℕ → List ℕ → List ℕ → ℕ → Type 0
 CopiesAt part None at before after number = (after ≡ before) × (number ≡ KIND)
 CopiesAt part (Some outcome) at before after number = CopiesPart part (emission_at outcome at) before after number
+
+-- ---- headers of an emission
+
+-- a header of an emission by its number, if there are both
+abbrev pub header_at : Option Emission → ℕ → Option Header
+header_at None at = None
+header_at (Some emission) at = slice_get emission.headers at
+
+abbrev pub header_told : Header → HeaderTold
+header_told header = record {
+  key_length = length header.key;
+  value_length = length_of header.value;
+  nulls = if is_none header.value then 2 else 0;
+}
+
+-- what is told of a header; RANGE where there is none
+abbrev pub TellsOneHeader : Option Header → HeaderTold → ℕ → Type 0
+TellsOneHeader None told number = number ≡ RANGE
+TellsOneHeader (Some header) told number = (number ≡ 0) × (told ≡ header_told header)
+
+abbrev pub TellsHeader : Option Outcome → ℕ → ℕ → HeaderTold → ℕ → Type 0
+TellsHeader None at header told number = number ≡ KIND
+TellsHeader (Some outcome) at header told number = TellsOneHeader (header_at (emission_at outcome at) header) told number
+
+abbrev pub CopiesOneHeader : (Header → List ℕ) → Option Header → List ℕ → List ℕ → ℕ → Type 0
+CopiesOneHeader part None before after number = (after ≡ before) × (number ≡ RANGE)
+CopiesOneHeader part (Some header) before after number = Copies (part header) before after number
+
+-- a part of a header of an emission, by their numbers; a null value has no bytes
+abbrev pub CopiesHeader :
+    (Header → List ℕ) → Option Outcome → ℕ → ℕ → List ℕ → List ℕ → ℕ → Type 0
+CopiesHeader part None at header before after number = (after ≡ before) × (number ≡ KIND)
+CopiesHeader part (Some outcome) at header before after number =
+    CopiesOneHeader part (header_at (emission_at outcome at) header) before after number

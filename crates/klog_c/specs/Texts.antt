@@ -37,7 +37,8 @@ name_of n =
     if n == 3 then codes "a number is out of its range" else if n == 4 then codes "a key or a value is too long" else
     if n == 5 then codes "a buffer is too short" else
     if n == 6 then codes "a null pointer, or a handle given twice" else
-    if n == 7 then codes "the offsets of records are used up" else program_fault_name n
+    if n == 7 then codes "the offsets of records are used up" else
+    if n == 8 then codes "a header's key is not UTF-8" else program_fault_name n
 
 -- an image's faults but its size's are at a slot, the verifier's at an instruction, and one of a batch's at a record
 abbrev pub place_word : ℕ → List ℕ

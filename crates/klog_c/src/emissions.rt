@@ -21,6 +21,8 @@ pub struct Emitted {
     pub value_length: usize,
     /// 1 for a null key plus 2 for a null value.
     pub nulls: u32,
+    /// How many headers there are.
+    pub header_count: usize,
 }
 
 /// The reject code of an outcome, 0 where the record is kept.
@@ -33,7 +35,7 @@ fn code_of(outcome: &Outcome) -> u64
     }
 }
 
-fn emissions_of(outcome: &Outcome) -> &[Emission]
+pub(crate) fn emissions_of(outcome: &Outcome) -> &[Emission]
     ensures { result.now ≡ definitions.emissions_of outcome.now }
 {
     match outcome {
@@ -47,7 +49,7 @@ pub(crate) fn tell(object: &Object, code: &mut u64, count: &mut usize) -> u32
     ensures { definitions.Tells (outcome_in (Some object.now)) code.new count.new result }
 {
     match object {
-        Object::Program(_) | Object::Text(_) | Object::Batches(_) => KIND,
+        Object::Program(_) | Object::Text(_) | Object::Batches(_) | Object::Headers(_) => KIND,
         Object::Outcome(outcome) => {
             *code = code_of(outcome);
             *count = emissions_of(outcome).len();
@@ -56,7 +58,7 @@ pub(crate) fn tell(object: &Object, code: &mut u64, count: &mut usize) -> u32
     }
 }
 
-fn length_of(part: &Option<Bytes>) -> usize
+pub(crate) fn length_of(part: &Option<Bytes>) -> usize
     ensures { result ≡ definitions.length_of part.now }
 {
     match part {
@@ -82,6 +84,7 @@ fn description_of(emission: &Emission) -> Emitted
         key_length: length_of(&emission.key),
         value_length: length_of(&emission.value),
         nulls: nulls_of(&emission.key, &emission.value),
+        header_count: emission.headers.list.len(),
     }
 }
 
@@ -100,7 +103,7 @@ pub(crate) fn tell_emission(object: &Object, number: usize, told: &mut Emitted) 
     ensures { definitions.TellsAt (outcome_in (Some object.now)) number told.new result }
 {
     match object {
-        Object::Program(_) | Object::Text(_) | Object::Batches(_) => KIND,
+        Object::Program(_) | Object::Text(_) | Object::Batches(_) | Object::Headers(_) => KIND,
         Object::Outcome(outcome) => tell_one(emissions_of(outcome), number, told),
     }
 }
@@ -116,7 +119,7 @@ pub(crate) fn copy(bytes: &[u8], buffer: &mut [u8]) -> u32
     OK
 }
 
-fn copy_part(part: &Option<Bytes>, buffer: &mut [u8]) -> u32
+pub(crate) fn copy_part(part: &Option<Bytes>, buffer: &mut [u8]) -> u32
     ensures { definitions.Copies (definitions.bytes_of part.now) buffer.old buffer.new result }
 {
     match part {
@@ -148,7 +151,7 @@ pub(crate) fn copy_key(object: &Object, number: usize, buffer: &mut [u8]) -> u32
     ensures { definitions.CopiesAt (λ e. e.key) (outcome_in (Some object.now)) number buffer.old buffer.new result }
 {
     match object {
-        Object::Program(_) | Object::Text(_) | Object::Batches(_) => KIND,
+        Object::Program(_) | Object::Text(_) | Object::Batches(_) | Object::Headers(_) => KIND,
         Object::Outcome(outcome) => copy_one_key(emissions_of(outcome), number, buffer),
     }
 }
@@ -158,7 +161,7 @@ pub(crate) fn copy_value(object: &Object, number: usize, buffer: &mut [u8]) -> u
     ensures { definitions.CopiesAt (λ e. e.value) (outcome_in (Some object.now)) number buffer.old buffer.new result }
 {
     match object {
-        Object::Program(_) | Object::Text(_) | Object::Batches(_) => KIND,
+        Object::Program(_) | Object::Text(_) | Object::Batches(_) | Object::Headers(_) => KIND,
         Object::Outcome(outcome) => copy_one_value(emissions_of(outcome), number, buffer),
     }
 }

@@ -126,7 +126,7 @@ pub(crate) fn copy_text(object: &Object, buffer: &mut [u8], length: &mut usize) 
     ensures { definitions.CopiesText (text_in (Some object.now)) buffer.old buffer.new length.new result }
 {
     match object {
-        Object::Program(_) | Object::Outcome(_) | Object::Batches(_) => KIND,
+        Object::Program(_) | Object::Outcome(_) | Object::Batches(_) | Object::Headers(_) => KIND,
         Object::Text(text) => {
             *length = text.len();
             copy(text.as_bytes(), buffer)

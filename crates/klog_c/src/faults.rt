@@ -29,6 +29,9 @@ pub(crate) const ROOM: u32 = 5;
 /// The offsets of records are used up.
 pub(crate) const FULL: u32 = 7;
 
+/// A header's key is not UTF-8.
+pub(crate) const TEXT: u32 = 8;
+
 fn isa_number(fault: IsaFault) -> u32
     ensures { result ≡ definitions.isa_number fault }
 {

@@ -18,6 +18,7 @@ fn kind_of(object: &Object) -> u32
         Object::Outcome(_) => 1,
         Object::Text(_) => 2,
         Object::Batches(_) => 3,
+        Object::Headers(_) => 4,
     }
 }
 

@@ -3,20 +3,24 @@
 #![tactic(auto)]
 
 ghost use Rattle.std.specs.Prelude.{◌≡◌, Some, None};
-ghost use Rattle.klog_c.specs.Calls.{Loads, Shares, Runs, program_with, program_in, outcome_in, text_in};
+ghost use Rattle.klog_c.specs.Calls.{Loads, Shares, AddsHeader, Runs, program_with, program_in, outcome_in, text_in, headers_in};
 ghost use Rattle.klog_c.specs.Explained.{Explained, CopiesText};
-ghost use Rattle.klog_c.specs.Outcomes.{Tells, TellsAt, CopiesAt};
+ghost use Rattle.klog_c.specs.Outcomes.{Tells, TellsAt, CopiesAt, TellsHeader, CopiesHeader, bytes_of};
 ghost use Rattle.klog_c.specs.Texts.{Writes, fault_text};
 ghost use Rattle.klog_c.specs.Batches.{Transforms, TellsCounts, TellsReject, TellsOutput, CopiesOutput, batches_in};
 
 mod emissions;
+mod emitted_headers;
 mod explaining;
 mod faults;
 mod filling;
 mod handle;
+mod headers;
 mod object;
 mod outputs;
 mod parts;
+mod record_headers;
+mod record_parts;
 mod running;
 mod shared;
 mod texts;
@@ -24,13 +28,15 @@ mod transforming;
 mod working;
 
 use crate::emissions::{Emitted, copy_key, copy_value, tell, tell_emission};
+use crate::emitted_headers::{HeaderTold, copy_header_key, copy_header_value, tell_header};
 use crate::explaining::{copy_text, explain_into};
 use crate::faults::KIND;
 use crate::handle::Handle;
+use crate::headers::{add_first, add_to};
 use crate::outputs::{
     Counted, OutputTold, Reject, copy_output, tell_counts, tell_output, tell_reject,
 };
-use crate::running::Asked;
+use crate::running::{Asked, given_record, place_of};
 use crate::texts::write_fault;
 use crate::transforming::{Source, Stopped, transform_into};
 use crate::working::{load_into, run_into, share_into};
@@ -82,24 +88,48 @@ pub extern "C" fn klog_c_share(alloc: Global, program: &mut Handle, other: &mut 
     number
 }
 
-/// Runs a program on one record, into a handle that holds nothing or an outcome. A fault leaves the
-/// handle as it was.
+/// Adds a header of a key and a value, which may be null, to a handle that holds nothing or headers,
+/// for runs. A fault leaves the handle as it was.
 #[unsafe(no_mangle)]
+pub extern "C" fn klog_c_add_header(
+    alloc: Global,
+    headers: &mut Handle,
+    key: &[u8],
+    value: &[u8],
+    is_value_null: bool,
+) -> u32
+    ensures { AddsHeader (headers_in headers.old.place.object) key.now is_value_null value.now headers.old.place.object headers.new.place.object result }
+{
+    let Some(mut object) = headers.take(alloc) else {
+        return add_first(alloc, headers, key, value, is_value_null);
+    };
+    let number = add_to(alloc, &mut object, key, value, is_value_null);
+    headers.put(alloc, object);
+    number
+}
+
+/// Runs a program on one record, with the headers of a handle that holds nothing or headers, into a
+/// handle that holds nothing or an outcome. A fault leaves the handle as it was.
+#[unsafe(no_mangle)]
+#[tactic(auto, using(crate::proofs::Ranges::given_is, crate::proofs::Ranges::ran))]
 pub extern "C" fn klog_c_run(
     alloc: Global,
     program: &mut Handle,
     asked: &Asked,
     key: &[u8],
     value: &[u8],
+    headers: &mut Handle,
     outcome: &mut Handle,
 ) -> u32
     ensures program { program.new.place.object ≡ program.old.place.object }
-    ensures outcome { Runs (program_in program.old.place.object) asked.now key.now value.now outcome.old.place.object outcome.new.place.object result }
+    ensures headers { headers.new.place.object ≡ headers.old.place.object }
+    ensures outcome { Runs (program_in program.old.place.object) (headers_in headers.old.place.object) asked.now key.now value.now outcome.old.place.object outcome.new.place.object result }
 {
     let Some(object) = program.take(alloc) else {
         return KIND;
     };
-    let number = run_into(alloc, &object, asked, key, value, outcome);
+    let given = given_record(alloc, asked, key, value, headers);
+    let number = run_into(alloc, &object, given, &place_of(asked), outcome);
     program.put(alloc, object);
     number
 }
@@ -180,6 +210,69 @@ pub extern "C" fn klog_c_emission_value(
         return KIND;
     };
     let number = copy_value(&object, at, buffer);
+    outcome.put(alloc, object);
+    number
+}
+
+/// Tells of a header of an emission of an outcome, by their numbers from 0: how long its key and its
+/// value are.
+#[unsafe(no_mangle)]
+pub extern "C" fn klog_c_emission_header(
+    alloc: Global,
+    outcome: &mut Handle,
+    at: usize,
+    header: usize,
+    told: &mut HeaderTold,
+) -> u32
+    ensures outcome { outcome.new.place.object ≡ outcome.old.place.object }
+    ensures told { TellsHeader (outcome_in outcome.old.place.object) at header told.new result }
+{
+    let Some(object) = outcome.take(alloc) else {
+        return KIND;
+    };
+    let number = tell_header(&object, at, header, told);
+    outcome.put(alloc, object);
+    number
+}
+
+/// Copies the key of a header of an emission of an outcome to the front of a buffer. A fault leaves
+/// the buffer as it was.
+#[unsafe(no_mangle)]
+pub extern "C" fn klog_c_emission_header_key(
+    alloc: Global,
+    outcome: &mut Handle,
+    at: usize,
+    header: usize,
+    buffer: &mut [u8],
+) -> u32
+    ensures outcome { outcome.new.place.object ≡ outcome.old.place.object }
+    ensures copied { CopiesHeader (λ h. h.key) (outcome_in outcome.old.place.object) at header buffer.old buffer.new result }
+{
+    let Some(object) = outcome.take(alloc) else {
+        return KIND;
+    };
+    let number = copy_header_key(&object, at, header, buffer);
+    outcome.put(alloc, object);
+    number
+}
+
+/// Copies the value of a header of an emission of an outcome to the front of a buffer. A fault leaves
+/// the buffer as it was.
+#[unsafe(no_mangle)]
+pub extern "C" fn klog_c_emission_header_value(
+    alloc: Global,
+    outcome: &mut Handle,
+    at: usize,
+    header: usize,
+    buffer: &mut [u8],
+) -> u32
+    ensures outcome { outcome.new.place.object ≡ outcome.old.place.object }
+    ensures copied { CopiesHeader (λ h. bytes_of h.value) (outcome_in outcome.old.place.object) at header buffer.old buffer.new result }
+{
+    let Some(object) = outcome.take(alloc) else {
+        return KIND;
+    };
+    let number = copy_header_value(&object, at, header, buffer);
     outcome.put(alloc, object);
     number
 }
@@ -274,7 +367,7 @@ pub extern "C" fn klog_c_reject(
     number
 }
 
-/// Tells of an output partition how many rows it has, and how many bytes their batches.
+/// Tells of an output partition how many rows it has, and how many batches and bytes they are.
 #[unsafe(no_mangle)]
 pub extern "C" fn klog_c_output(
     alloc: Global,

@@ -1,3 +1,4 @@
+use crate::record_headers::RecordHeaders;
 use crate::shared::Shared;
 use batch_transform::Transformed;
 use machine_spec::Outcome;
@@ -13,4 +14,6 @@ pub enum Object {
     Text(String),
     /// What a program made of record batches.
     Batches(Transformed),
+    /// Headers for records.
+    Headers(RecordHeaders),
 }

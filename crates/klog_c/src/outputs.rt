@@ -32,14 +32,16 @@ pub struct Reject {
     pub records: u64,
 }
 
-/// How long the batches of an output partition are.
+/// What an output partition's batches are.
 #[repr(C)]
 #[derive(Clone, Copy)]
 pub struct OutputTold {
     /// How many rows are in them.
     pub rows: u64,
-    /// How many bytes they have.
+    /// How many bytes the batches have.
     pub length: usize,
+    /// How many batches they are.
+    pub batches: usize,
 }
 
 fn counted_of(made: &Transformed) -> Counted
@@ -59,7 +61,7 @@ pub(crate) fn tell_counts(object: &Object, told: &mut Counted) -> u32
     ensures { definitions.TellsCounts (definitions.batches_in (Some object.now)) told.new result }
 {
     match object {
-        Object::Program(_) | Object::Outcome(_) | Object::Text(_) => KIND,
+        Object::Program(_) | Object::Outcome(_) | Object::Text(_) | Object::Headers(_) => KIND,
         Object::Batches(made) => {
             *told = counted_of(made);
             OK
@@ -83,7 +85,7 @@ pub(crate) fn tell_reject(object: &Object, number: usize, told: &mut Reject) -> 
     ensures { definitions.TellsReject (definitions.batches_in (Some object.now)) number told.new result }
 {
     match object {
-        Object::Program(_) | Object::Outcome(_) | Object::Text(_) => KIND,
+        Object::Program(_) | Object::Outcome(_) | Object::Text(_) | Object::Headers(_) => KIND,
         Object::Batches(made) => tell_listed(made.rejects.as_slice(), number, told),
     }
 }
@@ -97,6 +99,7 @@ fn tell_one(outputs: &[OutputBatches], number: usize, told: &mut OutputTold) -> 
     *told = OutputTold {
         rows: outputs[number].rows,
         length: outputs[number].bytes.len(),
+        batches: outputs[number].batches,
     };
     OK
 }
@@ -106,7 +109,7 @@ pub(crate) fn tell_output(object: &Object, number: usize, told: &mut OutputTold)
     ensures { definitions.TellsOutput (definitions.batches_in (Some object.now)) number told.new result }
 {
     match object {
-        Object::Program(_) | Object::Outcome(_) | Object::Text(_) => KIND,
+        Object::Program(_) | Object::Outcome(_) | Object::Text(_) | Object::Headers(_) => KIND,
         Object::Batches(made) => tell_one(made.outputs.as_slice(), number, told),
     }
 }
@@ -125,7 +128,7 @@ pub(crate) fn copy_output(object: &Object, number: usize, buffer: &mut [u8]) -> 
     ensures { definitions.CopiesOutput (definitions.batches_in (Some object.now)) number buffer.old buffer.new result }
 {
     match object {
-        Object::Program(_) | Object::Outcome(_) | Object::Text(_) => KIND,
+        Object::Program(_) | Object::Outcome(_) | Object::Text(_) | Object::Headers(_) => KIND,
         Object::Batches(made) => copy_one(made.outputs.as_slice(), number, buffer),
     }
 }

@@ -1,13 +1,15 @@
-//! A program's run on one record.
+//! What a run on one record is given.
 
-ghost use Rattle.std.specs.Prelude.{◌≡◌, ℕ, length, IfOk};
-ghost use Rattle.machine_spec.specs.Meaning.{IsPlace, Means};
+ghost use Rattle.std.specs.Prelude.{◌≡◌, Some, IfOk};
 ghost use Rattle.klog_c.specs.Calls as definitions;
 
-use crate::faults::{LENGTH, MEMORY, OK, RANGE};
-use bytes::Bytes;
-use log_item::Program;
-use machine_spec::{Outcome, Place};
+use crate::faults::{KIND, LENGTH, MEMORY, OK, RANGE};
+use crate::handle::Handle;
+use crate::object::Object;
+use crate::record_headers::RecordHeaders;
+use crate::record_parts::{is_part_fitting, part_of};
+use kafka_record::share_headers;
+use machine_spec::Place;
 use std::alloc::{AllocError, Global};
 use wire_spec::{Headers, MAX_KEY, MAX_VALUE, Record, TIMESTAMP_END};
 
@@ -51,12 +53,6 @@ fn is_value_null(nulls: u32) -> bool
     2 <= nulls
 }
 
-fn is_part_fitting(is_null: bool, bytes: &[u8], most: usize) -> bool
-    ensures { result ≡ definitions.is_part_fitting is_null bytes.now most }
-{
-    is_null || bytes.len() <= most
-}
-
 fn are_parts_fitting(asked: &Asked, key: &[u8], value: &[u8]) -> bool
     ensures { result ≡ definitions.are_parts_fitting asked.now key.now value.now }
 {
@@ -65,7 +61,7 @@ fn are_parts_fitting(asked: &Asked, key: &[u8], value: &[u8]) -> bool
 }
 
 /// The first fault of what a run is given, or 0.
-pub(crate) fn run_fault(asked: &Asked, key: &[u8], value: &[u8]) -> u32
+fn run_fault(asked: &Asked, key: &[u8], value: &[u8]) -> u32
     ensures { result ≡ definitions.run_fault asked.now key.now value.now }
 {
     if !is_in_range(asked) {
@@ -77,37 +73,81 @@ pub(crate) fn run_fault(asked: &Asked, key: &[u8], value: &[u8]) -> u32
     }
 }
 
-/// A part of a record.
-fn part_of(alloc: Global, is_null: bool, bytes: &[u8]) -> Result<Option<Bytes>, AllocError>
-    ensures { IfOk result (λ part. part ≡ definitions.part_of is_null bytes.now) }
+/// The record of a key, a value and headers, whose bytes are shared.
+fn record_of(
+    alloc: Global,
+    asked: &Asked,
+    key: &[u8],
+    value: &[u8],
+    headers: &Headers,
+) -> Result<Record, AllocError>
+    ensures { IfOk result (λ given. given ≡ definitions.record_of asked.now key.now value.now headers.now) }
 {
-    if is_null {
-        return Ok(None);
-    }
-    match Bytes::copy_from_slice(alloc, bytes) {
-        Ok(bytes) => Ok(Some(bytes)),
-        Err(error) => Err(error),
-    }
-}
-
-/// The record of a key and a value.
-fn record_of(alloc: Global, asked: &Asked, key: &[u8], value: &[u8]) -> Result<Record, AllocError>
-    ensures { IfOk result (λ given. given ≡ definitions.record_of asked.now key.now value.now) }
-{
-    let key = part_of(alloc, is_key_null(asked.nulls), key)?;
-    let value = part_of(alloc, is_value_null(asked.nulls), value)?;
-    let headers = Headers {
-        list: Vec::new(alloc),
-    };
     Ok(Record {
         timestamp_delta: 0,
-        key,
-        value,
-        headers,
+        key: part_of(alloc, is_key_null(asked.nulls), key)?,
+        value: part_of(alloc, is_value_null(asked.nulls), value)?,
+        headers: share_headers(alloc, headers)?,
     })
 }
 
-fn place_of(asked: &Asked) -> Place
+/// The record of a run, or the first fault of what it is given.
+#[tactic(auto, using(crate::proofs::Ranges::record_fits))]
+fn checked_record(
+    alloc: Global,
+    asked: &Asked,
+    key: &[u8],
+    value: &[u8],
+    headers: &RecordHeaders,
+) -> Result<Record, u32>
+    ensures { definitions.GivesRecord (Some headers.now) asked.now key.now value.now result }
+{
+    let fault = run_fault(asked, key, value);
+    if fault != OK {
+        return Err(fault);
+    }
+    match record_of(alloc, asked, key, value, headers.headers()) {
+        Ok(given) => Ok(given),
+        Err(_) => Err(MEMORY),
+    }
+}
+
+fn record_with(
+    alloc: Global,
+    asked: &Asked,
+    key: &[u8],
+    value: &[u8],
+    object: &Object,
+) -> Result<Record, u32>
+    ensures { definitions.GivesRecord (definitions.headers_in (Some object.now)) asked.now key.now value.now result }
+{
+    match object {
+        Object::Program(_) | Object::Outcome(_) | Object::Text(_) | Object::Batches(_) => Err(KIND),
+        Object::Headers(headers) => checked_record(alloc, asked, key, value, headers),
+    }
+}
+
+/// The record of a run with the headers of a handle, or the first fault of what it is given.
+pub(crate) fn given_record(
+    alloc: Global,
+    asked: &Asked,
+    key: &[u8],
+    value: &[u8],
+    headers: &mut Handle,
+) -> Result<Record, u32>
+    ensures headers { headers.new.place.object ≡ headers.old.place.object }
+    ensures given { definitions.GivesRecord (definitions.headers_in headers.old.place.object) asked.now key.now value.now result }
+{
+    let Some(object) = headers.take(alloc) else {
+        return checked_record(alloc, asked, key, value, &RecordHeaders::new(alloc));
+    };
+    let given = record_with(alloc, asked, key, value, &object);
+    headers.put(alloc, object);
+    given
+}
+
+/// Where the record of a run is.
+pub(crate) fn place_of(asked: &Asked) -> Place
     ensures { result ≡ definitions.place_of asked.now }
 {
     Place {
@@ -116,20 +156,4 @@ fn place_of(asked: &Asked) -> Place
         timestamp: asked.timestamp,
         outputs: asked.outputs,
     }
-}
-
-/// What a program means on a record.
-#[tactic(auto, using(crate::proofs::Ranges::place_is, crate::proofs::Ranges::limits_are))]
-pub(crate) fn run(
-    alloc: Global,
-    program: &Program,
-    asked: &Asked,
-    key: &[u8],
-    value: &[u8],
-) -> Result<Outcome, AllocError>
-    requires { definitions.run_fault asked.now key.now value.now ≡ 0 }
-    ensures { IfOk result (λ outcome. (n : ℕ) × Means program.now (definitions.input_of asked.now key.now value.now) outcome n) }
-{
-    let given = record_of(alloc, asked, key, value)?;
-    program.run(alloc, &given, &place_of(asked))
 }

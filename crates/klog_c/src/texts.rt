@@ -112,6 +112,8 @@ fn name_of(number: u32) -> &'static str
         "a null pointer, or a handle given twice"
     } else if number == 7 {
         "the offsets of records are used up"
+    } else if number == 8 {
+        "a header's key is not UTF-8"
     } else {
         program_fault_name(number)
     }

@@ -117,7 +117,7 @@ pub(crate) fn transform_into(
     ensures { definitions.Transforms (program_in (Some object.now)) source.now bytes.now batches.old.place.object batches.new.place.object stopped.new result }
 {
     match object {
-        Object::Outcome(_) | Object::Text(_) | Object::Batches(_) => KIND,
+        Object::Outcome(_) | Object::Text(_) | Object::Batches(_) | Object::Headers(_) => KIND,
         Object::Program(program) => {
             transform_program(alloc, program.program(), source, bytes, batches, stopped)
         }

@@ -1,21 +1,23 @@
 //! What the calls do with what handles hold.
 
-ghost use Rattle.std.specs.Prelude.{◌≡◌, ◌≢◌, Some, None, IfOk, zero, suc};
+ghost use Rattle.std.specs.Prelude.{◌≡◌, ◌≢◌, Some, None, Ok, IfOk, zero, suc};
+ghost use Rattle.wire_spec.specs.RecordSpelling.{RecordFits};
 ghost use Rattle.machine_spec.specs.Image.{program_of};
+ghost use Rattle.machine_spec.specs.Meaning.{IsPlace};
 ghost use Rattle.klog_c.specs.Calls as definitions;
 ghost use Rattle.log_item.specs.Programs.{ProgramIs};
 
-use crate::faults::{KIND, MEMORY, OK, RANGE, fault_number, fault_place};
+use crate::faults::{KIND, MEMORY, RANGE, fault_number, fault_place};
 use crate::filling::fill;
 use crate::handle::Handle;
 use crate::object::Object;
-use crate::running::{Asked, run, run_fault};
 use crate::shared::Shared;
 use bytes::Bytes;
 use log_item::Program;
-use machine_spec::{IsaFault, Table};
+use machine_spec::{IsaFault, Place, Table};
 use std::alloc::Global;
 use verifier_spec::LoadFault;
+use wire_spec::Record;
 
 /// The helper table with a number.
 pub(crate) fn table_with_number(number: u32) -> Option<Table>
@@ -82,7 +84,7 @@ pub(crate) fn share_into(alloc: Global, object: &Object, other: &mut Handle) -> 
     ensures { definitions.Shares (Some object.now) other.old.place.object other.new.place.object result }
 {
     match object {
-        Object::Outcome(_) | Object::Text(_) | Object::Batches(_) => KIND,
+        Object::Outcome(_) | Object::Text(_) | Object::Batches(_) | Object::Headers(_) => KIND,
         Object::Program(program) => match program.again() {
             Err(_) => MEMORY,
             Ok(shared) => fill(alloc, other, Object::Program(shared)),
@@ -90,41 +92,54 @@ pub(crate) fn share_into(alloc: Global, object: &Object, other: &mut Handle) -> 
     }
 }
 
-fn run_program(
+/// Puts what a program means on a record into a handle.
+#[tactic(auto, using(log_spec::proofs::FittingBatches::within_limits))]
+fn run_record(
     alloc: Global,
     program: &Program,
-    asked: &Asked,
-    key: &[u8],
-    value: &[u8],
+    given: &Record,
+    place: &Place,
     outcome: &mut Handle,
 ) -> u32
-    ensures { definitions.Runs (Some program.now) asked.now key.now value.now outcome.old.place.object outcome.new.place.object result }
+    requires fits { RecordFits given.now }
+    requires place { IsPlace place.now }
+    ensures { definitions.RunsGiven (Some program.now) place.now (Ok given.now) outcome.old.place.object outcome.new.place.object result }
 {
-    let fault = run_fault(asked, key, value);
-    if fault != OK {
-        return fault;
-    }
-    match run(alloc, program, asked, key, value) {
+    match program.run(alloc, given, place) {
         Err(_) => MEMORY,
         Ok(found) => fill(alloc, outcome, Object::Outcome(found)),
     }
 }
 
-/// Puts what an object's program means on a record into a handle.
+fn run_given(
+    alloc: Global,
+    program: &Program,
+    given: Result<Record, u32>,
+    place: &Place,
+    outcome: &mut Handle,
+) -> u32
+    requires { IfOk given (λ given. RecordFits given × IsPlace place.now) }
+    ensures { definitions.RunsGiven (Some program.now) place.now given outcome.old.place.object outcome.new.place.object result }
+{
+    match given {
+        Err(fault) => fault,
+        Ok(given) => run_record(alloc, program, &given, place, outcome),
+    }
+}
+
+/// Puts what an object's program means on a record, if there is one, into a handle.
 pub(crate) fn run_into(
     alloc: Global,
     object: &Object,
-    asked: &Asked,
-    key: &[u8],
-    value: &[u8],
+    given: Result<Record, u32>,
+    place: &Place,
     outcome: &mut Handle,
 ) -> u32
-    ensures { definitions.Runs (definitions.program_in (Some object.now)) asked.now key.now value.now outcome.old.place.object outcome.new.place.object result }
+    requires { IfOk given (λ given. RecordFits given × IsPlace place.now) }
+    ensures { definitions.RunsGiven (definitions.program_in (Some object.now)) place.now given outcome.old.place.object outcome.new.place.object result }
 {
     match object {
-        Object::Outcome(_) | Object::Text(_) | Object::Batches(_) => KIND,
-        Object::Program(program) => {
-            run_program(alloc, program.program(), asked, key, value, outcome)
-        }
+        Object::Outcome(_) | Object::Text(_) | Object::Batches(_) | Object::Headers(_) => KIND,
+        Object::Program(program) => run_given(alloc, program.program(), given, place, outcome),
     }
 }

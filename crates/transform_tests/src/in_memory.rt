@@ -4,7 +4,7 @@ ghost use Rattle.wire_spec.specs.declared.limits.TheConstants.{TIMESTAMP_END};
 use crate::batches::program_of;
 use crate::streams::{damaged, put};
 use batch_transform::{BatchPlace, Stop, Transformed, transform_batches};
-use fixtures::{FORWARD, batch_of_value};
+use fixtures::{FORWARD, batch_of, batch_of_value};
 use item_rows::Origin;
 use log_item::Program;
 use std::alloc::Global;
@@ -75,21 +75,21 @@ fn stops_at_the_first_fault(rt: HostRuntime) -> Result<(), Fail> {
     Ok(())
 }
 
-/// Of each output the number of rows and of bytes.
-fn sizes(alloc: Global, found: &Transformed) -> Result<Vec<(u64, usize)>, Fail> {
+/// Of each output the number of rows, of batches and of bytes.
+fn sizes(alloc: Global, found: &Transformed) -> Result<Vec<(u64, usize, usize)>, Fail> {
     let mut list = Vec::new(alloc);
     for output in &found.outputs {
-        list.push((output.rows, output.bytes.len()))?;
+        list.push((output.rows, output.batches, output.bytes.len()))?;
     }
     Ok(list)
 }
 
-/// The rows and the bytes of each output, and how many records were read and kept. None where codes are
+/// The sizes of each output, and how many records were read and kept. None where codes are
 /// counted.
 fn summed(
     alloc: Global,
     found: &Transformed,
-) -> Result<Option<(Vec<(u64, usize)>, u64, u64)>, Fail> {
+) -> Result<Option<(Vec<(u64, usize, usize)>, u64, u64)>, Fail> {
     let sizes = sizes(alloc, found)?;
     if !found.rejects.is_empty() {
         return Ok(None);
@@ -106,8 +106,29 @@ fn rows_of_two_batches_are_in_one(rt: HostRuntime) -> Result<(), Fail> {
     let found = found.ok().ok_or("batches")?;
     let (sizes, records, kept) = summed(alloc, &found)?.ok_or("no codes")?;
     // A header and 5 records of 7 bytes.
-    assert_eq!(rt; sizes.as_slice(), [(5, 96), (0, 0)].as_slice());
+    assert_eq!(rt; sizes.as_slice(), [(5, 1, 96), (0, 0, 0)].as_slice());
     assert_eq!(rt; (records, kept), (5, 5));
+    Ok(())
+}
+
+/// The sizes of the outputs of batches of 10,000 records and of one.
+fn sizes_of_many(alloc: Global, program: &Program) -> Result<Vec<(u64, usize, usize)>, Fail> {
+    let mut bytes = Vec::new(alloc);
+    put(alloc, &mut bytes, batch_of(alloc, 10_000, 1000))?;
+    put(alloc, &mut bytes, batch_of(alloc, 1, 1000))?;
+    let mut place = BatchPlace { batch: 0, byte: 0 };
+    let found = made(alloc, program, 0, &bytes, &mut place);
+    sizes(alloc, &found.ok().ok_or("batches")?)
+}
+
+#[test]
+fn rows_past_a_batch_are_in_the_next(rt: HostRuntime) -> Result<(), Fail> {
+    let program = program_of(rt.alloc(), &FORWARD)?;
+    // 64 records of 7 bytes, 8,128 of 8 and 1,808 of 9 after a header, and one of 7 after another.
+    assert_eq!(rt;
+        sizes_of_many(rt.alloc(), &program)?.as_slice(),
+        [(10_001, 2, 81_873), (0, 0, 0)].as_slice()
+    );
     Ok(())
 }
 

@@ -9,11 +9,20 @@ static const uint8_t no_bytes[1];
 
 // A record is made here, since cgo passes C no Go memory with addresses of Go memory in it.
 static uint32_t run(klog_handle *program, const uint8_t *value, size_t length, uint64_t offset, size_t outputs,
-		    klog_handle *outcome)
+		    klog_handle *headers, klog_handle *outcome)
 {
-	klog_record record = {
-		.value = value ? value : no_bytes, .value_length = length, .offset = offset, .outputs = outputs};
+	klog_record record = {.value = value ? value : no_bytes,
+			      .value_length = length,
+			      .offset = offset,
+			      .outputs = outputs,
+			      .headers = headers};
 	return klog_run(program, &record, outcome);
+}
+
+static uint32_t add_header(klog_handle *headers, const uint8_t *key, size_t key_length, const uint8_t *value,
+			   size_t value_length, int is_null)
+{
+	return klog_add_header(headers, key, key_length, is_null || value ? value : no_bytes, value_length);
 }
 */
 import "C"
@@ -41,15 +50,22 @@ func fault(number C.uint32_t, place C.size_t) error {
 	return fmt.Errorf("%s", C.GoStringN(&text[0], C.int(length)))
 }
 
+// Header is a header of a record; a nil value is null.
+type Header struct {
+	Key   string
+	Value []byte
+}
+
 // Emission is what a program gives to an output partition; a nil slice is null.
 type Emission struct {
 	Output     int
 	Key, Value []byte
+	Headers    []Header
 }
 
-// Program is a loaded program, with room for an outcome and for batches. A goroutine at a time calls it.
+// Program is a loaded program, with room for headers, an outcome and batches. A goroutine at a time calls it.
 type Program struct {
-	program, outcome, batches C.klog_handle
+	program, headers, outcome, batches C.klog_handle
 }
 
 func (p *Program) Load(image []byte) error {
@@ -60,13 +76,34 @@ func (p *Program) Load(image []byte) error {
 func (p *Program) Free() {
 	C.klog_free(&p.outcome)
 	C.klog_free(&p.batches)
+	C.klog_free(&p.headers)
 	C.klog_free(&p.program)
 }
 
+// addHeaders makes the handle one of these headers alone.
+func (p *Program) addHeaders(headers []Header) error {
+	C.klog_free(&p.headers)
+	for _, header := range headers {
+		key, isNull := []byte(header.Key), C.int(0)
+		if header.Value == nil {
+			isNull = 1
+		}
+		number := C.add_header(&p.headers, bytesAt(key), C.size_t(len(key)), bytesAt(header.Value),
+			C.size_t(len(header.Value)), isNull)
+		if err := fault(number, 0); err != nil {
+			return err
+		}
+	}
+	return nil
+}
+
 // Run runs the program on a value that is not null, with a null key.
-func (p *Program) Run(value []byte, offset uint64, outputs int) (uint64, []Emission, error) {
+func (p *Program) Run(value []byte, offset uint64, outputs int, headers ...Header) (uint64, []Emission, error) {
+	if err := p.addHeaders(headers); err != nil {
+		return 0, nil, err
+	}
 	length, at := C.size_t(len(value)), C.uint64_t(offset)
-	number := C.run(&p.program, bytesAt(value), length, at, C.size_t(outputs), &p.outcome)
+	number := C.run(&p.program, bytesAt(value), length, at, C.size_t(outputs), &p.headers, &p.outcome)
 	if err := fault(number, 0); err != nil {
 		return 0, nil, err
 	}
@@ -103,12 +140,39 @@ func (p *Program) emission(number C.size_t, to *Emission) error {
 	if sizes.nulls&C.KLOG_NULL_VALUE == 0 {
 		to.Value = value
 	}
+	to.Headers = make([]Header, sizes.header_count)
+	for k := range to.Headers {
+		if err := p.header(number, C.size_t(k), &to.Headers[k]); err != nil {
+			return err
+		}
+	}
 	return nil
 }
 
-// Output is what an output partition gets of record batches: its number of rows, and their batches.
+func (p *Program) header(number, at C.size_t, to *Header) error {
+	var sizes C.klog_header
+	if err := fault(C.klog_emission_header(&p.outcome, number, at, &sizes), 0); err != nil {
+		return err
+	}
+	key, value := make([]byte, sizes.key_length), make([]byte, sizes.value_length)
+	if err := fault(C.klog_emission_header_key(&p.outcome, number, at, bytesAt(key), sizes.key_length), 0); err != nil {
+		return err
+	}
+	if err := fault(C.klog_emission_header_value(&p.outcome, number, at, bytesAt(value), sizes.value_length), 0); err != nil {
+		return err
+	}
+	to.Key = string(key)
+	if sizes.nulls&C.KLOG_NULL_VALUE == 0 {
+		to.Value = value
+	}
+	return nil
+}
+
+// Output is what an output partition gets of record batches: its number of rows, and their batches, of which there are
+// Count.
 type Output struct {
 	Rows    uint64
+	Count   int
 	Batches []byte
 }
 
@@ -167,6 +231,6 @@ func (p *Program) output(number C.size_t, to *Output) error {
 	if err := fault(C.klog_output_at(&p.batches, number, &told), 0); err != nil {
 		return err
 	}
-	to.Rows, to.Batches = uint64(told.rows), make([]byte, told.length)
+	to.Rows, to.Count, to.Batches = uint64(told.rows), int(told.batches), make([]byte, told.length)
 	return fault(C.klog_output_batches(&p.batches, number, bytesAt(to.Batches), told.length), 0)
 }

@@ -1,4 +1,4 @@
-// Runs a program on each line of standard input as a value with a null key, and prints what it makes of it.
+// Runs a program on each line of standard input as a value with a null key and a header, and prints what it makes of it.
 package main
 
 import (
@@ -26,7 +26,8 @@ func run() error {
 	}
 	lines := bufio.NewScanner(os.Stdin)
 	for offset := uint64(0); lines.Scan(); offset++ {
-		code, emissions, err := program.Run(lines.Bytes(), offset, 2)
+		header := Header{"line", fmt.Appendf(nil, "%d", offset+1)}
+		code, emissions, err := program.Run(lines.Bytes(), offset, 2, header)
 		if err != nil {
 			return err
 		}
@@ -37,6 +38,9 @@ func run() error {
 		}
 		for _, e := range emissions {
 			fmt.Printf("  to %d key %s value %s\n", e.Output, shown(e.Key), shown(e.Value))
+			for _, h := range e.Headers {
+				fmt.Printf("    header %s %s\n", h.Key, shown(h.Value))
+			}
 		}
 	}
 	return lines.Err()
