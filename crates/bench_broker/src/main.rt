@@ -3,12 +3,14 @@
 //!   took in the best turn, then how many programs one and four readers find a second while a writer
 //!   loads, and what a load takes.
 //! - `worker TURNS` prints how many records a second went from the append to the row in the best turn,
-//!   with one, two and four input partitions and as many threads, and with 1, 8 and 64 output
-//!   partitions. With a number of batches after TURNS it keeps their records and rows instead, and
-//!   prints the memory that these take.
+//!   and the processor time that they took, with one, two and four input partitions and as many threads;
+//!   then with 1, 8 and 64 output partitions. With a number of batches after TURNS it keeps their records
+//!   and rows instead, and prints the memory that these take.
 //! - `book TURNS` prints what a delivery of 100 rows, an audit, a fetch and a search for an offset took in
 //!   the best turn with a book of 1,000 rows and with one of 1,000,000; then how long a book is locked for
 //!   a delivery beside three others, and what a step of a book took after 1,000 and after 60,000 items.
+//! - `idle ITEMS` lets ten workers wait, prints the share of a core that they take, then appends that many
+//!   items, each when all workers sleep, and prints how long they took from the append to the row.
 //! - `fetch TIMES` fetches rows as batches that many times in each of ten turns, and prints the bytes
 //!   and rows a second of the best, beside the writing of the same batch by `batch` and a copy.
 //!
@@ -20,6 +22,7 @@ mod books;
 mod deliveries;
 mod fetches;
 mod finds;
+mod idle;
 mod loads;
 mod locks;
 mod memory;
@@ -71,9 +74,11 @@ fn main(rt: HostRuntime) -> io::Result<()> {
         }
     } else if subject.as_str() == "book" {
         books::measure(&rt, alloc, count_of(count, 3))
+    } else if subject.as_str() == "idle" {
+        idle::measure(&rt, alloc, count_of(count, 1_000))
     } else if subject.as_str() == "fetch" {
         fetches::measure_all(&rt, alloc, count_of(count, 20))
     } else {
-        println!(rt; "the subjects are log, worker, book and fetch")
+        println!(rt; "the subjects are log, worker, book, idle and fetch")
     }
 }

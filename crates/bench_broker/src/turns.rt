@@ -18,7 +18,7 @@ use std::num::nearest_u64_to_f64;
 use std::rt::Clock;
 use std::sync::Wait;
 use std::thread::Threads;
-use std::time::Instant;
+use std::time::{CpuClock, Instant};
 use std::{io, thread};
 use wire_spec::{Batch, Records};
 
@@ -40,16 +40,18 @@ const CELLS: usize = 65_536;
 /// How many batches all logs have together.
 const BATCHES: usize = 8_000;
 
-/// What the appends and then the workers took, in seconds.
+/// What the appends and then the workers took, and the processor time of both, in seconds.
 #[derive(Clone, Copy, Drop)]
 struct Times {
     appends: f64,
     workers: f64,
+    processors: f64,
 }
 
 const LONGEST: Times = Times {
     appends: f64::INFINITY,
     workers: f64::INFINITY,
+    processors: f64::INFINITY,
 };
 
 impl Times {
@@ -114,7 +116,7 @@ fn rows<Id: Names, C, R: Wait>(rt: &R, broker: &Broker<Id, C>) -> usize {
 }
 
 /// A turn with a new broker: appends side by side, and then the workers. None where a call is refused.
-fn taken<R: Threads + Wait + Clock + Sync>(
+fn taken<R: Threads + Wait + Clock + CpuClock + Sync>(
     rt: &R,
     alloc: Global,
     inputs: usize,
@@ -129,7 +131,7 @@ fn taken<R: Threads + Wait + Clock + Sync>(
     turn::<Brand, R>(rt, alloc, parts, image, batches)
 }
 
-fn turn<Id: Names + Send + Sync, R: Threads + Wait + Clock + Sync>(
+fn turn<Id: Names + Send + Sync, R: Threads + Wait + Clock + CpuClock + Sync>(
     rt: &R,
     alloc: Global,
     parts: Parts<Catalogue<&R>>,
@@ -141,13 +143,20 @@ fn turn<Id: Names + Send + Sync, R: Threads + Wait + Clock + Sync>(
     let made: Broker<Id, Catalogue<&R>> = Broker::new(alloc, parts).ok()?;
     let broker = &made;
     let each = batches / broker.inputs();
+    let before = rt.process_cpu_time().ok()?;
     let appends = append_all(rt, alloc, broker, image, each)?;
     let workers = work(rt, alloc, broker)?;
+    let used = rt.process_cpu_time().ok()?.saturating_sub(before);
     let all = each.wrapping_mul(broker.inputs()).wrapping_mul(RECORDS);
     if rows(rt, broker) != all {
         return None;
     }
-    Some(Times { appends, workers })
+    let processors = used.as_secs_f64();
+    Some(Times {
+        appends,
+        workers,
+        processors,
+    })
 }
 
 /// What it took to append that number of batches to each log by a thread of its own.
@@ -188,7 +197,7 @@ fn work<Id: Names + Send + Sync, R: Threads + Wait + Clock + Sync>(
 }
 
 /// The best of some turns.
-fn best<R: Threads + Wait + Clock + Sync>(
+fn best<R: Threads + Wait + Clock + CpuClock + Sync>(
     rt: &R,
     alloc: Global,
     inputs: usize,
@@ -208,13 +217,18 @@ fn best<R: Threads + Wait + Clock + Sync>(
     least
 }
 
+/// Nanoseconds a record.
+fn nanos(seconds: f64) -> f64 {
+    seconds * 1_000_000_000.0 / nearest_u64_to_f64((BATCHES * RECORDS) as u64)
+}
+
 /// Millions of records a second.
 fn rate(seconds: f64) -> f64 {
     nearest_u64_to_f64((BATCHES * RECORDS) as u64) / seconds / 1_000_000.0
 }
 
 /// Prints the best turn of one, two and four input partitions, with that number of output partitions.
-fn measure_cores<R: Threads + Wait + Clock + Print + Sync>(
+fn measure_cores<R: Threads + Wait + Clock + CpuClock + Print + Sync>(
     rt: &R,
     alloc: Global,
     outputs: usize,
@@ -231,7 +245,7 @@ fn measure_cores<R: Threads + Wait + Clock + Print + Sync>(
     print_cores(rt, 4, four, one)
 }
 
-/// Prints each rate, and beside it how many times that of one input partition it is.
+/// Prints each rate and the processor time, and beside it how many times that of one input partition it is.
 fn print_cores<R: Print>(rt: &R, inputs: usize, times: Times, one: Times) -> io::Result<()> {
     println!(rt;
         "{inputs} inputs: {:6.3} million records/s, {:5.2} of one; workers alone {:6.3}, {:5.2} of one",
@@ -239,11 +253,16 @@ fn print_cores<R: Print>(rt: &R, inputs: usize, times: Times, one: Times) -> io:
         one.all() / times.all(),
         rate(times.workers),
         one.workers / times.workers
+    )?;
+    println!(rt;
+        "          processor time {:6.1} ns a record, {:5.2} of one",
+        nanos(times.processors),
+        times.processors / one.processors
     )
 }
 
 /// Prints the best turn of one input partition, with that number of output partitions.
-fn measure_outputs<R: Threads + Wait + Clock + Print + Sync>(
+fn measure_outputs<R: Threads + Wait + Clock + CpuClock + Print + Sync>(
     rt: &R,
     alloc: Global,
     outputs: usize,
@@ -260,7 +279,7 @@ fn measure_outputs<R: Threads + Wait + Clock + Print + Sync>(
 }
 
 /// Prints the best turns with several numbers of input and output partitions.
-pub(crate) fn measure_all<R: Threads + Wait + Clock + Print + Sync>(
+pub(crate) fn measure_all<R: Threads + Wait + Clock + CpuClock + Print + Sync>(
     rt: &R,
     alloc: Global,
     turns: u32,
@@ -277,7 +296,7 @@ pub(crate) fn measure_all<R: Threads + Wait + Clock + Print + Sync>(
 }
 
 /// Keeps the records of batches and their rows, and prints the memory that a record and its row take.
-pub(crate) fn keep<R: Threads + Wait + Clock + Files + Alloc + Print + Sync>(
+pub(crate) fn keep<R: Threads + Wait + Clock + CpuClock + Files + Alloc + Print + Sync>(
     rt: &R,
     alloc: Global,
     batches: usize,
