@@ -1,4 +1,4 @@
-use Rattle.std.proofs.Common.{◌≡◌, ℕ, ◌+◌, ◌++◌, List, [], length, sym, ap, subst, ◌∙◌, rules, arith, append_assoc}
+use Rattle.std.proofs.Common.{◌≡◌, ℕ, ◌++◌, List, [], length, sym, ap, subst, ◌∙◌, rules, arith, append_assoc}
 use Rattle.std.proofs.lemmas.List.{length-append, append-nil, nil_from_length}
 use Rattle.std.specs.List.{AllByRecursion}
 use Rattle.std.specs.Slice.Iter.{chunks_rest}
