@@ -23,6 +23,10 @@ use wire_spec::{Batch, Record};
 /// From so many records on, records are run abreast: fewer take less time one by one.
 const FEWEST_ABREAST: usize = 128;
 
+/// From so many instructions on, a program is run on records abreast. A shorter one saves less than it costs
+/// to keep the emissions of a block of records until their rows are added.
+const FEWEST_INSTRUCTIONS: usize = 128;
+
 /// The outcomes of at most so many records wait for their rows to be added, so that they stay in the
 /// processor's caches.
 const MOST_ABREAST: usize = 512;
@@ -142,14 +146,17 @@ impl<'a> BatchRun<'a> {
         requires { CanRun self.now offset records.now counts.old }
         ensures { OnOk result (HaveRun self.now offset records.now all.old all.new counts.old counts.new) }
     {
-        if records.len() < FEWEST_ABREAST {
-            return self.push_each(offset, records, all, counts);
-        }
         match self.program {
-            Some(program) => self.push_abreast(program, offset, records, all, counts),
+            Some(program) => {
+                if records.len() < FEWEST_ABREAST || program.instructions() < FEWEST_INSTRUCTIONS {
+                    return self.push_each(offset, records, all, counts);
+                }
+                self.push_abreast(program, offset, records, all, counts)
+            }
             None => self.push_each(offset, records, all, counts),
         }
     }
+
     /// Does what `push_each` does, a block of records after the other.
     pub(crate) fn push_all(
         &self,

@@ -1,9 +1,9 @@
-ghost use Rattle.std.specs.Prelude.{◌≡◌, ℕ, IfOk};
+ghost use Rattle.std.specs.Prelude.{◌≡◌, ℕ, List, length, IfOk};
 ghost use Rattle.exec.specs.Abreast.{AreGiven};
 ghost use Rattle.log_item.specs.Programs.{ProgramIs, RunsSafely, RunsSafelyOnEach};
-ghost use Rattle.machine_spec.specs.Image.{program_of};
+ghost use Rattle.machine_spec.specs.Image.{program_of, IsCodeOf};
 ghost use Rattle.machine_spec.specs.Meaning.{IsPlace, Means};
-ghost use Rattle.machine_spec.specs.declared.outcome.Outcome.{Outcome};
+ghost use Rattle.machine_spec.specs.declared.{instruction.Placed.Placed, outcome.Outcome.Outcome};
 ghost use Rattle.verifier_spec.specs.StandsFor.{IsWithinLimits};
 
 use bytes::Bytes;
@@ -45,6 +45,13 @@ impl Program {
         }
     }
 
+    /// How many instructions the program has.
+    pub fn instructions(&self) -> usize
+        ensures { (code : List Placed) × IsCodeOf self.now.image code × (result ≡ length code) }
+    {
+        self.verified.code().len()
+    }
+
     /// What the program means on a record: an exit within as many instructions as it has, with no
     /// trap on the way and no byte read but this record's own and what is set in the stack. It fails
     /// only where memory runs out.
@@ -59,8 +66,8 @@ impl Program {
         exec::run(alloc, &self.verified, given, place)
     }
 
-    /// What the program means on each of these records, at its place, in order. Many records at once
-    /// take less time than one after the other. It fails only where memory runs out.
+    /// What the program means on each of these records, at its place, in order. A long program
+    /// takes less time so than on one record after the other. It fails only where memory runs out.
     pub fn run_all(
         &self,
         alloc: Global,
