@@ -33,4 +33,6 @@ mod streams;
 #[cfg(test)]
 mod threads;
 #[cfg(test)]
+mod waits;
+#[cfg(test)]
 mod workers;
