@@ -1,7 +1,9 @@
 //! A program of an image, on records with random values.
 
-use crate::{Fitting, records_of, time};
+use crate::abreast::time_abreast;
+use crate::{Fitting, keyless, records_of, time};
 use bytes::Bytes;
+use exec::Record;
 use machine_spec::Table;
 use std::alloc::Global;
 use std::io;
@@ -36,12 +38,22 @@ fn values(alloc: Global) -> Option<Vec<Bytes>> {
     Some(values)
 }
 
+/// The same records in a list.
+fn given_of(alloc: Global) -> Option<Vec<Record>> {
+    let mut given = Vec::new(alloc);
+    for value in values(alloc)? {
+        given.push(keyless(alloc, value)).ok()?;
+    }
+    Some(given)
+}
+
 /// Times a program on one record, and on 1,024 records whose values differ.
 fn time_both<R: Print + Clock>(
     rt: &R,
     alloc: Global,
     image: &[u8],
     records: &[Fitting],
+    given: &[Record],
     rounds: u32,
 ) -> io::Result<()> {
     let Ok(program) = annotate::load(alloc, image, Table::Two) else {
@@ -58,12 +70,13 @@ fn time_both<R: Print + Clock>(
             rounds.saturating_mul(1024),
         )?;
         time(rt, alloc, "1,024 records", &program, records, rounds)?;
+        time_abreast(rt, alloc, &program, records, given, rounds)?;
     }
     Ok(())
 }
 
 /// Times the program of an image: four times on one record, and on 1,024 records whose values
-/// differ. It prints nothing where memory runs out.
+/// differ, one after another and abreast. It prints nothing where memory runs out.
 pub(crate) fn time_image<R: Print + Clock>(
     rt: &R,
     alloc: Global,
@@ -71,8 +84,8 @@ pub(crate) fn time_image<R: Print + Clock>(
     rounds: u32,
 ) -> io::Result<()> {
     let made = values(alloc).and_then(|values| records_of(alloc, values));
-    match made {
-        Some(records) => time_both(rt, alloc, image, &records, rounds),
-        None => Ok(()),
+    match (made, given_of(alloc)) {
+        (Some(records), Some(given)) => time_both(rt, alloc, image, &records, &given, rounds),
+        _ => Ok(()),
     }
 }

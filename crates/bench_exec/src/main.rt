@@ -3,6 +3,7 @@
 //! record and on 1,024. With none it times programs of one kind of instruction each.
 #![tactic(auto)]
 
+mod abreast;
 mod images;
 mod kinds;
 
@@ -12,7 +13,7 @@ use bytes::Bytes;
 use exec::{Headers, Outcome, Place, Record, is_place, is_within_limits, run};
 use machine_spec::Table;
 use notes::Verified;
-use std::alloc::Global;
+use std::alloc::{AllocError, Global};
 use std::marker::Model;
 use std::rt::Clock;
 use std::time::Instant;
@@ -60,15 +61,20 @@ impl Model for Fitting {
     ghost invariant = { λ f. IsShortRecord f.record };
 }
 
-fn record_of(alloc: Global, value: Bytes) -> Option<Fitting> {
-    let record = Record {
+/// A record with no key.
+fn keyless(alloc: Global, value: Bytes) -> Record {
+    Record {
         timestamp_delta: 0,
         key: None,
         value: Some(value),
         headers: Headers {
             list: Vec::new(alloc),
         },
-    };
+    }
+}
+
+fn record_of(alloc: Global, value: Bytes) -> Option<Fitting> {
+    let record = keyless(alloc, value);
     if is_within_limits(&record) {
         Some(Fitting { record })
     } else {
@@ -95,12 +101,17 @@ fn values(alloc: Global) -> Option<Vec<Bytes>> {
     Some(values)
 }
 
+/// The outcome of a program on a record.
+fn outcome_of(alloc: Global, program: &Verified, fitting: &Fitting) -> Result<Outcome, AllocError> {
+    if !is_place(&PLACE) {
+        return Err(AllocError);
+    }
+    run(alloc, program, &fitting.record, &PLACE)
+}
+
 /// The reject code of a program on a record, 0 where it is kept.
 fn code_of(alloc: Global, program: &Verified, fitting: &Fitting) -> Option<u64> {
-    if !is_place(&PLACE) {
-        return None;
-    }
-    match run(alloc, program, &fitting.record, &PLACE) {
+    match outcome_of(alloc, program, fitting) {
         Ok(Outcome::Rejected(code)) => Some(code),
         Ok(Outcome::Kept(_)) => Some(0),
         Err(_) => None,

@@ -1,8 +1,10 @@
 //! Runs random programs on random records by the plain machine and, where the verifier accepts them,
 //! by the interpreter, and compares. The arguments are how many programs and the seed; with none the
-//! program does nothing. `jumps COUNT` times the plain machine on a program of COUNT jumps.
+//! program does nothing. `abreast PROGRAMS SEED` runs each program on up to 1,000 records at once.
+//! `jumps COUNT` times the plain machine on a program of COUNT jumps.
 #![tactic(auto)]
 
+mod abreast;
 mod jumps;
 mod random;
 
@@ -21,7 +23,7 @@ const PLACE: Place = Place {
     outputs: 2,
 };
 
-/// How many programs were accepted, how many instructions these did, and how many runs differ.
+/// How many runs of accepted programs there were, how many instructions these did, and how many differ.
 #[derive(Drop)]
 struct Counts {
     accepted: u64,
@@ -63,6 +65,14 @@ fn outcome_of(
 }
 
 impl Counts {
+    fn new() -> Counts {
+        Counts {
+            accepted: 0,
+            instructions: 0,
+            different: 0,
+        }
+    }
+
     /// Runs the program of an image and a table on a record both ways.
     fn compare(
         &mut self,
@@ -86,11 +96,7 @@ impl Counts {
 /// Compares random programs and records, `programs` of each.
 fn compared(alloc: Global, programs: u64, seed: u64) -> Result<Counts, AllocError> {
     let mut random = Random::new(seed);
-    let mut counts = Counts {
-        accepted: 0,
-        instructions: 0,
-        different: 0,
-    };
+    let mut counts = Counts::new();
     for _ in 0..programs {
         let image = random.program(alloc)?;
         let record = random.record(alloc)?;
@@ -100,8 +106,7 @@ fn compared(alloc: Global, programs: u64, seed: u64) -> Result<Counts, AllocErro
     Ok(counts)
 }
 
-fn print_comparison<R: Print>(rt: &R, alloc: Global, programs: u64, seed: u64) -> io::Result<()> {
-    let counts = compared(alloc, programs, seed)?;
+fn print_counts<R: Print>(rt: &R, programs: u64, counts: &Counts) -> io::Result<()> {
     println!(rt;
         "{programs} programs, {} accepted, {} instructions, {} different",
         counts.accepted, counts.instructions, counts.different
@@ -113,24 +118,30 @@ fn print_time<R: Print + Clock>(rt: &R, alloc: Global, jumps: u32) -> io::Result
     println!(rt; "{count} instructions in {nanos} ns")
 }
 
+/// The number that an argument is, 0 where there is none.
+fn number_of(argument: &Option<String>) -> u64 {
+    match argument {
+        Some(number) => number.as_str().parse().unwrap_or(0),
+        None => 0,
+    }
+}
+
 fn main(rt: HostRuntime) -> io::Result<()> {
     let mut arguments = env::args(&rt)?;
     let _ = arguments.next();
     let Some(mode) = arguments.next() else {
         return Ok(());
     };
-    let second = arguments.next();
-    let number = match &second {
-        Some(number) => number.as_str(),
-        None => "0",
-    };
+    let number = number_of(&arguments.next());
     match mode.as_str() {
-        "jumps" => print_time(&rt, rt.alloc(), number.parse().unwrap_or(0)),
-        programs => print_comparison(
-            &rt,
-            rt.alloc(),
-            programs.parse().unwrap_or(0),
-            number.parse().unwrap_or(0),
-        ),
+        "jumps" => print_time(&rt, rt.alloc(), number.min(16_384) as u32),
+        "abreast" => {
+            let seed = number_of(&arguments.next());
+            print_counts(&rt, number, &abreast::compared(rt.alloc(), number, seed)?)
+        }
+        programs => {
+            let programs = programs.parse().unwrap_or(0);
+            print_counts(&rt, programs, &compared(rt.alloc(), programs, number)?)
+        }
     }
 }

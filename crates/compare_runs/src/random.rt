@@ -25,6 +25,12 @@ const TESTS: [u8; 11] = [
     0x10, 0x20, 0x30, 0x40, 0x50, 0x60, 0x70, 0xa0, 0xb0, 0xc0, 0xd0,
 ];
 
+/// Operations and moves that a loop over records does.
+const EVEN: [u8; 9] = [0x00, 0x10, 0x20, 0x40, 0x50, 0x60, 0x70, 0xa0, 0xb0];
+
+/// Tests that a loop over records does.
+const EVEN_TESTS: [u8; 6] = [0x10, 0x20, 0x30, 0x50, 0xa0, 0xb0];
+
 /// The helpers that are called.
 const HELPERS: [u8; 6] = [3, 6, 7, 8, 9, 10];
 
@@ -457,6 +463,81 @@ impl Random {
             }
         }
         Ok(image)
+    }
+
+    /// An operation or a move of 64 bits that needs no quotient, or a byte of the value behind a test of
+    /// the length.
+    fn push_even(&mut self, image: &mut Vec<u8>) -> Result<(), AllocError> {
+        let dst = self.register();
+        let src = self.register();
+        let code = self.byte_of(&EVEN);
+        let imm = self.immediate();
+        let offset = self.below(12) as i16;
+        match self.below(8) {
+            0 => {
+                let least = i32::from(offset) + 1;
+                image.extend_from_slice(&slot(0xa5, 2, 0, 1, least))?;
+                image.extend_from_slice(&slot(0x71, dst, 1, offset, 0))?;
+            }
+            1..=4 => image.extend_from_slice(&slot(code | 7, dst, 0, 0, imm))?,
+            _ => image.extend_from_slice(&slot(code | 15, dst, src, 0, 0))?,
+        }
+        Ok(())
+    }
+
+    /// A jump of 64 bits over up to eight of these.
+    fn push_even_jump(&mut self, alloc: Global, image: &mut Vec<u8>) -> Result<(), AllocError> {
+        let mut pieces = Vec::new(alloc);
+        for _ in 0..self.below(8) {
+            self.push_even(&mut pieces)?;
+        }
+        let slots = (pieces.len() / 8 % 32) as i16;
+        let test = self.byte_of(&EVEN_TESTS);
+        let dst = self.register();
+        let src = self.register();
+        let imm = self.immediate();
+        let jump = if self.below(2) == 0 {
+            slot(test | 5, dst, 0, slots, imm)
+        } else {
+            slot(test | 13, dst, src, slots, 0)
+        };
+        image.extend_from_slice(&jump)?;
+        image.extend_from_slice(&pieces)?;
+        Ok(())
+    }
+
+    /// The image of a program most of whose instructions are operations, moves and jumps of 64 bits and
+    /// loads of a byte. At times it ends early, and about one piece of thirty is any.
+    pub(crate) fn even_program(&mut self, alloc: Global) -> Result<Vec<u8>, AllocError> {
+        let mut image = Vec::new(alloc);
+        for register in NUMBERS {
+            let imm = self.immediate();
+            image.extend_from_slice(&slot(0xb7, register, 0, 0, imm))?;
+        }
+        let pieces = 20 + self.below(80);
+        for _ in 0..pieces {
+            match self.below(30) {
+                0 => self.push_piece(&mut image)?,
+                1 => {
+                    let dst = self.register();
+                    image.extend_from_slice(&slot(0x25, dst, 0, 1, 255))?;
+                    image.extend_from_slice(&slot(0x95, 0, 0, 0, 0))?;
+                }
+                2..=8 => self.push_even_jump(alloc, &mut image)?,
+                _ => self.push_even(&mut image)?,
+            }
+        }
+        self.push_end(&mut image)?;
+        Ok(image)
+    }
+
+    /// How many records a program is run on: 1 to 1,000, and mostly fewer than 300.
+    pub(crate) fn count(&mut self) -> u64 {
+        if self.below(8) == 0 {
+            1 + self.below(1000)
+        } else {
+            100 + self.below(200)
+        }
     }
 
     /// The helper table of a program, mostly the second.
