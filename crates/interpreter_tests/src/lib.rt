@@ -2,6 +2,8 @@
 #![tactic(auto)]
 
 #[cfg(test)]
+mod abreast;
+#[cfg(test)]
 mod changes;
 #[cfg(test)]
 mod images;
