@@ -15,6 +15,8 @@ use std::mem;
 
 /// An emission as a row.
 fn row(place: &Place, number: usize, emission: Emission) -> Row
+    requires place { IsPlace place.now }
+    requires few { number < MAX_EMISSIONS }
     ensures { result ≡ row_of place.now number emission }
 {
     let Emission {
@@ -24,9 +26,9 @@ fn row(place: &Place, number: usize, emission: Emission) -> Row
         headers,
     } = emission;
     Row {
-        input: place.partition,
+        input: place.partition as u32,
+        number: number as u32,
         offset: place.offset,
-        number,
         timestamp: place.timestamp,
         key,
         value,
