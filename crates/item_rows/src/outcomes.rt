@@ -1,6 +1,9 @@
 //! The rows that outcomes give, and what became of their records.
 
-ghost use Rattle.std.specs.Prelude.{◌==◌, if◌then◌else◌, [], ◌∷◌, ◌≡◌, ◌+◌, ◌<◌, ◌^◌, length, map, IfOk, OnOk};
+ghost use Rattle.std.specs.Prelude.{◌==◌, if◌then◌else◌, [], ◌∷◌, ◌≡◌, ℕ, ◌+◌, ◌<◌, ◌≤◌, ◌^◌, length, map, get_or, IfOk, OnOk};
+ghost use Rattle.machine_spec.specs.declared.limits.TheConstants.{MAX_EMISSIONS};
+ghost use Rattle.machine_spec.specs.declared.outcome.Place.{Place};
+ghost use Rattle.machine_spec.specs.Meaning.{IsPlace};
 ghost use Rattle.log_spec.specs.Logs.{row_of, rows_to, rows_of};
 ghost use Rattle.fates.specs.Fates.{fate_of};
 ghost use Rattle.item_rows.specs.ItemRows.{Adds};
@@ -44,6 +47,8 @@ fn push_row(
     number: usize,
     emission: Emission,
 ) -> Result<(), AllocError>
+    requires place { IsPlace place.now }
+    requires few { number < MAX_EMISSIONS }
     ensures { OnOk result (Adds first all.old all.new (λ output here. here ≡ (if emission.out == output then row_of place.now number emission ∷ [] else []))) }
 {
     let out = emission.out;
@@ -60,6 +65,8 @@ fn push_rows(
     place: &Place,
     emissions: Vec<Emission>,
 ) -> Result<(), AllocError>
+    requires place { IsPlace place.now }
+    requires few { length emissions.items ≤ MAX_EMISSIONS }
     ensures { OnOk result (Adds first all.old all.new (λ output here. here ≡ rows_to output place.now 0 emissions.items)) }
 {
     let mut number = 0;
@@ -72,7 +79,8 @@ fn push_rows(
 
 /// The emissions by value.
 fn into_list(alloc: Global, mut emissions: Emissions) -> Vec<Emission>
-    ensures { result.items ≡ emissions }
+    ensures list { result.items ≡ emissions }
+    ensures few { length result.items ≤ MAX_EMISSIONS }
 {
     mem::replace(&mut emissions.list, Vec::new(alloc))
 }
@@ -85,6 +93,7 @@ pub(crate) fn push_outcome(
     place: &Place,
     outcome: Outcome,
 ) -> Result<Fate, AllocError>
+    requires { IsPlace place.now }
     ensures { IfOk result (λ fate. (fate ≡ fate_of outcome)
         × Adds first all.old all.new (λ output here. here ≡ rows_of output place.now outcome)) }
 {
@@ -107,6 +116,7 @@ pub(crate) fn push_outcomes(
     counts: &mut Counts,
 ) -> Result<(), AllocError>
     requires places { length places.now ≡ length outcomes.items }
+    requires ranges { (k : ℕ) (p : Place) → k < length places.now → IsPlace (get_or places.now k p) }
     requires few { counts.old.records + length outcomes.items < 2 ^ 63 }
     ensures rows { OnOk result (Adds first all.old all.new (λ output here. here ≡ rows_of_each output places.now outcomes.items)) }
     ensures counts { OnOk result (AreFatesMore (map fate_of outcomes.items) counts.old counts.new) }

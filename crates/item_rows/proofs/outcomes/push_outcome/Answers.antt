@@ -13,7 +13,7 @@ returns-in_ok-push_rows-in-Kept c =
     let first = c.args.first in let place = c.args.place.now in let one = c.args.all.now in let two =
     c.push_rows.new.all in
     let adds = subst (λ (es : List Emission). Adds first one two (λ q here. here ≡ rows_to q place 0 es))
-    c.into_list.ensures c.in_ok-push_rows-in-Kept.ensures in
+    c.into_list.ensures.list c.in_ok-push_rows-in-Kept.ensures in
     subst (λ (o : Outcome). (fate.Kept ≡ fate_of o) × Adds first one two (λ q here. here ≡ rows_of q place o))
     (sym c.in-Kept.is) (refl, adds)
 

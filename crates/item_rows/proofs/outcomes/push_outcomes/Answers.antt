@@ -27,6 +27,16 @@ bounds-places-number c =
     c.in-Some.outcome c.in-Some.is c.next.ensures.steps in
     omega (arith, c.loop-outcome.invariant.2, here.0, c.requires.places)
 
+pub push_outcome-requires : goal.push_outcome-requires
+push_outcome-requires c =
+    let of = c.into_iter-outcome-iterator.ensures.into_iter_gives in
+    let here = YieldsList-turn {s = c.into_iter-outcome-iterator.result}
+    (YieldsList-from_vec c.args.outcomes.items of.0 (omega (arith, of.1, ap length of.0)))
+    c.loop-outcome.yielded c.loop-outcome.outcome-iterator c.loop-outcome.yielded_by c.next.result c.next.new.self
+    c.in-Some.outcome c.in-Some.is c.next.ensures.steps in
+    c.requires.ranges c.loop-outcome.number nowhere
+    (omega (arith, c.loop-outcome.invariant.2, here.0, c.requires.places))
+
 pub add-requires : goal.add-requires
 add-requires c =
     let of = c.into_iter-outcome-iterator.ensures.into_iter_gives in

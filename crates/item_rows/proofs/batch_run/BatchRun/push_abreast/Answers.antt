@@ -1,5 +1,6 @@
-use Rattle.std.proofs.Common.{◌≡◌, List, length, sym, ap, subst, ◌∙◌, arith, map}
+use Rattle.std.proofs.Common.{◌≡◌, ℕ, ◌<◌, List, length, get_or, sym, ap, subst, ◌∙◌, arith, map}
 use Rattle.machine_spec.specs.declared.outcome.Place.{Place}
+use Rattle.machine_spec.specs.Meaning.{IsPlace}
 use Rattle.exec.specs.Abreast.{AreGiven}
 use Rattle.log_item.specs.Programs.{RunsSafelyOnEach}
 use Rattle.fates.specs.Fates.{fate_of}
@@ -25,6 +26,15 @@ push_outcomes-requires-clause-places c =
       places_long run.origin.now.input run.origin.now.outputs run.batch.now c.args.offset c.args.records.now,
       c.in_ok-outcomes.ensures.long,
     )
+
+pub push_outcomes-requires-clause-ranges : goal.push_outcomes-requires-clause-ranges
+push_outcomes-requires-clause-ranges c =
+    let run = c.args.self.now in
+    let given = places_given run.origin.now run.batch.now c.requires.run.origin c.args.offset c.args.records.now
+    c.requires.run.fits c.requires.run.few in
+    subst (λ (ps : List Place). (k : ℕ) (p : Place) → k < length ps → IsPlace (get_or ps k p))
+    (sym (c.as_slice-at.ensures.value ∙ c.in_ok-places.ensures))
+    (λ k p lt. given.ranges k p (omega (arith, lt, given.long)))
 
 pub push_outcomes-requires-clause-few : goal.push_outcomes-requires-clause-few
 push_outcomes-requires-clause-few c = omega (arith, c.requires.run.counted, c.in_ok-outcomes.ensures.long)
