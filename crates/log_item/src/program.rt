@@ -1,5 +1,6 @@
 ghost use Rattle.std.specs.Prelude.{◌≡◌, ℕ, List, length, IfOk};
 ghost use Rattle.exec.specs.Abreast.{AreGiven};
+ghost use Rattle.exec.specs.Endings.{outcome_with};
 ghost use Rattle.log_item.specs.Programs.{ProgramIs, RunsSafely, RunsSafelyOnEach};
 ghost use Rattle.machine_spec.specs.Image.{program_of, IsCodeOf};
 ghost use Rattle.machine_spec.specs.Meaning.{IsPlace, Means};
@@ -7,7 +8,8 @@ ghost use Rattle.machine_spec.specs.declared.{instruction.Placed.Placed, outcome
 ghost use Rattle.verifier_spec.specs.StandsFor.{IsWithinLimits};
 
 use bytes::Bytes;
-use machine_spec::{IsaFault, Outcome, Place, Table};
+use exec::Ending;
+use machine_spec::{Emissions, IsaFault, Outcome, Place, Table};
 use notes::Verified;
 use std::alloc::{AllocError, Global};
 use std::marker::Model;
@@ -64,6 +66,26 @@ impl Program {
             × IfOk result (λ answer. answer ≡ outcome) }
     {
         exec::run(alloc, &self.verified, given, place)
+    }
+
+    /// The same, with the room of a list for the emissions. What is in the list before is dropped.
+    /// Returns how the run ends; where it keeps its emissions, they are in the list. The list keeps
+    /// its room however the run ends.
+    pub fn run_into(
+        &self,
+        alloc: Global,
+        given: &Record,
+        place: &Place,
+        emissions: &mut Emissions,
+    ) -> Result<Ending, AllocError>
+        requires limits { IsWithinLimits (record { given = given.now; place = place.now }) }
+        requires place { IsPlace place.now }
+        ensures means { IfOk result (λ ending. (n : ℕ) × Means self.now (record { given = given.now; place = place.now }) (outcome_with ending emissions.new) n) }
+        ensures safe { (outcome : Outcome)
+            × RunsSafely self.now (record { given = given.now; place = place.now }) outcome
+            × IfOk result (λ ending. outcome_with ending emissions.new ≡ outcome) }
+    {
+        exec::run_into(alloc, &self.verified, given, place, emissions)
     }
 
     /// What the program means on each of these records, at its place, in order. A long program

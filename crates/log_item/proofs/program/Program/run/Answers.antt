@@ -13,7 +13,7 @@ returns-clause-means c =
     let input : Input = record { given = c.args.given.now; place = c.args.place.now } in
     let ran = c.run.ensures c.self.inside.image c.self.invariant in
     let means = run_means program input c.self.inside.verified.code c.self.inside.verified.claims ran.0 ran.1
-    c.run.result ran.2 in
+    (λ (o : Outcome). o) c.run.result ran.2 in
     subst (λ (p : Program). IfOk c.run.result (λ (o : Outcome). (n : ℕ) × Means p input o n)) c.self.view_is means
 
 pub returns-clause-safe : goal.returns-clause-safe
