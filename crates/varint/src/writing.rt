@@ -1,4 +1,4 @@
-ghost use Rattle.std.specs.Prelude.{◌≡◌, ◌≤◌, length, take, ◌++◌, OnOk, OnErr};
+ghost use Rattle.std.specs.Prelude.{◌≡◌, ◌≤◌, ◌<◌, length, take, ◌++◌, OnOk, OnErr};
 ghost use Rattle.wire_spec.specs.Varint.{zigzag, groups, varint, varlong};
 
 use std::alloc::AllocError;
@@ -22,6 +22,18 @@ fn put_groups(number: u64, bytes: &mut [u8; 10]) -> usize
     10
 }
 
+/// The two groups of seven bits of a number that has as many. It takes no loop: most lengths in a record
+/// have one or two.
+#[tactic(auto, unfolding(wire_spec::specs::Varint::groups))]
+#[inline(always)]
+fn two_groups(number: u64) -> [u8; 2]
+    requires more { 128 ≤ number }
+    requires few { number < 16384 }
+    ensures { result ≡ groups 10 number }
+{
+    [(128 + number % 128) as u8, (number / 128) as u8]
+}
+
 /// Writes a number's groups of seven bits at the end.
 #[tactic(auto, unfolding(wire_spec::specs::Varint::groups))]
 #[inline(always)]
@@ -32,6 +44,9 @@ fn write_groups(number: u64, out: &mut Vec<u8>) -> Result<(), AllocError>
     if number < 128 {
         out.push(number as u8)?;
         return Ok(());
+    }
+    if number < 16_384 {
+        return out.extend_from_slice(&two_groups(number));
     }
     let mut bytes = [0u8; 10];
     let len = put_groups(number, &mut bytes);
