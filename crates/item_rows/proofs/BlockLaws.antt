@@ -1,11 +1,11 @@
 -- Some records of a batch after others.
 use Rattle.std.proofs.Common.{◌≡◌, ℕ, zero, suc, ◌+◌, ◌<◌, ◌≤◌, ℤ, pos, negsuc, ◌≤ℤ◌, ◌<ℤ◌, unsigned_abs}
-use Rattle.std.proofs.Common.{List, [], ◌∷◌, ◌++◌, length, get_or, map, Option, Some, refl, sym, ap, subst, ◌∙◌}
+use Rattle.std.proofs.Common.{List, [], ◌∷◌, ◌++◌, length, take, get_or, map, Option, Some, refl, sym, ap, subst, ◌∙◌}
 use Rattle.std.proofs.Common.{append_assoc, arith, Result, Ok, Err}
 use Rattle.std.specs.Prelude.{OnOk}
 use Rattle.std.specs.List.{AllByRecursion}
 use Rattle.std.proofs.lemmas.Int.{ints}
-use Rattle.std.proofs.lemmas.List.{length-append, append-nil, get_or_default}
+use Rattle.std.proofs.lemmas.List.{length-append, length-take, append-nil, get_or_default}
 use Rattle.wire_spec.specs.declared.{limits.TheConstants.TIMESTAMP_END, record.Record.Record, record.Batch.Batch}
 use Rattle.machine_spec.specs.declared.{outcome.Outcome.Outcome, outcome.Place.Place}
 use Rattle.machine_spec.specs.Image.{Program}
@@ -23,7 +23,7 @@ use Rattle.fates.specs.Totals.{Totals, AreCounts}
 use Rattle.fates.proofs.FateLaws.{fates-next}
 use Rattle.item_rows.specs.declared.{origin.Origin.Origin, batch_run.BatchRun.BatchRun}
 use Rattle.item_rows.specs.ItemRows.{IsOrigin, Adds}
-use Rattle.item_rows.specs.Blocks.{places_from, rows_of_each, AreFatesMore, program_in, HaveRun}
+use Rattle.item_rows.specs.Blocks.{places_from, rows_of_each, AreFatesMore, program_in, CanRun, HaveRun}
 use Rattle.item_rows.proofs.RowLaws.{adds_none, adds_then, adds_as, each_at}
 
 -- ---- fates that are counted
@@ -226,6 +226,22 @@ outcomes-next output (p ∷ places) (o ∷ outcomes) place outcome lt at =
     ap (λ (rs : List Row). rows_of output p o ++ rs) (outcomes-next output places outcomes place outcome below at)
     ∙ sym (append_assoc (rows_of output p o) (rows_of_each output places outcomes) (rows_of output place outcome))
 
+-- the rows of one more outcome of a block
+pub outcome_more : (first : ℕ) (places : List Place) (outcomes : List Outcome) (k : ℕ) (place : Place)
+    (outcome : Outcome) (one two three : List (List Row)) → k < length places → k < length outcomes →
+    place ≡ get_or places k place → Adds first one two (λ q here. here ≡ rows_of_each q places (take k outcomes)) →
+    Adds first two three (λ q here. here ≡ rows_of q place outcome) →
+    Adds first one three (λ q here. here ≡ rows_of_each q places (take k outcomes ++ outcome ∷ []))
+outcome_more first places outcomes k place outcome one two three lt within at before after =
+    let done = take k outcomes in let long : length done ≡ k = omega (arith, length-take k outcomes, within) in
+    adds_then first one two three (λ q here. here ≡ rows_of_each q places done)
+    (λ q here. here ≡ rows_of q place outcome) (λ q here. here ≡ rows_of_each q places (done ++ outcome ∷ [])) before
+    after
+    (λ q here later is are. ap (λ (rs : List Row). rs ++ later) is
+    ∙ (ap (λ (rs : List Row). rows_of_each q places done ++ rs) are
+    ∙ sym (outcomes-next q places done place outcome (omega (arith, long, lt))
+    (at ∙ ap (λ (n : ℕ). get_or places n place) (sym long)))))
+
 module _ (input outputs : ℕ) (program : Program) (batch : Batch) where
   abbrev Meant : ℕ → List Record → List Outcome → Type 0
   Meant offset given outcomes =
@@ -289,7 +305,7 @@ meant_run run offset program given outcomes old new were are same meant adds mor
       counts = more;
     }
 
--- ---- parts of lists, and calls that may fail
+-- ---- parts of lists
 
 pub all_first : {A : Type 0} (P : A → Type 0) (xs ys : List A) → AllByRecursion P (xs ++ ys) → AllByRecursion P xs
 all_first P [] ys all = tt
@@ -299,7 +315,35 @@ pub all_later : {A : Type 0} (P : A → Type 0) (xs ys : List A) → AllByRecurs
 all_later P [] ys all = all
 all_later P (x ∷ xs) ys all = all_later P xs ys all.1
 
-pub on_ok : {A E : Type 0} (result : Result A E) (P Q R : Type 0) → (P → Q → R) → OnOk result P → OnOk result Q →
-    OnOk result R
-on_ok (Ok value) P Q R so p q = so p q
-on_ok (Err fault) P Q R so p q = tt
+-- ---- records that are left, and calls that may fail
+
+-- the records that are left after others can be run
+pub can_run_rest : (run : BatchRun) (first at : ℕ) (records done rest : List Record) (old new : List (List Row))
+    (were are : Totals) → CanRun run first records were → done ++ rest ≡ records → at ≡ first + length done →
+    HaveRun run first done old new were are → CanRun run at rest are
+can_run_rest run first at records done rest old new were are can parts here made =
+    let both = length-append done rest in let whole = ap length parts in let counted =
+    run_counted run first done old new were are made in
+    record {
+      origin = can.origin;
+      fits = all_later (FitsRecord run.batch.now) done rest
+          (subst (λ (gs : List Record). AllByRecursion (FitsRecord run.batch.now) gs) (sym parts) can.fits);
+      few = omega (arith, here, both, whole, can.few);
+      counted = omega (arith, counted, both, whole, can.counted);
+    }
+
+-- the first of records that can be run
+pub can_run_first : (run : BatchRun) (at : ℕ) (here later : List Record) (counts : Totals) →
+    CanRun run at (here ++ later) counts → CanRun run at here counts
+can_run_first run at here later counts can =
+    let both = length-append here later in
+    record {
+      origin = can.origin;
+      fits = all_first (FitsRecord run.batch.now) here later can.fits;
+      few = omega (arith, both, can.few);
+      counted = omega (arith, both, can.counted);
+    }
+
+pub on_ok : {A E : Type 0} (result : Result A E) (P Q : Type 0) → (P → Q) → OnOk result P → OnOk result Q
+on_ok (Ok value) P Q so p = so p
+on_ok (Err fault) P Q so p = tt

@@ -1,56 +1,33 @@
-//! A program on the records of a batch: one by one, or many abreast.
+//! A program on the records of a batch: one by one, or a block of them abreast.
 
-ghost use Rattle.std.specs.Prelude.{◌≡◌, ◌+◌, ◌≤◌, ◌<ℤ◌, ◌≤ℤ◌, pos, length, IfOk, OnOk, Some, option_map};
+ghost use Rattle.std.specs.Prelude.{◌≡◌, ◌+◌, ◌≤◌, ◌<ℤ◌, ◌≤ℤ◌, pos, length, [], IfOk, OnOk, IfSome, Some};
 ghost use Rattle.std.specs.List.{AllByRecursion};
 ghost use Rattle.wire_spec.specs.declared.limits.TheConstants.{TIMESTAMP_END};
 ghost use Rattle.machine_spec.specs.Meaning.{IsPlace};
 ghost use Rattle.verifier_spec.specs.StandsFor.{IsWithinLimits};
+ghost use Rattle.exec.specs.declared.block.TheConstants.{BLOCK};
+ghost use Rattle.log_item.specs.Programs.{RunsSafelyOnEach};
 ghost use Rattle.log_spec.specs.Logs.{timestamp_of, place_of, FitsRecord, IsRecordRows};
 ghost use Rattle.fates.specs.Fates.{IsFate};
-ghost use Rattle.item_rows.specs.ItemRows.{Adds};
-ghost use Rattle.item_rows.specs.Blocks.{places_from, CanRun, HaveRun};
+ghost use Rattle.item_rows.specs.ItemRows.{IsOrigin, Adds};
+ghost use Rattle.item_rows.specs.Blocks.{places_from, program_in, CanRun, HaveRun};
 
 use crate::origin::Origin;
 use crate::outcomes::{push_outcome, push_outcomes};
 use crate::records::timestamp;
 use crate::rows::OutputRows;
 use fates::{Counts, Fate};
-use log_item::Program;
-use machine_spec::Place;
+use log_item::{BLOCK, Block, Program};
+use machine_spec::{Emissions, Place};
 use std::alloc::{AllocError, Global};
 use wire_spec::{Batch, Record};
 
-/// From so many records on, records are run abreast: fewer take less time one by one.
-const FEWEST_ABREAST: usize = 128;
-
-/// From so many instructions on, a program is run on records abreast. A shorter one saves less than it costs
-/// to keep the emissions of a block of records until their rows are added.
-const FEWEST_INSTRUCTIONS: usize = 128;
-
-/// The outcomes of at most so many records wait for their rows to be added, so that they stay in the
-/// processor's caches.
-const MOST_ABREAST: usize = 512;
-
-/// Runs the program in force on a record, if there is one, and adds the rows that it gives.
-fn push_record(
-    alloc: Global,
-    program: Option<&Program>,
-    place: &Place,
-    given: &Record,
-    first: usize,
-    all: &mut [OutputRows],
-) -> Result<Fate, AllocError>
-    requires limits { IsWithinLimits (record { given = given.now; place = place.now }) }
-    requires place { IsPlace place.now }
-    ensures { IfOk result (λ fate. IsFate (option_map (λ p. p.now) program.entry) place.now given.now fate
-        × Adds first all.old all.new (λ output here. IsRecordRows output (option_map (λ p. p.now) program.entry) place.now given.now here)) }
+/// A list with no emissions and no room.
+fn no_emissions(alloc: Global) -> Emissions
+    ensures { result ≡ [] }
 {
-    match program {
-        None => Ok(Fate::Unprogrammed),
-        Some(program) => {
-            let outcome = program.run(alloc, given, place)?;
-            push_outcome(alloc, all, first, place, outcome)
-        }
+    Emissions {
+        list: Vec::new(alloc),
     }
 }
 
@@ -94,12 +71,36 @@ impl<'a> BatchRun<'a> {
         Ok(places)
     }
 
+    /// Runs the program in force on a record, if there is one, and adds the rows that it gives. Its
+    /// emissions go through a list, whose room is used again.
+    fn push_record(
+        &self,
+        place: &Place,
+        given: &Record,
+        emissions: &mut Emissions,
+        all: &mut [OutputRows],
+    ) -> Result<Fate, AllocError>
+        requires limits { IsWithinLimits (record { given = given.now; place = place.now }) }
+        requires place { IsPlace place.now }
+        ensures { IfOk result (λ fate. IsFate (program_in self.now) place.now given.now fate
+            × Adds self.now.first all.old all.new (λ output here. IsRecordRows output (program_in self.now) place.now given.now here)) }
+    {
+        match self.program {
+            None => Ok(Fate::Unprogrammed),
+            Some(program) => {
+                let ending = program.run_into(self.alloc, given, place, emissions)?;
+                push_outcome(all, self.first, place, ending, emissions)
+            }
+        }
+    }
+
     /// Runs records of the batch one by one, of which the first has this offset, adds the rows that
     /// they give, and counts them.
     fn push_each(
         &self,
         offset: u64,
         records: &[Record],
+        emissions: &mut Emissions,
         all: &mut [OutputRows],
         counts: &mut Counts,
     ) -> Result<(), AllocError>
@@ -109,34 +110,75 @@ impl<'a> BatchRun<'a> {
         let mut next = offset;
         for given in records {
             let at = self.place(next, given);
-            let fate = push_record(self.alloc, self.program, &at, given, self.first, all)?;
+            let fate = self.push_record(&at, given, emissions, all)?;
             counts.add(fate)?;
             next += 1;
         }
         Ok(())
     }
 
-    /// Does what `push_each` does, but runs the records abreast, by the program in force.
-    fn push_abreast(
+    /// Runs a program on records that fill a block, of which the first has this offset. Returns where
+    /// each of them is.
+    fn run_block(
         &self,
         program: &Program,
         offset: u64,
         records: &[Record],
+        block: &mut Block,
+    ) -> Result<Vec<Place>, AllocError>
+        requires origin { IsOrigin self.now.origin.now }
+        requires fits { AllByRecursion (FitsRecord self.now.batch.now) records.now }
+        requires few { offset + length records.now ≤ TIMESTAMP_END }
+        requires full { length records.now ≡ BLOCK }
+        ensures places { IfOk result (λ places. places.items ≡ places_from self.now.origin.now.input self.now.origin.now.outputs self.now.batch.now offset records.now) }
+        ensures outcomes { IfOk result (λ places. RunsSafelyOnEach program.now records.now places.items block.new) }
+    {
+        let places = self.places(offset, records)?;
+        program.run_block(block, records, places.as_slice())?;
+        Ok(places)
+    }
+
+    /// Does what `push_each` does with the records that fill blocks, each block abreast, and then with
+    /// those that are left.
+    fn push_blocks(
+        &self,
+        program: &Program,
+        first_offset: u64,
+        records: &[Record],
         all: &mut [OutputRows],
         counts: &mut Counts,
     ) -> Result<(), AllocError>
-        requires program { option_map (λ p. p.now) self.now.program ≡ Some program.now }
-        requires run { CanRun self.now offset records.now counts.old }
-        ensures { OnOk result (HaveRun self.now offset records.now all.old all.new counts.old counts.new) }
+        requires program { program_in self.now ≡ Some program.now }
+        requires run { CanRun self.now first_offset records.now counts.old }
+        ensures { OnOk result (HaveRun self.now first_offset records.now all.old all.new counts.old counts.new) }
     {
-        let places = self.places(offset, records)?;
-        let at = places.as_slice();
-        let outcomes = program.run_all(self.alloc, records, at)?;
-        push_outcomes(self.alloc, self.first, at, outcomes, all, counts)
+        let mut block = Block::new(self.alloc)?;
+        let mut emissions = no_emissions(self.alloc);
+        let mut offset = first_offset;
+        let mut rest = records;
+        while rest.len() >= BLOCK {
+            let (here, later) = rest.split_at(BLOCK);
+            let places = self.run_block(program, offset, here, &mut block)?;
+            let at = places.as_slice();
+            push_outcomes(self.first, at, &mut block, &mut emissions, all, counts)?;
+            offset += BLOCK as u64;
+            rest = later;
+        }
+        self.push_each(offset, rest, &mut emissions, all, counts)
     }
 
-    /// Does what `push_each` does, in the way that takes less time for so many records.
-    fn push_block(
+    /// The program in force, where so many records take less time abreast than one by one.
+    fn program_abreast(&self, records: usize) -> Option<&'a Program>
+        ensures { IfSome result (λ program. program_in self.now ≡ Some program.now) }
+    {
+        match self.program {
+            Some(program) if records >= BLOCK && program.pays() => Some(program),
+            _ => None,
+        }
+    }
+
+    /// Does what `push_each` does, in the way that takes less time.
+    pub(crate) fn push_all(
         &self,
         offset: u64,
         records: &[Record],
@@ -146,33 +188,12 @@ impl<'a> BatchRun<'a> {
         requires { CanRun self.now offset records.now counts.old }
         ensures { OnOk result (HaveRun self.now offset records.now all.old all.new counts.old counts.new) }
     {
-        match self.program {
-            Some(program) => {
-                if records.len() < FEWEST_ABREAST || program.instructions() < FEWEST_INSTRUCTIONS {
-                    return self.push_each(offset, records, all, counts);
-                }
-                self.push_abreast(program, offset, records, all, counts)
+        match self.program_abreast(records.len()) {
+            Some(program) => self.push_blocks(program, offset, records, all, counts),
+            None => {
+                let mut emissions = no_emissions(self.alloc);
+                self.push_each(offset, records, &mut emissions, all, counts)
             }
-            None => self.push_each(offset, records, all, counts),
         }
-    }
-
-    /// Does what `push_each` does, a block of records after the other.
-    pub(crate) fn push_all(
-        &self,
-        first_offset: u64,
-        records: &[Record],
-        all: &mut [OutputRows],
-        counts: &mut Counts,
-    ) -> Result<(), AllocError>
-        requires { CanRun self.now first_offset records.now counts.old }
-        ensures { OnOk result (HaveRun self.now first_offset records.now all.old all.new counts.old counts.new) }
-    {
-        let mut offset = first_offset;
-        for block in records.chunks(MOST_ABREAST) {
-            self.push_block(offset, block, all, counts)?;
-            offset += block.len() as u64;
-        }
-        Ok(())
     }
 }

@@ -1,9 +1,10 @@
-//! The rows that outcomes give, and what became of their records.
+//! The rows that emissions give, and what became of their records.
 
 ghost use Rattle.std.specs.Prelude.{◌==◌, if◌then◌else◌, [], ◌∷◌, ◌≡◌, ℕ, ◌+◌, ◌<◌, ◌≤◌, ◌^◌, length, map, get_or, IfOk, OnOk};
 ghost use Rattle.machine_spec.specs.declared.limits.TheConstants.{MAX_EMISSIONS};
 ghost use Rattle.machine_spec.specs.declared.outcome.Place.{Place};
 ghost use Rattle.machine_spec.specs.Meaning.{IsPlace};
+ghost use Rattle.exec.specs.Endings.{outcome_with};
 ghost use Rattle.log_spec.specs.Logs.{row_of, rows_to, rows_of};
 ghost use Rattle.fates.specs.Fates.{fate_of};
 ghost use Rattle.item_rows.specs.ItemRows.{Adds};
@@ -11,10 +12,10 @@ ghost use Rattle.item_rows.specs.Blocks.{rows_of_each, AreFatesMore};
 
 use crate::rows::OutputRows;
 use fates::{Counts, Fate};
+use log_item::{Block, Ending};
 use log_spec::Row;
-use machine_spec::{Emission, Emissions, Outcome, Place};
-use std::alloc::{AllocError, Global};
-use std::mem;
+use machine_spec::{Emission, Emissions, Place};
+use std::alloc::AllocError;
 
 /// An emission as a row.
 fn row(place: &Place, number: usize, emission: Emission) -> Row
@@ -58,74 +59,68 @@ fn push_row(
     all[out - first].push(row(place, number, emission))
 }
 
-/// Adds the rows of a record's emissions to their outputs.
+/// Adds the rows of a record's emissions to their outputs. None are left in the list, but its room.
 fn push_rows(
     all: &mut [OutputRows],
     first: usize,
     place: &Place,
-    emissions: Vec<Emission>,
+    emissions: &mut Vec<Emission>,
 ) -> Result<(), AllocError>
     requires place { IsPlace place.now }
-    requires few { length emissions.items ≤ MAX_EMISSIONS }
-    ensures { OnOk result (Adds first all.old all.new (λ output here. here ≡ rows_to output place.now 0 emissions.items)) }
+    requires few { length emissions.old.items ≤ MAX_EMISSIONS }
+    ensures rows { OnOk result (Adds first all.old all.new (λ output here. here ≡ rows_to output place.now 0 emissions.old.items)) }
+    ensures none { emissions.new.items ≡ [] }
 {
     let mut number = 0;
-    for emission in emissions {
+    for emission in emissions.drain(..) {
         push_row(all, first, place, number, emission)?;
         number += 1;
     }
     Ok(())
 }
 
-/// The emissions by value.
-fn into_list(alloc: Global, mut emissions: Emissions) -> Vec<Emission>
-    ensures list { result.items ≡ emissions }
-    ensures few { length result.items ≤ MAX_EMISSIONS }
-{
-    mem::replace(&mut emissions.list, Vec::new(alloc))
-}
-
-/// Adds the rows of a record's outcome to their outputs, and returns what became of the record.
+/// Adds the rows of a record to their outputs: those of these emissions, where its run keeps them.
+/// Returns what became of the record. The list keeps its room.
 pub(crate) fn push_outcome(
-    alloc: Global,
     all: &mut [OutputRows],
     first: usize,
     place: &Place,
-    outcome: Outcome,
+    ending: Ending,
+    emissions: &mut Emissions,
 ) -> Result<Fate, AllocError>
     requires { IsPlace place.now }
-    ensures { IfOk result (λ fate. (fate ≡ fate_of outcome)
-        × Adds first all.old all.new (λ output here. here ≡ rows_of output place.now outcome)) }
+    ensures { IfOk result (λ fate. (fate ≡ fate_of (outcome_with ending emissions.old))
+        × Adds first all.old all.new (λ output here. here ≡ rows_of output place.now (outcome_with ending emissions.old))) }
 {
-    match outcome {
-        Outcome::Kept(emissions) => {
-            push_rows(all, first, place, into_list(alloc, emissions))?;
+    match ending {
+        Ending::Kept => {
+            push_rows(all, first, place, &mut emissions.list)?;
             Ok(Fate::Kept)
         }
-        Outcome::Rejected(code) => Ok(Fate::Rejected(code)),
+        Ending::Rejected(code) => Ok(Fate::Rejected(code)),
     }
 }
 
-/// Adds the rows of the outcomes of records, each at its place, and counts the records.
+/// Adds the rows of the records of a block, each at its place, by the outcomes of its last run, and
+/// counts the records. Each record's emissions go through a list, whose room is used again.
 pub(crate) fn push_outcomes(
-    alloc: Global,
     first: usize,
     places: &[Place],
-    outcomes: Vec<Outcome>,
+    block: &mut Block,
+    emissions: &mut Emissions,
     all: &mut [OutputRows],
     counts: &mut Counts,
 ) -> Result<(), AllocError>
-    requires places { length places.now ≡ length outcomes.items }
+    requires places { length places.now ≡ length block.old }
     requires ranges { (k : ℕ) (p : Place) → k < length places.now → IsPlace (get_or places.now k p) }
-    requires few { counts.old.records + length outcomes.items < 2 ^ 63 }
-    ensures rows { OnOk result (Adds first all.old all.new (λ output here. here ≡ rows_of_each output places.now outcomes.items)) }
-    ensures counts { OnOk result (AreFatesMore (map fate_of outcomes.items) counts.old counts.new) }
+    requires few { counts.old.records + length block.old < 2 ^ 63 }
+    ensures rows { OnOk result (Adds first all.old all.new (λ output here. here ≡ rows_of_each output places.now block.old)) }
+    ensures counts { OnOk result (AreFatesMore (map fate_of block.old) counts.old counts.new) }
 {
-    let mut number = 0;
-    for outcome in outcomes {
-        let fate = push_outcome(alloc, all, first, &places[number], outcome)?;
+    for index in 0..places.len() {
+        let ending = block.take(index, emissions);
+        let fate = push_outcome(all, first, &places[index], ending, emissions)?;
         counts.add(fate)?;
-        number += 1;
     }
     Ok(())
 }

@@ -1,14 +1,15 @@
-ghost use Rattle.std.specs.Prelude.{◌≡◌, ℕ, List, length, IfOk};
+ghost use Rattle.std.specs.Prelude.{◌≡◌, ℕ, length, IfOk, OnOk};
+ghost use Rattle.exec.specs.declared.block.TheConstants.{BLOCK};
 ghost use Rattle.exec.specs.Abreast.{AreGiven};
 ghost use Rattle.exec.specs.Endings.{outcome_with};
 ghost use Rattle.log_item.specs.Programs.{ProgramIs, RunsSafely, RunsSafelyOnEach};
 ghost use Rattle.machine_spec.specs.Image.{program_of, IsCodeOf};
 ghost use Rattle.machine_spec.specs.Meaning.{IsPlace, Means};
-ghost use Rattle.machine_spec.specs.declared.{instruction.Placed.Placed, outcome.Outcome.Outcome};
+ghost use Rattle.machine_spec.specs.declared.outcome.Outcome.{Outcome};
 ghost use Rattle.verifier_spec.specs.StandsFor.{IsWithinLimits};
 
 use bytes::Bytes;
-use exec::Ending;
+use exec::{Block, Ending};
 use machine_spec::{Emissions, IsaFault, Outcome, Place, Table};
 use notes::Verified;
 use std::alloc::{AllocError, Global};
@@ -47,13 +48,6 @@ impl Program {
         }
     }
 
-    /// How many instructions the program has.
-    pub fn instructions(&self) -> usize
-        ensures { (code : List Placed) × IsCodeOf self.now.image code × (result ≡ length code) }
-    {
-        self.verified.code().len()
-    }
-
     /// What the program means on a record: an exit within as many instructions as it has, with no
     /// trap on the way and no byte read but this record's own and what is set in the stack. It fails
     /// only where memory runs out.
@@ -88,17 +82,24 @@ impl Program {
         exec::run_into(alloc, &self.verified, given, place, emissions)
     }
 
-    /// What the program means on each of these records, at its place, in order. A long program
-    /// takes less time so than on one record after the other. It fails only where memory runs out.
-    pub fn run_all(
+    /// Runs the program on as many records as fill a block, each at its place. The block has their
+    /// outcomes then. It fails only where memory runs out; the block may be run again then.
+    pub fn run_block(
         &self,
-        alloc: Global,
+        block: &mut Block,
         given: &[Record],
         places: &[Place],
-    ) -> Result<Vec<Outcome>, AllocError>
-        requires { AreGiven given.now places.now }
-        ensures { IfOk result (λ outcomes. RunsSafelyOnEach self.now given.now places.now outcomes.items) }
+    ) -> Result<(), AllocError>
+        requires given { AreGiven given.now places.now }
+        requires full { length given.now ≡ BLOCK }
+        ensures { OnOk result (RunsSafelyOnEach self.now given.now places.now block.new) }
     {
-        exec::run_all(alloc, &self.verified, given, places)
+        block.run(&self.verified, given, places)
+    }
+
+    /// Whether a block of records takes less time abreast than one record after the other. It is a
+    /// choice between two ways to the same outcomes.
+    pub fn pays(&self) -> bool {
+        exec::pays(&self.verified)
     }
 }

@@ -1,6 +1,8 @@
 use Rattle.std.proofs.Common.{◌≡◌, List, refl, sym, subst}
-use Rattle.machine_spec.specs.declared.{outcome.Emission.Emission, outcome.Outcome.Outcome}
-use Rattle.machine_spec.specs.declared.outcome.Outcome.TheVariants.{Rejected}
+use Rattle.machine_spec.specs.declared.outcome.Emission.{Emission}
+use Rattle.exec.specs.declared.ending.Ending.{Ending}
+use Rattle.exec.specs.declared.ending.Ending.TheVariants.{Rejected}
+use Rattle.exec.specs.Endings.{outcome_with}
 use Rattle.log_spec.specs.Logs.{rows_of, rows_to}
 use Rattle.fates.specs.declared.fate.Fate.TheVariants as fate
 use Rattle.fates.specs.Fates.{fate_of}
@@ -11,16 +13,18 @@ use Rattle.item_rows.proofs.outcomes.push_outcome.Goals as goal
 pub returns-in_ok-push_rows-in-Kept : goal.returns-in_ok-push_rows-in-Kept
 returns-in_ok-push_rows-in-Kept c =
     let first = c.args.first in let place = c.args.place.now in let one = c.args.all.now in let two =
-    c.push_rows.new.all in
+    c.push_rows.new.all in let emissions = c.args.emissions.now in
     let adds = subst (λ (es : List Emission). Adds first one two (λ q here. here ≡ rows_to q place 0 es))
-    c.into_list.ensures.list c.in_ok-push_rows-in-Kept.ensures in
-    subst (λ (o : Outcome). (fate.Kept ≡ fate_of o) × Adds first one two (λ q here. here ≡ rows_of q place o))
+    c.emissions.view_is c.in_ok-push_rows-in-Kept.ensures.rows in
+    subst (λ (e : Ending). (fate.Kept ≡ fate_of (outcome_with e emissions))
+    × Adds first one two (λ q here. here ≡ rows_of q place (outcome_with e emissions)))
     (sym c.in-Kept.is) (refl, adds)
 
 pub returns-in-Rejected : goal.returns-in-Rejected
 returns-in-Rejected c =
     let first = c.args.first in let place = c.args.place.now in let all = c.args.all.now in let code =
-    c.in-Rejected.code in
-    subst (λ (o : Outcome). (fate.Rejected code ≡ fate_of o) × Adds first all all (λ q here. here ≡ rows_of q place o))
+    c.in-Rejected.code in let emissions = c.args.emissions.now in
+    subst (λ (e : Ending). (fate.Rejected code ≡ fate_of (outcome_with e emissions))
+    × Adds first all all (λ q here. here ≡ rows_of q place (outcome_with e emissions)))
     (sym c.in-Rejected.is)
-    (refl, adds_none first all (λ q here. here ≡ rows_of q place (Rejected code)) (λ q. refl))
+    (refl, adds_none first all (λ q here. here ≡ rows_of q place (outcome_with (Rejected code) emissions)) (λ q. refl))

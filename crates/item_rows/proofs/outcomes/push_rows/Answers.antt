@@ -1,31 +1,33 @@
-use Rattle.std.proofs.Common.{◌≡◌, List, length, sym, ap, subst, ◌∙◌, rules, arith, [], ◌∷◌}
-use Rattle.std.proofs.lemmas.List.{length-append, map-id}
-use Rattle.std.proofs.lemmas.Iterator.Adapters.{YieldsList-from_vec}
-use Rattle.std.proofs.lemmas.Iterator.Consumers.{YieldsList-end}
+use Rattle.std.proofs.Common.{◌≡◌, ◌-◌, List, ◌++◌, sym, ap, subst, ◌∙◌, rules, arith, [], ◌∷◌, append_assoc}
+use Rattle.std.proofs.lemmas.List.{length-append, append-nil}
+use Rattle.std.specs.Vec.Iter.{drain_items}
 use Rattle.machine_spec.specs.declared.outcome.Emission.{Emission}
 use Rattle.log_spec.specs.Logs.{rows_to}
 use Rattle.item_rows.specs.ItemRows.{Adds}
-use Rattle.item_rows.proofs.RowLaws.{emissions_more}
+use Rattle.item_rows.proofs.RowLaws.{emissions_more, take_all}
 use Rattle.item_rows.proofs.outcomes.push_rows.Goals as goal
 
 pub loop-emission-preserved : goal.loop-emission-preserved
-loop-emission-preserved c = (
-  tt,
-  tt,
-  omega (arith, length-append c.loop-emission.yielded (c.in-Some.emission ∷ []), c.loop-emission.invariant.2),
-  search rules,
-  emissions_more c.args.first c.args.place.now c.loop-emission.number c.loop-emission.yielded c.in-Some.emission c.args.all.now
-      c.loop-emission.all c.push_row.new.all
-      c.loop-emission.invariant.2 c.loop-emission.invariant.4 c.in_ok-push_row.ensures,
-)
+loop-emission-preserved c =
+    let inv = c.loop-emission.invariant in let done = c.loop-emission.yielded in let emission = c.in-Some.emission in (
+      tt,
+      tt,
+      search rules,
+      append_assoc done (emission ∷ []) (drain_items c.next.new.self)
+          ∙ (ap (λ (es : List Emission). done ++ es) (sym c.in-Some.ensures.steps.0) ∙ inv.3),
+      omega (arith, length-append done (emission ∷ []), inv.4),
+      emissions_more c.args.first c.args.place.now c.loop-emission.number done emission c.args.all.now
+          c.loop-emission.all c.push_row.new.all inv.4 inv.5 c.in_ok-push_row.ensures,
+    )
 
-pub returns : goal.returns
-returns c =
-    let of = c.into_iter-emission-iterator.ensures.into_iter_gives in
-    let all = YieldsList-end {s = c.into_iter-emission-iterator.result}
-    (YieldsList-from_vec c.args.emissions.items of.0 (omega (arith, of.1, ap length of.0)))
-    c.loop-emission.yielded c.loop-emission.emission-iterator c.loop-emission.yielded_by c.next.result c.next.new.self
-    c.in-None.is c.next.ensures.steps in
-    let whole : c.loop-emission.yielded ≡ c.args.emissions.items = sym (map-id c.loop-emission.yielded) ∙ all.0 in
+pub returns-clause-rows : goal.returns-clause-rows
+returns-clause-rows c =
+    let done = c.loop-emission.yielded in let emissions = c.args.emissions.now in
+    let all : drain_items c.into_iter-emission-iterator.result ≡ emissions.items =
+    ap drain_items c.into_iter-emission-iterator.ensures.into_iter_gives
+    ∙ (c.drain-emission-items.ensures.rest ∙ take_all (emissions.len - 0) emissions.items (omega (arith, emissions.ok.0))) in
+    let whole : done ≡ emissions.items =
+    sym (append-nil done) ∙ (ap (λ (es : List Emission). done ++ es) (sym c.in-None.ensures.steps.0)
+    ∙ (c.loop-emission.invariant.3 ∙ all)) in
     subst (λ (es : List Emission). Adds c.args.first c.args.all.now c.loop-emission.all
-    (λ q here. here ≡ rows_to q c.args.place.now 0 es)) whole c.loop-emission.invariant.4
+    (λ q here. here ≡ rows_to q c.args.place.now 0 es)) whole c.loop-emission.invariant.5

@@ -1,18 +1,21 @@
 use Rattle.std.proofs.Common.{◌≡◌, Some, sym, ap, option_map}
+use Rattle.exec.specs.Endings.{outcome_with}
 use Rattle.log_spec.specs.Logs.{rows_of, IsRecordRows}
 use Rattle.fates.specs.declared.fate.Fate.{Fate}
 use Rattle.fates.specs.Fates.{fate_of, IsFate}
 use Rattle.item_rows.specs.ItemRows.{Adds}
+use Rattle.item_rows.specs.Blocks.{program_in}
 use Rattle.item_rows.proofs.RowLaws.{if_ok, outcome_rows, record_made}
-use Rattle.item_rows.proofs.batch_run.push_record.Goals as goal
+use Rattle.item_rows.proofs.batch_run.BatchRun.push_record.Goals as goal
 
-pub returns-in_ok-outcome-in-Some : goal.returns-in_ok-outcome-in-Some
-returns-in_ok-outcome-in-Some c =
-    let first = c.args.first in let program = c.in-Some.program.now in let place = c.args.place.now in let given =
-    c.args.given.now in
-    let one = c.args.all.now in let two = c.push_outcome.new.all in let outcome = c.in_ok-outcome-in-Some.outcome in
-    let in_force = option_map (λ p. p.now) c.args.program in
-    let ran = c.in_ok-outcome-in-Some.ensures.means in
+pub returns-in_ok-ending-in-Some : goal.returns-in_ok-ending-in-Some
+returns-in_ok-ending-in-Some c =
+    let run = c.args.self.now in let first = run.first in let program = c.in-Some.program.now in let place =
+    c.args.place.now in let given = c.args.given.now in
+    let one = c.args.all.now in let two = c.push_outcome.new.all in let outcome =
+    outcome_with c.in_ok-ending-in-Some.ending c.run_into.new.emissions in
+    let in_force = program_in run in
+    let ran = c.in_ok-ending-in-Some.ensures.means in
     if_ok c.push_outcome.result (λ (f : Fate). (f ≡ fate_of outcome)
     × Adds first one two (λ q here. here ≡ rows_of q place outcome))
     (λ (f : Fate). IsFate in_force place given f
