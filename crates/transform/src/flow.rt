@@ -15,6 +15,7 @@ use log_spec::Row;
 use std::alloc::{AllocError, Global};
 use std::io::Write;
 use std::marker::Model;
+use std::mem::drop;
 use thiserror::Error;
 use wire_spec::{Batch, MAX_RECORDS, TIMESTAMP_END};
 
@@ -136,6 +137,20 @@ impl<W: Write> Transform<W> {
         requires { FitsLog batch }
         ensures { Pushes program.now batch self.old result self.new }
     {
+        let bytes = batch_bytes(&batch) as u64;
+        self.push_sized(program, batch, bytes)
+    }
+
+    /// Does what `push` does. The batch shares about so many bytes.
+    pub(crate) fn push_sized(
+        &mut self,
+        program: &Program,
+        batch: Batch,
+        bytes: u64,
+    ) -> Result<(), TransformFault>
+        requires { FitsLog batch }
+        ensures { Pushes program.now batch self.old result self.new }
+    {
         if self.offset > TIMESTAMP_END - MAX_RECORDS as u64 {
             return Err(TransformFault::Full);
         }
@@ -145,12 +160,14 @@ impl<W: Write> Transform<W> {
             outputs: self.outlets.len(),
         };
         let start = self.passed;
-        self.passed = start.saturating_add(batch_bytes(&batch) as u64);
+        self.passed = start.saturating_add(bytes);
         let item = Item::Batch(LoggedBatch::new(batch));
         let rows = item_rows(self.alloc, &origin, Some(program), &item)?;
         count(&mut self.counts, rows.counts())?;
+        let records = item.records();
+        drop(item);
         put_each(self.alloc, rows, &mut self.outlets)?;
-        self.offset += item.records();
+        self.offset += records;
         own_old(&mut self.outlets, start, self.passed);
         Ok(())
     }
