@@ -1,6 +1,6 @@
 -- Rows that are put at the end, as far as one batch has room.
-use Rattle.std.proofs.Common.{◌≡◌, ℕ, ◌+◌, ◌-◌, ◌<◌, ◌≤◌, pos, max, List, ◌++◌, length, take, drop, map, get_or, refl, sym, ap, subst}
-use Rattle.std.proofs.Common.{◌∙◌, arith}
+use Rattle.std.proofs.Common.{◌≡◌, ℕ, ◌+◌, ◌-◌, ◌<◌, ◌≤◌, pos, max, List, ◌++◌, length}
+use Rattle.std.proofs.Common.{take, drop, map, get_or, refl, sym, ap, subst, ◌∙◌, arith}
 use Rattle.std.proofs.lemmas.List.{length-append, append-nil, take_at, drop_at}
 use Rattle.wire_spec.specs.RecordSpelling.{record_spelling}
 use Rattle.wire_spec.specs.BatchSpelling.{records_spelling}

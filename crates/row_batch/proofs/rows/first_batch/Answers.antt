@@ -1,4 +1,5 @@
-use Rattle.std.proofs.Common.{◌≡◌, ℕ, pos, ◌<◌, ◌≤◌, ◌++◌, List, length, map, take, drop, sym, ap, subst, refl, ◌∙◌, to_z, arith}
+use Rattle.std.proofs.Common.{◌≡◌, ℕ, pos, ◌<◌, ◌≤◌, ◌++◌, List, length, map}
+use Rattle.std.proofs.Common.{take, drop, sym, ap, subst, refl, ◌∙◌, to_z, arith}
 use Rattle.std.specs.Int.{w64}
 use Rattle.std.proofs.lemmas.Int.{to_z_pos}
 use Rattle.wire_spec.specs.declared.{limits.TheConstants.MAX_RECORDS, record.Batch.Batch}
