@@ -15,7 +15,6 @@ use log_spec::Row;
 use std::alloc::{AllocError, Global};
 use std::io::Write;
 use std::marker::Model;
-use std::mem::drop;
 use thiserror::Error;
 use wire_spec::{Batch, MAX_RECORDS, TIMESTAMP_END};
 
@@ -164,10 +163,8 @@ impl<W: Write> Transform<W> {
         let item = Item::Batch(LoggedBatch::new(batch));
         let rows = item_rows(self.alloc, &origin, Some(program), &item)?;
         count(&mut self.counts, rows.counts())?;
-        let records = item.records();
-        drop(item);
         put_each(self.alloc, rows, &mut self.outlets)?;
-        self.offset += records;
+        self.offset += item.records();
         own_old(&mut self.outlets, start, self.passed);
         Ok(())
     }
