@@ -1,6 +1,7 @@
 //! Rows of an output partition as record batches: as many of them as one batch takes.
 #![tactic(auto)]
 
+mod front;
 mod laws;
 mod list;
 mod records;

@@ -1,25 +1,31 @@
-//! Rows as records: how many of them one batch takes, and their bytes.
+//! Rows as records: as many of them as one batch takes.
 
-ghost use Rattle.std.specs.Prelude.{◌≡◌, ◌+◌, ◌<◌, ◌≤◌, ◌^◌, ◌-ℤ◌, ◌++◌, pos, length, map, take, drop, All, OnOk};
+ghost use Rattle.std.specs.Prelude.{◌≡◌, ◌+◌, ◌<◌, ◌≤◌, ◌^◌, ◌-ℤ◌, ◌++◌, pos, length, take, drop, All, IfOk, OnOk};
 ghost use Rattle.log_spec.specs.Logs.{RowFits};
 ghost use Rattle.wire_spec.specs.RecordSpelling.{record_spelling};
-ghost use Rattle.wire_spec.specs.BatchSpelling.{records_spelling};
 ghost use Rattle.row_batch.specs.RowBatches.{record_of};
-ghost use Rattle.row_batch.specs.FirstRows.{IsMeasured};
+ghost use Rattle.row_batch.specs.FirstRows.{PutsIfRoom, HasPut};
 
 use crate::list::RowList;
 use batch::{HEADER, MAX_BATCH, MAX_RECORDS};
 use kafka_record::{size_of_parts, write_parts};
 use log_spec::Row;
 use std::alloc::AllocError;
-use wire_spec::{MAX_RECORD_SIZE, TIMESTAMP_END};
+use wire_spec::TIMESTAMP_END;
 
-/// How many of the first rows one batch takes, how many bytes it has with them, and the greatest of their
-/// timestamps.
+/// About how many bytes a record has without its key, value and headers.
+const LIKELY_RECORD: usize = 12;
+
+/// About how many bytes a header has without its key and value.
+const LIKELY_HEADER: usize = 2;
+
+/// From this size on a batch may have no room for a row that fits by its likely size.
+const NEARLY_FULL: usize = MAX_BATCH - 4_096;
+
+/// How many of the first rows one batch takes, and the greatest of their timestamps.
 #[derive(Clone, Copy, Debug)]
 pub struct Extent {
     pub count: usize,
-    pub size: usize,
     pub latest: u64,
 }
 
@@ -30,18 +36,6 @@ fn delta(base: u64, timestamp: u64) -> i64
     ensures { result ≡ pos timestamp -ℤ pos base }
 {
     timestamp as i64 - base as i64
-}
-
-/// How many bytes a row takes as the record with this place in a batch with this base timestamp.
-fn row_size(base: u64, row: &Row, place: usize) -> usize
-    requires base { base < TIMESTAMP_END }
-    requires place { place < MAX_RECORDS }
-    requires row { RowFits row.now }
-    ensures size { result ≡ length (record_spelling (pos place) (record_of base row.now)) }
-    ensures small { result ≤ MAX_RECORD_SIZE }
-{
-    let delta = delta(base, row.timestamp);
-    size_of_parts(delta, &row.key, &row.value, &row.headers, place as i32)
 }
 
 /// Writes a row at the end, as the record with this place in a batch with this base timestamp.
@@ -55,56 +49,98 @@ fn put_row(base: u64, row: &Row, place: usize, out: &mut Vec<u8>) -> Result<(), 
     write_parts(delta, &row.key, &row.value, &row.headers, place as i32, out)
 }
 
-/// How many of `most` rows from number `first` on one batch has room for, and what it has with them;
-/// a record's timestamp delta is the row's timestamp minus `base`.
-pub fn measure<L: RowList>(base: u64, rows: &L, first: usize, most: usize) -> Extent
+/// How many bytes a row takes as the record with this place in a batch with this base timestamp.
+fn row_size(base: u64, row: &Row, place: usize) -> usize
+    requires base { base < TIMESTAMP_END }
+    requires place { place < MAX_RECORDS }
+    requires row { RowFits row.now }
+    ensures { result ≡ length (record_spelling (pos place) (record_of base row.now)) }
+{
+    let delta = delta(base, row.timestamp);
+    size_of_parts(delta, &row.key, &row.value, &row.headers, place as i32)
+}
+
+/// Whether a batch of this size may have no room for a row. Where it returns false, the headers may still
+/// be too much for it.
+fn may_be_full(size: usize, row: &Row) -> bool {
+    size.saturating_add(likely_parts(row)) > NEARLY_FULL
+}
+
+/// Writes a row as `put_row` does, if a batch has room for it then, and returns whether it has.
+#[tactic(auto, using(crate::proofs::RoomLaws::cut_back, crate::proofs::RoomLaws::no_room))]
+fn put_if_room(base: u64, row: &Row, place: usize, out: &mut Vec<u8>) -> Result<bool, AllocError>
+    requires base { base < TIMESTAMP_END }
+    requires place { place < MAX_RECORDS }
+    requires row { RowFits row.now }
+    ensures { IfOk result (λ put. PutsIfRoom put out.old.items out.new.items (record_spelling (pos place) (record_of base row.now))) }
+{
+    let end = out.len();
+    if may_be_full(end, row) {
+        let more = row_size(base, row, place);
+        if more > MAX_BATCH.saturating_sub(end) {
+            return Ok(false);
+        }
+    }
+    put_row(base, row, place, out)?;
+    let size = out.len();
+    if size > MAX_BATCH {
+        out.truncate(end);
+        return Ok(false);
+    }
+    Ok(true)
+}
+
+/// Writes as many of `most` rows from number `first` on as one batch has room for, as its records, after
+/// what is before them in a batch. A record's timestamp delta is the row's timestamp minus `base`. It fails
+/// only where memory runs out.
+pub fn put_most<L: RowList>(
+    base: u64,
+    rows: &L,
+    first: usize,
+    most: usize,
+    out: &mut Vec<u8>,
+) -> Result<Extent, AllocError>
     requires base { base < TIMESTAMP_END }
     requires there { first + most ≤ length (L.rows rows.now) }
     requires small { first + most < 2 ^ 63 }
     requires few { most ≤ MAX_RECORDS }
     requires fit { All RowFits (take most (drop first (L.rows rows.now))) }
-    ensures { IsMeasured base (take most (drop first (L.rows rows.now))) result.count result.size result.latest }
+    requires begun { length out.old.items ≡ 61 }
+    ensures { IfOk result (λ made. HasPut base (take most (drop first (L.rows rows.now))) made.count made.latest out.old.items out.new.items) }
 {
-    let mut size = HEADER;
     let mut latest = 0;
     for count in 0..most {
         let row = rows.row(first + count);
-        let more = row_size(base, row, count);
-        if size + more > MAX_BATCH {
-            return Extent {
-                count,
-                size,
-                latest,
-            };
+        let put = put_if_room(base, row, count, out)?;
+        if !put {
+            return Ok(Extent { count, latest });
         }
-        size += more;
         latest = latest.max(row.timestamp);
     }
-    Extent {
+    Ok(Extent {
         count: most,
-        size,
         latest,
-    }
+    })
 }
 
-/// Writes `count` rows from number `first` on at the end, as the records of a batch with this base timestamp.
-/// It fails only where memory runs out.
-pub fn put_rows<L: RowList>(
-    base: u64,
-    rows: &L,
-    first: usize,
-    count: usize,
-    out: &mut Vec<u8>,
-) -> Result<(), AllocError>
-    requires base { base < TIMESTAMP_END }
-    requires there { first + count ≤ length (L.rows rows.now) }
-    requires small { first + count < 2 ^ 63 }
-    requires few { count ≤ MAX_RECORDS }
-    requires fit { All RowFits (take count (drop first (L.rows rows.now))) }
-    ensures { OnOk result (out.new.items ≡ out.old.items ++ records_spelling 0 (map (record_of base) (take count (drop first (L.rows rows.now))))) }
-{
-    for place in 0..count {
-        put_row(base, rows.row(first + place), place, out)?;
+/// About how many bytes a row takes in a batch without its headers.
+fn likely_parts(row: &Row) -> usize {
+    let key = row.key.as_ref().map_or(0, |key| key.len());
+    let value = row.value.as_ref().map_or(0, |value| value.len());
+    LIKELY_RECORD.saturating_add(key).saturating_add(value)
+}
+
+/// About how many bytes a batch of `most` rows like this one has, and no more than a batch may have.
+pub fn likely_size(row: &Row, most: usize) -> usize {
+    let mut bytes = likely_parts(row);
+    for header in &row.headers.list {
+        let value = header.value.as_ref().map_or(0, |value| value.len());
+        bytes = bytes
+            .saturating_add(LIKELY_HEADER)
+            .saturating_add(header.key.len())
+            .saturating_add(value);
     }
-    Ok(())
+    HEADER
+        .saturating_add(bytes.saturating_mul(most))
+        .min(MAX_BATCH)
 }

@@ -5,8 +5,9 @@ ghost use Rattle.log_spec.specs.Logs.{RowFits};
 ghost use Rattle.row_batch.specs.RowBatches.{head_of, IsFetched};
 ghost use Rattle.row_batch.specs.FirstRows.{IsFirst};
 
+use crate::front::{blank, with_front};
 use crate::list::RowList;
-use crate::records::{Extent, measure, put_rows};
+use crate::records::{likely_size, put_most};
 use batch::{MAX_RECORDS, begin, finish};
 use log_spec::Row;
 use segments::Segments;
@@ -40,8 +41,8 @@ fn head(alloc: Global, place: usize, base: u64) -> Batch
 }
 
 /// The bytes of the batch of the first of `most` rows from number `first` on, at least one and as many as
-/// it has room for. Its base offset is `place`. The rows' bytes are copied once. It fails only where
-/// memory runs out.
+/// it has room for. Its base offset is `place`. The rows' bytes are copied once where the rows are about
+/// as long as the first. It fails only where memory runs out.
 pub fn first_batch<L: RowList>(
     alloc: Global,
     rows: &L,
@@ -58,25 +59,23 @@ pub fn first_batch<L: RowList>(
     ensures { IfOk result (λ made. IsFirst place (take most (drop first (L.rows rows.now))) made.count made.bytes.items) }
 {
     let base = rows.row(first).timestamp;
-    let Extent {
-        count,
-        size,
-        latest,
-    } = measure(base, rows, first, most);
+    let mut bytes = blank(alloc, likely_size(rows.row(first), most))?;
+    let put = put_most(base, rows, first, most, &mut bytes)?;
+    let size = bytes.len();
     let head = head(alloc, place, base);
-    let mut bytes = begin(alloc, &head, size, count as u32, latest as i64)?;
-    put_rows(base, rows, first, count, &mut bytes)?;
+    let front = begin(alloc, &head, size, put.count as u32, put.latest as i64)?;
+    let whole = with_front(front.as_slice(), bytes);
     Ok(FirstBatch {
-        bytes: finish(bytes),
-        count,
+        bytes: finish(whole),
+        count: put.count,
     })
 }
 
 /// The bytes of a record batch of the rows from a place on: as many as are there, at most `max` and
 /// `MAX_RECORDS`, with which the batch has at most `MAX_BATCH` bytes. None where no row has that place, or
 /// where `max` is 0. The batch's base offset is the place, and its base timestamp the first row's.
-/// The rows' bytes are copied once, and the time does not depend on the rows before the place. It
-/// fails only where memory runs out.
+/// The rows' bytes are copied as `first_batch` does, and the time does not depend on the rows before the
+/// place. It fails only where memory runs out.
 pub fn row_batch(
     alloc: Global,
     rows: &Segments<Row>,

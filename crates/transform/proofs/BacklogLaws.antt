@@ -1,7 +1,7 @@
 -- What a backlog keeps, with rows more and rows less.
-use Rattle.std.proofs.Common.{◌≡◌, ℕ, ◌+◌, ◌≤◌, ◌^◌, List, ◌++◌, length, drop, sym, ap, subst, ◌∙◌, arith}
+use Rattle.std.proofs.Common.{◌≡◌, ℕ, ◌+◌, ◌≤◌, ◌^◌, List, [], ◌++◌, length, drop, sym, ap, subst, ◌∙◌, arith}
 use Rattle.std.specs.Prelude.{All}
-use Rattle.std.proofs.lemmas.List.{length-append, length-drop, drop-drop}
+use Rattle.std.proofs.lemmas.List.{length-append, length-drop, drop-drop, drop_all}
 use Rattle.std.proofs.lemmas.List.Elements.{All-append, All-drop}
 use Rattle.log_spec.specs.declared.row.Row.{Row}
 use Rattle.log_spec.specs.Logs.{RowFits}
@@ -31,3 +31,16 @@ with_more place taken taken' rows rows' more is fit few none are =
       below = omega (arith, few, ap length all, length-append (drop taken rows) more);
       fit = subst (All RowFits) (sym all) (All-append RowFits (drop taken rows) more is.fit fit);
     }
+
+-- the same rows wait
+pub with_same : (place taken taken' : ℕ) (rows rows' : List Row) → IsBacklog place taken rows →
+    taken' ≤ length rows' → drop taken' rows' ≡ drop taken rows → IsBacklog place taken' rows'
+with_same place taken taken' rows rows' is within same = record {
+  within = within;
+  below = subst (λ (rs : List Row). place + length rs ≤ 2 ^ 63) (sym same) is.below;
+  fit = subst (All RowFits) (sym same) is.fit;
+}
+
+-- no row waits
+pub none_waits : (taken : ℕ) (rows rows' : List Row) → taken ≡ length rows → rows' ≡ [] → rows' ≡ drop taken rows
+none_waits taken rows rows' all none = none ∙ sym (drop_all taken rows (omega (arith, all)))

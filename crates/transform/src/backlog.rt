@@ -21,6 +21,9 @@ const PLACE_END: u64 = 9_223_372_036_854_775_808;
 // The bytes of a record without key, value and headers, whose numbers take one byte each.
 pub(crate) const LEAST_RECORD: usize = 7;
 
+// The bytes of rows that are as many as a batch takes, whatever their bytes are.
+const UNCOUNTED: usize = usize::MAX;
+
 /// Why rows are not taken.
 #[derive(Clone, Copy, Debug, PartialEq, Eq, Drop, Error)]
 pub enum BacklogFault {
@@ -42,7 +45,7 @@ pub struct Backlog {
     rows: Vec<Row>,
     // How many of these rows, the first, are in batches.
     taken: usize,
-    // At most as many bytes as the rows that wait take in batches.
+    // At most as many bytes as the rows that wait take in batches, or `UNCOUNTED`.
     bytes: usize,
     // How many bytes of batches came before the first row that waits, once that was said.
     since: Option<u64>,
@@ -107,7 +110,7 @@ impl Backlog {
         if rows.len() as u64 > PLACE_END - self.place - self.len() as u64 {
             return Err(BacklogFault::Full);
         }
-        let bytes = self.bytes.saturating_add(bytes_of(&rows));
+        let bytes = self.bytes_with(&rows);
         match extend(&mut self.rows, &mut self.taken, rows) {
             Ok(()) => {
                 self.bytes = bytes;
@@ -135,6 +138,7 @@ impl Backlog {
             return Ok(None);
         }
         self.pass(count, bytes.len());
+        self.drop_taken();
         Ok(Some(bytes))
     }
 
@@ -149,6 +153,7 @@ impl Backlog {
         }
         let FirstBatch { bytes, count } = self.first()?;
         self.pass(count, bytes.len());
+        self.drop_taken();
         Ok(Some(bytes))
     }
 
@@ -212,8 +217,36 @@ impl Backlog {
     {
         self.place += count as u64;
         self.taken += count;
-        self.bytes = self.bytes.saturating_sub(size);
+        self.bytes = bytes_left(self.bytes, size, &self.rows, self.taken);
         self.since = None;
+    }
+
+    // Drops the rows that are in batches, where no other row waits.
+    fn drop_taken(&mut self)
+        ensures { self.new ≡ self.old }
+    {
+        drop_all_taken(&mut self.rows, &mut self.taken);
+    }
+
+    // At most as many bytes as the rows that wait and these take in batches.
+    fn bytes_with(&self, more: &[Row]) -> usize {
+        if self.len().saturating_add(more.len()) >= MAX_RECORDS as usize {
+            return UNCOUNTED;
+        }
+        self.bytes.saturating_add(bytes_from(more, 0))
+    }
+}
+
+// Drops the rows if all are taken. The list keeps its room.
+#[tactic(auto, using(crate::proofs::BacklogLaws::none_waits))]
+fn drop_all_taken(rows: &mut Vec<Row>, taken: &mut usize)
+    requires { taken.old ≤ length rows.old.items }
+    ensures within { taken.new ≤ length rows.new.items }
+    ensures same { drop taken.new rows.new.items ≡ drop taken.old rows.old.items }
+{
+    if *taken == rows.len() {
+        rows.clear();
+        *taken = 0;
     }
 }
 
@@ -251,11 +284,22 @@ fn remove_first(rows: &mut Vec<Row>, taken: &mut usize) -> Result<(), AllocError
     Ok(())
 }
 
-// At most as many bytes as the rows take in batches.
-fn bytes_of(rows: &[Row]) -> usize {
+// The bytes of the rows that wait after a batch of this size, of those that waited before it.
+fn bytes_left(bytes: usize, size: usize, rows: &[Row], taken: usize) -> usize {
+    if bytes != UNCOUNTED {
+        return bytes.saturating_sub(size);
+    }
+    if rows.len().saturating_sub(taken) >= MAX_RECORDS as usize {
+        return UNCOUNTED;
+    }
+    bytes_from(rows, taken)
+}
+
+// At most as many bytes as the rows from a place on take in batches.
+fn bytes_from(rows: &[Row], from: usize) -> usize {
     let mut bytes = 0usize;
-    for row in rows {
-        bytes = bytes.saturating_add(row_bytes(row));
+    for index in from..rows.len() {
+        bytes = bytes.saturating_add(row_bytes(&rows[index]));
     }
     bytes
 }

@@ -136,6 +136,20 @@ impl<W: Write> Transform<W> {
         requires { FitsLog batch }
         ensures { Pushes program.now batch self.old result self.new }
     {
+        let bytes = batch_bytes(&batch) as u64;
+        self.push_sized(program, batch, bytes)
+    }
+
+    /// Does what `push` does. The batch shares about so many bytes.
+    pub(crate) fn push_sized(
+        &mut self,
+        program: &Program,
+        batch: Batch,
+        bytes: u64,
+    ) -> Result<(), TransformFault>
+        requires { FitsLog batch }
+        ensures { Pushes program.now batch self.old result self.new }
+    {
         if self.offset > TIMESTAMP_END - MAX_RECORDS as u64 {
             return Err(TransformFault::Full);
         }
@@ -145,7 +159,7 @@ impl<W: Write> Transform<W> {
             outputs: self.outlets.len(),
         };
         let start = self.passed;
-        self.passed = start.saturating_add(batch_bytes(&batch) as u64);
+        self.passed = start.saturating_add(bytes);
         let item = Item::Batch(LoggedBatch::new(batch));
         let rows = item_rows(self.alloc, &origin, Some(program), &item)?;
         count(&mut self.counts, rows.counts())?;
