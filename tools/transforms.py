@@ -3,13 +3,15 @@
 
     tools/transforms.py [FOLDER] [--compiler COMPILER] [--options OPTIONS] [--klog KLOG]
 
-FOLDER is examples/c/transforms, if it is not given; docs/transforms.md has what is printed of it, and of examples/c/tried.
+FOLDER is examples/c/transforms, if it is not given; docs/transforms.md has what is printed of it, and of
+examples/c/tried.
 
-NAME.c is a transform as anyone would write it who has read the head of klog.h. Where it is refused, NAME_klog.c is one that is
-accepted, and its comment says why and what is changed. The comment of NAME.c has examples: a record's key and value, after `with` its
-headers, and what is emitted of it. Both are run on them, by helper table 2 where the source calls a helper of headers. KLOG is `klog` on the path or crates/klog/out/klog, if it is not given; without any, the second
-implementation (tools/second_machine.py) says what klog would. The status is 1 where a transform has no accepted form, or an example gives
-something else.
+NAME.c is a transform as anyone would write it who has read the head of klog.h. Where it is refused, NAME_klog.c is one
+that is accepted, and its comment says why and what is changed. The comment of NAME.c has examples: a record's key and
+value, after `with` its headers, and what is emitted of it. Both are run on them, by helper table 2 where the source
+calls a helper of headers. KLOG is `klog` on the path or crates/klog/out/klog, if it is not given; without any, the
+second implementation (tools/second_machine.py) says what klog would. The status is 1 where a transform has no accepted
+form, or an example gives something else.
 """
 import argparse
 import collections
