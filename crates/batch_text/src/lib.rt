@@ -4,7 +4,6 @@
 
 mod cause;
 mod fields;
-mod hex;
 mod listing;
 mod next;
 mod records;

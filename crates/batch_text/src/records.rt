@@ -6,11 +6,11 @@ ghost use Rattle.row_batch.specs.RowBatches.{batch_of};
 ghost use Rattle.batch_text.specs.Lines as definitions;
 ghost use Rattle.batch_text.specs.Lines.{put_line, append_line, record_line, record_lines};
 
-use crate::hex::{push_bytes, push_hex};
 use batch::encode;
 use kafka_record::{share_bytes, share_headers};
 use log_spec::Row;
 use row_batch::one_row_fits;
+use script::{push_bytes, push_hex};
 use std::alloc::{AllocError, Global};
 use wire_spec::{Batch, Record, Records, TIMESTAMP_END};
 

@@ -1,5 +1,5 @@
 -- How many records met which fate.
-use Rattle.std.specs.Prelude.{◌≡◌, ℕ, zero, suc, ◌+◌, ◌==◌, Bool, true, false, List, length, count_by, Option, unwrap_or}
+use Rattle.std.specs.Prelude.{◌≡◌, ℕ, zero, suc, ◌==◌, Bool, true, false, List, length, count_by, Option, unwrap_or}
 use Rattle.std.specs.Prelude.{Some, None, slice_get}
 use Rattle.std.specs.Ordering.{nat_cmp, is_eq}
 use Rattle.std.specs.Map.{keys_of, lookup}

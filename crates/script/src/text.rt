@@ -61,7 +61,9 @@ fn push_byte(text: &mut String, byte: u8) -> Result<(), AllocError>
     text.push(glyph(byte % 16) as char)
 }
 
-fn push_hex(text: &mut String, bytes: &[u8]) -> Result<(), AllocError>
+/// Appends bytes in hex to a text, two digits each. It fails only where memory runs out; the text may
+/// then end among them.
+pub fn push_hex(text: &mut String, bytes: &[u8]) -> Result<(), AllocError>
     ensures { OnOk result (string_bytes text.new ≡ string_bytes text.old ++ hex_text bytes.now) }
 {
     for byte in bytes {
@@ -70,7 +72,9 @@ fn push_hex(text: &mut String, bytes: &[u8]) -> Result<(), AllocError>
     Ok(())
 }
 
-fn push_bytes(text: &mut String, bytes: &Option<Bytes>) -> Result<(), AllocError>
+/// Appends a key or a value to a text: `-` where it is null, `.` where it has no bytes, else its bytes in
+/// hex. It fails only where memory runs out; the text may then end among them.
+pub fn push_bytes(text: &mut String, bytes: &Option<Bytes>) -> Result<(), AllocError>
     ensures { OnOk result (string_bytes text.new ≡ string_bytes text.old ++ bytes_text bytes.now) }
 {
     match bytes {
