@@ -37,13 +37,24 @@ fn fill<Id: Names, C, R: Wait>(
     let logged = LoggedBatch::new(first);
     let mut count = 0u64;
     for _ in 0..most {
-        let batch = batch::share(alloc, logged.batch())?;
-        if broker.append(rt, alloc, input, batch).is_err() {
+        if !append(rt, alloc, broker, input, &logged)? {
             break;
         }
         count = count.wrapping_add(1);
     }
     Ok(count)
+}
+
+/// Appends the batch of another item; false where it is refused.
+fn append<Id: Names, C, R: Wait>(
+    rt: &R,
+    alloc: Global,
+    broker: &Broker<Id, C>,
+    input: usize,
+    logged: &LoggedBatch,
+) -> Result<bool, AllocError> {
+    let batch = batch::share(alloc, logged.batch())?;
+    Ok(broker.append(rt, alloc, input, batch).is_ok())
 }
 
 fn nanos(took: Duration, appends: u64) -> f64 {
@@ -60,7 +71,16 @@ fn turn<Id: Names + Send + Sync, R: Threads + Wait + Clock + Sync>(
     requires { IsNamed Id.cells Id.inputs Id.outputs parts }
 {
     let made: Broker<Id, Catalogue<&R>> = Broker::new(alloc, parts)?;
-    let broker = &made;
+    fill_all(rt, alloc, &made, producers)
+}
+
+/// What an append took while the producers filled the logs of a new broker.
+fn fill_all<Id: Names + Send + Sync, C: Send, R: Threads + Wait + Clock + Sync>(
+    rt: &R,
+    alloc: Global,
+    broker: &Broker<Id, C>,
+    producers: usize,
+) -> io::Result<f64> {
     let inputs = broker.inputs();
     let producer = move |number: usize| -> u64 {
         fill(rt, alloc, broker, number % inputs, MOST_CELLS).unwrap_or(0)
@@ -68,11 +88,15 @@ fn turn<Id: Names + Send + Sync, R: Threads + Wait + Clock + Sync>(
     let start = Instant::now(rt)?;
     let counts = thread::map_indices(rt, alloc, producers, &producer)?;
     let took = start.elapsed(rt)?;
+    Ok(nanos(took, sum(&counts)))
+}
+
+fn sum(counts: &[u64]) -> u64 {
     let mut all = 0u64;
-    for count in &counts {
+    for count in counts {
         all = all.wrapping_add(*count);
     }
-    Ok(nanos(took, all))
+    all
 }
 
 /// The least that an append took in a turn.
@@ -107,14 +131,20 @@ fn ends<Id: Names, R: Wait + Clock>(
     requires { IsNamed Id.cells Id.inputs Id.outputs parts }
 {
     let made: Broker<Id, Catalogue<&R>> = Broker::new(alloc, parts)?;
-    let broker = &made;
+    let first = fill_some(rt, alloc, &made)?;
+    fill(rt, alloc, &made, 0, MOST_CELLS - 2_000)?;
+    Ok((first, fill_some(rt, alloc, &made)?))
+}
+
+/// What an append took among the next thousand of the first log.
+fn fill_some<Id: Names, C, R: Wait + Clock>(
+    rt: &R,
+    alloc: Global,
+    broker: &Broker<Id, C>,
+) -> io::Result<f64> {
     let start = Instant::now(rt)?;
     let count = fill(rt, alloc, broker, 0, 1_000)?;
-    let first = nanos(start.elapsed(rt)?, count);
-    fill(rt, alloc, broker, 0, MOST_CELLS - 2_000)?;
-    let start = Instant::now(rt)?;
-    let count = fill(rt, alloc, broker, 0, 1_000)?;
-    Ok((first, nanos(start.elapsed(rt)?, count)))
+    Ok(nanos(start.elapsed(rt)?, count))
 }
 
 /// The least that an append took at both ends of a log.

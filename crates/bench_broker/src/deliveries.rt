@@ -48,14 +48,36 @@ fn receive_next<Id: Names, R: Wait + Clock>(
     let delivery = delivery_of(alloc, log, walk)?;
     room.prepare(delivery.len()).ok()?;
     let mut book = shared.lock(rt);
+    receive(rt, walk, delivery, &mut *book, room)
+}
+
+/// Takes a delivery into a book; how long that took, in seconds, and how many rows were added. None where it
+/// is refused.
+fn receive<Id: Names, R: Clock>(
+    rt: &R,
+    walk: &Walk<Id>,
+    delivery: Delivery<Id>,
+    book: &mut Book<Id>,
+    room: &mut Room,
+) -> Option<(f64, usize)> {
     let start = Instant::now(rt).ok()?;
+    let rows = added(walk, delivery, book, room)?;
+    let took = start.elapsed(rt).ok()?.as_secs_f64();
+    Some((took, rows))
+}
+
+/// How many rows a delivery adds to a book. None where it is refused.
+fn added<Id: Names>(
+    walk: &Walk<Id>,
+    delivery: Delivery<Id>,
+    book: &mut Book<Id>,
+    room: &mut Room,
+) -> Option<usize> {
     if delivery.output() != book.output() {
         return None;
     }
-    let received = book.receive(walk, delivery, room);
-    let took = start.elapsed(rt).ok()?.as_secs_f64();
-    match received {
-        Ok(Delivered::Added(rows)) => Some((took, rows)),
+    match book.receive(walk, delivery, room) {
+        Ok(Delivered::Added(rows)) => Some(rows),
         _ => None,
     }
 }

@@ -5,7 +5,7 @@ ghost use Rattle.broker.specs.Layouts.{IsNamed};
 use broker::{Broker, Parts};
 use broker_fixtures::{NAME, load};
 use bytes::Bytes;
-use catalogue::{Catalogue, Known};
+use catalogue::{Catalogue, Finder, Known};
 use fixtures::FORWARD;
 use machine_spec::Table;
 use part_log::Names;
@@ -32,6 +32,12 @@ struct Work {
     seconds: f64,
 }
 
+/// Finds the name; how many programs were found.
+fn find(alloc: Global, finder: &mut Finder, known: &Known) -> Option<u64> {
+    let found = finder.find(alloc, known.name(), known).ok()?;
+    Some(found.is_some() as u64)
+}
+
 /// Finds the name again and again.
 fn find_all<Id: Names, H: Wait + Drop, R: Wait + Clock>(
     rt: &R,
@@ -44,12 +50,22 @@ fn find_all<Id: Names, H: Wait + Drop, R: Wait + Clock>(
     let start = Instant::now(rt).ok()?;
     let mut count = 0u64;
     for _ in 0..FINDS {
-        let found = finder.find(alloc, known.name(), known).ok()?;
-        count = count.wrapping_add(found.is_some() as u64);
+        count = count.wrapping_add(find(alloc, &mut finder, known)?);
     }
     let seconds = start.elapsed(rt).ok()?.as_secs_f64();
     ended.fetch_add(1, Ordering::SeqCst);
     Some(Work { count, seconds })
+}
+
+/// Loads the name once more.
+fn load_again<Id: Names, H: Wait + Drop, R: Wait>(
+    rt: &R,
+    alloc: Global,
+    broker: &Broker<Id, Catalogue<H>>,
+    image: &Bytes,
+) -> Option<()> {
+    let loaded = broker.load(rt, alloc, NAME, image, Table::One);
+    if loaded.is_ok() { Some(()) } else { None }
 }
 
 /// Loads the name again and again, until all readers have ended.
@@ -67,7 +83,7 @@ fn load_all<Id: Names, H: Wait + Drop, R: Wait + Clock>(
         if ended.load(Ordering::SeqCst) >= readers {
             break;
         }
-        broker.load(rt, alloc, NAME, &image, Table::One).ok()?;
+        load_again(rt, alloc, broker, &image)?;
         count = count.wrapping_add(1);
     }
     let seconds = start.elapsed(rt).ok()?.as_secs_f64();
@@ -84,12 +100,21 @@ fn run<Id: Names + Send + Sync, R: Threads + Wait + Clock + Sync>(
     requires { IsNamed Id.cells Id.inputs Id.outputs parts }
 {
     let made: Broker<Id, Catalogue<&R>> = Broker::new(alloc, parts)?;
-    let broker = &made;
-    let ended = &AtomicU64::new(0);
-    let Some((_version, first)) = load(rt, alloc, broker, &FORWARD) else {
+    let Some((_version, known)) = load(rt, alloc, &made, &FORWARD) else {
         return Err(AllocError);
     };
-    let known = &first;
+    run_beside(rt, alloc, &made, &known, readers)
+}
+
+/// What the writer did, and then what each reader of a name did, in threads of their own.
+fn run_beside<Id: Names + Send + Sync, R: Threads + Wait + Clock + Sync>(
+    rt: &R,
+    alloc: Global,
+    broker: &Broker<Id, Catalogue<&R>>,
+    known: &Known,
+    readers: usize,
+) -> Result<Vec<Option<Work>>, AllocError> {
+    let ended = &AtomicU64::new(0);
     let one = move |number: usize| -> Option<Work> {
         if number == 0 {
             load_all(rt, alloc, broker, readers as u64, ended)

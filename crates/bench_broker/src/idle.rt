@@ -95,6 +95,18 @@ fn close_all<Id: Names, C, R: Wait>(rt: &R, alloc: Global, broker: &Broker<Id, C
     Some(())
 }
 
+/// Watches idle workers, gives them items, and closes the logs, whatever came of these.
+fn watch_and_close<Id: Names, C, R: Wait + Clock + CpuClock>(
+    rt: &R,
+    alloc: Global,
+    broker: &Broker<Id, C>,
+    items: usize,
+) -> Option<Idle> {
+    let idle = watch(rt, alloc, broker, items);
+    close_all(rt, alloc, broker)?;
+    idle
+}
+
 /// Runs the workers of a new broker and watches them from another thread.
 fn watched<Id: Names + Send + Sync, R: Threads + Wait + Clock + CpuClock + Sync>(
     rt: &R,
@@ -105,16 +117,21 @@ fn watched<Id: Names + Send + Sync, R: Threads + Wait + Clock + CpuClock + Sync>
     requires { IsNamed Id.cells Id.inputs Id.outputs parts }
 {
     let made: Broker<Id, Catalogue<&R>> = Broker::new(alloc, parts).ok()?;
-    let broker = &made;
-    for input in 0..broker.inputs() {
-        deploy(rt, alloc, broker, input, &FORWARD)?;
+    for input in 0..made.inputs() {
+        deploy(rt, alloc, &made, input, &FORWARD)?;
     }
+    watch_beside(rt, alloc, &made, items)
+}
+
+/// Runs the workers of a broker and watches them from another thread.
+fn watch_beside<Id: Names + Send + Sync, C: Send, R: Threads + Wait + Clock + CpuClock + Sync>(
+    rt: &R,
+    alloc: Global,
+    broker: &Broker<Id, C>,
+    items: usize,
+) -> Option<Idle> {
     let work = move || broker.start(rt, alloc, Until::Closed, &Open).is_ok();
-    let look = move || -> Option<Idle> {
-        let idle = watch(rt, alloc, broker, items);
-        close_all(rt, alloc, broker)?;
-        idle
-    };
+    let look = move || -> Option<Idle> { watch_and_close(rt, alloc, broker, items) };
     let (_ended, idle) = thread::join(rt, work, look);
     idle
 }
@@ -138,6 +155,11 @@ pub(crate) fn measure<R: Threads + Wait + Clock + CpuClock + Print + Sync>(
         return println!(rt; "a call was refused");
     };
     println!(rt; "{INPUTS} waiting workers take {:7.5} of a core", share)?;
+    show_times(rt, &took)
+}
+
+/// Prints the least, median and greatest times of items, given in order.
+fn show_times<R: Print>(rt: &R, took: &[Duration]) -> io::Result<()> {
     println!(rt;
         "from append to row: {:7.1} µs at least, {:7.1} in the median, {:7.1} at most, of {} items",
         micros(took.first()),

@@ -88,18 +88,39 @@ fn audits<Id: Names, C, R: Wait + Clock>(
     each(rt, &start)
 }
 
+/// Whether a fetch finds rows from that place on.
+fn has_batch<Id: Names>(book: &Book<Id>, place: u64) -> bool {
+    let Ok(place) = usize::try_from(place) else {
+        return false;
+    };
+    match book.fetch(place, RECORDS) {
+        Ok(found) => found.is_some(),
+        Err(_) => false,
+    }
+}
+
 /// What a fetch took. None where one found no rows.
 fn fetches<Id: Names, R: Clock>(rt: &R, book: &Book<Id>, receipts: &[Receipt<Id>]) -> Option<f64> {
     let start = Instant::now(rt).ok()?;
     for _ in 0..ROUNDS {
         for receipt in receipts {
-            let place = usize::try_from(receipt.base()).ok()?;
-            if book.fetch(place, RECORDS).ok()?.is_none() {
+            if !has_batch(book, receipt.base()) {
                 return None;
             }
         }
     }
     each(rt, &start)
+}
+
+/// How many places a search for an offset looks at. None where no row has it.
+fn looks_for<Id: Names>(book: &Book<Id>, offset: u64) -> Option<u64> {
+    let mut probes = Probes::new();
+    let first = book.rows_since(0, offset, &mut probes).next()?;
+    if first.offset == offset {
+        Some(probes.count())
+    } else {
+        None
+    }
 }
 
 /// What a search for the first row of an item took, and the most places that one looked at. None where
@@ -113,12 +134,7 @@ fn searches<Id: Names, R: Clock>(
     let start = Instant::now(rt).ok()?;
     for _ in 0..ROUNDS {
         for receipt in receipts {
-            let mut probes = Probes::new();
-            let first = book.rows_since(0, receipt.base(), &mut probes).next()?;
-            if first.offset != receipt.base() {
-                return None;
-            }
-            looks = probes.count().max(looks);
+            looks = looks_for(book, receipt.base())?.max(looks);
         }
     }
     Some((each(rt, &start)?, looks))
@@ -134,11 +150,19 @@ fn append_all<Id: Names, C, R: Wait>(
     fill(rt, alloc, broker, 0, items.wrapping_sub(LAST), RECORDS)?;
     let mut receipts = Vec::with_capacity(alloc, LAST).ok()?;
     for _ in 0..LAST {
-        let batch = batch_of(alloc, RECORDS)?;
-        let receipt = broker.append(rt, alloc, 0, batch).ok()?;
-        receipts.push(receipt).ok()?;
+        receipts.push(append(rt, alloc, broker)?).ok()?;
     }
     Some(receipts)
+}
+
+/// Appends an item of 100 records, and returns its receipt.
+fn append<Id: Names, C, R: Wait>(
+    rt: &R,
+    alloc: Global,
+    broker: &Broker<Id, C>,
+) -> Option<Receipt<Id>> {
+    let batch = batch_of(alloc, RECORDS)?;
+    broker.append(rt, alloc, 0, batch).ok()
 }
 
 /// What reads took after this number of items. None where there was no memory.
@@ -151,18 +175,37 @@ fn after<Id: Names + Send + Sync, R: Threads + Wait + Clock + Sync>(
     requires { IsNamed Id.cells Id.inputs Id.outputs parts }
 {
     let made: Broker<Id, Catalogue<&R>> = Broker::new(alloc, parts).ok()?;
-    let broker = &made;
-    deploy(rt, alloc, broker, 0, &FORWARD)?;
-    let receipts = append_all(rt, alloc, broker, items)?;
+    deploy(rt, alloc, &made, 0, &FORWARD)?;
+    let receipts = append_all(rt, alloc, &made, items)?;
+    read_all(rt, alloc, &made, &receipts)
+}
+
+/// What reads took once the workers are done. None where they came to no end.
+fn read_all<Id: Names + Send + Sync, C: Send, R: Threads + Wait + Clock + Sync>(
+    rt: &R,
+    alloc: Global,
+    broker: &Broker<Id, C>,
+    receipts: &[Receipt<Id>],
+) -> Option<Reads> {
     if !drain(rt, alloc, broker) {
         return None;
     }
     let _some = broker.outputs();
     let book = broker.book(0).lock(rt);
-    let (since, looks) = searches(rt, &book, &receipts)?;
+    read_book(rt, broker, &book, receipts)
+}
+
+/// What reads of a book took. None where one found other rows.
+fn read_book<Id: Names, C, R: Wait + Clock>(
+    rt: &R,
+    broker: &Broker<Id, C>,
+    book: &Book<Id>,
+    receipts: &[Receipt<Id>],
+) -> Option<Reads> {
+    let (since, looks) = searches(rt, book, receipts)?;
     Some(Reads {
-        audit: audits(rt, broker, &book, &receipts)?,
-        fetch: fetches(rt, &book, &receipts)?,
+        audit: audits(rt, broker, book, receipts)?,
+        fetch: fetches(rt, book, receipts)?,
         since,
         looks,
     })

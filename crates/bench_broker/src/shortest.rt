@@ -21,6 +21,19 @@ pub(crate) struct Times {
     pub(crate) rows: usize,
 }
 
+/// Whether a fetch finds rows from that place on.
+fn has_batch<Id: Names, C, R: Wait>(
+    rt: &R,
+    broker: &Broker<Id, C>,
+    place: usize,
+    rows: usize,
+) -> bool {
+    match broker.fetch(rt, 0, place, rows) {
+        Ok(found) => found.is_some(),
+        Err(_) => false,
+    }
+}
+
 /// Fetches rows `turn.times` times.
 fn fetch_turn<Id: Names, C, R: Wait>(
     rt: &R,
@@ -29,10 +42,7 @@ fn fetch_turn<Id: Names, C, R: Wait>(
     turn: &Times,
 ) -> io::Result<()> {
     for _ in 0..turn.times {
-        let Ok(Some(bytes)) = broker.fetch(rt, 0, place, turn.rows) else {
-            return Err(ErrorKind::InvalidData.into());
-        };
-        if bytes.is_empty() {
+        if !has_batch(rt, broker, place, turn.rows) {
             return Err(ErrorKind::InvalidData.into());
         }
     }
@@ -57,8 +67,7 @@ pub(crate) fn shortest_fetch<Id: Names, C, R: Wait + Clock>(
 /// Copies bytes `times` times.
 fn copy_turn(alloc: Global, bytes: &[u8], times: u32) -> io::Result<()> {
     for _ in 0..times {
-        let copy = Vec::from_slice(alloc, bytes)?;
-        if copy.is_empty() {
+        if Vec::from_slice(alloc, bytes)?.is_empty() {
             return Err(ErrorKind::InvalidData.into());
         }
     }
@@ -85,8 +94,7 @@ fn encode_turn(alloc: Global, batch: &Batch, times: u32) -> io::Result<()>
     requires { BatchFits batch.now }
 {
     for _ in 0..times {
-        let bytes = encode(alloc, batch)?;
-        if bytes.is_empty() {
+        if encode(alloc, batch)?.is_empty() {
             return Err(ErrorKind::InvalidData.into());
         }
     }

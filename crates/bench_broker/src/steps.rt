@@ -7,6 +7,7 @@ use broker::{Broker, Parts, Stepped};
 use broker_fixtures::{deploy, drain, step_book};
 use catalogue::Catalogue;
 use fixtures::FORWARD;
+use out_book::Book;
 use part_log::Names;
 use std::alloc::Global;
 use std::io;
@@ -33,8 +34,17 @@ fn after<Id: Names + Send + Sync, R: Threads + Wait + Clock + Sync>(
     requires { IsNamed Id.cells Id.inputs Id.outputs parts }
 {
     let made: Broker<Id, Catalogue<&R>> = Broker::new(alloc, parts).ok()?;
-    let broker = &made;
-    deploy(rt, alloc, broker, 0, &FORWARD)?;
+    deploy(rt, alloc, &made, 0, &FORWARD)?;
+    step_after(rt, alloc, &made, items)
+}
+
+/// What a step took in nanoseconds, after the items that are there and more, so many in all.
+fn step_after<Id: Names + Send + Sync, C: Send, R: Threads + Wait + Clock + Sync>(
+    rt: &R,
+    alloc: Global,
+    broker: &Broker<Id, C>,
+    items: usize,
+) -> Option<f64> {
     fill(rt, alloc, broker, 0, items.wrapping_sub(1), 1)?;
     if !drain(rt, alloc, broker) {
         return None;
@@ -51,14 +61,32 @@ fn step_all<Id: Names, C, R: Wait + Clock>(
 ) -> Option<f64> {
     let _some = broker.outputs();
     let mut book = broker.book(0).lock(rt);
+    step_book_on(rt, alloc, broker, &mut *book)
+}
+
+/// What a step took in nanoseconds, over the next steps of a book.
+fn step_book_on<Id: Names, C, R: Clock>(
+    rt: &R,
+    alloc: Global,
+    broker: &Broker<Id, C>,
+    book: &mut Book<Id>,
+) -> Option<f64> {
     let start = Instant::now(rt).ok()?;
     for _ in 0..STEPS {
-        let Ok(Stepped::Added(_)) = step_book(alloc, broker, &mut *book, 0)? else {
+        if !is_added(alloc, broker, book) {
             return None;
-        };
+        }
     }
     let took = start.elapsed(rt).ok()?.as_secs_f64();
     Some(took * 1_000_000_000.0 / nearest_u64_to_f64(STEPS as u64))
+}
+
+/// Whether a step of a book adds rows.
+fn is_added<Id: Names, C>(alloc: Global, broker: &Broker<Id, C>, book: &mut Book<Id>) -> bool {
+    matches!(
+        step_book(alloc, broker, book, 0),
+        Some(Ok(Stepped::Added(_)))
+    )
 }
 
 /// The least that a step took in some turns, after this number of items.

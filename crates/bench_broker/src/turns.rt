@@ -141,7 +141,17 @@ fn turn<Id: Names + Send + Sync, R: Threads + Wait + Clock + CpuClock + Sync>(
     requires { IsNamed Id.cells Id.inputs Id.outputs parts }
 {
     let made: Broker<Id, Catalogue<&R>> = Broker::new(alloc, parts).ok()?;
-    let broker = &made;
+    time_all(rt, alloc, &made, image, batches)
+}
+
+/// What the appends and the workers of a new broker took. None where a call is refused, or a record has no row.
+fn time_all<Id: Names + Send + Sync, R: Threads + Wait + Clock + CpuClock + Sync>(
+    rt: &R,
+    alloc: Global,
+    broker: &Broker<Id, Catalogue<&R>>,
+    image: &[u8],
+    batches: usize,
+) -> Option<Times> {
     let each = batches / broker.inputs();
     let before = rt.process_cpu_time().ok()?;
     let appends = append_all(rt, alloc, broker, image, each)?;

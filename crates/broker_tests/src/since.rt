@@ -43,10 +43,29 @@ const RUNS: [Since; 9] = [
     (2, 7, 7, 0, 0),
 ];
 
+/// Once 100 rows of input 1 were added one by one: a run of 64 and one of 36.
+const SHORT_RUNS: [Since; 7] = [
+    (1, 0, 400, 0, 9),
+    (1, 299, 400, 1, 9),
+    (1, 301, 400, 6, 7),
+    (1, 363, 400, 6, 7),
+    (1, 364, 400, 6, 7),
+    (1, 365, 400, 5, 6),
+    (1, 400, 400, 5, 6),
+];
+
+/// Once one row of input 0 was added, and then 5 of input 1 one by one: a run of 5.
+const PARTED_RUNS: [Since; 4] = [
+    (0, 900, 901, 1, 10),
+    (1, 365, 405, 5, 6),
+    (1, 402, 405, 2, 3),
+    (1, 405, 405, 2, 3),
+];
+
 #[test]
 fn rows_are_found_from_an_offset_on(rt: HostRuntime) -> Result<(), Fail> {
     let alloc = rt.alloc();
-    look_up::<Brand, _>(&rt, alloc, Parts::new(&rt, alloc, 2, 1, 8)?)
+    look_up::<Brand, _>(&rt, alloc, Parts::new(&rt, alloc, 2, 1, 128)?)
 }
 
 /// Six hundred rows stand in three segments.
@@ -69,6 +88,10 @@ fn look_up<Id: Names + Send + Sync, R: Threads + Wait + Sync + Abort>(
     assert!(rt; add(rt, alloc, &broker, 1, 300) && add(rt, alloc, &broker, 0, 300));
     assert_eq!(rt; segments(rt, &broker), (1200, 5));
     assert!(rt; are_found(rt, &broker, &RUNS));
+    assert!(rt; add_each(rt, alloc, &broker, 1, 100));
+    assert!(rt; are_found(rt, &broker, &SHORT_RUNS));
+    assert!(rt; add(rt, alloc, &broker, 0, 1) && add_each(rt, alloc, &broker, 1, 5));
+    assert!(rt; are_found(rt, &broker, &PARTED_RUNS));
     Ok(())
 }
 
@@ -80,10 +103,35 @@ fn add<Id: Names + Send + Sync, C: Send, R: Threads + Wait + Sync>(
     input: usize,
     count: usize,
 ) -> bool {
-    match stamped(alloc, count) {
-        Some(batch) => {
-            broker.append(rt, alloc, input, batch).is_ok() && drain(rt, alloc, broker)
+    append(rt, alloc, broker, input, count) && drain(rt, alloc, broker)
+}
+
+/// The same with as many batches of one record.
+fn add_each<Id: Names + Send + Sync, C: Send, R: Threads + Wait + Sync>(
+    rt: &R,
+    alloc: Global,
+    broker: &Broker<Id, C>,
+    input: usize,
+    count: usize,
+) -> bool {
+    for _ in 0..count {
+        if !append(rt, alloc, broker, input, 1) {
+            return false;
         }
+    }
+    drain(rt, alloc, broker)
+}
+
+/// Appends a batch of `count` records to an input.
+fn append<Id: Names, C, R: Wait>(
+    rt: &R,
+    alloc: Global,
+    broker: &Broker<Id, C>,
+    input: usize,
+    count: usize,
+) -> bool {
+    match stamped(alloc, count) {
+        Some(batch) => broker.append(rt, alloc, input, batch).is_ok(),
         None => false,
     }
 }
