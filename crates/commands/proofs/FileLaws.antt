@@ -25,7 +25,8 @@ use Rattle.transform.specs.Transforms.{StopsFilling, Finished, Broken}
 use Rattle.script.specs.Words.{word_at}
 use Rattle.commands.specs.declared.transforming.Halt.{Halt}
 use Rattle.commands.specs.declared.transforming.Halt.TheVariants as halt
-use Rattle.commands.specs.FileTransforms.{names_of, AreDistinct, HasRows, IsFresh, HasWritten, HaveWritten, StreamsAs}
+use Rattle.commands.specs.Calls.{names_of, AreDistinct}
+use Rattle.commands.specs.FileTransforms.{HasRows, IsFresh, HasWritten, HaveWritten, StreamsAs}
 use Rattle.commands.specs.FileTransforms.{TransformsAs, CallTransforms, IsUnloaded, status_of, status_of_halt}
 use Rattle.commands.specs.Images.{first_bytes}
 use Rattle.commands.specs.Listings.{source_of}
@@ -275,7 +276,7 @@ pub called : (table : Table) (names : List (List ℕ)) (stdin : Option (List ℕ
     (AreDistinct names → (bytes : List ℕ) → source_of (word_at names 1) stdin (mid (word_at names 1)) ≡ Some bytes →
     StreamsAs program bytes (length names - 2) status (λ output. after (word_at names (output + 2)))) →
     CallTransforms table names stdin before after status
-called table names stdin before mid after status program first is loaded kept streams image bytes distinct known source =
+called table names stdin before mid after status program first is loaded kept streams distinct image bytes known source =
     let image_is : before first ≡ Some image =
     subst (λ (n : List ℕ). before n ≡ Some image) (sym is) known in
     let source_is : source_of (word_at names 1) stdin (mid (word_at names 1)) ≡ Some bytes =
@@ -298,7 +299,7 @@ pub uncalled : (table : Table) (names : List (List ℕ)) (stdin : Option (List �
     (before after : List ℕ → Option (List ℕ)) (halted : Halt) (first : List ℕ) → first ≡ word_at names 0 →
     ((image : List ℕ) → before first ≡ Some image → IsUnloaded (program_of (first_bytes image) table) halted) →
     CallTransforms table names stdin before after (status_of_halt halted)
-uncalled table names stdin before after halted first is refused image bytes distinct known source =
+uncalled table names stdin before after halted first is refused distinct image bytes known source =
     unloaded_as (program_of (first_bytes image) table) bytes (length names - 2) halted
     (λ output. after (word_at names (output + 2)))
     (refused image (subst (λ (n : List ℕ). before n ≡ Some image) (sym is) known))
@@ -311,4 +312,4 @@ pub told_as : (table : Table) (names : List (List ℕ)) (stdin : Option (List �
 told_as table names stdin before after status told does (inl same) =
     subst (λ (s : ℕ). CallTransforms table names stdin before after s) (sym same) does
 told_as table names stdin before after status told does (inr three) =
-    λ image bytes distinct known source. inr (inl three)
+    λ distinct image bytes known source. inr (inl three)

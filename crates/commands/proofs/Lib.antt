@@ -1,5 +1,6 @@
 pub mod AppendLaws
 pub mod BatchLaws
+pub mod CallLaws
 pub mod FileLaws
 pub mod Loaded
 pub mod Marks

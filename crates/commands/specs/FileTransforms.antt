@@ -1,8 +1,7 @@
 -- What `transform` writes to the files of output partitions.
-use Rattle.std.specs.Prelude.{◌≡◌, ◌≢◌, ◌⊎◌, ℕ, ◌+◌, ◌-◌, ◌<◌, Bool, false, List, [], length, map, Option, Some, Result}
-use Rattle.std.specs.Prelude.{Ok, Err, ⊤, IfSome, string_bytes}
+use Rattle.std.specs.Prelude.{◌≡◌, ◌⊎◌, ℕ, ◌+◌, ◌-◌, ◌<◌, Bool, false, List, [], length, Option, Some, Result}
+use Rattle.std.specs.Prelude.{Ok, Err, ⊤, IfSome}
 use Rattle.std.specs.List.{concat}
-use Rattle.std.specs.declared.string.String.{String}
 use Rattle.wire_spec.specs.declared.{record.Batch.Batch, fault.BatchFault.BatchFault}
 use Rattle.wire_spec.specs.declared.fault.BatchFault.TheVariants as batch
 use Rattle.machine_spec.specs.Image.{Program, program_of}
@@ -25,18 +24,9 @@ use Rattle.transform.specs.Transforms.{log_of, output_at}
 use Rattle.script.specs.Words.{word_at}
 use Rattle.commands.specs.declared.transforming.Halt.{Halt}
 use Rattle.commands.specs.declared.transforming.Halt.TheVariants as halt
+use Rattle.commands.specs.Calls.{AreDistinct}
 use Rattle.commands.specs.Images.{first_bytes}
 use Rattle.commands.specs.Listings.{source_of}
-
--- ---- the words
-
--- the names that the words of a call are
-abbrev pub names_of : {A : Type 0} → List (String A) → List (List ℕ)
-names_of words = map string_bytes words
-
--- no two names are the same
-abbrev pub AreDistinct : List (List ℕ) → Type 0
-AreDistinct names = (one other : ℕ) → one < other → other < length names → word_at names other ≢ word_at names one
 
 -- ---- what a file has
 
@@ -123,15 +113,20 @@ abbrev pub TransformsAs : Program → List ℕ → ℕ → ℕ → (ℕ → Opti
 TransformsAs program bytes outputs status files = ((fault : LoadFault) × IsRefusedWith program fault × (status ≡ 1))
     ⊎ StreamsAs program bytes outputs status files
 
--- What a call does whose words name an image, a file of batches and a file for each output partition, no two of them the
--- same: files had these bytes before and have those after, and standard input these.
-abbrev pub CallTransforms : Table → List (List ℕ) → Option (List ℕ) → (List ℕ → Option (List ℕ)) →
+-- What a call does whose words name an image, a file of batches and a file for each output partition: files had these
+-- bytes before and have those after, and standard input these.
+abbrev pub CallWrites : Table → List (List ℕ) → Option (List ℕ) → (List ℕ → Option (List ℕ)) →
     (List ℕ → Option (List ℕ)) → ℕ → Type 0
-CallTransforms table names stdin before after status = (image bytes : List ℕ) → AreDistinct names →
-    before (word_at names 0) ≡ Some image →
+CallWrites table names stdin before after status = (image bytes : List ℕ) → before (word_at names 0) ≡ Some image →
     source_of (word_at names 1) stdin (before (word_at names 1)) ≡ Some bytes →
     TransformsAs (program_of (first_bytes image) table) bytes (length names - 2) status
     (λ output. after (word_at names (output + 2)))
+
+-- the same where no two of the names are the same; else nothing is said of the files
+abbrev pub CallTransforms : Table → List (List ℕ) → Option (List ℕ) → (List ℕ → Option (List ℕ)) →
+    (List ℕ → Option (List ℕ)) → ℕ → Type 0
+CallTransforms table names stdin before after status = AreDistinct names →
+    CallWrites table names stdin before after status
 
 -- ---- on the way
 

@@ -15,6 +15,7 @@ ghost use Rattle.commands.specs.Texts as texts;
 
 use crate::asm::{read_text, utf8, write_image};
 use crate::dis::disassembly;
+use crate::distinct::transform_distinct;
 use crate::explaining::{no_code_text, refusal_text, status_of_explained};
 use crate::files::Files;
 use crate::image::{Refused, check, read_image};
@@ -23,7 +24,6 @@ use crate::reading::{Unread, read_file, read_whole};
 use crate::rechecking::recheck;
 use crate::run::{Ended, run_script};
 use crate::stop::{Stop, status_of, unwritten};
-use crate::transforming::transform;
 use crate::words::{Call, Misuse, call_of};
 use bpf_asm::{AsmFault, assemble};
 use explain::{Explanation, Extent, explain_image};
@@ -419,7 +419,9 @@ pub fn command<R: Threads + Wait + Sync, F: Files, I: Read, O: Write, E: Write>(
         }
         Ok(Call::Recheck(list)) => recheck(alloc, files, stdout, stderr, list),
         Ok(Call::Run(script)) => run(rt, alloc, files, stdin, stdout, stderr, script),
-        Ok(Call::Transform(table, words)) => transform(alloc, files, stdin, stderr, table, words),
+        Ok(Call::Transform(table, words)) => {
+            transform_distinct(alloc, files, stdin, stderr, table, words)
+        }
         Err(Misuse::Usage) => tell_usage(stderr),
         Err(Misuse::Memory) => tell_memory(stderr),
     }

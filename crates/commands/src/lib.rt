@@ -11,6 +11,7 @@ mod asm;
 mod batches;
 mod call;
 mod dis;
+mod distinct;
 mod explaining;
 mod files;
 mod image;

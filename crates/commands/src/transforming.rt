@@ -6,7 +6,8 @@ ghost use Rattle.annotate.specs.Loads.{FaultIs};
 ghost use Rattle.batch_reader.specs.Readings.{IsOpen};
 ghost use Rattle.transform.specs.Streams.{TransformsAll};
 ghost use Rattle.script.specs.Words.{word_at};
-ghost use Rattle.commands.specs.FileTransforms.{names_of, AreDistinct, StreamsAs, CallTransforms, IsLoaded, IsUnloaded, IsFresh, HasWritten, HaveWritten, status_of, status_of_batch, status_of_halt, status_of_ended};
+ghost use Rattle.commands.specs.Calls.{names_of, AreDistinct};
+ghost use Rattle.commands.specs.FileTransforms.{StreamsAs, CallTransforms, IsLoaded, IsUnloaded, IsFresh, HasWritten, HaveWritten, status_of, status_of_batch, status_of_halt, status_of_ended};
 ghost use Rattle.commands.specs.Images.{first_bytes};
 ghost use Rattle.commands.specs.Listings.{source_of};
 

@@ -1,14 +1,16 @@
 //! What the words after the program's name ask for.
 
-ghost use Rattle.std.specs.Prelude.{◌≡◌, ◌==◌, ◌&&◌, nat_lt, length, slice_index};
+ghost use Rattle.std.specs.Prelude.{◌≡◌, ◌==◌, ◌&&◌, false, nat_lt, length, slice_index, IfOk, IfSome};
 ghost use Rattle.std.specs.Option.{option_copied};
 ghost use Rattle.commands.specs.Explanations as definitions;
+ghost use Rattle.commands.specs.Calls.{names_of, AreDistinct, IsAccepted};
 ghost use Rattle.commands.specs.declared.words.Misuse.TheVariants.{Memory};
 
 use batch_text::Listing;
 use clap::error::ErrorKind;
 use clap::{Arg, ArgAction, ArgMatches};
 use explain::Extent;
+use log_spec::MAX_PARTITIONS;
 use machine_spec::Table;
 use std::alloc::{AllocError, Global};
 
@@ -113,15 +115,12 @@ fn commands<'a>(alloc: Global) -> Result<clap::Command<'a>, AllocError> {
         .subcommand(of_file(alloc, "run", "SCRIPT")?)
 }
 
-/// Whether a word is among others.
-fn is_among(word: &str, others: &[String]) -> bool {
-    others.iter().any(|other| other.as_str() == word)
-}
-
 /// Whether two words are the same.
-fn has_twice(words: &[String]) -> bool {
+fn has_twice(words: &[String]) -> bool
+    ensures { result ≡ false → AreDistinct (names_of words.now) }
+{
     for index in 0..words.len() {
-        if is_among(words[index].as_str(), &words[..index]) {
+        if words[..index].contains(&words[index]) {
             return true;
         }
     }
@@ -139,19 +138,23 @@ fn table_and_files(words: &[String]) -> (Table, &[String]) {
 
 /// The call of `transform`, if the first word is that. `table2` may follow, and then 3 to 66 files, no
 /// two of them the same.
-fn transform_of(words: &[String]) -> Option<Result<Call<'_>, Misuse>> {
+fn transform_of(words: &[String]) -> Option<Result<Call<'_>, Misuse>>
+    ensures { IfSome result (λ called. IfOk called IsAccepted) }
+{
     if words.is_empty() || words[0].as_str() != "transform" {
         return None;
     }
     let (table, files) = table_and_files(&words[1..]);
-    if files.len() < 3 || files.len() > 66 || has_twice(files) {
+    if files.len() < 3 || files.len() > MAX_PARTITIONS + 2 || has_twice(files) {
         return Some(Err(Misuse::Usage));
     }
     Some(Ok(Call::Transform(table, files)))
 }
 
 /// The call that the words ask for.
-pub fn call_of(alloc: Global, words: &[String]) -> Result<Call<'_>, Misuse> {
+pub fn call_of(alloc: Global, words: &[String]) -> Result<Call<'_>, Misuse>
+    ensures { IfOk result IsAccepted }
+{
     if words.iter().any(|word| is_option(word.as_str())) {
         return Err(Misuse::Usage);
     }
@@ -200,7 +203,9 @@ fn shown_of(first: Option<&str>, second: Option<&str>) -> Option<(Table, Extent)
 }
 
 /// The call that lists a file, if the words ask for one.
-fn listing_of<'a>(matches: &ArgMatches<'a>) -> Option<Call<'a>> {
+fn listing_of<'a>(matches: &ArgMatches<'a>) -> Option<Call<'a>>
+    ensures { IfSome result IsAccepted }
+{
     if let Some(batches) = matches.subcommand_matches("batches") {
         return Some(Call::List(Listing::Batches, batches.get_str("FILE")?));
     }
@@ -208,7 +213,10 @@ fn listing_of<'a>(matches: &ArgMatches<'a>) -> Option<Call<'a>> {
     Some(Call::List(Listing::Records, records.get_str("FILE")?))
 }
 
-fn asked<'a>(matches: &ArgMatches<'a>) -> Option<Call<'a>> {
+/// The call that matches ask for, if they ask for one.
+fn asked<'a>(matches: &ArgMatches<'a>) -> Option<Call<'a>>
+    ensures { IfSome result IsAccepted }
+{
     if let Some(asm) = matches.subcommand_matches("asm") {
         return Some(Call::Assemble(asm.get_str("TEXT")?, asm.get_str("IMAGE")?));
     }

@@ -1,7 +1,7 @@
 use Rattle.std.proofs.Common.{rules, arith, ◌≡◌, ◌≢◌, ◌+◌, ◌<◌, ℕ, List, length}
 use Rattle.std.proofs.lemmas.List.{length_push}
 use Rattle.script.specs.Words.{word_at}
-use Rattle.commands.specs.FileTransforms.{names_of}
+use Rattle.commands.specs.Calls.{names_of}
 use Rattle.commands.proofs.FileLaws.{held_more, many_names}
 use Rattle.commands.proofs.transforming.close_all.Goals as goal
 

@@ -1,5 +1,6 @@
 use Rattle.std.proofs.Common.{◌≡◌, ◌≤◌, ◌+◌, length}
-use Rattle.commands.specs.FileTransforms.{names_of, AreDistinct, HaveWritten}
+use Rattle.commands.specs.Calls.{names_of, AreDistinct}
+use Rattle.commands.specs.FileTransforms.{HaveWritten}
 use Rattle.commands.proofs.transforming.close_all.Given as goal
 
 abbrev pub invariant-loop-outlet : goal.invariant-loop-outlet

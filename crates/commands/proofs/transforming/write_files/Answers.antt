@@ -3,7 +3,8 @@ use Rattle.std.specs.Prelude.{Option}
 use Rattle.batch.specs.Streams.{Open}
 use Rattle.batch_reader.specs.Readings.{inlet}
 use Rattle.script.specs.Words.{word_at}
-use Rattle.commands.specs.FileTransforms.{names_of, StreamsAs}
+use Rattle.commands.specs.Calls.{names_of}
+use Rattle.commands.specs.FileTransforms.{StreamsAs}
 use Rattle.commands.proofs.FileLaws.{IsStream, wrote_files, many_names}
 use Rattle.commands.proofs.transforming.write_files.Goals as goal
 
