@@ -1,10 +1,8 @@
 use crate::play::{Scene, play};
 use broker::{Broker, BrokerFault, Parts};
-use catalogue::Catalogue;
 use fixtures::batch_of;
-use part_log::{Item, LogFault, Names, Receipt, Trail};
+use part_log::{Item, LogFault, Names, Trail};
 use std::alloc::{AllocError, Global};
-use std::marker::Brand;
 use std::process::Abort;
 use std::sync::Wait;
 use std::test::Fail;
