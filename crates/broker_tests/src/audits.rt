@@ -1,15 +1,13 @@
 //! Audits of receipts.
 
-ghost use Rattle.broker.specs.Layouts.{IsNamed};
-
 use crate::books::Seen;
+use crate::play::{Scene, play};
 use broker::{Audit, AuditedRows, Broker, Ended, Parts, Until};
 use broker_fixtures::{deploy, ends, is_row, put};
 use catalogue::Catalogue;
 use fixtures::BOTH;
 use part_log::{Names, Receipt};
-use std::alloc::Global;
-use std::marker::Brand;
+use std::alloc::{AllocError, Global};
 use std::process::Abort;
 use std::sync::Wait;
 use std::test::Fail;
@@ -20,24 +18,38 @@ use worker::Open;
 #[test]
 fn receipts_are_audited_in_order(rt: HostRuntime) -> Result<(), Fail> {
     let alloc = rt.alloc();
-    audit_five::<Brand, _>(&rt, alloc, Parts::new(&rt, alloc, 2, 2, 8)?)
+    play(
+        &rt,
+        alloc,
+        Parts::new(&rt, alloc, 2, 2, 8)?,
+        Scene::AuditFive,
+    )
 }
 
 /// Each audit of receipts finds the rows of its own item, in each book.
-fn audit_five<Id: Names + Send + Sync, R: Threads + Wait + Abort + Sync>(
+pub(crate) fn audit_five<Id: Names + Send + Sync, R: Threads + Wait + Abort + Sync>(
     rt: &R,
     alloc: Global,
-    parts: Parts<Catalogue<&R>>,
-) -> Result<(), Fail>
-    requires { IsNamed Id.cells Id.inputs Id.outputs parts }
-{
-    let broker: Broker<Id, Catalogue<&R>> = Broker::new(alloc, parts)?;
+    broker: &Broker<Id, Catalogue<&R>>,
+) -> Result<(), Fail> {
     for input in 0..2 {
-        assert_eq!(rt; deploy(rt, alloc, &broker, input, &BOTH), Some(0));
+        assert_eq!(rt; deploy(rt, alloc, broker, input, &BOTH), Some(0));
     }
-    let receipts = append_five(rt, alloc, &broker).ok_or("receipts")?;
-    assert!(rt; are_right(rt, alloc, &broker, &receipts));
+    let receipts = append_five(rt, alloc, broker).ok_or("receipts")?;
+    assert!(rt; are_right(rt, alloc, broker, &receipts));
     Ok(())
+}
+
+/// Appends a record to an input partition, and keeps its receipt.
+fn keep<Id: Names, C, R: Wait>(
+    rt: &R,
+    alloc: Global,
+    broker: &Broker<Id, C>,
+    receipts: &mut Vec<Receipt<Id>>,
+    input: usize,
+    value: u8,
+) -> Option<()> {
+    receipts.push(put(rt, alloc, broker, input, value)?).ok()
 }
 
 /// The receipts of two records of each input, which are processed, and of one that isn't.
@@ -48,13 +60,13 @@ fn append_five<Id: Names + Send + Sync, C: Send, R: Threads + Wait + Sync>(
 ) -> Option<Vec<Receipt<Id>>> {
     let mut receipts = Vec::new(alloc);
     for (input, value) in [(0, b'A'), (0, b'B'), (1, b'A'), (1, b'B')] {
-        receipts.push(put(rt, alloc, broker, input, value)?).ok()?;
+        keep(rt, alloc, broker, &mut receipts, input, value)?;
     }
     let want = [Ended::Done(3), Ended::Done(3)];
     if !ends(rt, alloc, broker, Until::Drained, &Open, &want) {
         return None;
     }
-    receipts.push(put(rt, alloc, broker, 1, b'C')?).ok()?;
+    keep(rt, alloc, broker, &mut receipts, 1, b'C')?;
     Some(receipts)
 }
 
@@ -148,7 +160,7 @@ fn append_six<Id: Names, C, R: Wait>(
 ) -> Option<Vec<Receipt<Id>>> {
     let mut receipts = Vec::new(alloc);
     for value in &VALUES {
-        receipts.push(put(rt, alloc, broker, 0, *value)?).ok()?;
+        keep(rt, alloc, broker, &mut receipts, 0, *value)?;
     }
     broker.close(rt, alloc, 0).ok()?;
     Some(receipts)
@@ -168,6 +180,11 @@ fn processed<Id: Names, C, R: Wait>(
     }
     let book = broker.book(output).lock(rt);
     let audits = broker.audit_all(alloc, receipts, &book).ok()?;
+    processed_among(audits, output)
+}
+
+/// The same of audits in an output partition.
+fn processed_among(audits: Vec<Audit<'_>>, output: usize) -> Option<usize> {
     let mut count = 0usize;
     let mut values = VALUES.as_slice();
     for audit in audits {
@@ -221,25 +238,45 @@ fn act<Id: Names + Send + Sync, C: Send, R: Threads + Wait + Sync>(
 #[test]
 fn receipts_are_audited_by_another_thread(rt: HostRuntime) -> Result<(), Fail> {
     let alloc = rt.alloc();
-    audit_beside::<Brand, _>(&rt, alloc, Parts::new(&rt, alloc, 1, 2, 8)?)
+    play(
+        &rt,
+        alloc,
+        Parts::new(&rt, alloc, 1, 2, 8)?,
+        Scene::AuditBeside,
+    )
 }
 
 /// A thread that gets the receipts audits them in each book in turn, beside a worker.
-fn audit_beside<Id: Names + Send + Sync, R: Threads + Wait + Abort + Sync>(
+pub(crate) fn audit_beside<Id: Names + Send + Sync, R: Threads + Wait + Abort + Sync>(
     rt: &R,
     alloc: Global,
-    parts: Parts<Catalogue<&R>>,
-) -> Result<(), Fail>
-    requires { IsNamed Id.cells Id.inputs Id.outputs parts }
-{
-    let made: Broker<Id, Catalogue<&R>> = Broker::new(alloc, parts)?;
-    let broker = &made;
+    broker: &Broker<Id, Catalogue<&R>>,
+) -> Result<(), Fail> {
     assert_eq!(rt; deploy(rt, alloc, broker, 0, &BOTH), Some(0));
+    let jobs = jobs_of(rt, alloc, broker).ok_or("receipts")?;
+    assert!(rt; are_done(rt, alloc, broker, jobs)?);
+    Ok(())
+}
+
+fn jobs_of<Id: Names, C, R: Wait>(
+    rt: &R,
+    alloc: Global,
+    broker: &Broker<Id, C>,
+) -> Option<Vec<Job<Id>>> {
     let mut jobs = Vec::new(alloc);
-    jobs.push(Job::Audit(append_six(rt, alloc, broker).ok_or("receipts")?))?;
-    jobs.push(Job::Work)?;
+    jobs.push(Job::Audit(append_six(rt, alloc, broker)?)).ok()?;
+    jobs.push(Job::Work).ok()?;
+    Some(jobs)
+}
+
+/// Whether two threads do their jobs well.
+fn are_done<Id: Names + Send + Sync, C: Send, R: Threads + Wait + Sync>(
+    rt: &R,
+    alloc: Global,
+    broker: &Broker<Id, C>,
+    jobs: Vec<Job<Id>>,
+) -> Result<bool, AllocError> {
     let one = move |job: Job<Id>| -> bool { act(rt, alloc, broker, &job) };
     let right = thread::map_vec(rt, jobs, &one)?;
-    assert!(rt; right.as_slice() == [true, true].as_slice());
-    Ok(())
+    Ok(right.as_slice() == [true, true].as_slice())
 }

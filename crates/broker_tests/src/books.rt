@@ -9,9 +9,26 @@ use std::sync::Wait;
 /// An offset, the number of an emission and the byte that is the value.
 pub type Seen = (u64, usize, u8);
 
+/// An input partition, an output partition, how many items are done there, and the rows from them.
+pub type Held<'a> = (usize, usize, usize, &'a [Seen]);
+
+/// Whether the books hold this.
+pub(crate) fn hold<Id: Names, C, R: Wait>(
+    rt: &R,
+    broker: &Broker<Id, C>,
+    want: &[Held<'_>],
+) -> bool {
+    for (input, output, done, rows) in want {
+        if !has(rt, broker, *input, *output, *done, rows) {
+            return false;
+        }
+    }
+    true
+}
+
 /// Whether `done` items of an input partition are done in an output partition, and these are the
 /// rows from there.
-pub(crate) fn has<Id: Names, C, R: Wait>(
+fn has<Id: Names, C, R: Wait>(
     rt: &R,
     broker: &Broker<Id, C>,
     input: usize,

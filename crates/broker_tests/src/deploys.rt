@@ -1,5 +1,4 @@
-ghost use Rattle.broker.specs.Layouts.{IsNamed};
-
+use crate::play::{Scene, play};
 use broker::{Broker, BrokerFault, Parts};
 use broker_fixtures::{NAME, load};
 use catalogue::{CatFault, Catalogue, Finder, Known};
@@ -7,7 +6,6 @@ use fixtures::FORWARD;
 use log_spec::Name;
 use part_log::{Item, LogFault, Names};
 use std::alloc::Global;
-use std::marker::Brand;
 use std::process::Abort;
 use std::sync::Wait;
 use std::test::Fail;
@@ -15,34 +13,23 @@ use std::test::Fail;
 #[test]
 fn a_deployment_is_a_mark(rt: HostRuntime) -> Result<(), Fail> {
     let alloc = rt.alloc();
-    deploy_some::<Brand, _>(&rt, alloc, Parts::new(&rt, alloc, 1, 1, 2)?)
+    play(&rt, alloc, Parts::new(&rt, alloc, 1, 1, 2)?, Scene::Deploy)
 }
 
-fn deploy_some<Id: Names, R: Wait + Abort>(
+/// Each of two deployments is a mark of the version that was loaded last.
+pub(crate) fn deploy_some<Id: Names, H: Wait + Drop, R: Wait + Abort>(
     rt: &R,
     alloc: Global,
-    parts: Parts<Catalogue<&R>>,
-) -> Result<(), Fail>
-    requires { IsNamed Id.cells Id.inputs Id.outputs parts }
-{
-    let broker: Broker<Id, Catalogue<&R>> = Broker::new(alloc, parts)?;
-    let known = load_forward(rt, alloc, &broker)?;
+    broker: &Broker<Id, Catalogue<H>>,
+) -> Result<(), Fail> {
+    let known = load_forward(rt, alloc, broker).ok_or("a version")?;
     assert_eq!(rt; known.version(), 1);
     let mut finder = broker.finder(rt, alloc)?;
-    assert_eq!(rt;
-        deploy(rt, alloc, &broker, 0, NAME, &mut finder, &known),
-        Ok((0, 1))
-    );
-    assert_eq!(rt; load_forward(rt, alloc, &broker)?.version(), 2);
-    assert_eq!(rt;
-        deploy(rt, alloc, &broker, 0, NAME, &mut finder, &known),
-        Ok((1, 2))
-    );
-    assert_eq!(rt;
-        (mark_at(&broker, 0), mark_at(&broker, 1)),
-        (Some(1), Some(2))
-    );
-    refuse_all(rt, alloc, &broker, &mut finder, &known)
+    deploy_two(rt, alloc, broker, &mut finder, &known);
+    are_refused(rt, alloc, broker, &mut finder, &known, &FULL);
+    let mut lost = lost_finder(rt, alloc)?;
+    are_refused(rt, alloc, broker, &mut lost, &known, &LOST);
+    Ok(())
 }
 
 /// What is known after a load of the forwarding program; its version is the answered one.
@@ -50,40 +37,73 @@ fn load_forward<Id: Names, H: Wait + Drop, R: Wait>(
     rt: &R,
     alloc: Global,
     broker: &Broker<Id, Catalogue<H>>,
-) -> Result<Known, Fail> {
-    let (version, known) = load(rt, alloc, broker, &FORWARD).ok_or("a version")?;
-    if version != known.version() {
-        return Err(Fail::from("another version"));
+) -> Option<Known> {
+    let (version, known) = load(rt, alloc, broker, &FORWARD)?;
+    if version == known.version() {
+        Some(known)
+    } else {
+        None
     }
-    Ok(known)
 }
 
-/// Of a full log, and with finders that read and that don't: the first refusal is answered.
-fn refuse_all<Id: Names, C, R: Wait + Abort>(
+/// The version of a load of the forwarding program.
+fn load_again<Id: Names, H: Wait + Drop, R: Wait>(
+    rt: &R,
+    alloc: Global,
+    broker: &Broker<Id, Catalogue<H>>,
+) -> Option<u32> {
+    let known = load_forward(rt, alloc, broker)?;
+    Some(known.version())
+}
+
+/// Two deployments with a load between them, by what was known before the first.
+fn deploy_two<Id: Names, H: Wait + Drop, R: Wait + Abort>(
+    rt: &R,
+    alloc: Global,
+    broker: &Broker<Id, Catalogue<H>>,
+    finder: &mut Finder,
+    known: &Known,
+) {
+    for (index, version, next) in [(0, 1, 2), (1, 2, 3)] {
+        let deployed = deploy(rt, alloc, broker, 0, NAME, finder, known);
+        assert_eq!(rt; deployed, Ok((index, version)));
+        assert_eq!(rt; load_again(rt, alloc, broker), Some(next));
+    }
+    for (index, version) in [(0, 1), (1, 2)] {
+        assert_eq!(rt; mark_at(broker, index), Some(version));
+    }
+}
+
+/// An input partition, a name and why its deployment is refused.
+type Refused = (usize, &'static str, BrokerFault);
+
+/// Of a full log, with a finder that reads.
+const FULL: [Refused; 3] = [
+    (1, "other", BrokerFault::Partition),
+    (0, "other", BrokerFault::NoProgram),
+    (0, NAME, BrokerFault::Log(LogFault::Full)),
+];
+
+/// The same with a finder of a catalogue that is gone.
+const LOST: [Refused; 3] = [
+    (1, "other", BrokerFault::Partition),
+    (0, "other", BrokerFault::Catalogue(CatFault::NoReader)),
+    (0, NAME, BrokerFault::Catalogue(CatFault::NoReader)),
+];
+
+/// The first refusal is answered.
+fn are_refused<Id: Names, C, R: Wait + Abort>(
     rt: &R,
     alloc: Global,
     broker: &Broker<Id, C>,
     finder: &mut Finder,
     known: &Known,
-) -> Result<(), Fail> {
-    let mut lost = lost_finder(rt, alloc)?;
-    let no_reader = BrokerFault::Catalogue(CatFault::NoReader);
-    let full = BrokerFault::Log(LogFault::Full);
-    for (input, name, want_lost, want) in [
-        (1, "other", BrokerFault::Partition, BrokerFault::Partition),
-        (0, "other", no_reader, BrokerFault::NoProgram),
-        (0, NAME, no_reader, full),
-    ] {
-        assert_eq!(rt;
-            deploy(rt, alloc, broker, input, name, &mut lost, known),
-            Err(want_lost)
-        );
-        assert_eq!(rt;
-            deploy(rt, alloc, broker, input, name, finder, known),
-            Err(want)
-        );
+    rows: &[Refused],
+) {
+    for (input, name, want) in rows {
+        let deployed = deploy(rt, alloc, broker, *input, name, finder, known);
+        assert_eq!(rt; deployed, Err(*want));
     }
-    Ok(())
 }
 
 /// A finder of a catalogue that is gone.

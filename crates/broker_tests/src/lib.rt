@@ -25,6 +25,8 @@ mod names;
 #[cfg(test)]
 mod offers;
 #[cfg(test)]
+mod play;
+#[cfg(test)]
 mod since;
 #[cfg(test)]
 mod steps;

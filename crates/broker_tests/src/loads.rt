@@ -1,13 +1,11 @@
-ghost use Rattle.broker.specs.Layouts.{IsNamed};
-
+use crate::play::{Scene, play};
 use broker::{Broker, Parts};
 use bytes::Bytes;
 use catalogue::{Catalogue, Finder, Known};
 use fixtures::FORWARD;
 use machine_spec::Table;
 use part_log::Names;
-use std::alloc::Global;
-use std::marker::Brand;
+use std::alloc::{AllocError, Global};
 use std::process::Abort;
 use std::sync::{Mutex, Wait};
 use std::test::Fail;
@@ -24,18 +22,33 @@ type Published = Mutex<Vec<Known>>;
 #[test]
 fn deployments_are_never_older_than_known(rt: HostRuntime) -> Result<(), Fail> {
     let alloc = rt.alloc();
-    chase::<Brand, _>(&rt, alloc, Parts::new(&rt, alloc, 1, 1, LOADS)?)
+    play(
+        &rt,
+        alloc,
+        Parts::new(&rt, alloc, 1, 1, LOADS)?,
+        Scene::Chase,
+    )
 }
 
-fn chase<Id: Names + Send + Sync, R: Threads + Wait + Abort + Sync>(
+/// A thread deploys what another one loads.
+pub(crate) fn chase<Id: Names + Send + Sync, R: Threads + Wait + Abort + Sync>(
     rt: &R,
     alloc: Global,
-    parts: Parts<Catalogue<&R>>,
-) -> Result<(), Fail>
-    requires { IsNamed Id.cells Id.inputs Id.outputs parts }
-{
-    let made: Broker<Id, Catalogue<&R>> = Broker::new(alloc, parts)?;
-    let (broker, published) = (&made, &Mutex::new(Vec::new(alloc)));
+    broker: &Broker<Id, Catalogue<&R>>,
+) -> Result<(), Fail> {
+    let published = Mutex::new(Vec::new(alloc));
+    let counts = counts_of(rt, alloc, broker, &published)?;
+    assert_eq!(rt; counts.as_slice(), [LOADS, LOADS].as_slice());
+    Ok(())
+}
+
+/// How many loads and how many deployments were right.
+fn counts_of<Id: Names + Send + Sync, H: Wait + Drop + Send, R: Threads + Wait + Sync>(
+    rt: &R,
+    alloc: Global,
+    broker: &Broker<Id, Catalogue<H>>,
+    published: &Published,
+) -> Result<Vec<usize>, AllocError> {
     let one = move |number: usize| -> usize {
         if number == 0 {
             load_all(rt, alloc, broker, published)
@@ -43,10 +56,7 @@ fn chase<Id: Names + Send + Sync, R: Threads + Wait + Abort + Sync>(
             deploy_all(rt, alloc, broker, published)
         }
     };
-    for count in &thread::map_indices(rt, alloc, 2, &one)? {
-        assert_eq!(rt; *count, LOADS);
-    }
-    Ok(())
+    thread::map_indices(rt, alloc, 2, &one)
 }
 
 /// Loads and hands over what is known then; how many loads had the version after the one before.
@@ -59,17 +69,25 @@ fn load_all<Id: Names, H: Wait + Drop, R: Wait>(
     let Ok(image) = Bytes::copy_from_slice(alloc, &FORWARD) else {
         return 0;
     };
-    let mut count = 0usize;
-    for _ in 0..LOADS {
-        let Ok((version, known)) = broker.load(rt, alloc, "fwd", &image, Table::One) else {
+    for count in 0..LOADS {
+        if load_one(rt, alloc, broker, &image, published) != Some(count.wrapping_add(1)) {
             return count;
-        };
-        count = count.wrapping_add(1);
-        if version as usize != count || published.lock(rt).push(known).is_err() {
-            return 0;
         }
     }
-    count
+    LOADS
+}
+
+/// The version of a load, once it is handed over what is known then.
+fn load_one<Id: Names, H: Wait + Drop, R: Wait>(
+    rt: &R,
+    alloc: Global,
+    broker: &Broker<Id, Catalogue<H>>,
+    image: &Bytes,
+    published: &Published,
+) -> Option<usize> {
+    let (version, known) = broker.load(rt, alloc, "fwd", image, Table::One).ok()?;
+    published.lock(rt).push(known).ok()?;
+    Some(version as usize)
 }
 
 /// Deploys with all that is handed over; how many deployments were right.
@@ -112,13 +130,24 @@ fn deploy_each<Id: Names, C, R: Wait>(
 ) -> Option<u32> {
     let mut last = first;
     for known in taken {
-        let (_receipt, version) = broker
-            .deploy(rt, alloc, 0, known.name(), finder, known)
-            .ok()?;
+        let version = deploy_one(rt, alloc, broker, finder, known)?;
         if version < known.version() || version < last {
             return None;
         }
         last = version;
     }
     Some(last)
+}
+
+/// The version of a deployment.
+fn deploy_one<Id: Names, C, R: Wait>(
+    rt: &R,
+    alloc: Global,
+    broker: &Broker<Id, C>,
+    finder: &mut Finder,
+    known: &Known,
+) -> Option<u32> {
+    let deployed = broker.deploy(rt, alloc, 0, known.name(), finder, known);
+    let (_receipt, version) = deployed.ok()?;
+    Some(version)
 }

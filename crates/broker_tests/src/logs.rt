@@ -1,9 +1,9 @@
-ghost use Rattle.std.specs.Prelude.{◌≡◌, ◌≤◌, length};
-ghost use Rattle.broker.specs.Layouts.{IsNamed};
+ghost use Rattle.std.specs.Prelude.{◌≡◌};
 
+use crate::play::{Scene, play};
 use broker::{Broker, BrokerFault, Parts};
 use broker_fixtures::{place_of, program_of};
-use catalogue::{CatFault, Catalogue};
+use catalogue::CatFault;
 use fixtures::{FORWARD, batch_of};
 use log_spec::Name;
 use out_book::BookFault;
@@ -59,11 +59,37 @@ fn close_one<Id: Names, R: Wait + Abort>(rt: &R, alloc: Global, cells: Cells)
     requires { cells ≡ Id.cells 0 }
 {
     let log: PartLog<Id> = PartLog::new(0, cells);
-    assert_eq!(rt; mark(rt, alloc, &log), Ok((0, 0, 0)));
-    assert_eq!(rt; put(rt, alloc, &log, 2), Ok((0, 1, 0)));
-    assert_eq!(rt; end(rt, alloc, &log), Ok((0, 2, 2)));
-    assert_eq!(rt; put(rt, alloc, &log, 1), Err(LogFault::Closed));
-    assert_eq!(rt; end(rt, alloc, &log), Err(LogFault::Closed));
+    answer_all(rt, alloc, &log);
+}
+
+/// What is appended.
+#[derive(Clone, Copy)]
+enum Entry {
+    Mark,
+    Records(usize),
+    End,
+}
+
+/// Where it is: its partition, its index and the records before it.
+type Place = (usize, usize, u64);
+
+const ENTRIES: [(Entry, Result<Place, LogFault>); 5] = [
+    (Entry::Mark, Ok((0, 0, 0))),
+    (Entry::Records(2), Ok((0, 1, 0))),
+    (Entry::End, Ok((0, 2, 2))),
+    (Entry::Records(1), Err(LogFault::Closed)),
+    (Entry::End, Err(LogFault::Closed)),
+];
+
+fn answer_all<Id: Names, R: Wait + Abort>(rt: &R, alloc: Global, log: &PartLog<Id>) {
+    for (entry, want) in &ENTRIES {
+        let place = match *entry {
+            Entry::Mark => mark(rt, alloc, log),
+            Entry::Records(count) => put(rt, alloc, log, count),
+            Entry::End => end(rt, alloc, log),
+        };
+        assert_eq!(rt; place, *want);
+    }
 }
 
 fn append<Id: Names, C, R: Wait>(
@@ -100,22 +126,18 @@ fn trail_len<Id: Names, C, R: Wait>(
 #[test]
 fn a_full_log_takes_nothing(rt: HostRuntime) -> Result<(), Fail> {
     let alloc = rt.alloc();
-    fill_one::<Brand, _>(&rt, alloc, Parts::new(&rt, alloc, 1, 2, 1)?)
+    play(&rt, alloc, Parts::new(&rt, alloc, 1, 2, 1)?, Scene::Fill)
 }
 
-fn fill_one<Id: Names, R: Wait + Abort>(
+pub(crate) fn fill_one<Id: Names, C, R: Wait + Abort>(
     rt: &R,
     alloc: Global,
-    parts: Parts<Catalogue<&R>>,
-) -> Result<(), Fail>
-    requires { IsNamed Id.cells Id.inputs Id.outputs parts }
-{
-    let broker: Broker<Id, Catalogue<&R>> = Broker::new(alloc, parts)?;
+    broker: &Broker<Id, C>,
+) {
     let counts = (broker.inputs(), broker.outputs(), broker.cells(0));
     assert_eq!(rt; counts, (1, 2, 1));
-    take_one(rt, alloc, &broker);
-    refuse_all(rt, alloc, &broker);
-    Ok(())
+    take_one(rt, alloc, broker);
+    refuse_all(rt, alloc, broker);
 }
 
 /// A log of one cell takes one item.

@@ -122,36 +122,106 @@ fn load<R: Wait + Drop>(alloc: Global, catalogue: &mut Catalogue<R>) -> Result<K
     Ok(known)
 }
 
+/// A name, and the version that is found of it.
+type Found = (&'static str, Result<Option<u32>, CatFault>);
+
+fn find_all<R: Abort>(rt: &R, alloc: Global, finder: &mut Finder, known: &Known, rows: &[Found]) {
+    for (name, want) in rows {
+        assert_eq!(rt; find(alloc, finder, name, known), *want, "{name}");
+    }
+}
+
+/// Two loads, and what is found after each by what was known after the first. What is known after the
+/// second.
+fn load_two<R: Wait + Abort>(
+    rt: &R,
+    alloc: Global,
+    catalogue: &mut Catalogue<&R>,
+    finder: &mut Finder,
+) -> Result<Known, CatFault> {
+    let known = load(alloc, catalogue)?;
+    find_all(
+        rt,
+        alloc,
+        finder,
+        &known,
+        &[("fwd", Ok(Some(1))), ("other", Ok(None))],
+    );
+    let newer = load(alloc, catalogue)?;
+    find_all(rt, alloc, finder, &known, &[("fwd", Ok(Some(2)))]);
+    Ok(newer)
+}
+
+/// A finder of a catalogue that is gone, and what was known last.
+fn left_over<R: Wait + Abort>(rt: &R, alloc: Global) -> Result<(Finder, Known), CatFault> {
+    let Ok(mut catalogue) = Catalogue::new(rt, alloc) else {
+        return Err(CatFault::Memory);
+    };
+    let mut finder = catalogue.reader(alloc)?;
+    let newer = load_two(rt, alloc, &mut catalogue, &mut finder)?;
+    Ok((finder, newer))
+}
+
 #[test]
 fn finders_find_the_last_version(rt: HostRuntime) -> Result<(), Fail> {
     let alloc = rt.alloc();
-    let mut catalogue = Catalogue::new(&rt, alloc)?;
-    let mut finder = catalogue.reader(alloc)?;
-    let known = load(alloc, &mut catalogue)?;
-    assert_eq!(rt; find(alloc, &mut finder, "fwd", &known), Ok(Some(1)));
-    assert_eq!(rt; find(alloc, &mut finder, "other", &known), Ok(None));
-    let newer = load(alloc, &mut catalogue)?;
-    assert_eq!(rt; find(alloc, &mut finder, "fwd", &known), Ok(Some(2)));
-    drop(catalogue);
-    assert_eq!(rt;
-        find(alloc, &mut finder, "fwd", &newer),
-        Err(CatFault::NoReader)
-    );
+    let (mut finder, newer) = left_over(&rt, alloc)?;
+    let gone = [("fwd", Err(CatFault::NoReader))];
+    find_all(&rt, alloc, &mut finder, &newer, &gone);
     Ok(())
+}
+
+/// As many finders as there are.
+fn all_finders<R: Wait + Drop>(alloc: Global, catalogue: &Catalogue<R>) -> Option<Vec<Finder>> {
+    let mut finders = Vec::new(alloc);
+    for _ in 0..64 {
+        finders.push(catalogue.reader(alloc).ok()?).ok()?;
+    }
+    Some(finders)
+}
+
+/// Why there is no finder.
+fn refusal<R: Wait + Drop>(alloc: Global, catalogue: &Catalogue<R>) -> Option<CatFault> {
+    catalogue.reader(alloc).err()
 }
 
 #[test]
 fn a_catalogue_has_64_readers(rt: HostRuntime) -> Result<(), Fail> {
     let alloc = rt.alloc();
     let catalogue = Catalogue::new(&rt, alloc)?;
-    let mut finders = Vec::new(alloc);
-    for _ in 0..64 {
-        finders.push(catalogue.reader(alloc)?)?;
-    }
-    assert_eq!(rt; catalogue.reader(alloc).err(), Some(CatFault::NoReader));
+    let mut finders = all_finders(alloc, &catalogue).ok_or("finders")?;
+    assert_eq!(rt; refusal(alloc, &catalogue), Some(CatFault::NoReader));
     drop(finders.pop());
-    assert_eq!(rt; catalogue.reader(alloc).err(), None);
+    assert_eq!(rt; refusal(alloc, &catalogue), None);
     Ok(())
+}
+
+/// The version of another load, if that is the one that is found then.
+fn replaced<R: Wait + Drop>(
+    alloc: Global,
+    catalogue: &mut Catalogue<R>,
+    finder: &mut Finder,
+    known: &Known,
+) -> Result<Option<u32>, CatFault> {
+    let version = load(alloc, catalogue)?.version();
+    let found = find(alloc, finder, "fwd", known)?;
+    Ok(if found == Some(version) { found } else { None })
+}
+
+/// A first load, and a thousand after it; what was known after the first.
+fn replace_all<R: Wait + Abort>(
+    rt: &R,
+    alloc: Global,
+    catalogue: &mut Catalogue<&R>,
+    finder: &mut Finder,
+) -> Result<Known, CatFault> {
+    let known = load(alloc, catalogue)?;
+    find_all(rt, alloc, finder, &known, &[("fwd", Ok(Some(1)))]);
+    for version in 2..1_001 {
+        let found = replaced(alloc, catalogue, finder, &known);
+        assert_eq!(rt; found, Ok(Some(version)));
+    }
+    Ok(known)
 }
 
 #[test]
@@ -159,13 +229,7 @@ fn an_old_program_is_given_up(rt: HostRuntime) -> Result<(), Fail> {
     let alloc = rt.alloc();
     let mut catalogue = Catalogue::new(&rt, alloc)?;
     let mut finder = catalogue.reader(alloc)?;
-    let known = load(alloc, &mut catalogue)?;
-    assert_eq!(rt; find(alloc, &mut finder, "fwd", &known), Ok(Some(1)));
-    for version in 2..1_001 {
-        let newer = load(alloc, &mut catalogue)?;
-        assert_eq!(rt; newer.version(), version);
-        assert_eq!(rt; find(alloc, &mut finder, "fwd", &known), Ok(Some(version)));
-    }
+    let known = replace_all(&rt, alloc, &mut catalogue, &mut finder)?;
     assert_eq!(rt; Arc::strong_count(known.program()), 1);
     Ok(())
 }

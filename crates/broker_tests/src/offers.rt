@@ -17,7 +17,6 @@ fn a_book_takes_items_in_order(rt: HostRuntime) -> Result<(), Fail> {
     offer_three::<Brand, _>(&rt, alloc, Cells::new(alloc, 3)?)
 }
 
-/// Of three items the first is offered, then the third, the first again, and the second by value.
 fn offer_three<Id: Names, R: Wait + Abort>(rt: &R, alloc: Global, cells: Cells) -> Result<(), Fail>
     requires cells { cells ≡ Id.cells 0 }
     requires inputs { Id.inputs ≡ 1 }
@@ -25,26 +24,74 @@ fn offer_three<Id: Names, R: Wait + Abort>(rt: &R, alloc: Global, cells: Cells) 
 {
     let log: PartLog<Id> = PartLog::new(0, cells);
     for value in 0..3 {
-        let batch = batch_of_value(alloc, 1, value).ok_or("a batch")?;
-        log.append(rt, alloc, batch)?;
+        assert!(rt; append(rt, alloc, &log, value));
     }
     let mut book = Book::new(alloc, 1, 0)?;
-    let mut walk = Walk::new(0);
-    assert!(rt; advance(&log, &mut walk));
-    let first = walk.again();
-    let mut second = walk.again();
-    let added = Some(Ok(Delivered::Added(0)));
-    assert_eq!(rt; offer(alloc, &log, &walk, &mut book), added);
-    assert!(rt; advance(&log, &mut walk) && advance(&log, &mut walk));
-    let gap = Some(Err(BookFault::Gap(1)));
-    assert_eq!(rt; offer(alloc, &log, &walk, &mut book), gap);
-    let already = Some(Ok(Delivered::Already));
-    assert_eq!(rt; offer(alloc, &log, &first, &mut book), already);
-    assert!(rt; advance(&log, &mut second));
-    assert_eq!(rt; hand_over(alloc, &log, &second, &mut book), added);
-    assert_eq!(rt; hand_over(alloc, &log, &first, &mut book), already);
-    assert_eq!(rt; offer(alloc, &log, &walk, &mut book), added);
+    answer_all(rt, alloc, &log, &mut book);
     Ok(())
+}
+
+/// Appends a batch of one record; whether it could.
+fn append<Id: Names, R: Wait>(rt: &R, alloc: Global, log: &PartLog<Id>, value: u8) -> bool {
+    match batch_of_value(alloc, 1, value) {
+        Some(batch) => log.append(rt, alloc, batch).is_ok(),
+        None => false,
+    }
+}
+
+/// How the rows of an item come to a book.
+#[derive(Clone, Copy)]
+enum How {
+    Offered,
+    ByValue,
+}
+
+/// The items that a book gets one after the other, counted from 1, and what it answers.
+const OFFERS: [(usize, How, Result<Delivered, BookFault>); 6] = [
+    (1, How::Offered, Ok(Delivered::Added(0))),
+    (3, How::Offered, Err(BookFault::Gap(1))),
+    (1, How::Offered, Ok(Delivered::Already)),
+    (2, How::ByValue, Ok(Delivered::Added(0))),
+    (1, How::ByValue, Ok(Delivered::Already)),
+    (3, How::Offered, Ok(Delivered::Added(0))),
+];
+
+fn answer_all<Id: Names, R: Abort>(rt: &R, alloc: Global, log: &PartLog<Id>, book: &mut Book<Id>)
+    requires { Id.outputs ≡ 1 }
+{
+    for (item, how, want) in &OFFERS {
+        let answer = answer(alloc, log, *item, *how, book);
+        assert_eq!(rt; answer, Some(*want), "item {item}");
+    }
+}
+
+fn answer<Id: Names>(
+    alloc: Global,
+    log: &PartLog<Id>,
+    item: usize,
+    how: How,
+    book: &mut Book<Id>,
+) -> Option<Result<Delivered, BookFault>>
+    requires { Id.outputs ≡ 1 }
+{
+    let walk = walk_to(log, item)?;
+    match how {
+        How::Offered => offer(alloc, log, &walk, book),
+        How::ByValue => hand_over(alloc, log, &walk, book),
+    }
+}
+
+/// A walk to the item with this number from 1, by copies of the walks before it.
+fn walk_to<Id: Names>(log: &PartLog<Id>, item: usize) -> Option<Walk<Id>> {
+    let mut walk = Walk::new(0);
+    for _ in 0..item {
+        let mut next = walk.again();
+        if !advance(log, &mut next) {
+            return None;
+        }
+        walk = next;
+    }
+    Some(walk)
 }
 
 /// Gives a book the rows of the item at a walk's position by value.

@@ -1,8 +1,7 @@
 //! Rows of a book in segments, and those from an offset on.
 
-ghost use Rattle.broker.specs.Layouts.{IsNamed};
-
 use crate::fetched::{stamped, stamps};
+use crate::play::{Scene, play};
 use broker::{Broker, Parts};
 use broker_fixtures::{deploy, drain};
 use catalogue::Catalogue;
@@ -10,7 +9,6 @@ use fixtures::FORWARD;
 use out_book::Probes;
 use part_log::Names;
 use std::alloc::Global;
-use std::marker::Brand;
 use std::process::Abort;
 use std::sync::Wait;
 use std::test::Fail;
@@ -65,34 +63,41 @@ const PARTED_RUNS: [Since; 4] = [
 #[test]
 fn rows_are_found_from_an_offset_on(rt: HostRuntime) -> Result<(), Fail> {
     let alloc = rt.alloc();
-    look_up::<Brand, _>(&rt, alloc, Parts::new(&rt, alloc, 2, 1, 128)?)
+    play(&rt, alloc, Parts::new(&rt, alloc, 2, 1, 128)?, Scene::LookUp)
 }
 
-/// Six hundred rows stand in three segments.
-fn look_up<Id: Names + Send + Sync, R: Threads + Wait + Sync + Abort>(
+pub(crate) fn look_up<
+    Id: Names + Send + Sync,
+    H: Wait + Drop + Send,
+    R: Threads + Wait + Sync + Abort,
+>(rt: &R, alloc: Global, broker: &Broker<Id, Catalogue<H>>) {
+    for input in 0..2 {
+        assert_eq!(rt; deploy(rt, alloc, broker, input, &FORWARD), Some(0));
+    }
+    assert_eq!(rt; segments(rt, broker), (0, 0));
+    assert_eq!(rt; since(rt, broker, 0, 7), Some((7, 0)));
+    look_up_in_runs(rt, alloc, broker);
+}
+
+/// Six hundred rows are in three segments, and twice as many in five.
+fn look_up_in_runs<Id: Names + Send + Sync, C: Send, R: Threads + Wait + Sync + Abort>(
     rt: &R,
     alloc: Global,
-    parts: Parts<Catalogue<&R>>,
-) -> Result<(), Fail>
-    requires { IsNamed Id.cells Id.inputs Id.outputs parts }
-{
-    let broker: Broker<Id, Catalogue<&R>> = Broker::new(alloc, parts)?;
-    assert_eq!(rt; deploy(rt, alloc, &broker, 0, &FORWARD), Some(0));
-    assert_eq!(rt; deploy(rt, alloc, &broker, 1, &FORWARD), Some(0));
-    assert_eq!(rt; segments(rt, &broker), (0, 0));
-    assert_eq!(rt; since(rt, &broker, 0, 7), Some((7, 0)));
-    assert!(rt; add(rt, alloc, &broker, 0, 600));
-    assert_eq!(rt; segments(rt, &broker), (600, 3));
-    assert_eq!(rt; stamps(rt, alloc, &broker, 250, 10), Some((10, 1250, 9)));
-    assert!(rt; are_found(rt, &broker, &ONE_RUN));
-    assert!(rt; add(rt, alloc, &broker, 1, 300) && add(rt, alloc, &broker, 0, 300));
-    assert_eq!(rt; segments(rt, &broker), (1200, 5));
-    assert!(rt; are_found(rt, &broker, &RUNS));
-    assert!(rt; add_each(rt, alloc, &broker, 1, 100));
-    assert!(rt; are_found(rt, &broker, &SHORT_RUNS));
-    assert!(rt; add(rt, alloc, &broker, 0, 1) && add_each(rt, alloc, &broker, 1, 5));
-    assert!(rt; are_found(rt, &broker, &PARTED_RUNS));
-    Ok(())
+    broker: &Broker<Id, C>,
+) {
+    assert!(rt; add(rt, alloc, broker, 0, 600));
+    assert_eq!(rt; segments(rt, broker), (600, 3));
+    assert_eq!(rt; stamps(rt, alloc, broker, 250, 10), Some((10, 1250, 9)));
+    assert!(rt; are_found(rt, broker, &ONE_RUN));
+    for input in [1, 0] {
+        assert!(rt; add(rt, alloc, broker, input, 300));
+    }
+    assert_eq!(rt; segments(rt, broker), (1200, 5));
+    assert!(rt; are_found(rt, broker, &RUNS));
+    assert!(rt; add_each(rt, alloc, broker, 1, 100));
+    assert!(rt; are_found(rt, broker, &SHORT_RUNS));
+    assert!(rt; add(rt, alloc, broker, 0, 1) && add_each(rt, alloc, broker, 1, 5));
+    assert!(rt; are_found(rt, broker, &PARTED_RUNS));
 }
 
 /// Appends a batch of `count` records to an input, whose rows are then added to output 0.

@@ -1,15 +1,12 @@
 //! Batches of a stream, appended as soon as each is whole.
 
-ghost use Rattle.broker.specs.Layouts.{IsNamed};
-
+use crate::play::{Scene, play};
 use broker::{Broker, BrokerFault, Parts, StreamFault};
-use catalogue::Catalogue;
 use fixtures::ONE;
-use part_log::{LogFault, Names};
+use part_log::{LogFault, Names, Receipt};
 use std::alloc::Global;
 use std::io;
 use std::io::Read;
-use std::marker::Brand;
 use std::process::Abort;
 use std::sync::Wait;
 use std::test::Fail;
@@ -23,6 +20,9 @@ struct Habit {
     interrupted: bool,
     fails_at: usize,
 }
+
+/// What a call returns, and how many receipts it adds.
+type Answer = (Result<u64, StreamFault>, usize);
 
 /// Reads that never fail.
 const NEVER: usize = 1_000_000;
@@ -67,22 +67,33 @@ fn reader_of(bytes: &[u8], habit: Habit) -> Pieces<'_> {
     }
 }
 
-/// What a call returns, and how many receipts it adds. The receipts are of the cells from `first`
+/// What a call returns, and how many receipts it adds. None where these are not of the cells from `first`
 /// on, with one record each.
-fn stream<Id: Names, C, R: Wait + Abort>(
+fn stream<Id: Names, C, R: Wait>(
     rt: &R,
     alloc: Global,
     broker: &Broker<Id, C>,
     first: usize,
     reader: &mut Pieces<'_>,
-) -> (Result<u64, StreamFault>, usize) {
+) -> Option<Answer> {
     let mut receipts = Vec::new(alloc);
     let answer = broker.append_from(rt, alloc, 0, reader, 64, &mut receipts);
-    for (place, receipt) in receipts.iter().enumerate() {
-        let index = first.saturating_add(place);
-        assert_eq!(rt; (receipt.index(), receipt.base()), (index, index as u64));
+    if are_from(first, &receipts) {
+        Some((answer, receipts.len()))
+    } else {
+        None
     }
-    (answer, receipts.len())
+}
+
+fn are_from<Id: Names>(first: usize, receipts: &[Receipt<Id>]) -> bool {
+    let mut index = first;
+    for receipt in receipts {
+        if receipt.index() != index || receipt.base() != index as u64 {
+            return false;
+        }
+        index = index.wrapping_add(1);
+    }
+    true
 }
 
 /// Two batches, whose second has another byte at some place.
@@ -99,99 +110,100 @@ fn two_with(place: usize, byte: u8) -> [u8; 140] {
 #[test]
 fn batches_of_any_pieces_are_appended(rt: HostRuntime) -> Result<(), Fail> {
     let alloc = rt.alloc();
-    let parts = Parts::new(&rt, alloc, 1, 1, 280)?;
-    append_in_pieces::<Brand, _>(&rt, alloc, parts)
+    play(
+        &rt,
+        alloc,
+        Parts::new(&rt, alloc, 1, 1, 280)?,
+        Scene::Pieces,
+    )
 }
 
-fn append_in_pieces<Id: Names, R: Wait + Abort>(
+pub(crate) fn append_in_pieces<Id: Names, C, R: Wait + Abort>(
     rt: &R,
     alloc: Global,
-    parts: Parts<Catalogue<&R>>,
-) -> Result<(), Fail>
-    requires { IsNamed Id.cells Id.inputs Id.outputs parts }
-{
-    let broker: Broker<Id, Catalogue<&R>> = Broker::new(alloc, parts)?;
-    let bytes = two_with(0, 0);
+    broker: &Broker<Id, C>,
+) {
+    let bytes = two_with(70, 0);
     for size in 1..=140usize {
-        let habit = Habit { size, ..STEADY };
-        let first = 2 * (size - 1);
-        let answer = stream(rt, alloc, &broker, first, &mut reader_of(&bytes, habit));
-        assert_eq!(rt; answer, (Ok(2), 2));
+        let mut reader = reader_of(&bytes, Habit { size, ..STEADY });
+        let answer = stream(rt, alloc, broker, 2 * (size - 1), &mut reader);
+        assert_eq!(rt; answer, Some((Ok(2), 2)), "{size}");
     }
-    Ok(())
 }
 
 #[test]
 fn batches_before_a_fault_stay(rt: HostRuntime) -> Result<(), Fail> {
     let alloc = rt.alloc();
-    let parts = Parts::new(&rt, alloc, 1, 1, 8)?;
-    meet_faults::<Brand, _>(&rt, alloc, parts)
+    play(&rt, alloc, Parts::new(&rt, alloc, 1, 1, 8)?, Scene::Faults)
 }
 
-fn meet_faults<Id: Names, R: Wait + Abort>(
+/// Two batches, whose byte at a place is another one, cut to a length; how they are read, and what is
+/// answered.
+type Case = (usize, u8, usize, Habit, Answer);
+
+const FAILING: Habit = Habit {
+    size: 70,
+    interrupted: false,
+    fails_at: 3,
+};
+
+const INTERRUPTED: Habit = Habit {
+    size: 65_536,
+    interrupted: true,
+    fails_at: NEVER,
+};
+
+const SHORT: StreamFault = StreamFault::Batch(BatchFault::Short);
+
+const LENGTH: StreamFault = StreamFault::Batch(BatchFault::Length);
+
+const CRC: StreamFault = StreamFault::Batch(BatchFault::Crc);
+
+const FULL: StreamFault = StreamFault::Broker(BrokerFault::Log(LogFault::Full));
+
+/// One after the other on a log of eight cells.
+const CASES: [Case; 8] = [
+    (70, 0, 0, STEADY, (Ok(0), 0)),
+    (70, 0, 139, STEADY, (Err(SHORT), 1)),
+    (70, 0, 71, STEADY, (Err(SHORT), 1)),
+    (11, 48, 140, STEADY, (Err(LENGTH), 1)),
+    (69, 1, 140, STEADY, (Err(CRC), 1)),
+    (70, 0, 140, FAILING, (Err(StreamFault::Read), 1)),
+    (70, 0, 140, INTERRUPTED, (Ok(2), 2)),
+    (70, 0, 140, STEADY, (Err(FULL), 1)),
+];
+
+pub(crate) fn meet_faults<Id: Names, C, R: Wait + Abort>(
     rt: &R,
     alloc: Global,
-    parts: Parts<Catalogue<&R>>,
-) -> Result<(), Fail>
-    requires { IsNamed Id.cells Id.inputs Id.outputs parts }
-{
-    let broker: Broker<Id, Catalogue<&R>> = Broker::new(alloc, parts)?;
-    let two = two_with(0, 0);
-    let mut first = 0;
-    for (bytes, habit, want) in cases(&two, &two_with(11, 48), &two_with(69, 1)) {
-        let got = stream(rt, alloc, &broker, first, &mut reader_of(bytes, habit));
-        assert_eq!(rt; got, want);
-        first = first.saturating_add(got.1);
+    broker: &Broker<Id, C>,
+) {
+    let mut first = 0usize;
+    for case in &CASES {
+        let answer = answer_to(rt, alloc, broker, first, case);
+        assert_eq!(rt; answer, Some(case.4), "{first}");
+        first = first.wrapping_add(case.4.1);
     }
-    let mut reader = reader_of(&two, STEADY);
-    let mut receipts = Vec::new(alloc);
-    let missing = broker.append_from(rt, alloc, 1, &mut reader, 64, &mut receipts);
-    assert_eq!(rt; missing, Err(StreamFault::Broker(BrokerFault::Partition)));
-    assert_eq!(rt; (reader.reads, receipts.len()), (0, 0));
-    Ok(())
+    assert!(rt; reads_nothing(rt, alloc, broker));
 }
 
-/// Bytes, how they are read, and what is answered with how many receipts, one after the other on a
-/// log of eight cells.
-fn cases<'a>(
-    two: &'a [u8; 140],
-    short_length: &'a [u8],
-    other_value: &'a [u8],
-) -> [(&'a [u8], Habit, (Result<u64, StreamFault>, usize)); 8] {
-    let failing = Habit {
-        size: 70,
-        fails_at: 3,
-        ..STEADY
-    };
-    let interrupted = Habit {
-        interrupted: true,
-        ..STEADY
-    };
-    let full = StreamFault::Broker(BrokerFault::Log(LogFault::Full));
-    [
-        (&[], STEADY, (Ok(0), 0)),
-        (
-            &two[..139],
-            STEADY,
-            (Err(StreamFault::Batch(BatchFault::Short)), 1),
-        ),
-        (
-            &two[..71],
-            STEADY,
-            (Err(StreamFault::Batch(BatchFault::Short)), 1),
-        ),
-        (
-            short_length,
-            STEADY,
-            (Err(StreamFault::Batch(BatchFault::Length)), 1),
-        ),
-        (
-            other_value,
-            STEADY,
-            (Err(StreamFault::Batch(BatchFault::Crc)), 1),
-        ),
-        (two.as_slice(), failing, (Err(StreamFault::Read), 1)),
-        (two.as_slice(), interrupted, (Ok(2), 2)),
-        (two.as_slice(), STEADY, (Err(full), 1)),
-    ]
+fn answer_to<Id: Names, C, R: Wait>(
+    rt: &R,
+    alloc: Global,
+    broker: &Broker<Id, C>,
+    first: usize,
+    case: &Case,
+) -> Option<Answer> {
+    let bytes = two_with(case.0, case.1);
+    let mut reader = reader_of(bytes.get(..case.2)?, case.3);
+    stream(rt, alloc, broker, first, &mut reader)
+}
+
+/// Whether a call that names no input partition is refused before it reads.
+fn reads_nothing<Id: Names, C, R: Wait>(rt: &R, alloc: Global, broker: &Broker<Id, C>) -> bool {
+    let mut reader = reader_of(&ONE, STEADY);
+    let mut receipts = Vec::new(alloc);
+    let answer = broker.append_from(rt, alloc, 1, &mut reader, 64, &mut receipts);
+    let is_refused = answer == Err(StreamFault::Broker(BrokerFault::Partition));
+    is_refused && reader.reads == 0 && receipts.is_empty()
 }

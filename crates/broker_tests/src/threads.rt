@@ -1,12 +1,8 @@
-ghost use Rattle.std.specs.Prelude.{◌<◌, ◌≤◌, length};
-ghost use Rattle.broker.specs.Layouts.{IsNamed};
-
+use crate::play::{Scene, play};
 use broker::{Broker, BrokerFault, Parts};
-use catalogue::Catalogue;
 use fixtures::batch_of;
-use part_log::{Item, LogFault, Names, Receipt, Trail};
+use part_log::{Item, LogFault, Names, Trail};
 use std::alloc::{AllocError, Global};
-use std::marker::Brand;
 use std::process::Abort;
 use std::sync::Wait;
 use std::test::Fail;
@@ -41,32 +37,42 @@ struct Report {
 #[test]
 fn producers_and_readers_share_logs(rt: HostRuntime) -> Result<(), Fail> {
     let alloc = rt.alloc();
-    share::<Brand, _>(&rt, alloc, Parts::new(&rt, alloc, INPUTS, 1, CELLS)?)
+    let parts = Parts::new(&rt, alloc, INPUTS, 1, CELLS)?;
+    play(&rt, alloc, parts, Scene::Share)
 }
 
-fn share<Id: Names + Send + Sync, R: Threads + Wait + Abort + Sync>(
+/// Each log is full, and has what the threads reported of it.
+pub(crate) fn share<Id: Names + Send + Sync, C: Send, R: Threads + Wait + Abort + Sync>(
     rt: &R,
     alloc: Global,
-    parts: Parts<Catalogue<&R>>,
-) -> Result<(), Fail>
-    requires { IsNamed Id.cells Id.inputs Id.outputs parts }
-{
-    let broker: Broker<Id, Catalogue<&R>> = Broker::new(alloc, parts)?;
-    let reports = run_all(rt, alloc, &broker)?;
+    broker: &Broker<Id, C>,
+) -> Result<(), Fail> {
+    let reports = run_all(rt, alloc, broker)?;
     let mut taken = 0usize;
     for input in 0..INPUTS {
-        let items = items_of(rt, alloc, &broker, input).ok_or("a log that can be read")?;
+        let items = items_of(rt, alloc, broker, input).ok_or("a log that can be read")?;
         assert_eq!(rt; items.len(), CELLS);
-        for report in &reports {
-            let report = report.as_ref().ok_or("a thread that ends well")?;
-            if report.input == input {
-                assert!(rt; is_in(report, &items));
-                taken = taken.wrapping_add(report.taken.len());
-            }
-        }
+        let here = taken_from(&reports, input, &items).ok_or("what was reported")?;
+        taken = taken.wrapping_add(here);
     }
     assert_eq!(rt; taken, INPUTS * CELLS);
     Ok(())
+}
+
+/// How many receipts the threads of an input partition got. None where one ended badly, or the log has
+/// something else than it reported.
+fn taken_from(reports: &[Option<Report>], input: usize, items: &[Taken]) -> Option<usize> {
+    let mut taken = 0usize;
+    for report in reports {
+        let report = report.as_ref()?;
+        if report.input == input {
+            if !is_in(report, items) {
+                return None;
+            }
+            taken = taken.wrapping_add(report.taken.len());
+        }
+    }
+    Some(taken)
 }
 
 fn run_all<Id: Names + Send + Sync, C: Send, R: Threads + Wait + Sync>(
@@ -84,7 +90,7 @@ fn run_all<Id: Names + Send + Sync, C: Send, R: Threads + Wait + Sync>(
     thread::map_indices(rt, alloc, PRODUCERS + INPUTS, &one)
 }
 
-/// Appends until the log is full, and reads back what each receipt is of.
+/// Appends until the log is full.
 fn produce<Id: Names, C, R: Wait>(
     rt: &R,
     alloc: Global,
@@ -96,19 +102,8 @@ fn produce<Id: Names, C, R: Wait>(
     let mut taken = Vec::new(alloc);
     for turn in 0..CELLS {
         let timestamp = first.wrapping_add(turn as i64);
-        let batch = batch_of(alloc, turn % 3 + 1, timestamp)?;
-        match broker.append(rt, alloc, input, batch) {
-            Ok(receipt) => {
-                if timestamp_of(broker, &receipt.with_item(), receipt.index()) != Some(timestamp) {
-                    return None;
-                }
-                let one = Taken {
-                    index: receipt.index(),
-                    base: receipt.base(),
-                    timestamp,
-                };
-                taken.push(one).ok()?;
-            }
+        match append(rt, alloc, broker, input, turn % 3 + 1, timestamp) {
+            Ok(one) => taken.push(one).ok()?,
             Err(BrokerFault::Log(LogFault::Full)) => break,
             Err(_) => return None,
         }
@@ -118,6 +113,29 @@ fn produce<Id: Names, C, R: Wait>(
         taken,
         items: 0,
         records: 0,
+    })
+}
+
+/// Appends a batch, and reads back what its receipt is of. `NoProgram` where that is something else.
+fn append<Id: Names, C, R: Wait>(
+    rt: &R,
+    alloc: Global,
+    broker: &Broker<Id, C>,
+    input: usize,
+    records: usize,
+    timestamp: i64,
+) -> Result<Taken, BrokerFault> {
+    let Some(batch) = batch_of(alloc, records, timestamp) else {
+        return Err(BrokerFault::Memory);
+    };
+    let receipt = broker.append(rt, alloc, input, batch)?;
+    if timestamp_of(broker, &receipt.with_item(), receipt.index()) != Some(timestamp) {
+        return Err(BrokerFault::NoProgram);
+    }
+    Ok(Taken {
+        index: receipt.index(),
+        base: receipt.base(),
+        timestamp,
     })
 }
 

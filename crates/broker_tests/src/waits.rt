@@ -1,15 +1,15 @@
 //! Threads that wait for items, long enough to fall asleep before each.
 
 ghost use Rattle.std.specs.Prelude.{◌≡◌};
-ghost use Rattle.broker.specs.Layouts.{IsNamed};
 
-use crate::books::has;
+use crate::books::{Held, hold};
+use crate::play::{Scene, play};
 use broker::{Broker, Ended, Parts, Until};
 use broker_fixtures::{deploy, ends, put};
 use catalogue::Catalogue;
 use fixtures::{FORWARD, batch_of_value};
 use part_log::{Cells, Names, PartLog};
-use std::alloc::Global;
+use std::alloc::{AllocError, Global};
 use std::marker::Brand;
 use std::process::Abort;
 use std::rt::Clock;
@@ -31,19 +31,29 @@ fn rest<R: Clock>(rt: &R) {
 #[test]
 fn a_worker_that_sleeps_takes_what_is_appended(rt: HostRuntime) -> Result<(), Fail> {
     let alloc = rt.alloc();
-    wake::<Brand, _>(&rt, alloc, Parts::new(&rt, alloc, 2, 1, 8)?)
+    play(&rt, alloc, Parts::new(&rt, alloc, 2, 1, 8)?, Scene::Wake)
 }
 
+/// What the books of both input partitions hold in the end.
+const WOKEN: [Held<'static>; 2] = [(0, 0, 4, &[(0, 0, b'A'), (1, 0, b'B')]), (1, 0, 1, &[])];
+
 /// One worker gets a mark, two records and the end, each after a rest; the other gets the end alone.
-fn wake<Id: Names + Send + Sync, R: Threads + Wait + Abort + Clock + Sync>(
+pub(crate) fn wake<Id: Names + Send + Sync, R: Threads + Wait + Abort + Clock + Sync>(
     rt: &R,
     alloc: Global,
-    parts: Parts<Catalogue<&R>>,
-) -> Result<(), Fail>
-    requires { IsNamed Id.cells Id.inputs Id.outputs parts }
-{
-    let made: Broker<Id, Catalogue<&R>> = Broker::new(alloc, parts)?;
-    let broker = &made;
+    broker: &Broker<Id, Catalogue<&R>>,
+) -> Result<(), Fail> {
+    assert!(rt; follow_rests(rt, alloc, broker)?);
+    assert!(rt; hold(rt, broker, &WOKEN));
+    Ok(())
+}
+
+/// Whether the workers end well, and beside them what appends.
+fn follow_rests<Id: Names + Send + Sync, H: Wait + Drop + Send, R: Threads + Wait + Clock + Sync>(
+    rt: &R,
+    alloc: Global,
+    broker: &Broker<Id, Catalogue<H>>,
+) -> Result<bool, AllocError> {
     let one = move |number: usize| -> bool {
         if number == 0 {
             let want = [Ended::Done(4), Ended::Done(1)];
@@ -52,12 +62,8 @@ fn wake<Id: Names + Send + Sync, R: Threads + Wait + Abort + Clock + Sync>(
             append_after_rests(rt, alloc, broker)
         }
     };
-    for is_right in &thread::map_indices(rt, alloc, 2, &one)? {
-        assert!(rt; *is_right);
-    }
-    assert!(rt; has(rt, broker, 0, 0, 4, &[(0, 0, b'A'), (1, 0, b'B')]));
-    assert!(rt; has(rt, broker, 1, 0, 1, &[]));
-    Ok(())
+    let right = thread::map_indices(rt, alloc, 2, &one)?;
+    Ok(right.as_slice() == [true, true].as_slice())
 }
 
 /// Appends a mark, two records and the ends; whether each item but the ends was done before the next came.
@@ -67,15 +73,18 @@ fn append_after_rests<Id: Names, H: Wait + Drop, R: Wait + Clock>(
     broker: &Broker<Id, Catalogue<H>>,
 ) -> bool {
     rest(rt);
-    let marked = deploy(rt, alloc, broker, 0, &FORWARD) == Some(0) && comes(rt, broker, 1);
+    let mut comes_next = deploy(rt, alloc, broker, 0, &FORWARD) == Some(0) && comes(rt, broker, 1);
+    for (value, done) in [(b'A', 2), (b'B', 3)] {
+        rest(rt);
+        comes_next &= put(rt, alloc, broker, 0, value).is_some() && comes(rt, broker, done);
+    }
     rest(rt);
-    let first = put(rt, alloc, broker, 0, b'A').is_some() && comes(rt, broker, 2);
-    rest(rt);
-    let second = put(rt, alloc, broker, 0, b'B').is_some() && comes(rt, broker, 3);
-    rest(rt);
-    let closed = broker.close(rt, alloc, 0).is_ok();
-    let other_closed = broker.close(rt, alloc, 1).is_ok();
-    marked && first && second && closed && other_closed
+    close_both(rt, alloc, broker) && comes_next
+}
+
+fn close_both<Id: Names, C, R: Wait>(rt: &R, alloc: Global, broker: &Broker<Id, C>) -> bool {
+    let is_closed = broker.close(rt, alloc, 0).is_ok();
+    broker.close(rt, alloc, 1).is_ok() && is_closed
 }
 
 /// Waits until that number of items of input partition 0 is done, but not for ever; whether it is.
@@ -110,21 +119,32 @@ fn wait_for_both<Id: Names + Send + Sync, R: Threads + Wait + Abort + Clock + Sy
 ) -> Result<(), Fail>
     requires { cells ≡ Id.cells 0 }
 {
-    let made: PartLog<Id> = PartLog::new(0, cells);
-    let log = &made;
+    let log: PartLog<Id> = PartLog::new(0, cells);
+    assert!(rt; are_found_late(rt, alloc, &log)?);
+    assert!(rt; are_found(rt, &log));
+    Ok(())
+}
+
+/// Whether both items are found, in order.
+fn are_found<Id: Names, R: Wait>(rt: &R, log: &PartLog<Id>) -> bool {
+    find(rt, log, 0) == Some(1) && find(rt, log, 1) == Some(0)
+}
+
+/// Whether a thread finds both items that another one appends.
+fn are_found_late<Id: Names + Send + Sync, R: Threads + Wait + Clock + Sync>(
+    rt: &R,
+    alloc: Global,
+    log: &PartLog<Id>,
+) -> Result<bool, AllocError> {
     let one = move |number: usize| -> bool {
         if number == 0 {
-            find(rt, log, 0) == Some(1) && find(rt, log, 1) == Some(0)
+            are_found(rt, log)
         } else {
             append_both(rt, alloc, log)
         }
     };
-    for is_right in &thread::map_indices(rt, alloc, 2, &one)? {
-        assert!(rt; *is_right);
-    }
-    assert_eq!(rt; find(rt, log, 0), Some(1));
-    assert_eq!(rt; find(rt, log, 1), Some(0));
-    Ok(())
+    let right = thread::map_indices(rt, alloc, 2, &one)?;
+    Ok(right.as_slice() == [true, true].as_slice())
 }
 
 /// Appends a batch of one record and the end, each after a rest; whether it could.

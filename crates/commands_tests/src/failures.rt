@@ -1,8 +1,8 @@
 //! Readers that fail at each of their calls, and writers that fail after each number of bytes.
 
-use crate::shelf::{BATCHES, FORWARD};
+use crate::shelf::{BATCHES, FORWARD, words_of};
 use commands::{Files, command};
-use std::alloc::Global;
+use std::alloc::{AllocError, Global};
 use std::io;
 use std::io::{Cursor, Read, Write};
 use std::process::Abort;
@@ -94,16 +94,28 @@ impl Write for Narrow {
     }
 }
 
-fn words_of(alloc: Global, words: &[&str]) -> Result<Vec<String>, Fail> {
-    let mut all = Vec::new(alloc);
-    for word in words {
-        all.push(String::from_str(alloc, word)?)?;
-    }
-    Ok(all)
+/// What a call answers: its status, what it writes to standard output, and to standard error.
+type Called = (u8, Vec<u8>, Vec<u8>);
+
+/// A call with a standard output that takes so many bytes.
+fn bytes_of<R: Threads + Wait + Sync>(
+    rt: &R,
+    files: &mut Torn,
+    words: &[String],
+    stdin: &mut Cursor<Vec<u8>>,
+    room: usize,
+) -> Called {
+    let alloc = files.alloc;
+    let mut stdout = Narrow {
+        taken: Vec::new(alloc),
+        room,
+    };
+    let mut stderr = Vec::new(alloc);
+    let status = command(rt, alloc, words, files, stdin, &mut stdout, &mut stderr);
+    (status, stdout.taken, stderr)
 }
 
-/// A call with files that fail at one call and a standard output that takes so many bytes: its status,
-/// what it wrote there and what to standard error.
+/// A call with files that fail at one call and a standard output that takes so many bytes.
 fn called<R: Threads + Wait + Sync>(
     rt: &R,
     alloc: Global,
@@ -111,26 +123,16 @@ fn called<R: Threads + Wait + Sync>(
     script: &str,
     fails: usize,
     room: usize,
-) -> Result<(u8, Vec<u8>, String), Fail> {
+) -> Result<Called, AllocError> {
     let words = words_of(alloc, words)?;
-    let mut files = Torn { alloc, fails };
     let mut stdin = Cursor::new(Vec::from_slice(alloc, script.as_bytes())?);
-    let mut stdout = Narrow {
-        taken: Vec::new(alloc),
-        room,
-    };
-    let mut stderr = Vec::new(alloc);
-    let status = command(
-        rt,
-        alloc,
-        &words,
-        &mut files,
-        &mut stdin,
-        &mut stdout,
-        &mut stderr,
-    );
-    let error = String::from_utf8(stderr).ok().ok_or("text")?;
-    Ok((status, stdout.taken, error))
+    let mut files = Torn { alloc, fails };
+    Ok(bytes_of(rt, &mut files, &words, &mut stdin, room))
+}
+
+/// Whether this is what a call answers.
+fn is_called(got: &Called, status: u8, out: &[u8], err: &str) -> bool {
+    got.0 == status && got.1.as_slice() == out && got.2.as_slice() == err.as_bytes()
 }
 
 /// Room for all that a call writes.
@@ -167,30 +169,35 @@ const TEXTS: [(&[&str], &str); 5] = [
     ),
 ];
 
+/// Whether a call whose standard output takes so many bytes writes those of the text, and fails where
+/// they are not all.
+fn has_beginning<R: Threads + Wait + Sync>(
+    rt: &R,
+    alloc: Global,
+    words: &[&str],
+    text: &[u8],
+    room: usize,
+) -> Result<bool, AllocError> {
+    let called = called(rt, alloc, words, SCRIPT, 0, room)?;
+    Ok(match text.get(..room) {
+        Some(begin) if room < text.len() => is_called(&called, 3, begin, "file stdout\n"),
+        _ => is_called(&called, 0, text, ""),
+    })
+}
+
 /// A call whose standard output takes each number of bytes has written a beginning of the text.
 fn each_beginning<R: Threads + Wait + Abort + Sync>(
     rt: &R,
     alloc: Global,
     words: &[&str],
-    text: &str,
+    text: &[u8],
 ) -> Result<(), Fail> {
-    let all = text.as_bytes();
-    for room in 0..all.len() {
-        let (status, taken, error) = called(rt, alloc, words, SCRIPT, 0, room)?;
-        assert_eq!(rt;
-            (status, error.as_str()),
-            (3, "file stdout\n"),
+    for room in 0..=text.len() {
+        assert!(rt;
+            has_beginning(rt, alloc, words, text, room)?,
             "{words:?} after {room}"
         );
-        assert!(rt; taken.as_slice() == &all[..room], "{words:?} after {room}");
     }
-    let (status, taken, error) = called(rt, alloc, words, SCRIPT, 0, all.len())?;
-    assert_eq!(rt; (status, error.as_str()), (0, ""), "{words:?}");
-    assert!(rt;
-        taken.as_slice() == all,
-        "{words:?}: {:?}",
-        taken.as_slice()
-    );
     Ok(())
 }
 
@@ -200,7 +207,7 @@ fn all_beginnings<R: Threads + Wait + Abort + Sync>(
     rows: &[(&[&str], &str)],
 ) -> Result<(), Fail> {
     for (words, text) in rows {
-        each_beginning(rt, alloc, words, text)?;
+        each_beginning(rt, alloc, words, text.as_bytes())?;
     }
     Ok(())
 }
@@ -219,21 +226,18 @@ fn appended_before(fails: usize) -> &'static str {
     }
 }
 
+const APPENDING: &str = "partitions 1 1 8\nappend 0 batches\n";
+
 /// Each batch that was read whole before a reader fails is appended.
 fn each_read_of_batches<R: Threads + Wait + Abort + Sync>(
     rt: &R,
     alloc: Global,
 ) -> Result<(), Fail> {
-    let script = "partitions 1 1 8\nappend 0 batches\n";
     for fails in 1..=264 {
-        let (status, taken, error) = called(rt, alloc, &["run", "stdin"], script, fails, ALL)?;
-        assert_eq!(rt;
-            (status, error.as_str()),
-            (3, "file batches\n"),
-            "read {fails}"
-        );
+        let called = called(rt, alloc, &["run", "stdin"], APPENDING, fails, ALL)?;
+        let before = appended_before(fails).as_bytes();
         assert!(rt;
-            taken.as_slice() == appended_before(fails).as_bytes(),
+            is_called(&called, 3, before, "file batches\n"),
             "read {fails}"
         );
     }
@@ -247,13 +251,11 @@ fn each_read_of_an_image<R: Threads + Wait + Abort + Sync>(
     word: &str,
 ) -> Result<(), Fail> {
     for fails in 1..=25 {
-        let (status, taken, error) = called(rt, alloc, &[word, "image"], "", fails, ALL)?;
-        assert_eq!(rt;
-            (status, error.as_str()),
-            (3, "file image\n"),
+        let called = called(rt, alloc, &[word, "image"], "", fails, ALL)?;
+        assert!(rt;
+            is_called(&called, 3, &[], "file image\n"),
             "{word}, read {fails}"
         );
-        assert!(rt; taken.is_empty(), "{word}, read {fails}");
     }
     Ok(())
 }

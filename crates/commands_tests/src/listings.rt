@@ -3,7 +3,7 @@
 use crate::scripts::BEGIN;
 use crate::shelf::{BATCHES, Shelf, answers, called, called_with, empty_shelf, file_answers};
 use commands::Files;
-use std::alloc::Global;
+use std::alloc::{AllocError, Global};
 use std::process::Abort;
 use std::sync::Wait;
 use std::test::Fail;
@@ -90,17 +90,37 @@ fn rows_of<'a>(printed: &'a str) -> Result<&'a str, Fail> {
     Ok(printed.get(begin..end).ok_or("no rows")?)
 }
 
+/// What a script prints that appends the batches of a file, and one that appends its records.
+fn both_printed<R: Threads + Wait + Sync>(rt: &R, alloc: Global) -> Result<(String, String), Fail> {
+    let file = format!(in alloc; "{BEGIN}deploy 0 fwd\nappend 0 batches.bin\ngo\n")?;
+    let of_file = printed(rt, alloc, &["run", "stdin"], file.as_str())?;
+    let records = printed(rt, alloc, &["records", "batches.bin"], "")?;
+    let script = format!(in alloc; "{BEGIN}deploy 0 fwd\n{records}go\n")?;
+    Ok((
+        of_file,
+        printed(rt, alloc, &["run", "stdin"], script.as_str())?,
+    ))
+}
+
+/// What a call prints that ends well.
+fn printed<R: Threads + Wait + Sync>(
+    rt: &R,
+    alloc: Global,
+    words: &[&str],
+    script: &str,
+) -> Result<String, Fail> {
+    let (status, out, err) = called(rt, alloc, words, script)?;
+    if status == 0 && err.is_empty() {
+        Ok(out)
+    } else {
+        Err(Fail::from("a call that ends well"))
+    }
+}
+
 /// A script of the printed records has the rows of the file.
 #[test]
 fn records_are_read_back(rt: HostRuntime) -> Result<(), Fail> {
-    let alloc = rt.alloc();
-    let file = format!(in alloc; "{BEGIN}deploy 0 fwd\nappend 0 batches.bin\ngo\n")?;
-    let (_, of_file, _) = called(&rt, alloc, &["run", "stdin"], file.as_str())?;
-    let (_, records, _) = called(&rt, alloc, &["records", "batches.bin"], "")?;
-    let script = format!(in alloc; "{BEGIN}deploy 0 fwd\n{records}go\n")?;
-    let (status, of_records, err) = called(&rt, alloc, &["run", "stdin"], script.as_str())?;
-    assert!(rt; err.as_str() == "", "{err}");
-    assert_eq!(rt; status, 0);
+    let (of_file, of_records) = both_printed(&rt, rt.alloc())?;
     let rows = rows_of(of_file.as_str())?;
     assert!(rt; rows.find("row 0 0 4 ").is_some(), "{rows}");
     assert_eq!(rt; rows, rows_of(of_records.as_str())?);
@@ -198,16 +218,20 @@ const DAMAGES: [Damage; 14] = [
     ),
 ];
 
+/// Writes bytes over those from a place on.
+fn put_at(bytes: &mut [u8], at: usize, new: &[u8]) {
+    for (place, byte) in new.iter().enumerate() {
+        if let Some(old) = bytes.get_mut(at.saturating_add(place)) {
+            *old = *byte;
+        }
+    }
+}
+
 /// `PLAIN`, and after it a damaged one.
-fn damaged(alloc: Global, damage: &Damage) -> Result<Vec<u8>, Fail> {
-    let (at, bytes, sum, _) = damage;
-    let mut last = Vec::from_slice(alloc, &PLAIN)?;
-    for (place, byte) in bytes.iter().enumerate() {
-        *last.get_mut(at.saturating_add(place)).ok_or("place")? = *byte;
-    }
-    for (place, byte) in sum.iter().enumerate() {
-        *last.get_mut(place.saturating_add(17)).ok_or("place")? = *byte;
-    }
+fn damaged(alloc: Global, damage: &Damage) -> Result<Vec<u8>, AllocError> {
+    let mut last = PLAIN;
+    put_at(&mut last, damage.0, damage.1);
+    put_at(&mut last, 17, &damage.2);
     let mut all = Vec::from_slice(alloc, &PLAIN)?;
     all.extend_from_slice(&last)?;
     Ok(all)
@@ -244,23 +268,44 @@ const LONG: [u8; 101] = [
     6, 6, 2, 0x6b, 0x82, 0x80, 0x80, 1,
 ];
 
+/// A batch whose fourth record is too long.
+fn long(alloc: Global) -> Result<Vec<u8>, AllocError> {
+    let mut long = Vec::from_slice(alloc, &LONG)?;
+    let value = vec![in alloc; b'x'; 1_048_577]?;
+    long.extend_from_slice(&value)?;
+    long.push(0)?;
+    Ok(long)
+}
+
+/// A batch and zeros after it.
+fn zeros(alloc: Global) -> Result<Vec<u8>, AllocError> {
+    let mut zeros = Vec::from_slice(alloc, &PLAIN)?;
+    zeros.extend_from_slice(&[0u8; 200])?;
+    Ok(zeros)
+}
+
 /// Files that end badly.
 fn bad_files(alloc: Global) -> Result<Shelf, Fail> {
     let mut files = empty_shelf(alloc);
-    let mut long = Vec::from_slice(alloc, &LONG)?;
-    long.extend_from_slice(&vec![in alloc; b'x'; 1_048_577]?)?;
-    long.push(0)?;
-    files.write("long", &long)?;
-    let mut zeros = Vec::from_slice(alloc, &PLAIN)?;
-    zeros.extend_from_slice(&[0u8; 200])?;
-    files.write("zeros", &zeros)?;
-    files.write("magic1", &MAGIC_1)?;
-    files.write("magic0", &MAGIC_0)?;
-    files.write("cut", BATCHES.get(..262).ok_or("cut")?)?;
-    files.write("header", BATCHES.get(..100).ok_or("cut")?)?;
-    files.write("front", PLAIN.get(..11).ok_or("cut")?)?;
+    files.write("long", &long(alloc)?)?;
+    files.write("zeros", &zeros(alloc)?)?;
+    for (name, content) in BAD {
+        files.write(name, content)?;
+    }
+    for (name, whole, len) in CUT {
+        files.write(name, whole.get(..len).ok_or("cut")?)?;
+    }
     Ok(files)
 }
+
+const BAD: [(&str, &[u8]); 2] = [("magic1", &MAGIC_1), ("magic0", &MAGIC_0)];
+
+/// A file, of which whole, and how many bytes it has.
+const CUT: [(&str, &[u8], usize); 3] = [
+    ("cut", &BATCHES, 262),
+    ("header", &BATCHES, 100),
+    ("front", &PLAIN, 11),
+];
 
 /// A file that ends badly, and what is said of it.
 const ENDS: [(&str, &str); 7] = [

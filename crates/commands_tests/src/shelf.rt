@@ -1,7 +1,7 @@
 //! Files in memory, and calls of the program over them.
 
 use commands::{Files, command};
-use std::alloc::Global;
+use std::alloc::{AllocError, Global};
 use std::collections::BTreeMap;
 use std::io;
 use std::io::{Cursor, Read, Write};
@@ -115,6 +115,37 @@ pub(crate) fn empty_shelf(alloc: Global) -> Shelf {
     }
 }
 
+/// The words of a call.
+pub(crate) fn words_of(alloc: Global, words: &[&str]) -> Result<Vec<String>, AllocError> {
+    let mut all = Vec::new(alloc);
+    for word in words {
+        all.push(String::from_str(alloc, word)?)?;
+    }
+    Ok(all)
+}
+
+/// The status of a call, and what it writes to standard output and error.
+fn bytes_of<R: Threads + Wait + Sync>(
+    rt: &R,
+    alloc: Global,
+    files: &mut Shelf,
+    words: &[String],
+    stdin: &mut Cursor<Vec<u8>>,
+) -> (u8, Vec<u8>, Vec<u8>) {
+    let mut stdout = Vec::new(alloc);
+    let mut stderr = Vec::new(alloc);
+    let status = command(rt, alloc, words, files, stdin, &mut stdout, &mut stderr);
+    (status, stdout, stderr)
+}
+
+/// Bytes as text.
+pub(crate) fn text_of(bytes: Vec<u8>) -> Result<String, Fail> {
+    match String::from_utf8(bytes) {
+        Ok(text) => Ok(text),
+        Err(_) => Err(Fail::from("text")),
+    }
+}
+
 /// What a call answers: its status, and what it writes to standard output and error.
 pub(crate) fn called_with<R: Threads + Wait + Sync>(
     rt: &R,
@@ -123,17 +154,10 @@ pub(crate) fn called_with<R: Threads + Wait + Sync>(
     words: &[&str],
     input: &[u8],
 ) -> Result<(u8, String, String), Fail> {
-    let mut all = Vec::new(alloc);
-    for word in words {
-        all.push(String::from_str(alloc, word)?)?;
-    }
+    let all = words_of(alloc, words)?;
     let mut stdin = Cursor::new(Vec::from_slice(alloc, input)?);
-    let mut stdout = Vec::new(alloc);
-    let mut stderr = Vec::new(alloc);
-    let status = command(rt, alloc, &all, files, &mut stdin, &mut stdout, &mut stderr);
-    let out = String::from_utf8(stdout).ok().ok_or("text")?;
-    let err = String::from_utf8(stderr).ok().ok_or("text")?;
-    Ok((status, out, err))
+    let (status, out, err) = bytes_of(rt, alloc, files, &all, &mut stdin);
+    Ok((status, text_of(out)?, text_of(err)?))
 }
 
 /// A script as a file, and some other files.
@@ -160,6 +184,13 @@ pub(crate) fn called<R: Threads + Wait + Sync>(
 /// What a call is to answer: its status, and what it writes to standard output and error.
 pub(crate) type Answer<'a> = (u8, &'a str, &'a str);
 
+/// A call has this answer.
+fn is_answer<R: Abort>(rt: &R, call: &[&str], script: &str, got: Answer<'_>, want: Answer<'_>) {
+    assert!(rt; got.2 == want.2, "{call:?}, {script}: {}", got.2);
+    assert!(rt; got.1 == want.1, "{call:?}, {script}: {}", got.1);
+    assert_eq!(rt; got.0, want.0, "{call:?}, {script}");
+}
+
 /// A call over these files has this answer.
 pub(crate) fn answers<R: Threads + Wait + Abort + Sync>(
     rt: &R,
@@ -169,9 +200,7 @@ pub(crate) fn answers<R: Threads + Wait + Abort + Sync>(
     want: Answer<'_>,
 ) -> Result<(), Fail> {
     let (status, out, err) = called_with(rt, files.alloc, files, words, input)?;
-    assert!(rt; err.as_str() == want.2, "{words:?}: {err}");
-    assert!(rt; out.as_str() == want.1, "{words:?}: {out}");
-    assert_eq!(rt; status, want.0, "{words:?}");
+    is_answer(rt, words, "", (status, out.as_str(), err.as_str()), want);
     Ok(())
 }
 
@@ -197,9 +226,13 @@ pub(crate) fn script_answers<R: Threads + Wait + Abort + Sync>(
     want: Answer<'_>,
 ) -> Result<(), Fail> {
     let (status, out, err) = called(rt, alloc, words, script)?;
-    assert!(rt; err.as_str() == want.2, "{words:?}, {script}: {err}");
-    assert!(rt; out.as_str() == want.1, "{words:?}, {script}: {out}");
-    assert_eq!(rt; status, want.0, "{words:?}, {script}");
+    is_answer(
+        rt,
+        words,
+        script,
+        (status, out.as_str(), err.as_str()),
+        want,
+    );
     Ok(())
 }
 

@@ -1,10 +1,12 @@
 use crate::scripts::BEGIN;
-use crate::shelf::{empty_shelf, script_answers};
+use crate::shelf::{Shelf, empty_shelf, script_answers, text_of, words_of};
 use commands::{command, tell_no_words};
 use std::alloc::Global;
 use std::io;
 use std::io::{Cursor, Write};
+use std::sync::Wait;
 use std::test::Fail;
+use std::thread::Threads;
 
 /// A writer that takes nothing.
 #[derive(Drop)]
@@ -32,7 +34,7 @@ const UNHAD: [(io::ErrorKind, &str, u8); 2] = [
 fn told(alloc: Global, kind: io::ErrorKind) -> Result<(String, u8), Fail> {
     let mut stderr = Vec::new(alloc);
     let status = tell_no_words(&mut stderr, &io::Error::from(kind));
-    Ok((String::from_utf8(stderr).ok().ok_or("text")?, status))
+    Ok((text_of(stderr)?, status))
 }
 
 #[test]
@@ -91,26 +93,27 @@ fn refuses_words(rt: HostRuntime) -> Result<(), Fail> {
     Ok(())
 }
 
+/// The status of a call whose standard output takes nothing, and what it writes to standard error.
+fn full_call<R: Threads + Wait + Sync>(
+    rt: &R,
+    alloc: Global,
+    files: &mut Shelf,
+    words: &[String],
+    stdin: &mut Cursor<Vec<u8>>,
+) -> (u8, Vec<u8>) {
+    let mut stderr = Vec::new(alloc);
+    let status = command(rt, alloc, words, files, stdin, &mut Full, &mut stderr);
+    (status, stderr)
+}
+
 #[test]
 fn reports_that_output_fails(rt: HostRuntime) -> Result<(), Fail> {
     let alloc = rt.alloc();
     let mut files = empty_shelf(alloc);
-    let words = [
-        String::from_str(alloc, "run")?,
-        String::from_str(alloc, "stdin")?,
-    ];
+    let words = words_of(alloc, &["run", "stdin"])?;
     let mut stdin = Cursor::new(Vec::from_slice(alloc, BEGIN.as_bytes())?);
-    let mut stderr = Vec::new(alloc);
-    let status = command(
-        &rt,
-        alloc,
-        &words,
-        &mut files,
-        &mut stdin,
-        &mut Full,
-        &mut stderr,
-    );
-    assert!(rt; status == 3);
+    let (status, stderr) = full_call(&rt, alloc, &mut files, &words, &mut stdin);
+    assert_eq!(rt; status, 3);
     assert!(rt; stderr.as_slice() == b"file stdout\n".as_slice());
     Ok(())
 }

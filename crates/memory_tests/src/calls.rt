@@ -1,14 +1,18 @@
 //! The calls of a broker that append and load, each made again where memory was refused. None says
 //! that something was wrong.
 
+ghost use Rattle.log_spec.specs.Logs.{FitsLog};
+
 use crate::making::{batch, image, say};
 use broker::{Broker, BrokerFault};
 use broker_fixtures::{NAME, place_of};
+use bytes::Bytes;
 use catalogue::{CatFault, Catalogue, Finder, Known};
 use machine_spec::Table;
 use part_log::{LogFault, Names};
 use std::alloc::Global;
 use std::sync::Wait;
+use wire_spec::Batch;
 
 const C6: BrokerFault = BrokerFault::Catalogue(CatFault::Memory);
 
@@ -20,16 +24,55 @@ pub(crate) fn finder<Id: Names, H: Wait + Drop, R: Wait + Print>(
     alloc: Global,
     broker: &Broker<Id, Catalogue<H>>,
 ) -> Option<Finder> {
-    match broker.finder(rt, alloc) {
-        Ok(finder) => Some(finder),
-        Err(fault) => {
-            say(rt, "finder", fault);
-            if fault != BrokerFault::Catalogue(CatFault::NoReader) {
-                return None;
+    for _ in 0..2 {
+        match broker.finder(rt, alloc) {
+            Ok(finder) => return Some(finder),
+            Err(fault) => {
+                say(rt, "finder", fault);
+                if fault != BrokerFault::Catalogue(CatFault::NoReader) {
+                    return None;
+                }
             }
-            broker.finder(rt, alloc).ok()
         }
     }
+    None
+}
+
+/// What is known after a load, if it is of the version that the load returns.
+fn load_once<Id: Names, H: Wait + Drop, R: Wait>(
+    rt: &R,
+    alloc: Global,
+    broker: &Broker<Id, Catalogue<H>>,
+    image: &Bytes,
+) -> Result<Option<Known>, BrokerFault> {
+    let (version, known) = broker.load(rt, alloc, NAME, image, Table::One)?;
+    Ok(if known.version() == version {
+        Some(known)
+    } else {
+        None
+    })
+}
+
+/// What is known after a load, or after the one that follows a refused one.
+fn load_twice<Id: Names, H: Wait + Drop, R: Wait + Print>(
+    rt: &R,
+    alloc: Global,
+    broker: &Broker<Id, Catalogue<H>>,
+    before: Option<&Known>,
+) -> Option<Known> {
+    let image = image(alloc)?;
+    for _ in 0..2 {
+        match load_once(rt, alloc, broker, &image) {
+            Ok(known) => return known,
+            Err(fault) => {
+                say(rt, "load", fault);
+                if fault != C6 || !is_newest(rt, alloc, broker, before) {
+                    return None;
+                }
+            }
+        }
+    }
+    None
 }
 
 /// What is known after a load, which has the version after the one that was known before.
@@ -39,22 +82,12 @@ pub(crate) fn load<Id: Names, H: Wait + Drop, R: Wait + Print>(
     broker: &Broker<Id, Catalogue<H>>,
     before: Option<&Known>,
 ) -> Option<Known> {
-    let image = image(alloc)?;
-    let (version, known) = match broker.load(rt, alloc, NAME, &image, Table::One) {
-        Ok(loaded) => loaded,
-        Err(fault) => {
-            say(rt, "load", fault);
-            if fault != C6 || !is_newest(rt, alloc, broker, before) {
-                return None;
-            }
-            broker.load(rt, alloc, NAME, &image, Table::One).ok()?
-        }
-    };
     let want = match before {
         None => 1,
         Some(known) => known.version().wrapping_add(1),
     };
-    if version == want && known.version() == want {
+    let known = load_twice(rt, alloc, broker, before)?;
+    if known.version() == want {
         Some(known)
     } else {
         None
@@ -109,6 +142,30 @@ pub(crate) fn items<Id: Names, C, R: Wait>(rt: &R, broker: &Broker<Id, C>) -> Op
     Some(trail.len())
 }
 
+/// Whether a call that can only be refused so was, and the log has the items that it had before.
+fn is_refused<Id: Names, C, R: Wait + Print>(
+    rt: &R,
+    broker: &Broker<Id, C>,
+    call: &str,
+    fault: BrokerFault,
+    faults: &[BrokerFault],
+    before: usize,
+) -> bool {
+    say(rt, call, fault);
+    faults.iter().any(|it| *it == fault) && items(rt, broker) == Some(before)
+}
+
+fn deploy_once<Id: Names, C, R: Wait>(
+    rt: &R,
+    alloc: Global,
+    broker: &Broker<Id, C>,
+    finder: &mut Finder,
+    known: &Known,
+) -> Result<(usize, u32), BrokerFault> {
+    let (receipt, version) = broker.deploy(rt, alloc, 0, known.name(), finder, known)?;
+    Ok((receipt.index(), version))
+}
+
 /// The index of the mark, and its version.
 pub(crate) fn deploy<Id: Names, C, R: Wait + Print>(
     rt: &R,
@@ -118,20 +175,28 @@ pub(crate) fn deploy<Id: Names, C, R: Wait + Print>(
     known: &Known,
 ) -> Option<(usize, u32)> {
     let before = items(rt, broker)?;
-    let (receipt, version) = match broker.deploy(rt, alloc, 0, known.name(), finder, known) {
-        Ok(deployed) => deployed,
-        Err(fault) => {
-            say(rt, "deploy", fault);
-            let is_memory = fault == C6 || fault == L4;
-            if !is_memory || items(rt, broker) != Some(before) {
-                return None;
-            }
-            broker
-                .deploy(rt, alloc, 0, known.name(), finder, known)
-                .ok()?
+    for _ in 0..2 {
+        match deploy_once(rt, alloc, broker, finder, known) {
+            Ok(deployed) => return Some(deployed),
+            Err(fault) if is_refused(rt, broker, "deploy", fault, &[C6, L4], before) => {}
+            Err(_) => return None,
         }
-    };
-    Some((receipt.index(), version))
+    }
+    None
+}
+
+/// Where an appended item is: its partition, its index and the records before it.
+type Place = (usize, usize, u64);
+
+fn append_once<Id: Names, C, R: Wait>(
+    rt: &R,
+    alloc: Global,
+    broker: &Broker<Id, C>,
+    batch: Batch,
+) -> Result<Place, BrokerFault>
+    requires { FitsLog batch }
+{
+    Ok(place_of(&broker.append(rt, alloc, 0, batch)?))
 }
 
 /// Appends a batch of two records of this value.
@@ -140,38 +205,40 @@ pub(crate) fn append<Id: Names, C, R: Wait + Print>(
     alloc: Global,
     broker: &Broker<Id, C>,
     value: u8,
-) -> Option<(usize, usize, u64)> {
+) -> Option<Place> {
     let before = items(rt, broker)?;
-    let receipt = match broker.append(rt, alloc, 0, batch(alloc, value)?) {
-        Ok(receipt) => receipt,
-        Err(fault) => {
-            say(rt, "append", fault);
-            if fault != L4 || items(rt, broker) != Some(before) {
-                return None;
-            }
-            broker.append(rt, alloc, 0, batch(alloc, value)?).ok()?
+    for _ in 0..2 {
+        match append_once(rt, alloc, broker, batch(alloc, value)?) {
+            Ok(place) => return Some(place),
+            Err(fault) if is_refused(rt, broker, "append", fault, &[L4], before) => {}
+            Err(_) => return None,
         }
-    };
-    Some(place_of(&receipt))
+    }
+    None
+}
+
+fn close_once<Id: Names, C, R: Wait>(
+    rt: &R,
+    alloc: Global,
+    broker: &Broker<Id, C>,
+) -> Result<Place, BrokerFault> {
+    Ok(place_of(&broker.close(rt, alloc, 0)?))
 }
 
 pub(crate) fn close<Id: Names, C, R: Wait + Print>(
     rt: &R,
     alloc: Global,
     broker: &Broker<Id, C>,
-) -> Option<(usize, usize, u64)> {
+) -> Option<Place> {
     let before = items(rt, broker)?;
-    let receipt = match broker.close(rt, alloc, 0) {
-        Ok(receipt) => receipt,
-        Err(fault) => {
-            say(rt, "close", fault);
-            if fault != L4 || items(rt, broker) != Some(before) {
-                return None;
-            }
-            broker.close(rt, alloc, 0).ok()?
+    for _ in 0..2 {
+        match close_once(rt, alloc, broker) {
+            Ok(place) => return Some(place),
+            Err(fault) if is_refused(rt, broker, "close", fault, &[L4], before) => {}
+            Err(_) => return None,
         }
-    };
-    Some(place_of(&receipt))
+    }
+    None
 }
 
 /// Deploys a first program and appends the batches `A` and `B` after its mark; whether it could.

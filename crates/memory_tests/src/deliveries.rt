@@ -19,6 +19,9 @@ use worker::{Results, Walk};
 
 const OUTPUTS: usize = 2;
 
+/// Where an item is: its partition, its index and the records before it.
+type Place = (usize, usize, u64);
+
 #[test]
 fn a_refused_delivery_can_be_made_again(rt: HostRuntime) -> Result<(), Fail> {
     let ending = match make_and_deliver(&rt, rt.alloc()) {
@@ -51,39 +54,72 @@ fn deliver_all<Id: Names, R: Wait + Print>(
         return Err(Ending::NotMade);
     };
     fill_log(rt, alloc, &log).ok_or(Ending::Wrong("log"))?;
+    deliver_each(rt, alloc, &log, &mut book)
+}
+
+fn deliver_each<Id: Names, R: Wait + Print>(
+    rt: &R,
+    alloc: Global,
+    log: &PartLog<Id>,
+    book: &mut Book<Id>,
+) -> Result<(), Ending>
+    requires { Id.outputs ≡ 2 }
+{
     let mut walk = Walk::new(0);
     for want in [0, 2, 2] {
-        if !advance(&log, &mut walk) {
+        if !advance(log, &mut walk) {
             return Err(Ending::Wrong("next"));
         }
-        let results = processed(rt, alloc, &log, &walk).ok_or(Ending::Wrong("process"))?;
-        if deliver(rt, &mut book, &walk, &results) != Some(Delivered::Added(want)) {
+        if deliver_next(rt, alloc, log, &walk, book)? != Delivered::Added(want) {
             return Err(Ending::Wrong("deliver"));
         }
     }
-    if done_in(&book) != Some(3) {
+    if done_in(book) != Some(3) {
         return Err(Ending::Wrong("rows"));
     }
-    if fetched(rt, &book) == Some(97) {
+    if fetched(rt, book) == Some(97) {
         Ok(())
     } else {
         Err(Ending::Wrong("fetch"))
     }
 }
 
-/// How many bytes the batch of all rows of a book has, in which three items are done.
+/// Processes the item at a walk's position and delivers its rows.
+fn deliver_next<Id: Names, R: Print>(
+    rt: &R,
+    alloc: Global,
+    log: &PartLog<Id>,
+    walk: &Walk<Id>,
+    book: &mut Book<Id>,
+) -> Result<Delivered, Ending>
+    requires { Id.outputs ≡ 2 }
+{
+    let results = processed(rt, alloc, log, walk).ok_or(Ending::Wrong("process"))?;
+    deliver(rt, book, walk, &results).ok_or(Ending::Wrong("deliver"))
+}
+
+/// How many bytes the batch of all rows of a book has.
+fn fetch_once<Id: Names>(book: &Book<Id>) -> Result<Option<usize>, BookFault> {
+    match book.fetch(0, 10)? {
+        Some(bytes) => Ok(Some(bytes.len())),
+        None => Ok(None),
+    }
+}
+
+/// The same, of a second fetch where the first was refused. Three items are done in the book.
 fn fetched<Id: Names, R: Print>(rt: &R, book: &Book<Id>) -> Option<usize> {
-    let found = match book.fetch(0, 10) {
-        Ok(found) => found,
-        Err(fault) => {
-            say(rt, "fetch", BrokerFault::Book(fault));
-            if fault != BookFault::Memory || done_in(book) != Some(3) {
-                return None;
+    for _ in 0..2 {
+        match fetch_once(book) {
+            Ok(found) => return found,
+            Err(fault) => {
+                say(rt, "fetch", BrokerFault::Book(fault));
+                if fault != BookFault::Memory || done_in(book) != Some(3) {
+                    return None;
+                }
             }
-            book.fetch(0, 10).ok()?
         }
-    };
-    Some(found?.len())
+    }
+    None
 }
 
 /// A mark and the batches `A` and `B`, each in its place.
@@ -113,31 +149,51 @@ fn is_refused<Id: Names, R: Wait + Print>(
     log: &PartLog<Id>,
     call: &str,
     fault: LogFault,
-    items: usize,
+    before: usize,
 ) -> bool {
     say(rt, call, BrokerFault::Log(fault));
-    match log.trail(rt) {
-        Ok(trail) => fault == LogFault::Memory && trail.len() == items,
-        Err(_) => false,
-    }
+    fault == LogFault::Memory && items(rt, log) == Some(before)
 }
 
-fn mark<Id: Names, R: Wait + Print>(
+fn mark_once<Id: Names, R: Wait>(
     rt: &R,
     alloc: Global,
     log: &PartLog<Id>,
-) -> Option<(usize, usize, u64)> {
-    let receipt = match log.mark(rt, alloc, Name::new(NAME)?, 1, program(alloc, &BOTH)?) {
-        Ok(receipt) => receipt,
-        Err(fault) => {
-            if !is_refused(rt, log, "mark", fault, 0) {
-                return None;
-            }
-            log.mark(rt, alloc, Name::new(NAME)?, 1, program(alloc, &BOTH)?)
-                .ok()?
+) -> Option<Result<Place, LogFault>> {
+    let program = program(alloc, &BOTH)?;
+    Some(match log.mark(rt, alloc, Name::new(NAME)?, 1, program) {
+        Ok(receipt) => Ok(place_of(&receipt)),
+        Err(fault) => Err(fault),
+    })
+}
+
+fn mark<Id: Names, R: Wait + Print>(rt: &R, alloc: Global, log: &PartLog<Id>) -> Option<Place> {
+    for _ in 0..2 {
+        match mark_once(rt, alloc, log)? {
+            Ok(place) => return Some(place),
+            Err(fault) if is_refused(rt, log, "mark", fault, 0) => {}
+            Err(_) => return None,
         }
-    };
-    Some(place_of(&receipt))
+    }
+    None
+}
+
+fn append_once<Id: Names, R: Wait>(
+    rt: &R,
+    alloc: Global,
+    log: &PartLog<Id>,
+    value: u8,
+) -> Option<Result<Place, LogFault>> {
+    Some(match log.append(rt, alloc, batch(alloc, value)?) {
+        Ok(receipt) => Ok(place_of(&receipt)),
+        Err(fault) => Err(fault),
+    })
+}
+
+/// How many items a log has.
+fn items<Id: Names, R: Wait>(rt: &R, log: &PartLog<Id>) -> Option<usize> {
+    let trail = log.trail(rt).ok()?;
+    Some(trail.len())
 }
 
 fn append<Id: Names, R: Wait + Print>(
@@ -145,18 +201,16 @@ fn append<Id: Names, R: Wait + Print>(
     alloc: Global,
     log: &PartLog<Id>,
     value: u8,
-) -> Option<(usize, usize, u64)> {
-    let items = log.trail(rt).ok()?.len();
-    let receipt = match log.append(rt, alloc, batch(alloc, value)?) {
-        Ok(receipt) => receipt,
-        Err(fault) => {
-            if !is_refused(rt, log, "append", fault, items) {
-                return None;
-            }
-            log.append(rt, alloc, batch(alloc, value)?).ok()?
+) -> Option<Place> {
+    let before = items(rt, log)?;
+    for _ in 0..2 {
+        match append_once(rt, alloc, log, value)? {
+            Ok(place) => return Some(place),
+            Err(fault) if is_refused(rt, log, "append", fault, before) => {}
+            Err(_) => return None,
         }
-    };
-    Some(place_of(&receipt))
+    }
+    None
 }
 
 /// The rows of the item at a walk's position.
@@ -184,14 +238,16 @@ fn deliver<Id: Names, R: Print>(
     results: &Results<Id>,
 ) -> Option<Delivered> {
     let before = done_in(book)?;
-    match book.deliver(walk, results) {
-        Ok(delivered) => Some(delivered),
-        Err(fault) => {
-            say(rt, "deliver", BrokerFault::Book(fault));
-            if fault != BookFault::Memory || done_in(book) != Some(before) {
-                return None;
+    for _ in 0..2 {
+        match book.deliver(walk, results) {
+            Ok(delivered) => return Some(delivered),
+            Err(fault) => {
+                say(rt, "deliver", BrokerFault::Book(fault));
+                if fault != BookFault::Memory || done_in(book) != Some(before) {
+                    return None;
+                }
             }
-            book.deliver(walk, results).ok()
         }
     }
+    None
 }

@@ -61,15 +61,17 @@ fn step_twice<Id: Names, C, R: Print>(
     book: &mut Book<Id>,
 ) -> Option<Stepped> {
     let before = done_in(book)?;
-    match step_book(alloc, broker, book, 0)? {
-        Ok(stepped) => Some(stepped),
-        Err(fault) => {
-            say(rt, "step", fault);
-            let is_memory = fault == BrokerFault::Memory || fault == O3;
-            if !is_memory || done_in(book) != Some(before) {
-                return None;
+    for _ in 0..2 {
+        match step_book(alloc, broker, book, 0)? {
+            Ok(stepped) => return Some(stepped),
+            Err(fault) => {
+                say(rt, "step", fault);
+                let is_memory = fault == BrokerFault::Memory || fault == O3;
+                if !is_memory || done_in(book) != Some(before) {
+                    return None;
+                }
             }
-            step_book(alloc, broker, book, 0)?.ok()
         }
     }
+    None
 }

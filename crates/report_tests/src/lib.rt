@@ -8,6 +8,8 @@ mod counts;
 #[cfg(test)]
 mod places;
 #[cfg(test)]
+mod play;
+#[cfg(test)]
 mod refusals;
 #[cfg(test)]
 mod writers;

@@ -1,15 +1,13 @@
-ghost use Rattle.broker.specs.Layouts.{IsNamed};
-
+use crate::play::{Scene, play};
 use broker::{Broker, Parts};
 use broker_fixtures::{deploy, drain, put};
 use catalogue::Catalogue;
 use fixtures::FORWARD;
 use part_log::Names;
-use report::{ReportFault, gather, write};
+use report::{ReportFault, Snapshot, gather, write};
 use std::alloc::Global;
 use std::io;
 use std::io::Write;
-use std::marker::Brand;
 use std::process::Abort;
 use std::sync::Wait;
 use std::test::Fail;
@@ -42,45 +40,63 @@ impl Write for Narrow {
 #[test]
 fn a_writer_that_fails_has_a_beginning(rt: HostRuntime) -> Result<(), Fail> {
     let alloc = rt.alloc();
-    cut_short::<Brand, _>(&rt, alloc, Parts::new(&rt, alloc, 1, 1, 4)?)
+    play(
+        &rt,
+        alloc,
+        Parts::new(&rt, alloc, 1, 1, 4)?,
+        Scene::CutShort,
+    )
 }
 
-fn cut_short<Id: Names + Send + Sync, R: Threads + Wait + Abort + Sync>(
-    rt: &R,
-    alloc: Global,
-    parts: Parts<Catalogue<&R>>,
-) -> Result<(), Fail>
-    requires { IsNamed Id.cells Id.inputs Id.outputs parts }
-{
-    let broker: Broker<Id, Catalogue<&R>> = Broker::new(alloc, parts)?;
-    assert_eq!(rt; deploy(rt, alloc, &broker, 0, &FORWARD), Some(0));
-    assert!(rt; put(rt, alloc, &broker, 0, b'v').is_some());
-    assert!(rt; drain(rt, alloc, &broker));
-    let Ok(snapshot) = gather(rt, alloc, &broker) else {
-        return Err(Fail::from("a snapshot"));
-    };
-    let text: &[u8] = b"row 0 0 0 0 1000 6b 76 0\n\
-        out 0 in 0 done 2 rows 1\n\
-        in 0 items 2 records 1 unprogrammed 0 kept 1\n";
-    for (room, kind, fault) in [
-        (40, io::ErrorKind::BrokenPipe, ReportFault::Write),
-        (90, io::ErrorKind::OutOfMemory, ReportFault::Memory),
-    ] {
-        let mut out = Narrow {
-            taken: Vec::new(alloc),
-            room,
-            kind,
-        };
-        assert_eq!(rt; write(alloc, &snapshot, &mut out), Err(fault));
-        assert_eq!(rt; out.taken.len(), room);
-        assert!(rt; text.starts_with(out.taken.as_slice()));
+const TEXT: &[u8] = b"row 0 0 0 0 1000 6b 76 0\n\
+    out 0 in 0 done 2 rows 1\n\
+    in 0 items 2 records 1 unprogrammed 0 kept 1\n";
+
+/// How many bytes a writer takes, how it fails then, how a report ends that is written to it, and how
+/// many bytes of the text it has.
+type Room = (usize, io::ErrorKind, Result<(), ReportFault>, usize);
+
+const ROOMS: [Room; 3] = [
+    (40, io::ErrorKind::BrokenPipe, Err(ReportFault::Write), 40),
+    (90, io::ErrorKind::OutOfMemory, Err(ReportFault::Memory), 90),
+    (1000, io::ErrorKind::Other, Ok(()), TEXT.len()),
+];
+
+pub(crate) fn cut_short<
+    Id: Names + Send + Sync,
+    H: Wait + Drop + Send,
+    R: Threads + Wait + Abort + Sync,
+>(rt: &R, alloc: Global, broker: &Broker<Id, Catalogue<H>>) {
+    assert_eq!(rt; deploy(rt, alloc, broker, 0, &FORWARD), Some(0));
+    assert!(rt; put(rt, alloc, broker, 0, b'v').is_some());
+    assert!(rt; drain(rt, alloc, broker));
+    assert!(rt; has_beginnings(rt, alloc, broker));
+}
+
+/// Whether each writer has what it could take.
+fn has_beginnings<Id: Names, C, R: Wait>(rt: &R, alloc: Global, broker: &Broker<Id, C>) -> bool {
+    match gather(rt, alloc, broker) {
+        Ok(snapshot) => have_beginnings(alloc, &snapshot),
+        Err(_) => false,
     }
+}
+
+fn have_beginnings<Id: Names>(alloc: Global, snapshot: &Snapshot<Id>) -> bool {
+    for room in &ROOMS {
+        if !has_beginning(alloc, snapshot, room) {
+            return false;
+        }
+    }
+    true
+}
+
+fn has_beginning<Id: Names>(alloc: Global, snapshot: &Snapshot<Id>, row: &Room) -> bool {
+    let (room, kind, want, len) = *row;
     let mut out = Narrow {
         taken: Vec::new(alloc),
-        room: 1000,
-        kind: io::ErrorKind::Other,
+        room,
+        kind,
     };
-    assert_eq!(rt; write(alloc, &snapshot, &mut out), Ok(()));
-    assert!(rt; out.taken.as_slice() == text);
-    Ok(())
+    let written = write(alloc, snapshot, &mut out);
+    written == want && TEXT.get(..len) == Some(out.taken.as_slice())
 }

@@ -1,4 +1,4 @@
-ghost use Rattle.std.specs.Prelude.{◌≡◌, ◌≤◌, length, IfOk, IfSome};
+ghost use Rattle.std.specs.Prelude.{◌≡◌, length, IfOk, IfSome};
 ghost use Rattle.log_spec.specs.Logs.{FitsLog};
 
 use batch::Feed;
@@ -7,6 +7,7 @@ use fixtures::{FORWARD, batch_at, batch_of};
 use log_item::Program;
 use machine_spec::Table;
 use std::alloc::{AllocError, Global};
+use std::process::Abort;
 use std::test::Fail;
 use transform::{Outlet, Transform};
 use wire_spec::{Batch, Headers, Record, Records, TIMESTAMP_END};
@@ -16,12 +17,15 @@ const SECOND: [u8; 24] = [
     0xb7, 1, 0, 0, 1, 0, 0, 0, 0x85, 0, 0, 0, 3, 0, 0, 0, 0x95, 0, 0, 0, 0, 0, 0, 0,
 ];
 
-/// The program of an image.
-pub(crate) fn program_of(alloc: Global, image: &[u8]) -> Result<Program, Fail> {
-    let image = Bytes::copy_from_slice(alloc, image)?;
-    match Program::new(alloc, &image, Table::One) {
-        Ok(program) => Ok(program),
-        Err(_) => Err(Fail::from("a program")),
+fn program_in(alloc: Global, image: &Bytes) -> Option<Program> {
+    Program::new(alloc, image, Table::One).ok()
+}
+
+/// The program of an image. None where it is refused or memory ran out.
+pub(crate) fn program_of(alloc: Global, image: &[u8]) -> Option<Program> {
+    match Bytes::copy_from_slice(alloc, image) {
+        Ok(image) => program_in(alloc, &image),
+        Err(_) => None,
     }
 }
 
@@ -75,6 +79,18 @@ fn two_outlets(alloc: Global) -> Result<Vec<Outlet<Vec<u8>>>, AllocError>
     Ok(outlets)
 }
 
+/// Pushes a batch with this count of records and bytes of a value.
+fn push(
+    alloc: Global,
+    program: &Program,
+    stream: &mut Transform<Vec<u8>>,
+    count: usize,
+    bytes: usize,
+) -> Result<(), Fail> {
+    let batch = batch_with(alloc, count, bytes).ok_or("a batch")?;
+    Ok(stream.push(program, batch)?)
+}
+
 /// Pushes batches with these counts of records and bytes of a value.
 fn push_all(
     alloc: Global,
@@ -83,8 +99,7 @@ fn push_all(
     given: &[(usize, usize)],
 ) -> Result<(), Fail> {
     for (count, bytes) in given {
-        let batch = batch_with(alloc, *count, *bytes).ok_or("a batch")?;
-        stream.push(program, batch)?;
+        push(alloc, program, stream, *count, *bytes)?;
     }
     Ok(())
 }
@@ -150,31 +165,47 @@ fn fills(alloc: Global, program: &Program, filling: &Filling<'_>) -> Result<bool
 
 #[test]
 fn batches_fill_up_to_their_limits(rt: HostRuntime) -> Result<(), Fail> {
-    let program = program_of(rt.alloc(), &SECOND)?;
+    let program = program_of(rt.alloc(), &SECOND).ok_or("a program")?;
     for filling in &FILLINGS {
         assert!(rt; fills(rt.alloc(), &program, filling)?, "{filling:?}");
     }
     Ok(())
 }
 
-/// The offset after a batch of two records is pushed at an offset, if it is taken.
-fn offset_after(alloc: Global, program: &Program, offset: u64) -> Result<(bool, u64), Fail>
-    requires { offset ≤ TIMESTAMP_END }
-{
-    let mut stream = Transform::new(alloc, 63, offset, two_outlets(alloc)?);
-    let batch = batch_of(alloc, 2, 1000).ok_or("a batch")?;
-    let taken = stream.push(program, batch).is_ok();
-    Ok((taken, stream.offset()))
+/// Whether a batch of two records is taken.
+fn is_taken(alloc: Global, program: &Program, stream: &mut Transform<Vec<u8>>) -> bool {
+    match batch_of(alloc, 2, 1000) {
+        Some(batch) => stream.push(program, batch).is_ok(),
+        None => false,
+    }
+}
+
+/// Whether a batch of two records is taken at an offset, and the offset after it.
+fn offset_after(alloc: Global, program: &Program, offset: u64) -> Option<(bool, u64)> {
+    if offset > TIMESTAMP_END {
+        return None;
+    }
+    let outlets = two_outlets(alloc).ok()?;
+    let mut stream = Transform::new(alloc, 63, offset, outlets);
+    let taken = is_taken(alloc, program, &mut stream);
+    Some((taken, stream.offset()))
+}
+
+/// An offset, and whether a batch is taken there, with the offset after it.
+const LAST: [(u64, (bool, u64)); 2] = [
+    (TIMESTAMP_END - 10_000, (true, TIMESTAMP_END - 9_998)),
+    (TIMESTAMP_END - 9_999, (false, TIMESTAMP_END - 9_999)),
+];
+
+fn are_taken(rt: &impl Abort, alloc: Global, program: &Program, rows: &[(u64, (bool, u64))]) {
+    for (offset, want) in rows {
+        assert_eq!(rt; offset_after(alloc, program, *offset), Some(*want));
+    }
 }
 
 #[test]
 fn offsets_end_below_two_to_the_62(rt: HostRuntime) -> Result<(), Fail> {
-    let program = program_of(rt.alloc(), &FORWARD)?;
-    let last = TIMESTAMP_END - 10_000;
-    assert_eq!(rt; offset_after(rt.alloc(), &program, last)?, (true, last + 2));
-    assert_eq!(rt;
-        offset_after(rt.alloc(), &program, last + 1)?,
-        (false, last + 1)
-    );
+    let program = program_of(rt.alloc(), &FORWARD).ok_or("a program")?;
+    are_taken(&rt, rt.alloc(), &program, &LAST);
     Ok(())
 }

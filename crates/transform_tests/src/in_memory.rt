@@ -1,9 +1,6 @@
-ghost use Rattle.std.specs.Prelude.{◌≤◌};
-ghost use Rattle.wire_spec.specs.declared.limits.TheConstants.{TIMESTAMP_END};
-
 use crate::batches::program_of;
 use crate::streams::{damaged, put};
-use batch_transform::{BatchPlace, Stop, Transformed, transform_batches};
+use batch_transform::{BatchPlace, OutputBatches, Stop, Transformed, transform_batches};
 use fixtures::{FORWARD, batch_of, batch_of_value};
 use item_rows::Origin;
 use log_item::Program;
@@ -27,9 +24,10 @@ fn made(
     offset: u64,
     bytes: &[u8],
     place: &mut BatchPlace,
-) -> Result<Transformed, Stop>
-    requires { offset ≤ TIMESTAMP_END }
-{
+) -> Result<Transformed, Stop> {
+    if offset > TIMESTAMP_END {
+        return Err(Stop::Memory);
+    }
     let origin = Origin {
         input: 7,
         offset,
@@ -68,67 +66,75 @@ fn ends_so(alloc: Global, program: &Program, damage: &Damage) -> Result<bool, Fa
 
 #[test]
 fn stops_at_the_first_fault(rt: HostRuntime) -> Result<(), Fail> {
-    let program = program_of(rt.alloc(), &FORWARD)?;
+    let program = program_of(rt.alloc(), &FORWARD).ok_or("a program")?;
     for damage in &DAMAGES {
         assert!(rt; ends_so(rt.alloc(), &program, damage)?, "{damage:?}");
     }
     Ok(())
 }
 
-/// Of each output the number of rows, of batches and of bytes.
-fn sizes(alloc: Global, found: &Transformed) -> Result<Vec<(u64, usize, usize)>, Fail> {
-    let mut list = Vec::new(alloc);
-    for output in &found.outputs {
-        list.push((output.rows, output.batches, output.bytes.len()))?;
-    }
-    Ok(list)
+/// Of an output the number of rows, of batches and of bytes.
+type Size = (u64, usize, usize);
+
+fn size_of(output: &OutputBatches) -> Size {
+    (output.rows, output.batches, output.bytes.len())
 }
 
-/// The sizes of each output, and how many records were read and kept. None where codes are
-/// counted.
-fn summed(
-    alloc: Global,
-    found: &Transformed,
-) -> Result<Option<(Vec<(u64, usize, usize)>, u64, u64)>, Fail> {
-    let sizes = sizes(alloc, found)?;
-    if !found.rejects.is_empty() {
-        return Ok(None);
+/// Whether the outputs have these sizes.
+fn have_sizes(outputs: &[OutputBatches], want: &[Size]) -> bool {
+    let mut rest = want;
+    for output in outputs {
+        match rest.split_first() {
+            Some((first, others)) if size_of(output) == *first => rest = others,
+            _ => return false,
+        }
     }
-    Ok(Some((sizes, found.counts.records(), found.counts.kept())))
+    rest.is_empty()
 }
+
+/// Whether the outputs have these sizes, so many records are read, all are kept and no code is counted.
+fn are_kept(found: &Transformed, want: &[Size], records: u64) -> bool {
+    let counts = (found.counts.records(), found.counts.kept());
+    have_sizes(&found.outputs, want) && found.rejects.is_empty() && counts == (records, records)
+}
+
+/// Whether a program makes this of bytes.
+fn makes(alloc: Global, program: &Program, bytes: &[u8], want: &[Size], records: u64) -> bool {
+    let mut place = BatchPlace { batch: 0, byte: 0 };
+    match made(alloc, program, 0, bytes, &mut place) {
+        Ok(found) => are_kept(&found, want, records),
+        Err(_) => false,
+    }
+}
+
+/// A header and 5 records of 7 bytes.
+const FIVE: [Size; 2] = [(5, 1, 96), (0, 0, 0)];
 
 #[test]
 fn rows_of_two_batches_are_in_one(rt: HostRuntime) -> Result<(), Fail> {
     let alloc = rt.alloc();
-    let program = program_of(alloc, &FORWARD)?;
-    let mut place = BatchPlace { batch: 0, byte: 0 };
-    let found = made(alloc, &program, 0, &damaged(alloc, 157, 999)?, &mut place);
-    let found = found.ok().ok_or("batches")?;
-    let (sizes, records, kept) = summed(alloc, &found)?.ok_or("no codes")?;
-    // A header and 5 records of 7 bytes.
-    assert_eq!(rt; sizes.as_slice(), [(5, 1, 96), (0, 0, 0)].as_slice());
-    assert_eq!(rt; (records, kept), (5, 5));
+    let program = program_of(alloc, &FORWARD).ok_or("a program")?;
+    let bytes = damaged(alloc, 157, 999)?;
+    assert!(rt; makes(alloc, &program, &bytes, &FIVE, 5));
     Ok(())
 }
 
-/// The sizes of the outputs of batches of 10,000 records and of one.
-fn sizes_of_many(alloc: Global, program: &Program) -> Result<Vec<(u64, usize, usize)>, Fail> {
+/// Batches of 10,000 records and of one.
+fn many(alloc: Global) -> Result<Vec<u8>, Fail> {
     let mut bytes = Vec::new(alloc);
     put(alloc, &mut bytes, batch_of(alloc, 10_000, 1000))?;
     put(alloc, &mut bytes, batch_of(alloc, 1, 1000))?;
-    let mut place = BatchPlace { batch: 0, byte: 0 };
-    let found = made(alloc, program, 0, &bytes, &mut place);
-    sizes(alloc, &found.ok().ok_or("batches")?)
+    Ok(bytes)
 }
+
+/// 64 records of 7 bytes, 8,128 of 8 and 1,808 of 9 after a header, and one of 7 after another.
+const MANY: [Size; 2] = [(10_001, 2, 81_873), (0, 0, 0)];
 
 #[test]
 fn rows_past_a_batch_are_in_the_next(rt: HostRuntime) -> Result<(), Fail> {
-    let program = program_of(rt.alloc(), &FORWARD)?;
-    // 64 records of 7 bytes, 8,128 of 8 and 1,808 of 9 after a header, and one of 7 after another.
-    assert_eq!(rt;
-        sizes_of_many(rt.alloc(), &program)?.as_slice(),
-        [(10_001, 2, 81_873), (0, 0, 0)].as_slice()
-    );
+    let program = program_of(rt.alloc(), &FORWARD).ok_or("a program")?;
+    let bytes = many(rt.alloc())?;
+    assert!(rt; makes(rt.alloc(), &program, &bytes, &MANY, 10_001));
     Ok(())
 }
 
@@ -139,39 +145,71 @@ fn put_values(alloc: Global, bytes: &mut Vec<u8>) -> Result<(), Fail> {
     put(alloc, bytes, batch_of_value(alloc, 1, 0))
 }
 
-/// What the records of those batches are rejected by.
-fn rejects(alloc: Global, program: &Program) -> Result<Vec<(u64, u64)>, Fail> {
+/// Whether the records of those batches are rejected by these codes, so often, but for one.
+fn rejects(alloc: Global, program: &Program, want: &[(u64, u64)]) -> Result<bool, Fail> {
     let mut bytes = Vec::new(alloc);
     put_values(alloc, &mut bytes)?;
     let mut place = BatchPlace { batch: 0, byte: 0 };
-    let found = made(alloc, program, 0, &bytes, &mut place);
-    let found = found.ok().ok_or("batches")?;
-    if found.counts.kept() != 1 || found.counts.records() != 6 {
-        return Err(Fail::from("one kept record of six"));
+    match made(alloc, program, 0, &bytes, &mut place) {
+        Ok(found) => Ok(are_rejected(&found, want)),
+        Err(_) => Ok(false),
     }
-    Ok(found.rejects)
+}
+
+fn are_rejected(found: &Transformed, want: &[(u64, u64)]) -> bool {
+    let counts = (found.counts.records(), found.counts.kept());
+    counts == (6, 1) && found.rejects.as_slice() == want
 }
 
 #[test]
 fn counts_rejects_by_rising_code(rt: HostRuntime) -> Result<(), Fail> {
-    let program = program_of(rt.alloc(), &REJECT)?;
-    assert_eq!(rt;
-        rejects(rt.alloc(), &program)?.as_slice(),
-        [(3, 3), (9, 2)].as_slice()
-    );
+    let program = program_of(rt.alloc(), &REJECT).ok_or("a program")?;
+    assert!(rt; rejects(rt.alloc(), &program, &[(3, 3), (9, 2)])?);
     Ok(())
+}
+
+/// An offset, why the transform stops, if it does, and where.
+type Ending = (u64, Option<Stop>, BatchPlace);
+
+const ENDINGS: [Ending; 2] = [
+    (
+        TIMESTAMP_END - 10_002,
+        Some(Stop::Full),
+        BatchPlace { batch: 1, byte: 82 },
+    ),
+    (
+        TIMESTAMP_END - 10_003,
+        None,
+        BatchPlace { batch: 9, byte: 9 },
+    ),
+];
+
+/// Whether a transform of these bytes ends so.
+fn is_ending(alloc: Global, program: &Program, bytes: &[u8], ending: &Ending) -> bool {
+    let (offset, want, at) = *ending;
+    let mut place = BatchPlace { batch: 9, byte: 9 };
+    let stop = stop_of(alloc, program, offset, bytes, &mut place);
+    stop == want && (want.is_none() || place == at)
+}
+
+/// Why a transform stops, if it does.
+fn stop_of(
+    alloc: Global,
+    program: &Program,
+    offset: u64,
+    bytes: &[u8],
+    place: &mut BatchPlace,
+) -> Option<Stop> {
+    made(alloc, program, offset, bytes, place).err()
 }
 
 #[test]
 fn stops_where_offsets_end(rt: HostRuntime) -> Result<(), Fail> {
     let alloc = rt.alloc();
-    let program = program_of(alloc, &FORWARD)?;
+    let program = program_of(alloc, &FORWARD).ok_or("a program")?;
     let bytes = damaged(alloc, 157, 999)?;
-    let mut place = BatchPlace { batch: 9, byte: 9 };
-    let found = made(alloc, &program, TIMESTAMP_END - 10_002, &bytes, &mut place);
-    assert_eq!(rt; found.err(), Some(Stop::Full));
-    assert_eq!(rt; place, BatchPlace { batch: 1, byte: 82 });
-    let found = made(alloc, &program, TIMESTAMP_END - 10_003, &bytes, &mut place);
-    assert!(rt; found.is_ok());
+    for ending in &ENDINGS {
+        assert!(rt; is_ending(alloc, &program, &bytes, ending));
+    }
     Ok(())
 }

@@ -83,7 +83,7 @@ fn ends(alloc: Global, program: &Program, room: usize, fails: bool) -> Result<bo
 
 #[test]
 fn a_writer_that_fails_ends_the_stream(rt: HostRuntime) -> Result<(), Fail> {
-    let program = program_of(rt.alloc(), &FORWARD)?;
+    let program = program_of(rt.alloc(), &FORWARD).ok_or("a program")?;
     for (room, fails) in ROOMS {
         assert!(rt; ends(rt.alloc(), &program, room, fails)?, "{room}");
     }

@@ -9,7 +9,7 @@ use Rattle.part_log.specs.contracts.log_trail.Trail as Trail
 use Rattle.part_log.specs.contracts.note.Note as Note
 use Rattle.part_log.specs.declared.names.Names as names
 use Rattle.broker_tests.specs.contracts.audits.Job as Job
-use Rattle.broker_tests.proofs.audits.audit_beside.Goals as goal
+use Rattle.broker_tests.proofs.audits.are_done.Goals as goal
 
 -- receipts may go to another thread, since the facts that they have may
 job_send : (Id : RattleType) (members : names.Ghosts Id.Denot) → IsSend Id → IsSend (Job.the_row Id members)
