@@ -31,10 +31,7 @@ fn fill<Id: Names, C, R: Wait>(
     input: usize,
     most: usize,
 ) -> Result<u64, AllocError> {
-    let Some(first) = batch_of_copies(alloc, TIMESTAMP, 1, None, Some(&[b'v'; 64])) else {
-        return Err(AllocError);
-    };
-    let logged = LoggedBatch::new(first);
+    let logged = one_record(alloc)?;
     let mut count = 0u64;
     for _ in 0..most {
         if !append(rt, alloc, broker, input, &logged)? {
@@ -43,6 +40,14 @@ fn fill<Id: Names, C, R: Wait>(
         count = count.wrapping_add(1);
     }
     Ok(count)
+}
+
+/// A batch of one record of 64 bytes.
+fn one_record(alloc: Global) -> Result<LoggedBatch, AllocError> {
+    match batch_of_copies(alloc, TIMESTAMP, 1, None, Some(&[b'v'; 64])) {
+        Some(first) => Ok(LoggedBatch::new(first)),
+        None => Err(AllocError),
+    }
 }
 
 /// Appends the batch of another item; false where it is refused.

@@ -24,7 +24,13 @@ const DELIVERIES: usize = 100;
 fn delivery_of<Id: Names>(alloc: Global, log: &PartLog<Id>, walk: &Walk<Id>) -> Option<Delivery<Id>>
     requires { Id.outputs ≡ 1 }
 {
-    if walk.partition() != log.partition() || walk.partition() >= 64 || walk.is_empty() {
+    if walk.partition() != log.partition() {
+        return None;
+    }
+    if walk.partition() >= 64 {
+        return None;
+    }
+    if walk.is_empty() {
         return None;
     }
     process_for(alloc, walk, log, 1, 0).ok()

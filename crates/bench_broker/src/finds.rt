@@ -47,13 +47,19 @@ fn find_all<Id: Names, H: Wait + Drop, R: Wait + Clock>(
     ended: &AtomicU64,
 ) -> Option<Work> {
     let mut finder = broker.finder(rt, alloc).ok()?;
+    let work = find_by(rt, alloc, &mut finder, known)?;
+    ended.fetch_add(1, Ordering::SeqCst);
+    Some(work)
+}
+
+/// Finds the name by one finder again and again.
+fn find_by<R: Clock>(rt: &R, alloc: Global, finder: &mut Finder, known: &Known) -> Option<Work> {
     let start = Instant::now(rt).ok()?;
     let mut count = 0u64;
     for _ in 0..FINDS {
-        count = count.wrapping_add(find(alloc, &mut finder, known)?);
+        count = count.wrapping_add(find(alloc, finder, known)?);
     }
     let seconds = start.elapsed(rt).ok()?.as_secs_f64();
-    ended.fetch_add(1, Ordering::SeqCst);
     Some(Work { count, seconds })
 }
 

@@ -2,7 +2,7 @@
 
 ghost use Rattle.broker.specs.Layouts.{IsNamed};
 
-use crate::turns::{RECORDS, batch_of, fill};
+use crate::turns::{RECORDS, append, fill};
 use broker::{Audit, Broker, Parts};
 use broker_fixtures::{deploy, drain};
 use catalogue::Catalogue;
@@ -150,19 +150,9 @@ fn append_all<Id: Names, C, R: Wait>(
     fill(rt, alloc, broker, 0, items.wrapping_sub(LAST), RECORDS)?;
     let mut receipts = Vec::with_capacity(alloc, LAST).ok()?;
     for _ in 0..LAST {
-        receipts.push(append(rt, alloc, broker)?).ok()?;
+        receipts.push(append(rt, alloc, broker, 0, RECORDS)?).ok()?;
     }
     Some(receipts)
-}
-
-/// Appends an item of 100 records, and returns its receipt.
-fn append<Id: Names, C, R: Wait>(
-    rt: &R,
-    alloc: Global,
-    broker: &Broker<Id, C>,
-) -> Option<Receipt<Id>> {
-    let batch = batch_of(alloc, RECORDS)?;
-    broker.append(rt, alloc, 0, batch).ok()
 }
 
 /// What reads took after this number of items. None where there was no memory.

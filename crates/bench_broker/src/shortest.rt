@@ -64,10 +64,18 @@ pub(crate) fn shortest_fetch<Id: Names, C, R: Wait + Clock>(
     Ok(shortest)
 }
 
+/// Whether a copy of bytes has some.
+fn copies(alloc: Global, bytes: &[u8]) -> bool {
+    match Vec::from_slice(alloc, bytes) {
+        Ok(copy) => !copy.is_empty(),
+        Err(_) => false,
+    }
+}
+
 /// Copies bytes `times` times.
 fn copy_turn(alloc: Global, bytes: &[u8], times: u32) -> io::Result<()> {
     for _ in 0..times {
-        if Vec::from_slice(alloc, bytes)?.is_empty() {
+        if !copies(alloc, bytes) {
             return Err(ErrorKind::InvalidData.into());
         }
     }
@@ -89,12 +97,22 @@ pub(crate) fn shortest_copy<R: Clock>(
     Ok(shortest)
 }
 
+/// Whether a batch is written.
+fn writes(alloc: Global, batch: &Batch) -> bool
+    requires { BatchFits batch.now }
+{
+    match encode(alloc, batch) {
+        Ok(bytes) => !bytes.is_empty(),
+        Err(_) => false,
+    }
+}
+
 /// Writes a batch `times` times.
 fn encode_turn(alloc: Global, batch: &Batch, times: u32) -> io::Result<()>
     requires { BatchFits batch.now }
 {
     for _ in 0..times {
-        if encode(alloc, batch)?.is_empty() {
+        if !writes(alloc, batch) {
             return Err(ErrorKind::InvalidData.into());
         }
     }

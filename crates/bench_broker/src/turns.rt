@@ -10,7 +10,7 @@ use broker_fixtures::{deploy, drain};
 use bytes::Bytes;
 use catalogue::Catalogue;
 use fixtures::{FORWARD, batch_at, record_of};
-use part_log::Names;
+use part_log::{Names, Receipt};
 use std::alloc::{Alloc, AllocError, Global};
 use std::fs::Files;
 use std::marker::Brand;
@@ -20,7 +20,7 @@ use std::sync::Wait;
 use std::thread::Threads;
 use std::time::{CpuClock, Instant};
 use std::{io, thread};
-use wire_spec::{Batch, Records};
+use wire_spec::{Batch, Record, Records};
 
 /// How many bytes a record's value has.
 const SIZE: usize = 64;
@@ -74,13 +74,18 @@ fn records(alloc: Global, count: usize) -> Result<Records, AllocError> {
     let mut list = Vec::with_capacity(alloc, count)?;
     let mut rest = Bytes::from_vec(vec![in alloc; b'v'; count.wrapping_mul(SIZE)]?)?;
     for _ in 0..count {
-        if rest.len() < SIZE {
-            break;
-        }
-        let value = rest.split_to(SIZE)?;
-        list.push(record_of(alloc, 0, None, Some(value)))?;
+        list.push(first_of(alloc, &mut rest)?)?;
     }
     Ok(Records { list })
+}
+
+/// A record whose value is the first of these bytes, which are then taken off.
+fn first_of(alloc: Global, rest: &mut Bytes) -> Result<Record, AllocError> {
+    if rest.len() < SIZE {
+        return Err(AllocError);
+    }
+    let value = rest.split_to(SIZE)?;
+    Ok(record_of(alloc, 0, None, Some(value)))
 }
 
 /// A batch of that number of records. None where memory ran out.
@@ -100,10 +105,21 @@ pub(crate) fn fill<Id: Names, C, R: Wait>(
     records: usize,
 ) -> Option<()> {
     for _ in 0..batches {
-        let batch = batch_of(alloc, records)?;
-        broker.append(rt, alloc, input, batch).ok()?;
+        append(rt, alloc, broker, input, records)?;
     }
     Some(())
+}
+
+/// Appends a batch of that number of records. None where it is refused.
+pub(crate) fn append<Id: Names, C, R: Wait>(
+    rt: &R,
+    alloc: Global,
+    broker: &Broker<Id, C>,
+    input: usize,
+    records: usize,
+) -> Option<Receipt<Id>> {
+    let batch = batch_of(alloc, records)?;
+    broker.append(rt, alloc, input, batch).ok()
 }
 
 /// How many rows all output partitions have.
@@ -187,11 +203,17 @@ fn append_all<Id: Names + Send + Sync, R: Threads + Wait + Clock + Sync>(
     let start = Instant::now(rt).ok()?;
     let filled = thread::map_indices(rt, alloc, inputs, &one).ok()?;
     let took = start.elapsed(rt).ok()?.as_secs_f64();
-    if filled.iter().all(|is_full| *is_full) {
-        Some(took)
-    } else {
-        None
+    if are_full(&filled) { Some(took) } else { None }
+}
+
+/// Whether each log was filled.
+fn are_full(filled: &[bool]) -> bool {
+    for is_full in filled {
+        if !*is_full {
+            return false;
+        }
     }
+    true
 }
 
 /// What the workers took.
