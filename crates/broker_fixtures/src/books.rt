@@ -80,7 +80,10 @@ pub fn is_row(row: &Row, offset: u64, number: usize, value: u8) -> bool
     ensures offset { result ≡ true → row.now.offset ≡ offset }
     ensures number { result ≡ true → row.now.number ≡ number }
 {
-    row.offset == offset && row.number as usize == number && row.timestamp == 1000 && holds(row, value)
+    row.offset == offset
+        && row.number as usize == number
+        && row.timestamp == 1000
+        && holds(row, value)
 }
 
 /// Whether the row's key is `k` and its value one byte.

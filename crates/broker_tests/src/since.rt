@@ -63,7 +63,12 @@ const PARTED_RUNS: [Since; 4] = [
 #[test]
 fn rows_are_found_from_an_offset_on(rt: HostRuntime) -> Result<(), Fail> {
     let alloc = rt.alloc();
-    play(&rt, alloc, Parts::new(&rt, alloc, 2, 1, 128)?, Scene::LookUp)
+    play(
+        &rt,
+        alloc,
+        Parts::new(&rt, alloc, 2, 1, 128)?,
+        Scene::LookUp,
+    )
 }
 
 pub(crate) fn look_up<

@@ -24,7 +24,10 @@ fn holds(row: &Row, value: Option<u8>) -> bool {
 /// Whether this is the row of a record with the key `k`, at the timestamp 1000.
 pub(crate) fn is_row(row: &Row, want: &Seen) -> bool {
     let (offset, number, value) = *want;
-    row.offset == offset && row.number as usize == number && row.timestamp == 1000 && holds(row, value)
+    row.offset == offset
+        && row.number as usize == number
+        && row.timestamp == 1000
+        && holds(row, value)
 }
 
 fn is_same(row: &Row, other: &Row) -> bool {
