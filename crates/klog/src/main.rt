@@ -7,6 +7,7 @@
 #![tactic(auto)]
 
 use commands::{Files, command, tell_no_words};
+use std::alloc::Global;
 use std::io::{BufWriter, IsTerminal, Stdout, Write};
 use std::process::ExitCode;
 use std::sync::Wait;
@@ -104,10 +105,22 @@ fn watched_since(rt: &HostRuntime) -> Option<Instant> {
     }
 }
 
+/// As many bytes as two batches have at most.
+const KEPT_MEMORY: usize = 8_388_608;
+
+/// Takes a block of memory and frees it. From then on the C library keeps about so much freed memory for
+/// later, where it would return it to the system and take it again for the next batch, page by page: that
+/// was a fifth of the time of `transform`.
+fn keep_freed_memory(alloc: Global) {
+    let block: Result<Vec<u8>, _> = Vec::with_capacity(alloc, KEPT_MEMORY);
+    drop(block);
+}
+
 /// The call that the system's words ask for, with leave to start threads. It fails before it begins
 /// where memory runs out or a word is not UTF-8.
 fn called<T: Threads + Wait + Sync>(threads: &T, rt: &HostRuntime) -> io::Result<u8> {
     let alloc = rt.alloc();
+    keep_freed_memory(alloc);
     let mut words = Vec::new(alloc);
     for word in env::args(rt)?.skip(1) {
         words.push(word)?;
