@@ -17,7 +17,7 @@ use crate::outcomes::{push_outcome, push_outcomes};
 use crate::records::timestamp;
 use crate::rows::OutputRows;
 use fates::{Counts, Fate};
-use log_item::{BLOCK, Block, Program};
+use log_item::{BLOCK, Block, LEAST, Program};
 use machine_spec::{Emissions, Place};
 use std::alloc::{AllocError, Global};
 use wire_spec::{Batch, Record};
@@ -117,8 +117,8 @@ impl<'a> BatchRun<'a> {
         Ok(())
     }
 
-    /// Runs a program on records that fill a block, of which the first has this offset. Returns where
-    /// each of them is.
+    /// Runs a program on records of a block, of which the first has this offset. Returns where each of
+    /// them is.
     fn run_block(
         &self,
         program: &Program,
@@ -129,7 +129,7 @@ impl<'a> BatchRun<'a> {
         requires origin { IsOrigin self.now.origin.now }
         requires fits { AllByRecursion (FitsRecord self.now.batch.now) records.now }
         requires few { offset + length records.now ≤ TIMESTAMP_END }
-        requires full { length records.now ≡ BLOCK }
+        requires block { length records.now ≤ BLOCK }
         ensures places { IfOk result (λ places. places.items ≡ places_from self.now.origin.now.input self.now.origin.now.outputs self.now.batch.now offset records.now) }
         ensures outcomes { IfOk result (λ places. RunsSafelyOnEach program.now records.now places.items block.new) }
     {
@@ -138,8 +138,8 @@ impl<'a> BatchRun<'a> {
         Ok(places)
     }
 
-    /// Does what `push_each` does with the records that fill blocks, each block abreast, and then with
-    /// those that are left.
+    /// Does what `push_each` does with the records in blocks, each block abreast, and then with the few
+    /// that are left.
     fn push_blocks(
         &self,
         program: &Program,
@@ -156,12 +156,13 @@ impl<'a> BatchRun<'a> {
         let mut emissions = no_emissions(self.alloc);
         let mut offset = first_offset;
         let mut rest = records;
-        while rest.len() >= BLOCK {
-            let (here, later) = rest.split_at(BLOCK);
+        while rest.len() >= LEAST {
+            let count = rest.len().min(BLOCK);
+            let (here, later) = rest.split_at(count);
             let places = self.run_block(program, offset, here, &mut block)?;
             let at = places.as_slice();
             push_outcomes(self.first, at, &mut block, &mut emissions, all, counts)?;
-            offset += BLOCK as u64;
+            offset += count as u64;
             rest = later;
         }
         self.push_each(offset, rest, &mut emissions, all, counts)

@@ -1,4 +1,4 @@
-ghost use Rattle.std.specs.Prelude.{◌≡◌, ℕ, length, IfOk, OnOk};
+ghost use Rattle.std.specs.Prelude.{◌≡◌, ◌≤◌, ℕ, length, IfOk, OnOk};
 ghost use Rattle.exec.specs.declared.block.TheConstants.{BLOCK};
 ghost use Rattle.exec.specs.Abreast.{AreGiven};
 ghost use Rattle.exec.specs.Endings.{outcome_with};
@@ -82,8 +82,8 @@ impl Program {
         exec::run_into(alloc, &self.verified, given, place, emissions)
     }
 
-    /// Runs the program on as many records as fill a block, each at its place. The block has their
-    /// outcomes then. It fails only where memory runs out; the block may be run again then.
+    /// Runs the program on at most `BLOCK` records, each at its place. The block has their outcomes then.
+    /// It fails only where memory runs out; the block may be run again then.
     pub fn run_block(
         &self,
         block: &mut Block,
@@ -91,7 +91,7 @@ impl Program {
         places: &[Place],
     ) -> Result<(), AllocError>
         requires given { AreGiven given.now places.now }
-        requires full { length given.now ≡ BLOCK }
+        requires few { length given.now ≤ BLOCK }
         ensures { OnOk result (RunsSafelyOnEach self.now given.now places.now block.new) }
     {
         block.run(&self.verified, given, places)
