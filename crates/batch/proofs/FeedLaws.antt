@@ -1,8 +1,8 @@
 -- What a feed gives of its bytes, which are in two parts, by what is cut off the first.
 use Rattle.std.proofs.Common.{◌≡◌, ◌≢◌, ℕ, ◌≤◌, List, [], ◌∷◌, ◌++◌, length, take, drop, Ok, Err, true, false, refl}
-use Rattle.std.proofs.Common.{sym, ap, subst, ◌∙◌}
+use Rattle.std.proofs.Common.{sym, ap, subst, ◌∙◌, arith}
 use Rattle.std.specs.Prelude.{◌↔◌, Some, None}
-use Rattle.std.proofs.lemmas.List.{drop-append-le}
+use Rattle.std.proofs.lemmas.List.{drop-append-le, append-nil}
 use Rattle.wire_spec.specs.declared.{fault.BatchFault.BatchFault, record.Batch.Batch}
 use Rattle.wire_spec.specs.declared.fault.BatchFault.TheVariants.{Short, Memory}
 use Rattle.wire_spec.specs.BatchReading.{◌>>=◌, size_at, whole_at, IsPart, batch_at}
@@ -50,3 +50,8 @@ pub none_of : (ready next : List ℕ) → (ready ++ next ≡ []) ↔ ((length re
 none_of [] [] = (λ e. (refl, refl), λ e. refl)
 none_of [] (byte ∷ next) = (λ e. absurd cc, λ e. absurd cc)
 none_of (byte ∷ ready) next = (λ e. absurd cc, λ e. absurd cc)
+
+-- a part of a batch with nothing after it
+pub part_alone : (ready next : List ℕ) → length next ≡ 0 → IsPart ready → IsPart (ready ++ next)
+part_alone ready [] none part = subst IsPart (sym (append-nil ready)) part
+part_alone ready (byte ∷ next) none part = absurd (omega arith)

@@ -131,6 +131,10 @@ fn fill(alloc: Global, ready: &mut Bytes, next: &mut Vec<u8>) -> Result<bool, Al
     if !is_part(ready) {
         return Ok(true);
     }
+    // `feed` joins a part to the piece after it, and makes room for both.
+    if next.is_empty() {
+        return Ok(false);
+    }
     if !ready.is_empty() {
         *next = joined(alloc, ready, next)?;
         *ready = Bytes::new();

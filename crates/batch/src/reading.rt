@@ -85,6 +85,7 @@ fn count_of(bytes: &[u8]) -> Result<u32, BatchFault>
 }
 
 /// The record of this place, which begins at this byte, and how many bytes it takes.
+#[inline(always)]
 fn record_of(
     alloc: Global,
     bytes: &Bytes,

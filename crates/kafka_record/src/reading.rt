@@ -30,6 +30,7 @@ fn varint_from(bytes: &[u8], at: usize) -> Result<(i32, usize), RecordFault>
 }
 
 /// The varlong at a place, and the place after it.
+#[inline(always)]
 fn varlong_from(bytes: &[u8], at: usize) -> Result<(i64, usize), RecordFault>
     requires { at ≤ length bytes.now }
     ensures gives { AnswersAs Memory (λ x. (x.0, drop x.1 bytes.now)) result (ok_or (varlong_at (drop at bytes.now)) Bad) }
@@ -83,6 +84,7 @@ fn nullable_bytes_from(
 }
 
 #[tactic(auto, unfolding(wire_spec::specs::RecordReading::string_at))]
+#[inline(always)]
 fn string_from(bytes: &Bytes, at: usize, limit: usize) -> Result<(Bytes, usize), RecordFault>
     requires { at ≤ length bytes.now }
     ensures gives { AnswersAs Memory (λ x. (x.0, drop x.1 bytes.now)) result (ok_or (string_at limit (drop at bytes.now)) Bad) }
@@ -108,6 +110,7 @@ fn nullable_from(
 }
 
 #[tactic(auto, unfolding(wire_spec::specs::RecordReading::header_at))]
+#[inline(always)]
 fn header_from(bytes: &Bytes, at: usize) -> Result<(Header, usize), RecordFault>
     requires { at ≤ length bytes.now }
     ensures gives { AnswersAs Memory (λ x. (x.0, drop x.1 bytes.now)) result (ok_or (header_at (drop at bytes.now)) Bad) }
@@ -121,6 +124,7 @@ fn header_from(bytes: &Bytes, at: usize) -> Result<(Header, usize), RecordFault>
     Ok((Header { key, value }, at))
 }
 
+#[inline(never)]
 fn headers_from(
     alloc: Global,
     bytes: &Bytes,
@@ -141,6 +145,9 @@ fn headers_from(
     Ok((Headers { list }, place))
 }
 
+/// That many headers, and the place after them. Most records have none, which takes no call.
+#[tactic(auto, unfolding(wire_spec::specs::RecordReading::headers_at))]
+#[inline(always)]
 fn counted_from(
     alloc: Global,
     bytes: &Bytes,
@@ -151,6 +158,10 @@ fn counted_from(
     ensures gives { AnswersAs Memory (λ x. (x.0, drop x.1 bytes.now)) result (ok_or (counted_at count (drop at bytes.now)) Bad) }
     ensures within { IfOk result (λ x. (at ≤ x.1) × (x.1 ≤ length bytes.now)) }
 {
+    if count == 0 {
+        let list = Vec::new(alloc);
+        return Ok((Headers { list }, at));
+    }
     if count < 0 {
         return Err(RecordFault::Bad);
     }
@@ -162,6 +173,7 @@ fn counted_from(
 }
 
 /// The place after the attributes, which are 0.
+#[inline(always)]
 fn attributes_from(bytes: &[u8], at: usize) -> Result<usize, RecordFault>
     requires { at ≤ length bytes.now }
     ensures gives { AnswersAs Memory (λ x. drop x bytes.now) result (ok_or (attributes_at (drop at bytes.now)) Bad) }
@@ -178,6 +190,7 @@ fn attributes_from(bytes: &[u8], at: usize) -> Result<usize, RecordFault>
 
 /// The place after the offset delta, which is this one.
 #[tactic(auto, unfolding(wire_spec::specs::RecordReading::delta_at))]
+#[inline(always)]
 fn delta_from(bytes: &[u8], at: usize, delta: i32) -> Result<usize, RecordFault>
     requires { at ≤ length bytes.now }
     ensures gives { AnswersAs Memory (λ x. drop x bytes.now) result (ok_or (delta_at delta (drop at bytes.now)) Bad) }
@@ -192,6 +205,7 @@ fn delta_from(bytes: &[u8], at: usize, delta: i32) -> Result<usize, RecordFault>
 
 /// What follows a record's length, and the place after it.
 #[tactic(auto, unfolding(wire_spec::specs::RecordReading::body_at))]
+#[inline(always)]
 fn body_from(
     alloc: Global,
     bytes: &Bytes,
@@ -219,6 +233,7 @@ fn body_from(
 }
 
 /// Whether a record's length is the number of bytes that its fields take.
+#[inline(always)]
 fn is_filled(len: i32, used: usize) -> bool
     ensures { result ≡ int_eq len (pos used) }
 {
@@ -227,6 +242,7 @@ fn is_filled(len: i32, used: usize) -> bool
 
 /// The record at a place, and how many bytes it takes. The slice is of the same bytes.
 #[tactic(auto, unfolding(wire_spec::specs::RecordReading::record_at))]
+#[inline(always)]
 fn record_from(
     alloc: Global,
     bytes: &Bytes,
@@ -248,6 +264,7 @@ fn record_from(
 }
 
 /// The same, with what it says of the spelling.
+#[inline(always)]
 fn read_from(
     alloc: Global,
     bytes: &Bytes,
@@ -270,6 +287,7 @@ fn read_from(
 /// The record with this offset delta that begins at a place in the bytes, and how many bytes it takes.
 /// Its keys and values share the bytes. It fails as `Bad` where no such record begins there, as past
 /// the end of the bytes none does, and as `Memory` where memory runs out.
+#[inline(always)]
 pub fn read(
     alloc: Global,
     bytes: &Bytes,

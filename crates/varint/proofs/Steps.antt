@@ -7,7 +7,7 @@ use Rattle.std.specs.Prelude.{ℤ, FitsSigned}
 use Rattle.std.specs.Int.{w32, w64, cast_signed, cast_unsigned}
 use Rattle.std.proofs.lemmas.Int.{to_z-of_z}
 use Rattle.wire_spec.proofs.Varints.{zigzag-fits_32, groups_is, IsBase128-groups, worth, worth-128, worth-mono, Adds}
-use Rattle.wire_spec.proofs.Varints.{adds, nine_groups}
+use Rattle.wire_spec.proofs.Varints.{adds, nine_groups, EndsAt}
 use Rattle.wire_spec.specs.Varint.{groups_value, groups, zigzag}
 
 -- a group of seven bits in its place
@@ -44,6 +44,26 @@ sum_at bytes at number digit few lt is below small e =
       fits = subst (λ (x : ℕ). number + x < 2 ^ 63) (sym shift)
           (nine_groups (at + 1) (number + worth at digit) (omega arith) more.below);
     }
+
+-- the number in one group, and in two
+pub value_of_one : (bytes : List ℕ) → 0 < length bytes → get_or bytes 0 0 < 128 →
+    get_or bytes 0 0 ≡ groups_value (take 1 bytes)
+value_of_one [] some low = absurd (omega arith)
+value_of_one (b ∷ bs) some low = omega arith
+
+pub value_of_two : (bytes : List ℕ) → 1 < length bytes → 128 ≤ get_or bytes 0 0 → get_or bytes 0 0 < 256 →
+    get_or bytes 1 0 < 128 → (get_or bytes 0 0 - 128) + 128 * get_or bytes 1 0 ≡ groups_value (take 2 bytes)
+value_of_two [] some high byte low = absurd (omega arith)
+value_of_two (b ∷ []) some high byte low = absurd (omega arith)
+value_of_two (b ∷ c ∷ bs) some high byte low = omega arith
+
+pub ends_at_second : (bytes : List ℕ) → 1 < length bytes → 128 ≤ get_or bytes 0 0 → get_or bytes 1 0 < 128 →
+    EndsAt bytes 1
+ends_at_second bytes within high low = record { within = within; before = before; ends = low }
+  where
+    before : (k : ℕ) → k < 1 → 128 ≤ get_or bytes k 0
+    before zero lt = high
+    before (suc k) lt = absurd (omega arith)
 
 -- what a number of 32 bits is after casts
 pub cast_64 : (z : ℤ) → FitsSigned w32 z → cast_signed w64 (cast_unsigned w64 z) ≡ z

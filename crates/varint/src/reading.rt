@@ -5,7 +5,8 @@ ghost use Rattle.wire_spec.specs.Varint.{varint, varlong, IsVarint, IsVarlong, u
 use wire_spec::VarintFault;
 
 /// The number in groups of seven bits at the front, of at most `most` bytes, and how many it takes.
-#[inline(always)]
+#[cold]
+#[inline(never)]
 fn read_groups(bytes: &[u8], most: usize, top: u8) -> Result<(u64, usize), VarintFault>
     requires { ((most ≡ 5) × (top ≡ 15)) ⊎ ((most ≡ 10) × (top ≡ 1)) }
     ensures { result ≡ read_base128 most top bytes.now }
@@ -37,6 +38,26 @@ fn read_groups(bytes: &[u8], most: usize, top: u8) -> Result<(u64, usize), Varin
     Ok((number + ((byte as u64) << (7 * (most - 1) as u32)), most))
 }
 
+/// The same without a loop where it takes one byte or two: most numbers of a record take no more.
+#[inline(always)]
+fn groups_of(bytes: &[u8], most: usize, top: u8) -> Result<(u64, usize), VarintFault>
+    requires { ((most ≡ 5) × (top ≡ 15)) ⊎ ((most ≡ 10) × (top ≡ 1)) }
+    ensures { result ≡ read_base128 most top bytes.now }
+{
+    if bytes.len() < 2 {
+        return read_groups(bytes, most, top);
+    }
+    let first = bytes[0];
+    if first < 128 {
+        return Ok((first as u64, 1));
+    }
+    let second = bytes[1];
+    if second == 0 || second >= 128 {
+        return read_groups(bytes, most, top);
+    }
+    Ok(((first - 128) as u64 + 128 * second as u64, 2))
+}
+
 /// The number that has this zigzag number.
 #[inline(always)]
 fn signed_of(number: u64) -> i64
@@ -51,7 +72,7 @@ fn signed_of(number: u64) -> i64
 fn varint_of(bytes: &[u8]) -> Result<(i32, usize), VarintFault>
     ensures { result ≡ read_varint bytes.now }
 {
-    let (number, used) = read_groups(bytes, 5, 0x0f)?;
+    let (number, used) = groups_of(bytes, 5, 0x0f)?;
     Ok((signed_of(number) as i32, used))
 }
 
@@ -60,13 +81,14 @@ fn varint_of(bytes: &[u8]) -> Result<(i32, usize), VarintFault>
 fn varlong_of(bytes: &[u8]) -> Result<(i64, usize), VarintFault>
     ensures { result ≡ read_varlong bytes.now }
 {
-    let (number, used) = read_groups(bytes, 10, 0x01)?;
+    let (number, used) = groups_of(bytes, 10, 0x01)?;
     Ok((signed_of(number), used))
 }
 
 /// The varint at the front of the bytes, and how many of them it takes, 1 to 5. It fails where there
 /// is none: as `Short` where no byte of fewer than 5 ends it, as `Long` where the fifth doesn't or has
 /// bits past the 32nd, as `NotShortest` where fewer bytes would do.
+#[inline(always)]
 pub fn read32(bytes: &[u8]) -> Result<(i32, usize), VarintFault>
     // What is read is spelled so.
     ensures found { IfOk result (λ x. (x.1 ≤ length bytes.now) × IsVarint (take x.1 bytes.now) x.0) }
@@ -81,6 +103,7 @@ pub fn read32(bytes: &[u8]) -> Result<(i32, usize), VarintFault>
 /// The varlong at the front of the bytes, and how many of them it takes, 1 to 10. It fails where there
 /// is none: as `Short` where no byte of fewer than 10 ends it, as `Long` where the tenth doesn't or has
 /// bits past the 64th, as `NotShortest` where fewer bytes would do.
+#[inline(always)]
 pub fn read64(bytes: &[u8]) -> Result<(i64, usize), VarintFault>
     // What is read is spelled so.
     ensures found { IfOk result (λ x. (x.1 ≤ length bytes.now) × IsVarlong (take x.1 bytes.now) x.0) }
