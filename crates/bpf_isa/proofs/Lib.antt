@@ -1,4 +1,5 @@
 pub mod Slots
+pub mod Places
 pub mod Cases
 pub mod Fields
 pub mod Bytes

@@ -1,7 +1,8 @@
 //! Opcodes (RFC 9669, sections 3.3 to 5): that of each instruction, and the instruction of each.
 
 ghost use Rattle.std.specs.Prelude.{◌≡◌, ◌≤◌, ◌==◌, find};
-ghost use Rattle.std.specs.List.{list_any};
+ghost use Rattle.std.specs.List.{list_any, position_or_len, slice_get};
+ghost use Rattle.machine_spec.specs.declared.opcode.TheConstants.{TEMPLATES};
 ghost use Rattle.machine_spec.specs.Opcodes as definitions;
 ghost use Rattle.machine_spec.specs.Opcodes.{opcode_of};
 ghost use Rattle.bpf_isa.specs.Views.{view};
@@ -170,16 +171,47 @@ pub fn opcode_of(instruction: Instruction) -> u8
     }
 }
 
-/// The first of some instructions that has an opcode.
-fn first_with(opcode: u8, instructions: &[Instruction]) -> Option<Instruction>
-    ensures { result ≡ find (λ template. opcode_of template == opcode) instructions.now }
+// The place among `TEMPLATES` of each opcode's template, or their number where it has none. A row has
+// the opcodes with the same high four bits.
+#[rattlefmt::skip]
+static PLACES: [u8; 256] = [
+    117, 117, 117, 117, 16, 87, 88, 91, 117, 117, 117, 117, 17, 117, 117, 92,
+    117, 117, 117, 117, 18, 43, 65, 93, 0, 117, 117, 117, 19, 44, 66, 94,
+    117, 117, 117, 117, 20, 47, 69, 95, 117, 117, 117, 117, 21, 48, 70, 96,
+    117, 117, 117, 117, 22, 49, 71, 97, 117, 117, 117, 117, 23, 50, 72, 98,
+    117, 117, 117, 117, 24, 55, 77, 99, 117, 117, 117, 117, 25, 56, 78, 100,
+    117, 117, 117, 117, 26, 45, 67, 101, 117, 117, 117, 117, 27, 46, 68, 102,
+    117, 3, 10, 14, 28, 57, 79, 103, 117, 2, 9, 13, 29, 58, 80, 104,
+    117, 1, 8, 12, 30, 59, 81, 105, 117, 4, 11, 15, 31, 60, 82, 106,
+    117, 7, 117, 117, 38, 89, 117, 113, 117, 6, 117, 117, 117, 117, 117, 117,
+    117, 5, 117, 117, 32, 90, 117, 107, 117, 117, 117, 117, 33, 117, 117, 108,
+    117, 117, 117, 117, 34, 51, 73, 109, 117, 117, 117, 117, 35, 52, 74, 110,
+    117, 117, 117, 117, 39, 53, 75, 114, 117, 117, 117, 117, 40, 54, 76, 115,
+    117, 117, 117, 117, 36, 61, 83, 111, 117, 117, 117, 117, 37, 62, 84, 112,
+    117, 117, 117, 117, 41, 63, 85, 116, 117, 117, 117, 117, 42, 64, 86, 117,
+    117, 117, 117, 117, 117, 117, 117, 117, 117, 117, 117, 117, 117, 117, 117, 117,
+    117, 117, 117, 117, 117, 117, 117, 117, 117, 117, 117, 117, 117, 117, 117, 117,
+];
+
+/// The place of an opcode's template among `TEMPLATES`, or their number if it has none.
+fn place(opcode: u8) -> usize
+    ensures { result ≡ position_or_len (λ template. opcode_of template == opcode) TEMPLATES }
 {
-    for template in instructions {
-        if opcode_of(*template) == opcode {
-            return Some(*template);
-        }
-    }
-    None
+    PLACES[opcode as usize] as usize
+}
+
+/// The instruction at a place, if there is one.
+fn at_place(instructions: &[Instruction], place: usize) -> Option<Instruction>
+    ensures { result ≡ slice_get instructions.now place }
+{
+    instructions.get(place).copied()
+}
+
+/// The first template that has an opcode.
+fn first_with(opcode: u8) -> Option<Instruction>
+    ensures { result ≡ find (λ template. opcode_of template == opcode) TEMPLATES }
+{
+    at_place(&TEMPLATES, place(opcode))
 }
 
 /// Whether it is a call or a 64-bit immediate of another kind than the profile's.
@@ -198,7 +230,7 @@ pub fn template_of(fields: SlotFields) -> Option<Instruction>
     if is_other_kind(fields) {
         None
     } else {
-        first_with(fields.opcode, &TEMPLATES)
+        first_with(fields.opcode)
     }
 }
 
