@@ -1,3 +1,4 @@
+use Rattle.std.proofs.Common.{rules, ◌≡◌, length}
 use Rattle.wire_spec.specs.BatchReading.{IsPart}
 use Rattle.batch.proofs.FeedLaws.{part_alone}
 use Rattle.batch.proofs.feed.fill.Goals as goal
