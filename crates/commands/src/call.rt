@@ -1,16 +1,13 @@
-//! Calls of the program, and what each reports on standard error.
+//! Calls of the program.
 
-ghost use Rattle.std.specs.Prelude.{◌≡◌, ◌≢◌, ◌≤◌, ◌⊎◌, ℕ, List, Some, Ok, OnOk, IfErr, string_bytes};
-ghost use Rattle.std.specs.IoError.{error_kind};
+ghost use Rattle.std.specs.Prelude.{◌≡◌, ◌≢◌, ◌≤◌, ◌⊎◌, ℕ, List, Some, Ok, string_bytes};
 ghost use Rattle.std.specs.Io.KnownBytes.{Appends};
-ghost use Rattle.std.specs.declared.io.ErrorKind.TheVariants.{OutOfMemory};
 ghost use Rattle.bpf_asm.specs.Images.{image_of};
 ghost use Rattle.commands.specs.Explanations as explanations;
 ghost use Rattle.commands.specs.Explanations.{PrintsExplanation};
 ghost use Rattle.machine_spec.specs.Image.{program_of};
 ghost use Rattle.machine_spec.specs.declared.instruction.IsaFault.TheVariants as isa;
 ghost use Rattle.commands.specs.Images.{first_bytes};
-ghost use Rattle.commands.specs.Stops.{status_of, status_of_refused, IsUnwritten};
 ghost use Rattle.commands.specs.Texts as texts;
 
 use crate::asm::{read_text, utf8, write_image};
@@ -22,85 +19,18 @@ use crate::image::{Refused, check, read_image};
 use crate::listing::list;
 use crate::reading::{Unread, read_file, read_whole};
 use crate::rechecking::recheck;
-use crate::run::{Ended, run_script};
-use crate::stop::{Stop, status_of, unwritten};
+use crate::run::run_script;
+use crate::telling::{
+    DONE, REFUSED, print_text, tell, tell_memory, tell_refused, tell_text, tell_unread, tell_usage,
+};
 use crate::words::{Call, Misuse, call_of};
 use bpf_asm::{AsmFault, assemble};
 use explain::{Explanation, Extent, explain_image};
 use machine_spec::{IsaFault, Table};
-use std::alloc::{AllocError, Global};
-use std::io;
+use std::alloc::Global;
 use std::io::{Read, Write};
 use std::sync::Wait;
 use std::thread::Threads;
-
-/// Everything was done.
-pub(crate) const DONE: u8 = 0;
-
-/// What the call names is refused.
-pub(crate) const REFUSED: u8 = 1;
-
-/// The words are no call of the program.
-const USAGE: u8 = 2;
-
-/// A file can't be read or written, there is no thread for a worker, or memory ran out.
-pub(crate) const FAILED: u8 = 3;
-
-/// What is reported where memory ran out.
-const MEMORY: &str = "memory\n";
-
-/// What is reported where there is no thread for a worker.
-const THREAD: &str = "thread\n";
-
-/// A text on standard error, as far as it can be written.
-pub(crate) fn say<E: Write>(stderr: &mut E, text: &str) {
-    let _ = stderr.write_all(text.as_bytes());
-}
-
-/// Says how the program is called, and answers the status.
-pub(crate) fn tell_usage<E: Write>(stderr: &mut E) -> u8
-    ensures { result ≡ 2 }
-{
-    say(stderr, "usage: klog COMMAND FILE ...\n");
-    USAGE
-}
-
-/// Says that memory ran out, and answers the status.
-pub(crate) fn tell_memory<E: Write>(stderr: &mut E) -> u8
-    ensures { result ≡ 3 }
-{
-    say(stderr, MEMORY);
-    FAILED
-}
-
-/// Reports why the words of a call could not be had, and answers the status: memory ran out, or a
-/// word is not UTF-8, which no call has.
-pub fn tell_no_words<E: Write>(stderr: &mut E, error: &io::Error) -> u8
-    ensures memory { error_kind error.now ≡ OutOfMemory → result ≡ 3 }
-    ensures no_text { error_kind error.now ≢ OutOfMemory → result ≡ 2 }
-{
-    match error.kind() {
-        io::ErrorKind::OutOfMemory => tell_memory(stderr),
-        _ => tell_usage(stderr),
-    }
-}
-
-/// Says a text and answers the status. Where there is no memory for the text, it says that.
-pub(crate) fn tell_text<E: Write>(
-    stderr: &mut E,
-    text: Result<String, AllocError>,
-    status: u8,
-) -> u8
-    ensures { (result ≡ status) ⊎ (result ≡ 3) }
-{
-    match text {
-        Ok(text) => {
-            say(stderr, text.as_str());
-            status
-        }
-        Err(_) => tell_memory(stderr),
-    }
-}
 
 /// The whole text of a script; `stdin` is standard input.
 fn script_text<F: Files, I: Read>(
@@ -115,42 +45,6 @@ fn script_text<F: Files, I: Read>(
         read_file(alloc, files, name)?
     };
     utf8(bytes)
-}
-
-/// What the end of a script says on standard error.
-fn end_text(alloc: Global, ended: &Ended) -> Result<String, AllocError> {
-    let line = ended.line;
-    match &ended.stop {
-        Stop::Line(fault) => format!(in alloc; "line {line}: {fault}\n"),
-        Stop::Broker(fault) => format!(in alloc; "line {line}: {fault}\n"),
-        Stop::Batch(fault) => format!(in alloc; "line {line}: {fault}\n"),
-        Stop::File(file) => file_text(alloc, file.text.as_str()),
-        Stop::Output => file_text(alloc, "stdout"),
-        Stop::Thread => String::from_str(alloc, THREAD),
-        Stop::Memory => String::from_str(alloc, MEMORY),
-    }
-}
-
-pub(crate) fn file_text(alloc: Global, name: &str) -> Result<String, AllocError> {
-    format!(in alloc; "file {name}\n")
-}
-
-/// Reports why a script ended early, and answers the status. Where there is no memory for the text,
-/// that is reported.
-pub(crate) fn tell<E: Write>(alloc: Global, stderr: &mut E, ended: &Ended) -> u8
-    ensures { (result ≡ status_of ended.now.stop) ⊎ (result ≡ 3) }
-{
-    tell_text(stderr, end_text(alloc, ended), status_of(&ended.stop))
-}
-
-/// Reports that a file can't be read or written, and answers the status.
-pub(crate) fn tell_unread<E: Write>(alloc: Global, stderr: &mut E, name: &str, unread: Unread) -> u8
-    ensures { result ≡ 3 }
-{
-    match unread {
-        Unread::File => tell_text(stderr, file_text(alloc, name), FAILED),
-        Unread::Memory => tell_memory(stderr),
-    }
 }
 
 /// Does the commands of a script, and answers the status.
@@ -172,44 +66,6 @@ fn run<R: Threads + Wait + Sync, F: Files, I: Read, O: Write, E: Write>(
     match run_script(rt, alloc, files, stdout, script.as_str()) {
         Ok(()) => DONE,
         Err(ended) => tell(alloc, stderr, &ended),
-    }
-}
-
-/// Writes all of a text to standard output.
-#[tactic(auto, using(crate::proofs::Written::appended_and_kept))]
-pub(crate) fn write_out<O: Write>(stdout: &mut O, text: &str) -> Result<(), Stop>
-    ensures written { OnOk result (Appends (O.contents stdout.old) (O.contents stdout.new) text.now) }
-    ensures failed { IfErr result (λ stop. status_of stop ≡ 3) }
-    ensures is { IfErr result IsUnwritten }
-{
-    match stdout.write_all(text.as_bytes()) {
-        Err(error) => Err(unwritten(&error)),
-        Ok(()) => match stdout.flush() {
-            Err(error) => Err(unwritten(&error)),
-            Ok(()) => Ok(()),
-        },
-    }
-}
-
-/// Prints a text, and answers the status: 0 where all of it was written, and else 3.
-fn print_text<O: Write, E: Write>(alloc: Global, stdout: &mut O, stderr: &mut E, text: &str) -> u8
-    ensures status { (result ≡ 0) ⊎ (result ≡ 3) }
-    ensures printed { result ≡ 0 → Appends (O.contents stdout.old) (O.contents stdout.new) text.now }
-{
-    match write_out(stdout, text) {
-        Ok(()) => DONE,
-        Err(stop) => tell(alloc, stderr, &Ended { line: 0, stop }),
-    }
-}
-
-/// Says why a call on an image prints nothing, and answers the status. Where there is no memory for
-/// the text, it says that.
-fn tell_refused<E: Write>(alloc: Global, stderr: &mut E, refused: Refused) -> u8
-    ensures { (result ≡ status_of_refused refused) ⊎ (result ≡ 3) }
-{
-    match refused {
-        Refused::Image(fault) => tell_text(stderr, format!(in alloc; "{fault}\n"), REFUSED),
-        Refused::Memory => tell_memory(stderr),
     }
 }
 

@@ -23,13 +23,15 @@ mod rechecking;
 mod run;
 mod session;
 mod stop;
+mod telling;
 mod transforming;
 mod words;
 
-pub use crate::call::{command, tell_no_words};
+pub use crate::call::command;
 pub use crate::files::Files;
 pub use crate::listing::list;
 pub use crate::rechecking::recheck;
 pub use crate::session::Session;
 pub use crate::stop::Stop;
+pub use crate::telling::tell_no_words;
 pub use crate::transforming::transform;

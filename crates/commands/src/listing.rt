@@ -4,9 +4,9 @@ ghost use Rattle.std.specs.Prelude.{◌≡◌, ◌≤◌, ◌⊎◌};
 ghost use Rattle.std.specs.Io.KnownBytes.{Keeps};
 ghost use Rattle.commands.specs.Listings.{ListsAs, source_of, status_of, status_of_listed};
 
-use crate::call::{DONE, FAILED, REFUSED, file_text, tell_memory, tell_text};
 use crate::files::Files;
 use crate::reading::{Unread, cause_of};
+use crate::telling::{DONE, FAILED, REFUSED, file_text, tell_memory, tell_text};
 use batch_text::{ListFault, Listing, Refusal, cause_text, list_all};
 use std::alloc::{AllocError, Global};
 use std::io::{BufReader, Read, Write};

@@ -1,7 +1,7 @@
 //! How far a transform is, for somebody who watches it.
 
-use crate::call::say;
 use crate::files::Files;
+use crate::telling::say;
 use batch_reader::Position;
 use std::alloc::{AllocError, Global};
 use std::io::Write;

@@ -11,12 +11,12 @@ ghost use Rattle.commands.specs.Rechecks.{ImageTells, LineTells, Rechecks, Reche
 ghost use Rattle.commands.specs.Stops.{IsUnwritten};
 
 use crate::asm::read_text;
-use crate::call::{DONE, REFUSED, say, tell, tell_unread, write_out};
 use crate::files::Files;
 use crate::image::{Refused, check, read_image};
 use crate::reading::Unread;
 use crate::run::Ended;
 use crate::stop::{Stop, stop_of_unread};
+use crate::telling::{DONE, REFUSED, say, tell, tell_unread, write_out};
 use machine_spec::Table;
 use script::{FileName, ScriptFault};
 use std::alloc::{AllocError, Global};

@@ -11,11 +11,11 @@ ghost use Rattle.commands.specs.FileTransforms.{StreamsAs, CallTransforms, IsLoa
 ghost use Rattle.commands.specs.Images.{first_bytes};
 ghost use Rattle.commands.specs.Listings.{source_of};
 
-use crate::call::{DONE, FAILED, REFUSED, file_text, say, tell_memory, tell_text, tell_usage};
 use crate::files::Files;
 use crate::image::{Refused, read_image, refusal_of};
 use crate::progress::Progress;
 use crate::reading::{Unread, cause_of};
+use crate::telling::{DONE, FAILED, REFUSED, file_text, say, tell_memory, tell_text, tell_usage};
 use batch::BatchFault;
 use batch_reader::{BatchReader, Position, ReadFault};
 use bytes::Bytes;
