@@ -1,3 +1,5 @@
 pub mod RowLaws
 pub mod Places
 pub mod RoomLaws
+pub mod ShownLaws
+pub mod OpenLaws

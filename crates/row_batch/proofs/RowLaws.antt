@@ -46,7 +46,7 @@ record_fits base row low fits = record {
   headers = fits.limits.headers;
 }
 
-stamp_again : (base timestamp : ℕ) → pos base +ℤ (pos timestamp -ℤ pos base) ≡ pos timestamp
+pub stamp_again : (base timestamp : ℕ) → pos base +ℤ (pos timestamp -ℤ pos base) ≡ pos timestamp
 stamp_again base timestamp = omega (arith, ints)
 
 is_stamp : (n : ℕ) → n < TIMESTAMP_END → IsTimestamp (pos n)
@@ -60,7 +60,7 @@ row_fits row rows fit = fit 0 row (omega arith)
 tail_of : (row : Row) (rows : List Row) → All RowFits (row ∷ rows) → All RowFits rows
 tail_of row rows fit = λ k d lt. fit (suc k) d (omega arith)
 
-records_fit : (base : ℕ) (rows : List Row) → base < TIMESTAMP_END → All RowFits rows →
+pub records_fit : (base : ℕ) (rows : List Row) → base < TIMESTAMP_END → All RowFits rows →
     AllByRecursion RecordFits (map (record_of base) rows)
 records_fit base [] low fit = tt
 records_fit base (row ∷ rows) low fit =

@@ -1,2 +1,3 @@
 pub mod RowBatches
 pub mod FirstRows
+pub mod OpenBatches

@@ -1,6 +1,7 @@
 //! What is before the records of a batch, which is written after them.
 
-ghost use Rattle.std.specs.Prelude.{◌≡◌, ◌≤◌, ◌++◌, length, drop, IfOk};
+ghost use Rattle.std.specs.Prelude.{◌≡◌, ◌≤◌, ◌++◌, length, drop, IfOk, OnOk, OnErr};
+ghost use Rattle.row_batch.specs.OpenBatches.{padded};
 
 use batch::HEADER;
 use std::alloc::{AllocError, Global};
@@ -12,6 +13,18 @@ pub fn blank(alloc: Global, room: usize) -> Result<Vec<u8>, AllocError>
     let mut bytes = Vec::with_capacity(alloc, room)?;
     bytes.resize(HEADER, 0)?;
     Ok(bytes)
+}
+
+/// As many bytes as are before the records of a batch, where there are fewer. It fails only where memory
+/// runs out; then nothing changes.
+pub fn pad(bytes: &mut Vec<u8>) -> Result<(), AllocError>
+    ensures ok { OnOk result (bytes.new.items ≡ padded bytes.old.items) }
+    ensures err { OnErr result (bytes.new.items ≡ bytes.old.items) }
+{
+    if bytes.len() < HEADER {
+        bytes.resize(HEADER, 0)?;
+    }
+    Ok(())
 }
 
 /// Writes over the first bytes.

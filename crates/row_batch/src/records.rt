@@ -1,6 +1,6 @@
 //! Rows as records: as many of them as one batch takes.
 
-ghost use Rattle.std.specs.Prelude.{◌≡◌, ◌+◌, ◌<◌, ◌≤◌, ◌^◌, ◌-ℤ◌, ◌++◌, pos, length, take, drop, All, IfOk, OnOk};
+ghost use Rattle.std.specs.Prelude.{◌≡◌, ◌+◌, ◌<◌, ◌≤◌, ◌^◌, ◌-ℤ◌, ◌++◌, pos, length, take, drop, All, IfOk, OnOk, OnErr};
 ghost use Rattle.log_spec.specs.Logs.{RowFits};
 ghost use Rattle.wire_spec.specs.RecordSpelling.{record_spelling};
 ghost use Rattle.row_batch.specs.RowBatches.{record_of};
@@ -38,12 +38,14 @@ fn delta(base: u64, timestamp: u64) -> i64
     timestamp as i64 - base as i64
 }
 
-/// Writes a row at the end, as the record with this place in a batch with this base timestamp.
+/// Writes a row at the end, as the record with this place in a batch with this base timestamp. An `Err`
+/// changes nothing.
 fn put_row(base: u64, row: &Row, place: usize, out: &mut Vec<u8>) -> Result<(), AllocError>
     requires base { base < TIMESTAMP_END }
     requires place { place < MAX_RECORDS }
     requires row { RowFits row.now }
-    ensures { OnOk result (out.new.items ≡ out.old.items ++ record_spelling (pos place) (record_of base row.now)) }
+    ensures ok { OnOk result (out.new.items ≡ out.old.items ++ record_spelling (pos place) (record_of base row.now)) }
+    ensures err { OnErr result (out.new.items ≡ out.old.items) }
 {
     let delta = delta(base, row.timestamp);
     write_parts(delta, &row.key, &row.value, &row.headers, place as i32, out)
@@ -66,13 +68,20 @@ fn may_be_full(size: usize, row: &Row) -> bool {
     size.saturating_add(likely_parts(row)) > NEARLY_FULL
 }
 
-/// Writes a row as `put_row` does, if a batch has room for it then, and returns whether it has.
+/// Writes a row as `put_row` does, if a batch has room for it then, and returns whether it has. An `Err`
+/// changes nothing.
 #[tactic(auto, using(crate::proofs::RoomLaws::cut_back, crate::proofs::RoomLaws::no_room))]
-fn put_if_room(base: u64, row: &Row, place: usize, out: &mut Vec<u8>) -> Result<bool, AllocError>
+pub fn put_if_room(
+    base: u64,
+    row: &Row,
+    place: usize,
+    out: &mut Vec<u8>,
+) -> Result<bool, AllocError>
     requires base { base < TIMESTAMP_END }
     requires place { place < MAX_RECORDS }
     requires row { RowFits row.now }
-    ensures { IfOk result (λ put. PutsIfRoom put out.old.items out.new.items (record_spelling (pos place) (record_of base row.now))) }
+    ensures ok { IfOk result (λ put. PutsIfRoom put out.old.items out.new.items (record_spelling (pos place) (record_of base row.now))) }
+    ensures err { OnErr result (out.new.items ≡ out.old.items) }
 {
     let end = out.len();
     if may_be_full(end, row) {

@@ -22,7 +22,7 @@ pub struct FirstBatch {
 }
 
 /// The fields of a batch of rows, whose records are not here. No producer is named.
-fn head(alloc: Global, place: usize, base: u64) -> Batch
+pub fn head(alloc: Global, place: usize, base: u64) -> Batch
     requires place { place < 2 ^ 63 }
     requires base { base < TIMESTAMP_END }
     ensures { result ≡ head_of place base }
