@@ -9,20 +9,13 @@ use Rattle.transform.specs.declared.{outlet.OutletFault.OutletFault}
 use Rattle.transform.specs.declared.outlet.OutletFault.TheVariants as fault
 use Rattle.transform.specs.Backlogs.{Waiting, waiting, with_rows, rest_after, IsBatchOf, IsFull, TakesRow}
 use Rattle.transform.specs.Outlets.{WroteFull, WroteBatches, Stops, PutsAll, PutsOpen}
-use Rattle.transform.proofs.ShownLaws.{one_shown, none_with, more_with}
-use Rattle.transform.proofs.OutletLaws.{full_none, batches_none, wrote_batches, wrote_to, wrote_then}
+use Rattle.transform.proofs.ShownLaws.{one_shown, more_with}
+use Rattle.transform.proofs.OutletLaws.{batches_none, wrote_batches, wrote_to, wrote_then}
 use Rattle.transform.proofs.OutletLaws.{wrote_then_stops, batch_with, full_with, total}
 
 -- ---- one row
 
--- the batch had room for the row
-pub put_added : (old new : Waiting) (row : Row) (others : List Row) (held : Option (List ℕ)) →
-    TakesRow true old row new → WroteFull (with_rows old (row ∷ others)) held (with_rows new others) held
-put_added old new row others held is =
-    wrote_to (with_rows old (row ∷ others)) (with_rows old (row ∷ others)) (with_rows new others) held held
-    (full_none (with_rows old (row ∷ others)) held) (one_shown old new row others is)
-
--- it had none
+-- the batch that waits has no room for the row
 record IsTooMuch (old : Waiting) (row : Row) (others : List Row) (bytes : List ℕ) : Type 0 where
   pub batch : IsBatchOf (with_rows old (row ∷ others)) (length old.rows) bytes
   pub full : IsFull (with_rows old (row ∷ others)) (length old.rows)
@@ -73,10 +66,12 @@ put_after old same mid new row others before after full puts true takes =
     (wrote_open old row others before after wrote.0 (too_much old row others wrote.0 full.2 wrote.1.0) wrote.2)
     (one_shown empty new row others takes')
 put_after old same mid new row others before after full (bytes, given, written) false takes =
-    let none : length mid.rows ≡ 0 = ap (λ (w : Waiting). length w.rows) given.1 in absurd (omega (arith, none, takes.1))
+    let none : length mid.rows ≡ 0 = ap (λ (w : Waiting). length w.rows) given.1 in
+    absurd (omega (arith, none, takes.1))
 
 -- memory ran out before the row was added
-pub stops_before : (old : Waiting) (rows : List Row) (held : Option (List ℕ)) → Stops (with_rows old rows) held fault.Memory held
+pub stops_before : (old : Waiting) (rows : List Row) (held : Option (List ℕ)) →
+    Stops (with_rows old rows) held fault.Memory held
 stops_before old rows held = (with_rows old rows, batches_none (with_rows old rows) held)
 
 -- or after the batch was written
@@ -147,27 +142,19 @@ pub put_next : (old mid new : Waiting) (rows : List Row) (index : ℕ) (row : Ro
     WroteFull (with_rows mid (row ∷ drop (index + 1) rows)) b (with_rows new (drop (index + 1) rows)) c →
     WroteFull (with_rows old rows) a (with_rows new (drop (index + 1) rows)) c
 put_next old mid new rows index row a b c more is so_far next =
-    wrote_then (with_rows old rows) (with_rows mid (row ∷ drop (index + 1) rows)) (with_rows new (drop (index + 1) rows))
-    a b c
-    (subst (λ (rs : List Row). WroteFull (with_rows old rows) a (with_rows mid rs) b) (first_left rows index row more is)
-    so_far) next
+    let left = first_left rows index row more is in
+    wrote_then (with_rows old rows) (with_rows mid (row ∷ drop (index + 1) rows))
+    (with_rows new (drop (index + 1) rows)) a b c
+    (subst (λ (rs : List Row). WroteFull (with_rows old rows) a (with_rows mid rs) b) left so_far) next
 
 pub put_stops : (old mid : Waiting) (rows : List Row) (index : ℕ) (row : Row) (a b c : Option (List ℕ))
     (why : OutletFault) → index < length rows → row ≡ slice_index_or rows index row →
     WroteFull (with_rows old rows) a (with_rows mid (drop index rows)) b →
     Stops (with_rows mid (row ∷ drop (index + 1) rows)) b why c → Stops (with_rows old rows) a why c
 put_stops old mid rows index row a b c why more is so_far next =
+    let left = first_left rows index row more is in
     wrote_then_stops (with_rows old rows) (with_rows mid (row ∷ drop (index + 1) rows)) a b c why
-    (subst (λ (rs : List Row). WroteFull (with_rows old rows) a (with_rows mid rs) b) (first_left rows index row more is)
-    so_far) next
-
-pub put_all : (old new : Waiting) (rows : List Row) (index : ℕ) (before after : Option (List ℕ)) →
-    length rows ≤ index → WroteFull (with_rows old rows) before (with_rows new (drop index rows)) after →
-    WroteFull (with_rows old rows) before new after
-put_all old new rows index before after all wrote =
-    let same : with_rows new (drop index rows) ≡ new =
-    ap (λ (rs : List Row). with_rows new rs) (drop_all index rows all) ∙ none_with new in
-    subst (λ (w : Waiting). WroteFull (with_rows old rows) before w after) same wrote
+    (subst (λ (rs : List Row). WroteFull (with_rows old rows) a (with_rows mid rs) b) left so_far) next
 
 -- ---- the end
 

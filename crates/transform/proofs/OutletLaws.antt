@@ -18,7 +18,7 @@ use Rattle.transform.proofs.ShownLaws.{same_length, full_from, batches_from, ful
 use Rattle.transform.proofs.WrittenLaws.{begun_then}
 
 -- full batches are batches
-pub all_batches : (old new : Waiting) (batches : List (List ℕ)) → AreFull old batches new → AreBatches old batches new
+all_batches : (old new : Waiting) (batches : List (List ℕ)) → AreFull old batches new → AreBatches old batches new
 all_batches old new [] are = are
 all_batches old new (bytes ∷ others) are =
     (are.0, are.1, λ lt. are.2, all_batches (rest_after old are.0) new others are.3)

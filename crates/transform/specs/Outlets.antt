@@ -15,8 +15,8 @@ pub record Outflow : Type 0 where
 abbrev pub outflow : Option (List ℕ) → Waiting → Outflow
 outflow written waits = record { written = written; waits = waits }
 
--- These are the batches of the first rows that wait, one after the other, each full; the other rows wait still, as far as
--- a batch shows them.
+-- These are the batches of the first rows that wait, one after the other, each full; the other rows wait still, as far
+-- as a batch shows them.
 abbrev pub AreFull : Waiting → List (List ℕ) → Waiting → Type 0
 AreFull old [] new = ShowsSame new old
 AreFull old (bytes ∷ others) new =
@@ -83,7 +83,8 @@ PutsOpen old before (Err fault.Write) new after =
 PutsOpen old before (Err fault.Memory) new after = after ≡ before
 PutsOpen old before (Err fault.Full) new after = ⊥
 
--- The first of some rows was added, and a full batch was written where that had no room for it, or a fault stopped that.
+-- The first of some rows was added, after a full batch was written where that had no room for it; or a fault stopped
+-- that.
 abbrev pub PutsFirst : Outflow → List Row → Result (Unit {0}) OutletFault → Outflow → List Row → Type 0
 PutsFirst old rows result new others =
     PutsFull (with_rows old.waits rows) old.written result (with_rows new.waits others) new.written
