@@ -3,7 +3,6 @@ use Rattle.std.proofs.Common.{◌≡◌, ℕ, zero, suc, ◌+◌, ◌<◌, ◌�
 use Rattle.std.proofs.Common.{slice_get, sym, ap, subst, ◌∙◌, arith}
 use Rattle.std.specs.List.{concat}
 use Rattle.std.specs.Io.KnownBytes.{Appends}
-use Rattle.std.proofs.lemmas.List.{length-append, length-drop}
 use Rattle.std.proofs.lemmas.Option.{same_Some}
 use Rattle.machine_spec.specs.Image.{Program}
 use Rattle.wire_spec.specs.declared.record.Batch.{Batch}
@@ -12,10 +11,10 @@ use Rattle.log_spec.specs.declared.row.Row.{Row}
 use Rattle.batch.specs.Batches.{AreBatches as Begins}
 use Rattle.fates.specs.Totals.{Totals, AreCountsWith}
 use Rattle.item_rows.specs.declared.origin.Origin.{Origin}
-use Rattle.transform.specs.Backlogs.{Waiting, waiting, rest_after}
-use Rattle.transform.specs.Outlets.{Outflow, outflow, AreBatches as AreRowBatches}
+use Rattle.transform.specs.Backlogs.{waiting}
+use Rattle.transform.specs.Outlets.{Outflow, outflow}
 use Rattle.transform.specs.Transforms.{flow, output_at, InEach, Empties, Finished, AreRows, FillsAll}
-use Rattle.transform.proofs.FollowLaws.{end_finishes}
+use Rattle.transform.proofs.{OutletLaws.total, FollowLaws.end_finishes}
 use Rattle.batch_transform.specs.declared.{stream.Stream.Stream, pass.Transformed.Transformed}
 use Rattle.batch_transform.specs.declared.{ending.OutputBatches.OutputBatches}
 use Rattle.batch_transform.specs.Transformed.{AreFates, AreOutputBatches, IsTransformed}
@@ -85,14 +84,7 @@ holds_at (old ∷ olds) (made ∷ mades) h (suc k) one at =
 holds_at [] (made ∷ mades) h k one at = absurd h
 holds_at (old ∷ olds) [] h k one at = absurd h
 
--- ---- how many rows there are
-
-same_rows : (old new : Waiting) (batches : List (List ℕ)) → AreRowBatches old batches new →
-    new.place + length new.rows ≡ old.place + length old.rows
-same_rows old new [] is = ap (λ (w : Waiting). w.place + length w.rows) is
-same_rows old new (bytes ∷ others) (count, batch, full, are) =
-    let later = same_rows (rest_after old count) new others are in
-    omega (arith, later, batch.there, length-drop count old.rows)
+-- ---- all rows of one
 
 appended : (bytes more : List ℕ) (written : Option (List ℕ)) → written ≡ Some bytes → Appends (Some []) written more →
     bytes ≡ more
@@ -118,7 +110,7 @@ output_made origin program batches output rows new one are (wrote, none) holds =
       none_left = none;
       bytes_are = bytes;
       count_is =
-          let all = same_rows (waiting 0 rows) new.waits wrote.batches wrote.are in
+          let all = total (waiting 0 rows) new.waits wrote.batches wrote.are in
           omega (arith, all, holds.rows_are);
       batches_are = counted ∙ found.2;
     }

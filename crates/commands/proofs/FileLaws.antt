@@ -17,8 +17,8 @@ use Rattle.transform.specs.declared.{stream.StreamFault.StreamFault, outlet.Outl
 use Rattle.transform.specs.declared.stream.StreamFault.TheVariants as fault
 use Rattle.transform.specs.declared.flow.TransformFault.TheVariants as stop
 use Rattle.transform.specs.declared.outlet.OutletFault.TheVariants as outlet
-use Rattle.transform.specs.Backlogs.{Waiting, waiting}
-use Rattle.transform.specs.Outlets.{Outflow, outflow, with_rows, WroteBatches}
+use Rattle.transform.specs.Backlogs.{Waiting, waiting, with_rows}
+use Rattle.transform.specs.Outlets.{Outflow, outflow, WroteBatches}
 use Rattle.transform.specs.Streams.{TransformsAll}
 use Rattle.transform.specs.Transforms.{Flow, flow, output_at, AreRows, AreRowsOfALog, AreFlowRows, FillsAll, FillsSome}
 use Rattle.transform.specs.Transforms.{StopsFilling, Finished, Broken}

@@ -4,7 +4,8 @@ use Rattle.log_spec.specs.declared.row.Row.{Row}
 use Rattle.item_rows.specs.ItemRows.{rows_in}
 use Rattle.transform.specs.declared.{flow.TransformFault.TransformFault}
 use Rattle.transform.specs.declared.flow.TransformFault.TheVariants as fault
-use Rattle.transform.specs.Outlets.{Outflow, with_rows}
+use Rattle.transform.specs.Backlogs.{with_rows}
+use Rattle.transform.specs.Outlets.{Outflow}
 use Rattle.transform.specs.Transforms.{Fills, FillsSome, StopsFilling, Empties, EmptiesSome, StopsEmptying, InOne}
 use Rattle.transform.specs.Transforms.{Stays, PutsEach, PutsOne, EndsEach, EndsOne}
 use Rattle.transform.proofs.OutletLaws.{wrote_batches, batches_none}

@@ -1,6 +1,7 @@
-pub mod BacklogLaws
 pub mod WrittenLaws
+pub mod ShownLaws
 pub mod OutletLaws
+pub mod OpenLaws
 pub mod EachLaws
 pub mod FillLaws
 pub mod LogOfLaws

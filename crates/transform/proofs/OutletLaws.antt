@@ -1,85 +1,43 @@
 -- Batches of the rows of an output, one after the other, and what a writer has of them.
-use Rattle.std.proofs.Common.{◌≡◌, ℕ, ◌<◌, List, [], ◌∷◌, ◌++◌, length, Option, Some, refl, sym, ap}
-use Rattle.std.proofs.Common.{subst, ◌∙◌, append-nil, arith, Result, Err}
+use Rattle.std.proofs.Common.{◌≡◌, ℕ, ◌+◌, ◌<◌, ◌≤◌, List, [], ◌∷◌, ◌++◌, length, take, Option, refl, sym, ap, subst, ◌∙◌}
+use Rattle.std.proofs.Common.{append_assoc, ⊎_elim, inl, inr, arith}
 use Rattle.std.specs.List.{concat}
 use Rattle.std.specs.Io.KnownBytes.{Appends}
 use Rattle.std.proofs.KnownBytes.{Appends-nil, Appends-trans}
-use Rattle.std.proofs.lemmas.List.{length-drop}
+use Rattle.std.proofs.lemmas.List.{take-append-le, drop-append-le, length-append, length-drop}
 use Rattle.std.proofs.lemmas.List.Folds.{concat-append}
-use Rattle.transform.specs.declared.outlet.OutletFault.{OutletFault}
-use Rattle.transform.specs.declared.outlet.OutletFault.TheVariants as fault
-use Rattle.transform.specs.Backlogs.{Waiting, rest_after, IsBatchOf, GivesFull, GivesNext}
-use Rattle.transform.specs.Outlets.{AreFull, AreBatches, HasBegun, WroteFull, WroteBatches, WrotePart, PutsFull, PutsAll}
+use Rattle.wire_spec.specs.BatchSpelling.{batch_spelling, BatchFits}
+use Rattle.wire_spec.specs.declared.limits.TheConstants.{MAX_BATCH}
+use Rattle.log_spec.specs.declared.row.Row.{Row}
+use Rattle.row_batch.specs.RowBatches.{batch_of}
+use Rattle.transform.specs.declared.{outlet.OutletFault.OutletFault}
+use Rattle.transform.specs.declared.outlet.OutletFault.TheVariants as cause
+use Rattle.transform.specs.Backlogs.{Waiting, waiting, with_rows, ShowsSame, rest_after, IsBatchOf, IsFull}
+use Rattle.transform.specs.Outlets.{AreFull, AreBatches, HasBegun, WroteFull, WroteBatches, WrotePart, Stops}
+use Rattle.transform.proofs.ShownLaws.{same_length, full_from, batches_from, full_to, with_same}
 use Rattle.transform.proofs.WrittenLaws.{begun_then}
 
 -- full batches are batches
-pub all_batches : (old new : Waiting) (batches : List (List ℕ)) → AreFull old batches new → AreBatches old batches new
+all_batches : (old new : Waiting) (batches : List (List ℕ)) → AreFull old batches new → AreBatches old batches new
 all_batches old new [] are = are
 all_batches old new (bytes ∷ others) are =
     (are.0, are.1, λ lt. are.2, all_batches (rest_after old are.0) new others are.3)
 
-full_more : (old mid new : Waiting) (batches : List (List ℕ)) (bytes : List ℕ) → AreFull old batches mid →
-    GivesFull mid (Some bytes) new → AreFull old (batches ++ bytes ∷ []) new
-full_more old mid new [] bytes is given =
-    subst (λ (w : Waiting). GivesFull w (Some bytes) new) is given
-full_more old mid new (first ∷ others) bytes are given =
-    (are.0, are.1, are.2, full_more (rest_after old are.0) mid new others bytes are.3 given)
-
-batches_more : (old mid new : Waiting) (batches : List (List ℕ)) (bytes : List ℕ) → AreBatches old batches mid →
-    GivesNext mid (Some bytes) new → AreBatches old (batches ++ bytes ∷ []) new
-batches_more old mid new [] bytes is given =
-    subst (λ (w : Waiting). GivesNext w (Some bytes) new) is given
-batches_more old mid new (first ∷ others) bytes are given =
-    (are.0, are.1, are.2, batches_more (rest_after old are.0) mid new others bytes are.3 given)
-
--- fewer rows wait after a batch
-fewer : (old new : Waiting) (count : ℕ) (bytes : List ℕ) → IsBatchOf old count bytes → new ≡ rest_after old count →
-    length new.rows < length old.rows
-fewer old new count bytes batch is =
-    let long = ap (λ (w : Waiting). length w.rows) is in
-    omega (arith, long, length-drop count old.rows, batch.some, batch.there)
-
-pub fewer_full : (old new : Waiting) (bytes : List ℕ) → GivesFull old (Some bytes) new →
-    length new.rows < length old.rows
-fewer_full old new bytes given = fewer old new given.0 bytes given.1 given.3
-
-pub fewer_next : (old new : Waiting) (bytes : List ℕ) → GivesNext old (Some bytes) new →
-    length new.rows < length old.rows
-fewer_next old new bytes given = fewer old new given.0 bytes given.1 given.3
+-- as many rows as waited wait or are in batches
+pub total : (old new : Waiting) (batches : List (List ℕ)) → AreBatches old batches new →
+    new.place + length new.rows ≡ old.place + length old.rows
+total old new [] is = omega (arith, same_length old new is, ap (λ (w : Waiting). w.place) is)
+total old new (bytes ∷ others) are =
+    let later = total (rest_after old are.0) new others are.3 in
+    omega (arith, later, are.1.there, length-drop are.0 old.rows)
 
 -- ---- what a writer has
-
-one_more : (before mid after : Option (List ℕ)) (batches : List (List ℕ)) (bytes : List ℕ) →
-    Appends before mid (concat batches) → Appends mid after bytes → Appends before after (concat (batches ++ bytes ∷ []))
-one_more before mid after batches bytes first last =
-    let same : concat (batches ++ bytes ∷ []) ≡ concat batches ++ bytes =
-    concat-append batches (bytes ∷ []) ∙ ap (λ (bs : List ℕ). concat batches ++ bs) (append-nil bytes) in
-    subst (λ (bs : List ℕ). Appends before after bs) (sym same)
-    (Appends-trans before mid after (concat batches) bytes first last)
 
 pub full_none : (w : Waiting) (a : Option (List ℕ)) → WroteFull w a w a
 full_none w a = record { batches = []; are = refl; written = Appends-nil a }
 
 pub batches_none : (w : Waiting) (a : Option (List ℕ)) → WroteBatches w a w a
 batches_none w a = record { batches = []; are = refl; written = Appends-nil a }
-
-pub full_next : (old mid new : Waiting) (before between after : Option (List ℕ)) (bytes : List ℕ) →
-    WroteFull old before mid between → GivesFull mid (Some bytes) new → Appends between after bytes →
-    WroteFull old before new after
-full_next old mid new before between after bytes wrote given last = record {
-  batches = wrote.batches ++ bytes ∷ [];
-  are = full_more old mid new wrote.batches bytes wrote.are given;
-  written = one_more before between after wrote.batches bytes wrote.written last;
-}
-
-pub batches_next : (old mid new : Waiting) (before between after : Option (List ℕ)) (bytes : List ℕ) →
-    WroteBatches old before mid between → GivesNext mid (Some bytes) new → Appends between after bytes →
-    WroteBatches old before new after
-batches_next old mid new before between after bytes wrote given last = record {
-  batches = wrote.batches ++ bytes ∷ [];
-  are = batches_more old mid new wrote.batches bytes wrote.are given;
-  written = one_more before between after wrote.batches bytes wrote.written last;
-}
 
 pub wrote_batches : (old new : Waiting) (before after : Option (List ℕ)) → WroteFull old before new after →
     WroteBatches old before new after
@@ -89,50 +47,116 @@ wrote_batches old new before after wrote = record {
   written = wrote.written;
 }
 
--- and then a beginning of one more
-pub part_next : (old mid : Waiting) (before between after : Option (List ℕ)) (count : ℕ) (bytes : List ℕ) →
-    WroteBatches old before mid between → IsBatchOf mid count bytes → HasBegun between after bytes →
-    WrotePart old before after
-part_next old mid before between after count bytes wrote next begun = record {
+pub wrote_to : (old mid new : Waiting) (before after : Option (List ℕ)) → WroteFull old before mid after →
+    ShowsSame new mid → WroteFull old before new after
+wrote_to old mid new before after wrote same = record {
   batches = wrote.batches;
-  rest = mid;
-  are = wrote.are;
-  count = count;
-  next = bytes;
-  next_is = next;
-  written = begun_then before between after (concat wrote.batches) bytes wrote.written begun;
+  are = full_to old mid new wrote.batches wrote.are same;
+  written = wrote.written;
 }
 
--- ---- how a call ends
+-- ---- rows that come later
 
-pub full_by_memory : (old mid new : Waiting) (before after : Option (List ℕ)) (why : OutletFault)
-    (result : Result (Unit {0}) OutletFault) → WroteFull old before mid after → result ≡ Err why → why ≡ fault.Memory →
-    PutsFull old before result new after
-full_by_memory old mid new before after why result wrote is memory =
-    subst (λ (r : Result (Unit {0}) OutletFault). PutsFull old before r new after)
-    (sym (is ∙ ap (λ (f : OutletFault). Err f) memory)) (mid, wrote_batches old mid before after wrote)
+-- the first rows are the same with rows more behind them
+same_first : (rows more : List Row) (count : ℕ) → count ≤ length rows → take count rows ≡ take count (rows ++ more)
+same_first rows more count le = sym (take-append-le count rows more le)
 
-pub all_by_memory : (old mid new : Waiting) (before after : Option (List ℕ)) (why : OutletFault)
-    (result : Result (Unit {0}) OutletFault) → WroteBatches old before mid after → result ≡ Err why →
-    why ≡ fault.Memory → PutsAll old before result new after
-all_by_memory old mid new before after why result wrote is memory =
-    subst (λ (r : Result (Unit {0}) OutletFault). PutsAll old before r new after)
-    (sym (is ∙ ap (λ (f : OutletFault). Err f) memory)) (mid, wrote)
+pub batch_with : (w : Waiting) (more : List Row) (count : ℕ) (bytes : List ℕ) → IsBatchOf w count bytes →
+    IsBatchOf (with_rows w more) count bytes
+batch_with w more count bytes is =
+    let same = same_first w.rows more count is.there in record {
+      some = is.some;
+      there = omega (arith, is.there, length-append w.rows more);
+      fits = subst (λ (rs : List Row). BatchFits (batch_of w.place rs)) same is.fits;
+      bytes_are = is.bytes_are ∙ ap (λ (rs : List Row). batch_spelling (batch_of w.place rs)) same;
+    }
 
-pub full_by_writer : (old mid next new : Waiting) (before between after : Option (List ℕ)) (bytes : List ℕ)
-    (why : OutletFault) (result : Result (Unit {0}) OutletFault) → WroteFull old before mid between →
-    GivesFull mid (Some bytes) next → HasBegun between after bytes → result ≡ Err why → why ≡ fault.Write →
-    PutsFull old before result new after
-full_by_writer old mid next new before between after bytes why result wrote given begun is failed =
-    subst (λ (r : Result (Unit {0}) OutletFault). PutsFull old before r new after)
-    (sym (is ∙ ap (λ (f : OutletFault). Err f) failed))
-    (part_next old mid before between after given.0 bytes (wrote_batches old mid before between wrote) given.1 begun)
+pub full_with : (w : Waiting) (more : List Row) (count : ℕ) → IsFull w count → IsFull (with_rows w more) count
+full_with w more count full = ⊎_elim (λ many. inl many) (λ large.
+    let same = same_first w.rows more (count + 1) (omega (arith, large.0)) in
+    inr (
+      omega (arith, large.0, length-append w.rows more),
+      subst (λ (rs : List Row). MAX_BATCH < length (batch_spelling (batch_of w.place rs))) same large.1,
+    )) full
 
-pub all_by_writer : (old mid next new : Waiting) (before between after : Option (List ℕ)) (bytes : List ℕ)
-    (why : OutletFault) (result : Result (Unit {0}) OutletFault) → WroteBatches old before mid between →
-    GivesNext mid (Some bytes) next → HasBegun between after bytes → result ≡ Err why → why ≡ fault.Write →
-    PutsAll old before result new after
-all_by_writer old mid next new before between after bytes why result wrote given begun is failed =
-    subst (λ (r : Result (Unit {0}) OutletFault). PutsAll old before r new after)
-    (sym (is ∙ ap (λ (f : OutletFault). Err f) failed))
-    (part_next old mid before between after given.0 bytes wrote given.1 begun)
+rest_with : (w : Waiting) (more : List Row) (count : ℕ) → count ≤ length w.rows →
+    with_rows (rest_after w count) more ≡ rest_after (with_rows w more) count
+rest_with w more count le = ap (waiting (w.place + count)) (sym (drop-append-le count w.rows more le))
+
+all_with : (old new : Waiting) (more : List Row) (batches : List (List ℕ)) → AreFull old batches new →
+    AreFull (with_rows old more) batches (with_rows new more)
+all_with old new more [] is = with_same old new more is
+all_with old new more (bytes ∷ others) are = (
+  are.0,
+  batch_with old more are.0 bytes are.1,
+  full_with old more are.0 are.2,
+  subst (λ (w : Waiting). AreFull w others (with_rows new more)) (rest_with old more are.0 are.1.there)
+      (all_with (rest_after old are.0) new more others are.3),
+)
+
+pub wrote_with : (old new : Waiting) (before after : Option (List ℕ)) (more : List Row) → WroteFull old before new after →
+    WroteFull (with_rows old more) before (with_rows new more) after
+wrote_with old new before after more wrote = record {
+  batches = wrote.batches;
+  are = all_with old new more wrote.batches wrote.are;
+  written = wrote.written;
+}
+
+-- ---- batches after batches
+
+full_then : (old mid new : Waiting) (first last : List (List ℕ)) → AreFull old first mid → AreFull mid last new →
+    AreFull old (first ++ last) new
+full_then old mid new [] last same are = full_from old mid new last same are
+full_then old mid new (bytes ∷ others) last first are =
+    (first.0, first.1, first.2, full_then (rest_after old first.0) mid new others last first.3 are)
+
+batches_then : (old mid new : Waiting) (first last : List (List ℕ)) → AreBatches old first mid →
+    AreBatches mid last new → AreBatches old (first ++ last) new
+batches_then old mid new [] last same are = batches_from old mid new last same are
+batches_then old mid new (bytes ∷ others) last first are =
+    (first.0, first.1, first.2, batches_then (rest_after old first.0) mid new others last first.3 are)
+
+written_then : (a b c : Option (List ℕ)) (first last : List (List ℕ)) → Appends a b (concat first) →
+    Appends b c (concat last) → Appends a c (concat (first ++ last))
+written_then a b c first last one two =
+    subst (λ (bs : List ℕ). Appends a c bs) (sym (concat-append first last))
+    (Appends-trans a b c (concat first) (concat last) one two)
+
+pub wrote_then : (old mid new : Waiting) (a b c : Option (List ℕ)) → WroteFull old a mid b → WroteFull mid b new c →
+    WroteFull old a new c
+wrote_then old mid new a b c one two = record {
+  batches = one.batches ++ two.batches;
+  are = full_then old mid new one.batches two.batches one.are two.are;
+  written = written_then a b c one.batches two.batches one.written two.written;
+}
+
+pub wrote_then_batches : (old mid new : Waiting) (a b c : Option (List ℕ)) → WroteFull old a mid b →
+    WroteBatches mid b new c → WroteBatches old a new c
+wrote_then_batches old mid new a b c one two = record {
+  batches = one.batches ++ two.batches;
+  are = batches_then old mid new one.batches two.batches (all_batches old mid one.batches one.are) two.are;
+  written = written_then a b c one.batches two.batches one.written two.written;
+}
+
+wrote_then_part : (old mid : Waiting) (a b c : Option (List ℕ)) → WroteFull old a mid b → WrotePart mid b c →
+    WrotePart old a c
+wrote_then_part old mid a b c one two =
+    let all : concat one.batches ++ (concat two.batches ++ two.next) ≡ concat (one.batches ++ two.batches) ++ two.next =
+    sym (append_assoc (concat one.batches) (concat two.batches) two.next)
+    ∙ ap (λ (bs : List ℕ). bs ++ two.next) (sym (concat-append one.batches two.batches)) in
+    record {
+      batches = one.batches ++ two.batches;
+      rest = two.rest;
+      are = batches_then old mid two.rest one.batches two.batches (all_batches old mid one.batches one.are) two.are;
+      count = two.count;
+      next = two.next;
+      next_is = two.next_is;
+      written = subst (λ (bs : List ℕ). HasBegun a c bs) all
+          (begun_then a b c (concat one.batches) (concat two.batches ++ two.next) one.written two.written);
+    }
+
+pub wrote_then_stops : (old mid : Waiting) (a b c : Option (List ℕ)) (why : OutletFault) → WroteFull old a mid b →
+    Stops mid b why c → Stops old a why c
+wrote_then_stops old mid a b c cause.Write one two = wrote_then_part old mid a b c one two
+wrote_then_stops old mid a b c cause.Full one (rest, two) = (rest, wrote_then_batches old mid rest a b c one two)
+wrote_then_stops old mid a b c cause.Memory one (rest, two) = (rest, wrote_then_batches old mid rest a b c one two)

@@ -1,10 +1,10 @@
 -- Rows of an output partition that become record batches, one after the other.
-use Rattle.std.specs.Prelude.{◌≡◌, ℕ, ◌+◌, ◌<◌, ◌≤◌, ◌^◌, ◌⊎◌, List, [], length, take, drop, All, Option, Some, None}
+use Rattle.std.specs.Prelude.{◌≡◌, ℕ, ◌+◌, ◌<◌, ◌≤◌, ◌⊎◌, Bool, true, false, List, [], ◌∷◌, ◌++◌, length, map, take, drop}
 use Rattle.wire_spec.specs.BatchSpelling.{batch_spelling, BatchFits}
 use Rattle.wire_spec.specs.declared.limits.TheConstants.{MAX_BATCH, MAX_RECORDS}
 use Rattle.log_spec.specs.declared.row.Row.{Row}
-use Rattle.log_spec.specs.Logs.{RowFits}
 use Rattle.row_batch.specs.RowBatches.{batch_of}
+use Rattle.row_batch.specs.OpenBatches.{shown}
 
 -- the rows that are in no batch yet, and how many are in batches, which is the first one's offset
 pub record Waiting : Type 0 where
@@ -13,6 +13,18 @@ pub record Waiting : Type 0 where
 
 abbrev pub waiting : ℕ → List Row → Waiting
 waiting place rows = record { place = place; rows = rows }
+
+-- with rows more at the end
+abbrev pub with_rows : Waiting → List Row → Waiting
+with_rows w rows = waiting w.place (w.rows ++ rows)
+
+-- what waits, with its rows as a batch shows them
+abbrev pub as_shown : Waiting → Waiting
+as_shown w = waiting w.place (map shown w.rows)
+
+-- No batch shows a difference: the rows are the same but for where their records came from.
+abbrev pub ShowsSame : Waiting → Waiting → Type 0
+ShowsSame x y = as_shown x ≡ as_shown y
 
 -- what waits after the first `count` rows were put into a batch
 abbrev pub rest_after : Waiting → ℕ → Waiting
@@ -30,26 +42,15 @@ abbrev pub IsFull : Waiting → ℕ → Type 0
 IsFull w count = (count ≡ MAX_RECORDS)
     ⊎ ((count < length w.rows) × (MAX_BATCH < length (batch_spelling (batch_of w.place (take (count + 1) w.rows)))))
 
--- A full batch of the rows that wait was given, or nothing.
-abbrev pub GivesFull : Waiting → Option (List ℕ) → Waiting → Type 0
-GivesFull old None new = new ≡ old
-GivesFull old (Some bytes) new = (count : ℕ) × IsBatchOf old count bytes × IsFull old count × (new ≡ rest_after old count)
+-- ---- What a backlog does
 
--- A batch of the rows that wait was given, which is full or has them all; nothing where no row waits.
-abbrev pub GivesNext : Waiting → Option (List ℕ) → Waiting → Type 0
-GivesNext old None new = (old.rows ≡ []) × (new ≡ old)
-GivesNext old (Some bytes) new = (count : ℕ) × IsBatchOf old count bytes × (count < length old.rows → IsFull old count)
-    × (new ≡ rest_after old count)
+-- A row was added to those that wait, as a batch shows it; or one batch has no room for it and them.
+abbrev pub TakesRow : Bool → Waiting → Row → Waiting → Type 0
+TakesRow true old row new = new ≡ with_rows old (shown row ∷ [])
+TakesRow false old row new =
+    (new ≡ old) × (1 ≤ length old.rows) × IsFull (with_rows old (row ∷ [])) (length old.rows)
 
--- ---- What a backlog keeps
-
--- the bytes of a batch of the first `count` rows that wait, full or of all
-pub record IsNext (w : Waiting) (count : ℕ) (bytes : List ℕ) : Type 0 where
-  pub batch : IsBatchOf w count bytes
-  pub full : count < length w.rows → IsFull w count
-
--- rows of which the first were put into batches, and the offset of the others' first
-pub record IsBacklog (place taken : ℕ) (rows : List Row) : Type 0 where
-  pub within : taken ≤ length rows
-  pub below : place + length (drop taken rows) ≤ 2 ^ 63
-  pub fit : All RowFits (drop taken rows)
+-- The batch of all rows that wait was given, and none of them waits.
+abbrev pub GivesAll : Waiting → List ℕ → Waiting → Type 0
+GivesAll old bytes new =
+    IsBatchOf old (length old.rows) bytes × (new ≡ waiting (old.place + length old.rows) [])

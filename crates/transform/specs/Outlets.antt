@@ -5,7 +5,7 @@ use Rattle.std.specs.Io.KnownBytes.{Appends}
 use Rattle.log_spec.specs.declared.row.Row.{Row}
 use Rattle.transform.specs.declared.outlet.OutletFault.{OutletFault}
 use Rattle.transform.specs.declared.outlet.OutletFault.TheVariants as fault
-use Rattle.transform.specs.Backlogs.{Waiting, waiting, rest_after, IsBatchOf, IsFull}
+use Rattle.transform.specs.Backlogs.{Waiting, with_rows, ShowsSame, rest_after, IsBatchOf, IsFull, GivesAll}
 
 -- what a writer holds, where that is known, and the rows that wait for a batch
 pub record Outflow : Type 0 where
@@ -15,19 +15,16 @@ pub record Outflow : Type 0 where
 abbrev pub outflow : Option (List ℕ) → Waiting → Outflow
 outflow written waits = record { written = written; waits = waits }
 
--- with rows more at the end
-abbrev pub with_rows : Waiting → List Row → Waiting
-with_rows w rows = waiting w.place (w.rows ++ rows)
-
--- These are the batches of the first rows that wait, one after the other, each full; the other rows wait still.
+-- These are the batches of the first rows that wait, one after the other, each full; the other rows wait still, as far
+-- as a batch shows them.
 abbrev pub AreFull : Waiting → List (List ℕ) → Waiting → Type 0
-AreFull old [] new = new ≡ old
+AreFull old [] new = ShowsSame new old
 AreFull old (bytes ∷ others) new =
     (count : ℕ) × IsBatchOf old count bytes × IsFull old count × AreFull (rest_after old count) others new
 
 -- The same, where the last batch may have all rows that wait and room for more.
 abbrev pub AreBatches : Waiting → List (List ℕ) → Waiting → Type 0
-AreBatches old [] new = new ≡ old
+AreBatches old [] new = ShowsSame new old
 AreBatches old (bytes ∷ others) new =
     (count : ℕ) × IsBatchOf old count bytes × (count < length old.rows → IsFull old count)
     × AreBatches (rest_after old count) others new
@@ -77,6 +74,20 @@ PutsFull old before (Err why) new after = Stops old before why after
 abbrev pub PutsAll : Waiting → Option (List ℕ) → Result (Unit {0}) OutletFault → Waiting → Option (List ℕ) → Type 0
 PutsAll old before (Ok done) new after = WroteBatches old before new after × (new.rows ≡ [])
 PutsAll old before (Err why) new after = Stops old before why after
+
+-- The batch of all rows that wait was written, and none of them waits. Or memory ran out, or the writer failed.
+abbrev pub PutsOpen : Waiting → Option (List ℕ) → Result (Unit {0}) OutletFault → Waiting → Option (List ℕ) → Type 0
+PutsOpen old before (Ok done) new after = (bytes : List ℕ) × GivesAll old bytes new × Appends before after bytes
+PutsOpen old before (Err fault.Write) new after =
+    (bytes : List ℕ) × IsBatchOf old (length old.rows) bytes × HasBegun before after bytes
+PutsOpen old before (Err fault.Memory) new after = after ≡ before
+PutsOpen old before (Err fault.Full) new after = ⊥
+
+-- The first of some rows was added, after a full batch was written where that had no room for it; or a fault stopped
+-- that.
+abbrev pub PutsFirst : Outflow → List Row → Result (Unit {0}) OutletFault → Outflow → List Row → Type 0
+PutsFirst old rows result new others =
+    PutsFull (with_rows old.waits rows) old.written result (with_rows new.waits others) new.written
 
 -- Rows were added, and full batches written, or a fault stopped that.
 abbrev pub PutsRows : Outflow → List Row → Result (Unit {0}) OutletFault → Outflow → Type 0

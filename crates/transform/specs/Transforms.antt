@@ -10,8 +10,8 @@ use Rattle.item_rows.specs.declared.origin.Origin.{Origin}
 use Rattle.item_rows.specs.ItemRows.{rows_in, AreItemRows}
 use Rattle.transform.specs.declared.{flow.TransformFault.TransformFault, outlet.OutletFault.OutletFault}
 use Rattle.transform.specs.declared.flow.TransformFault.TheVariants as fault
-use Rattle.transform.specs.Backlogs.{Waiting, waiting}
-use Rattle.transform.specs.Outlets.{Outflow, outflow, with_rows, WroteFull, WroteBatches, Stops}
+use Rattle.transform.specs.Backlogs.{Waiting, waiting, with_rows}
+use Rattle.transform.specs.Outlets.{Outflow, outflow, WroteFull, WroteBatches, Stops}
 
 -- ---- the rows of batches
 

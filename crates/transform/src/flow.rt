@@ -7,7 +7,6 @@ ghost use Rattle.item_rows.specs.ItemRows.{rows_in};
 ghost use Rattle.transform.specs.Transforms.{flow, Pushes, PutsEach, PutsOne, EndsEach, EndsOne, EndsFlow};
 
 use crate::outlet::{Outlet, OutletFault};
-use crate::owning::batch_bytes;
 use fates::Counts;
 use item_rows::{ItemRows, Origin, item_rows};
 use log_item::{Item, LoggedBatch, Program};
@@ -17,9 +16,6 @@ use std::io::Write;
 use std::marker::Model;
 use thiserror::Error;
 use wire_spec::{Batch, MAX_RECORDS, TIMESTAMP_END};
-
-/// How many bytes of batches rows share while they wait, at most: 12 MiB and those of one batch.
-const MOST_SHARED: u64 = 12_582_912;
 
 /// Fewer records than this are counted: 2^63.
 const MOST_COUNTED: u64 = 9_223_372_036_854_775_808;
@@ -56,8 +52,6 @@ pub struct Transform<W: Write> {
     input: usize,
     offset: u64,
     outlets: Vec<Outlet<W>>,
-    // How many bytes the batches have that came so far.
-    passed: u64,
     counts: Counts,
 }
 
@@ -86,7 +80,6 @@ impl<W: Write> Transform<W> {
             input,
             offset,
             outlets,
-            passed: 0,
             counts: Counts::new(alloc),
         }
     }
@@ -127,26 +120,12 @@ impl<W: Write> Transform<W> {
     }
 
     /// Runs a program on the records of the next batch, in order, each once, and puts the rows into
-    /// the output partitions, which write each batch that is full then. Rows that wait share their
-    /// bytes with the batches of at most 12 MiB; those of older ones are copied. It fails where the batch
-    /// might reach the offset 2^62, or where memory runs out before a row is put; then nothing
-    /// changes. It fails with an output partition as `Outlet::put` does; then each output partition
-    /// has written whole batches of its rows, and that one maybe a beginning of one more.
+    /// the output partitions, which write each batch that has no room for the next row. Rows that wait
+    /// share no bytes with the batch. It fails where the batch might reach the offset 2^62, or where
+    /// memory runs out before a row is put; then nothing changes. It fails with an output partition
+    /// as `Outlet::put` does; then each output partition has written whole batches of its rows, and
+    /// that one maybe a beginning of one more.
     pub fn push(&mut self, program: &Program, batch: Batch) -> Result<(), TransformFault>
-        requires { FitsLog batch }
-        ensures { Pushes program.now batch self.old result self.new }
-    {
-        let bytes = batch_bytes(&batch) as u64;
-        self.push_sized(program, batch, bytes)
-    }
-
-    /// Does what `push` does. The batch shares about so many bytes.
-    pub(crate) fn push_sized(
-        &mut self,
-        program: &Program,
-        batch: Batch,
-        bytes: u64,
-    ) -> Result<(), TransformFault>
         requires { FitsLog batch }
         ensures { Pushes program.now batch self.old result self.new }
     {
@@ -158,14 +137,11 @@ impl<W: Write> Transform<W> {
             offset: self.offset,
             outputs: self.outlets.len(),
         };
-        let start = self.passed;
-        self.passed = start.saturating_add(bytes);
         let item = Item::Batch(LoggedBatch::new(batch));
         let rows = item_rows(self.alloc, &origin, Some(program), &item)?;
         count(&mut self.counts, rows.counts())?;
         put_each(self.alloc, rows, &mut self.outlets)?;
         self.offset += item.records();
-        own_old(&mut self.outlets, start, self.passed);
         Ok(())
     }
 
@@ -185,42 +161,6 @@ fn count(counts: &mut Counts, batch: &Counts) -> Result<(), AllocError> {
         counts.add_all(batch)
     } else {
         Ok(())
-    }
-}
-
-// Copies the bytes of rows that wait, where all of them may share too many with batches. The last batch
-// came after `start` bytes of batches, and there are `end` with it.
-fn own_old<W: Write>(outlets: &mut [Outlet<W>], start: u64, end: u64)
-    ensures { outlets.new ≡ outlets.old }
-{
-    let first = first_since(outlets, start);
-    if end.saturating_sub(first) > MOST_SHARED {
-        own_each(outlets, end.saturating_sub(MOST_SHARED / 2), end);
-    }
-}
-
-// How many bytes of batches came before the first row that waits, or more where none does.
-fn first_since<W: Write>(outlets: &mut [Outlet<W>], start: u64) -> u64
-    ensures { outlets.new ≡ outlets.old }
-{
-    let mut first = u64::MAX;
-    for output in 0..outlets.len() {
-        if let Some(since) = outlets[output].since(start) {
-            first = first.min(since);
-        }
-    }
-    first
-}
-
-// Copies the bytes of the rows that wait in each output partition whose first came before `limit` bytes
-// of batches, as far as there is memory.
-fn own_each<W: Write>(outlets: &mut [Outlet<W>], limit: u64, end: u64)
-    ensures { outlets.new ≡ outlets.old }
-{
-    for output in 0..outlets.len() {
-        if !outlets[output].own_before(limit, end) {
-            return;
-        }
     }
 }
 

@@ -6,10 +6,9 @@ mod backlog;
 mod flow;
 mod laws;
 mod outlet;
-mod owning;
 mod stream;
 
-pub use crate::backlog::{Backlog, BacklogFault};
+pub use crate::backlog::Backlog;
 pub use crate::flow::{Transform, TransformFault};
 pub use crate::laws::{many_batches, rows_of_a_log};
 pub use crate::outlet::{Outlet, OutletFault};

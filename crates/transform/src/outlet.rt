@@ -1,12 +1,13 @@
 //! An output partition's rows as record batches in a writer.
 
-ghost use Rattle.std.specs.Prelude.{◌≡◌, ◌+◌, [], length, All};
+ghost use Rattle.std.specs.Prelude.{◌≡◌, ◌<◌, ◌≤◌, ◌+◌, ◌^◌, List, [], ◌∷◌, length, All};
+ghost use Rattle.log_spec.specs.declared.row.Row.{Row};
 ghost use Rattle.log_spec.specs.Logs.{RowFits};
-ghost use Rattle.transform.specs.Backlogs.{waiting};
-ghost use Rattle.transform.specs.Outlets.{outflow, Writes, WritesSome, PutsRows, PutsFull, PutsAll, PutsRest};
+ghost use Rattle.transform.specs.Backlogs.{waiting, with_rows};
+ghost use Rattle.transform.specs.Outlets.{outflow, Writes, WritesSome, PutsRows, PutsFull, PutsFirst, PutsOpen, PutsRest};
 ghost use Rattle.transform.specs.declared.outlet.OutletFault.TheVariants.{Write as Unwritten};
 
-use crate::backlog::{Backlog, BacklogFault};
+use crate::backlog::Backlog;
 use log_spec::Row;
 use std::alloc::{AllocError, Global};
 use std::io;
@@ -88,70 +89,73 @@ impl<W: Write> Outlet<W> {
         self.backlog.rows()
     }
 
-    /// Adds rows at the end, and writes each batch that is full then. It fails where an offset would be
-    /// 2^63 or more, where memory runs out, and where the writer fails or takes no byte. Then whole
-    /// batches were written of the rows that waited and of these, and where the writer failed, a
-    /// beginning of one more; what waits is not said.
+    /// Adds rows at the end, one after the other, and writes the batch of those that wait before a row
+    /// that it has no room for. It fails where an offset would be 2^63 or more, where memory runs out,
+    /// and where the writer fails or takes no byte. Then whole batches were written of the rows that
+    /// waited and of these, and where the writer failed, a beginning of one more; what waits is not
+    /// said.
     pub fn put(&mut self, rows: Vec<Row>) -> Result<(), OutletFault>
         requires { All RowFits rows.items }
         ensures { PutsRows self.old rows.items result self.new }
     {
-        match self.backlog.add(rows) {
-            Ok(()) => put_full(&mut self.backlog, &mut self.writer),
-            Err(BacklogFault::Full) => Err(OutletFault::Full),
-            Err(BacklogFault::Memory) => Err(OutletFault::Memory),
+        if rows.len() as u64 > self.backlog.room() {
+            return Err(OutletFault::Full);
         }
+        put_rows(&rows, &mut self.backlog, &mut self.writer)
     }
 
-    /// Copies the bytes of the rows that wait, so that they share none with the batches that they came
-    /// from. It fails only where memory runs out; then some still do.
-    pub fn own(&mut self) -> Result<(), AllocError>
-        ensures { self.new ≡ self.old }
-    {
-        self.backlog.own()
-    }
-
-    /// As `Backlog::since`.
-    pub(crate) fn since(&mut self, start: u64) -> Option<u64>
-        ensures { self.new ≡ self.old }
-    {
-        self.backlog.since(start)
-    }
-
-    /// As `Backlog::own_before`.
-    pub(crate) fn own_before(&mut self, limit: u64, end: u64) -> bool
-        ensures { self.new ≡ self.old }
-    {
-        self.backlog.own_before(limit, end)
-    }
-
-    /// Writes the batches of all rows that wait; none waits then. It fails where memory runs out, and
+    /// Writes the batch of all rows that wait; none waits then. It fails where memory runs out, and
     /// where the writer fails or takes no byte. Then whole batches of those rows were written, and
     /// where the writer failed, a beginning of one more; what waits is not said.
     pub fn end(&mut self) -> Result<(), OutletFault>
         ensures { PutsRest self.old result self.new }
     {
-        put_rest(&mut self.backlog, &mut self.writer)
+        if self.backlog.len() == 0 {
+            return Ok(());
+        }
+        put_open(&mut self.backlog, &mut self.writer)
     }
 }
 
-// Writes each full batch.
-fn put_full<W: Write>(backlog: &mut Backlog, writer: &mut W) -> Result<(), OutletFault>
-    ensures { PutsFull backlog.old (W.contents writer.old) result backlog.new (W.contents writer.new) }
+// Adds rows, and writes each batch that has no room for the next one.
+fn put_rows<W: Write>(
+    rows: &[Row],
+    backlog: &mut Backlog,
+    writer: &mut W,
+) -> Result<(), OutletFault>
+    requires fit { All RowFits rows.now }
+    requires room { backlog.old.place + length backlog.old.rows + length rows.now ≤ 2 ^ 63 }
+    ensures { PutsFull (with_rows backlog.old rows.now) (W.contents writer.old) result backlog.new (W.contents writer.new) }
 {
-    while let Some(bytes) = backlog.next_full()? {
-        put_batch(&bytes, writer)?;
+    for index in 0..rows.len() {
+        put_row(&rows[index], backlog, writer)?;
     }
     Ok(())
 }
 
-// Writes all that waits.
-fn put_rest<W: Write>(backlog: &mut Backlog, writer: &mut W) -> Result<(), OutletFault>
-    ensures { PutsAll backlog.old (W.contents writer.old) result backlog.new (W.contents writer.new) }
+// Adds a row, after the batch of those that wait was written where it has no room for it. Rows may come
+// after it.
+fn put_row<W: Write>(row: &Row, backlog: &mut Backlog, writer: &mut W) -> Result<(), OutletFault>
+    requires fits { RowFits row.now }
+    requires room { backlog.old.place + length backlog.old.rows < 2 ^ 63 }
+    ensures { (others : List Row) → PutsFirst (outflow (W.contents writer.old) backlog.old) (row.now ∷ others) result (outflow (W.contents writer.new) backlog.new) others }
 {
-    while let Some(bytes) = backlog.next()? {
-        put_batch(&bytes, writer)?;
+    if backlog.push(row)? {
+        return Ok(());
     }
+    put_open(backlog, writer)?;
+    backlog.push(row)?;
+    Ok(())
+}
+
+// Writes the batch of all rows that wait. Its room is for the next one.
+fn put_open<W: Write>(backlog: &mut Backlog, writer: &mut W) -> Result<(), OutletFault>
+    requires { 1 ≤ length backlog.old.rows }
+    ensures { PutsOpen backlog.old (W.contents writer.old) result backlog.new (W.contents writer.new) }
+{
+    let bytes = backlog.take()?;
+    put_batch(&bytes, writer)?;
+    backlog.reuse(bytes);
     Ok(())
 }
 

@@ -115,13 +115,9 @@ fn push_all<R: Read, W: Write, V: Watch>(
     ensures { PushesAll program.now reader.old stream.old result stream.new }
 {
     for _ in 0..u64::MAX {
-        let start = reader.position().bytes;
         match next_batch(reader)? {
             None => return Ok(()),
-            Some(batch) => {
-                let bytes = reader.position().bytes.saturating_sub(start);
-                stream.push_sized(program, batch, bytes)?
-            }
+            Some(batch) => stream.push(program, batch)?,
         }
         watch.batch_done(reader.position(), stream.offset());
     }

@@ -122,10 +122,11 @@ fn has(
 /// rows before the end, and all of them, as base offsets and numbers of records.
 type Filling<'a> = (&'a [(usize, usize)], &'a [(i64, usize)], &'a [(i64, usize)]);
 
-const FILLINGS: [Filling<'static>; 6] = [
+const FILLINGS: [Filling<'static>; 7] = [
     (&[], &[], &[]),
     (&[(1, 0)], &[], &[(0, 1)]),
     (&[(4000, 0), (4000, 0)], &[], &[(0, 8000)]),
+    (&[(10_000, 0)], &[], &[(0, 10_000)]),
     (
         &[(4000, 0), (4000, 0), (4000, 0)],
         &[(0, 10_000)],
