@@ -1,3 +1,4 @@
+use crate::verdicts::all_hold;
 use batch::{Batch, BatchFault, decode, encode, fits, share};
 use bytes::Bytes;
 use kafka_record::Record;
@@ -324,7 +325,7 @@ fn changed_bytes(rt: HostRuntime) {
     assert!(rt; fault_with(alloc, &[(68, 0x77), (11, 48)]) == Some(BatchFault::Length));
 }
 
-const REFUSED: [(&[u8], BatchFault); 12] = [
+static REFUSED: [(&[u8], BatchFault); 12] = [
     (SAME_DELTA, BatchFault::Record(1)),
     (LEFT_OVER, BatchFault::Record(1)),
     (MISSING, BatchFault::Record(2)),
@@ -351,11 +352,10 @@ fn first_wrong(alloc: Global, rows: &[(&[u8], BatchFault)]) -> Option<usize> {
 
 #[test]
 fn refusals(rt: HostRuntime) {
-    let wrong = first_wrong(rt.alloc(), &REFUSED);
-    assert!(rt; wrong.is_none(), "row {wrong:?}");
+    all_hold(&rt, first_wrong(rt.alloc(), &REFUSED));
 }
 
-const TEXTS: [(BatchFault, &str); 10] = [
+static TEXTS: [(BatchFault, &str); 10] = [
     (BatchFault::Short, "B1 Short"),
     (BatchFault::Length, "B2 Length"),
     (BatchFault::TooLarge, "B3 TooLarge"),
@@ -387,8 +387,7 @@ fn first_other_text(alloc: Global, rows: &[(BatchFault, &str)]) -> Option<usize>
 
 #[test]
 fn texts(rt: HostRuntime) {
-    let wrong = first_other_text(rt.alloc(), &TEXTS);
-    assert!(rt; wrong.is_none(), "row {wrong:?}");
+    all_hold(&rt, first_other_text(rt.alloc(), &TEXTS));
 }
 
 fn fits_at(batch: &mut Batch, base_timestamp: i64) -> bool {

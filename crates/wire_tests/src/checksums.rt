@@ -1,8 +1,9 @@
+use crate::verdicts::all_hold;
 use crc32c::{sum, sum_by_bytes};
 use std::alloc::Global;
 
 // The check value of CRC-32/ISCSI in catalogues of checksums, and examples of RFC 3720, appendix B.4.
-const PUBLISHED: [(&[u8], u32); 4] = [
+static PUBLISHED: [(&[u8], u32); 4] = [
     (b"123456789", 0xe306_9283),
     (b"", 0),
     (&[0; 32], 0x8a91_36aa),
@@ -21,13 +22,12 @@ fn first_wrong(rows: &[(&[u8], u32)]) -> Option<usize> {
 
 #[test]
 fn published_values(rt: HostRuntime) {
-    let wrong = first_wrong(&PUBLISHED);
-    assert!(rt; wrong.is_none(), "row {wrong:?}");
+    all_hold(&rt, first_wrong(&PUBLISHED));
 }
 
 // Sums of strings of bytes 5a, taken bit by bit by a program of few lines in another language:
 // below the length from which blocks are taken away, at it, and behind it.
-const LONG: [(usize, u32); 4] = [
+static LONG: [(usize, u32); 4] = [
     (10_239, 0x77bf_2845),
     (10_240, 0x1c47_1732),
     (10_255, 0x9081_e7a3),
@@ -63,6 +63,5 @@ fn first_other_of_5a(alloc: Global, count: usize, rows: &[(usize, u32)]) -> Opti
 
 #[test]
 fn long_messages(rt: HostRuntime) {
-    let wrong = first_other_of_5a(rt.alloc(), 16_727, &LONG);
-    assert!(rt; wrong.is_none(), "row {wrong:?}");
+    all_hold(&rt, first_other_of_5a(rt.alloc(), 16_727, &LONG));
 }

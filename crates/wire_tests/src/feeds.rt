@@ -1,6 +1,7 @@
 //! Batches of a stream that is cut anywhere.
 
 use crate::batches::{CLIENT_FOUR, ONE, TWO};
+use crate::verdicts::all_hold;
 use batch::{Batch, BatchFault, Feed, encode, fits};
 use std::alloc::{AllocError, Global};
 use std::test::*;
@@ -93,7 +94,7 @@ fn joined(alloc: Global, parts: &[&[u8]]) -> Option<Vec<u8>> {
     Some(bytes)
 }
 
-const THREE: [&[u8]; 3] = [ONE, CLIENT_FOUR, TWO];
+static THREE: [&[u8]; 3] = [ONE, CLIENT_FOUR, TWO];
 
 /// Whether the bytes are given where they come in pieces of this size.
 fn is_given(alloc: Global, bytes: &[u8], size: usize) -> bool {
@@ -192,7 +193,7 @@ fn first_other(alloc: Global, rows: &[(&[u8], Option<BatchFault>)]) -> Option<us
 }
 
 /// The first bytes of a batch with a length that is refused, in two pieces, and a batch.
-const REFUSED: [(&[u8], Option<BatchFault>); 3] = [
+static REFUSED: [(&[u8], Option<BatchFault>); 3] = [
     (&[0, 0, 0, 0, 0, 0, 0, 0, 0, 0, 0], None),
     (&[48], Some(BatchFault::Length)),
     (ONE, Some(BatchFault::Length)),
@@ -200,8 +201,7 @@ const REFUSED: [(&[u8], Option<BatchFault>); 3] = [
 
 #[test]
 fn a_length_is_refused_at_once(rt: HostRuntime) {
-    let wrong = first_other(rt.alloc(), &REFUSED);
-    assert!(rt; wrong.is_none(), "piece {wrong:?}");
+    all_hold(&rt, first_other(rt.alloc(), &REFUSED));
 }
 
 /// Damaged bytes of the second of three batches, with its refusal. The places are from 0.
@@ -263,6 +263,5 @@ fn first_wrong(alloc: Global, rows: &[(usize, u8, BatchFault)]) -> Option<usize>
 
 #[test]
 fn damage_ends_the_stream(rt: HostRuntime) {
-    let wrong = first_wrong(rt.alloc(), DAMAGE);
-    assert!(rt; wrong.is_none(), "row {wrong:?}");
+    all_hold(&rt, first_wrong(rt.alloc(), DAMAGE));
 }

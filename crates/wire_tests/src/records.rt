@@ -1,3 +1,4 @@
+use crate::verdicts::all_hold;
 use bytes::Bytes;
 use kafka_record::{Header, Headers, Record, RecordFault, fits, read, share, size, write};
 use std::alloc::Global;
@@ -111,7 +112,7 @@ fn nulls(rt: HostRuntime) {
     assert!(rt; nulls_are_read(rt.alloc()));
 }
 
-const REFUSED: [&[u8]; 8] = [
+static REFUSED: [&[u8]; 8] = [
     // nothing, and a record cut short
     &[],
     &[0x10, 0, 0, 0, 0x02, 0x6b, 0x02, 0x76],
@@ -139,8 +140,7 @@ fn first_taken(alloc: Global, rows: &[&'static [u8]]) -> Option<usize> {
 
 #[test]
 fn refusals(rt: HostRuntime) {
-    let wrong = first_taken(rt.alloc(), &REFUSED);
-    assert!(rt; wrong.is_none(), "row {wrong:?}");
+    all_hold(&rt, first_taken(rt.alloc(), &REFUSED));
 }
 
 const ENDS: [usize; 3] = [0, 1, usize::MAX];

@@ -1,3 +1,4 @@
+use crate::verdicts::all_hold;
 use batch::{Batch, BatchFault, Headers, Records, decode, encode, fits};
 use bytes::Bytes;
 use kafka_record::Record;
@@ -53,7 +54,7 @@ fn read_of(alloc: Global, bytes: &[u8]) -> Result<usize, BatchFault> {
 }
 
 /// The value's length, and how many bytes a batch of it has.
-const SIZES: [(usize, usize); 3] = [(65_536, 65_608), (65_537, 65_609), (1_048_576, 1_048_650)];
+static SIZES: [(usize, usize); 3] = [(65_536, 65_608), (65_537, 65_609), (1_048_576, 1_048_650)];
 
 fn is_read(alloc: Global, length: usize, size: usize) -> bool {
     match bytes_with(alloc, length) {
@@ -80,8 +81,7 @@ fn value_fits(alloc: Global, length: usize) -> Option<bool> {
 
 #[test]
 fn values_up_to_the_limit(rt: HostRuntime) {
-    let wrong = first_wrong(rt.alloc(), &SIZES);
-    assert!(rt; wrong.is_none(), "row {wrong:?}");
+    all_hold(&rt, first_wrong(rt.alloc(), &SIZES));
     assert!(rt; value_fits(rt.alloc(), 1_048_577) == Some(false));
 }
 

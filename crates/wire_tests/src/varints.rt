@@ -1,8 +1,9 @@
+use crate::verdicts::all_hold;
 use std::alloc::Global;
 use std::test::*;
 use varint::{VarintFault, len32, len64, read32, read64, write32, write64};
 
-const NUMBERS: [(i32, &[u8]); 6] = [
+static NUMBERS: [(i32, &[u8]); 6] = [
     (0, &[0x00]),
     (-1, &[0x01]),
     (64, &[0x80, 0x01]),
@@ -42,8 +43,7 @@ fn first_wrong(alloc: Global, rows: &[(i32, &[u8])]) -> Option<usize> {
 
 #[test]
 fn varints_are_read_and_written(rt: HostRuntime) {
-    let wrong = first_wrong(rt.alloc(), &NUMBERS);
-    assert!(rt; wrong.is_none(), "row {wrong:?}");
+    all_hold(&rt, first_wrong(rt.alloc(), &NUMBERS));
 }
 
 const LEAST: [u8; 10] = [0xff, 0xff, 0xff, 0xff, 0xff, 0xff, 0xff, 0xff, 0xff, 0x01];
@@ -60,7 +60,7 @@ fn the_least_varlong(rt: HostRuntime) {
     assert!(rt; least_is_written(rt.alloc()));
 }
 
-const REFUSED: [(VarintFault, &[u8]); 6] = [
+static REFUSED: [(VarintFault, &[u8]); 6] = [
     (VarintFault::NotShortest, &[0x80, 0x00]),
     (VarintFault::Short, &[0x80]),
     (VarintFault::Long, &[0xff, 0xff, 0xff, 0xff, 0x1f]),
@@ -81,6 +81,5 @@ fn first_other(rows: &[(VarintFault, &[u8])]) -> Option<usize> {
 
 #[test]
 fn refusals(rt: HostRuntime) {
-    let wrong = first_other(&REFUSED);
-    assert!(rt; wrong.is_none(), "row {wrong:?}");
+    all_hold(&rt, first_other(&REFUSED));
 }
