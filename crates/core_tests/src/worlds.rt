@@ -6,10 +6,9 @@ use bytes::Bytes;
 use fixtures::{FORWARD, batch_at, copied, raw_name_of};
 use machine_spec::Table;
 use std::alloc::{AllocError, Global};
-use std::process::Abort;
-use std::test::Fail;
+use std::test::*;
 use wire_spec::{Batch, Header, Headers, Record, Records};
-use world::{Event, Name, Row, World, run};
+use world::{Event, Name, Refusal, Reply, Row, World, run};
 
 /// mov64 r1, 0; call 3; mov64 r1, 1; call 3; exit: to output 0 and then to output 1.
 const FIRST: &[u8] = &[
@@ -111,13 +110,18 @@ fn event_of(alloc: Global, act: Act) -> Option<Event>
     }
 }
 
-/// What a world answers to an event, as a text.
-fn answer(alloc: Global, world: &mut World, act: Act) -> Result<String, Fail> {
-    let event = event_of(alloc, act).ok_or("an event")?;
-    match world.step(alloc, &event) {
-        Ok(reply) => Ok(format!(in alloc; "{reply:?}")?),
-        Err(refusal) => Ok(format!(in alloc; "{refusal}")?),
+/// What a world answers, as a text.
+fn answer_text(alloc: Global, answer: Result<Reply, Refusal>) -> Result<String, AllocError> {
+    match answer {
+        Ok(reply) => format!(in alloc; "{reply:?}"),
+        Err(refusal) => format!(in alloc; "{refusal}"),
     }
+}
+
+/// What a world answers to an event. None where memory ran out.
+fn answer(alloc: Global, world: &mut World, act: Act) -> Option<String> {
+    let event = event_of(alloc, act)?;
+    answer_text(alloc, world.step(alloc, &event)).ok()
 }
 
 /// The one byte of a row's value.
@@ -128,56 +132,84 @@ fn letter_of(row: &Row) -> char {
     }
 }
 
-/// The rows of a pair of partitions, with its done number and its place: of each row its input, its
-/// offset, its number, its timestamp and its value.
-fn book_text(alloc: Global, world: &World, input: usize, output: usize) -> Result<String, Fail> {
+/// A row's input, its offset, its number, its timestamp and its value.
+fn push_row(text: &mut String, row: &Row) -> Result<(), AllocError> {
+    let (from, offset, number, timestamp) = (row.input, row.offset, row.number, row.timestamp);
+    let letter = letter_of(row);
+    write!(text, "{from} {offset} {number} {timestamp} {letter}, ")
+}
+
+fn rows_text(alloc: Global, rows: &[Row]) -> Result<String, AllocError> {
     let mut text = String::new(alloc);
-    if input >= world.inputs() {
-        return Ok(text);
+    for row in rows {
+        push_row(&mut text, row)?;
     }
-    if output >= world.outputs(input) {
-        return Ok(text);
-    }
-    for row in world.rows(input, output) {
-        let (from, offset, number, timestamp) = (row.input, row.offset, row.number, row.timestamp);
-        let letter = letter_of(row);
-        write!(text, "{from} {offset} {number} {timestamp} {letter}, ")?;
-    }
-    let done = world.done(input, output);
-    let at = world.at(input, output);
-    write!(text, "done {done} at {at}")?;
     Ok(text)
 }
 
-/// Does what each row says, and compares the answer with the row's text.
-fn answer_all<R: Abort>(
-    rt: &R,
-    alloc: Global,
-    world: &mut World,
-    rows: &[(Act, &str)],
-) -> Result<(), Fail> {
-    for (act, want) in rows {
-        let said = answer(alloc, world, *act)?;
-        assert_eq!(rt; said.as_str(), *want);
+/// The rows of a pair of partitions, with its done number and its place. None where there is no such pair
+/// or memory ran out.
+fn book_text(alloc: Global, world: &World, input: usize, output: usize) -> Option<String> {
+    if input >= world.inputs() || output >= world.outputs(input) {
+        return None;
     }
-    Ok(())
+    let rows = rows_text(alloc, world.rows(input, output)).ok()?;
+    let done = world.done(input, output);
+    let at = world.at(input, output);
+    format!(in alloc; "{rows}done {done} at {at}").ok()
 }
 
-/// Compares the rows of an input partition in an output partition with each text.
-fn compare_books<R: Abort>(
-    rt: &R,
-    alloc: Global,
-    world: &World,
-    books: &[(usize, usize, &str)],
-) -> Result<(), Fail> {
-    for (input, output, want) in books {
-        let text = book_text(alloc, world, *input, *output)?;
-        assert_eq!(rt; text.as_str(), *want);
+fn is_text(text: Option<String>, want: &str) -> bool {
+    match text {
+        Some(text) => text.as_str() == want,
+        None => false,
     }
-    Ok(())
 }
 
-const DELIVERED_ONCE: [(Act, &str); 10] = [
+/// What is done, and what is answered.
+type Answered = (Act, &'static str);
+
+/// An input partition, an output partition, and the text of what is there.
+type Book = (usize, usize, &'static str);
+
+/// Does what each row says; the number of the first one with another answer.
+fn first_other_answer(alloc: Global, world: &mut World, rows: &[Answered]) -> Option<usize> {
+    for (k, row) in rows.iter().enumerate() {
+        if !is_text(answer(alloc, world, row.0), row.1) {
+            return Some(k);
+        }
+    }
+    None
+}
+
+/// The number of the first pair of partitions with another text.
+fn first_other_book(alloc: Global, world: &World, rows: &[Book]) -> Option<usize> {
+    for (k, row) in rows.iter().enumerate() {
+        if !is_text(book_text(alloc, world, row.0, row.1), row.2) {
+            return Some(k);
+        }
+    }
+    None
+}
+
+/// Does in a world what each row says, and looks at its books then: the number of the first row with
+/// another answer, and of the first book with another text. Both are 0 where there is no world.
+fn first_wrong(
+    alloc: Global,
+    world: Option<World>,
+    rows: &[Answered],
+    books: &[Book],
+) -> (Option<usize>, Option<usize>) {
+    match world {
+        Some(mut world) => {
+            let row = first_other_answer(alloc, &mut world, rows);
+            (row, first_other_book(alloc, &world, books))
+        }
+        None => (Some(0), Some(0)),
+    }
+}
+
+static DELIVERED_ONCE: [Answered; 10] = [
     (Act::Load("fwd", &FORWARD, Table::One), "Loaded(1)"),
     (Act::Mark(0, "fwd", 1), "Appended(0, 0)"),
     (Act::Put(0, "A"), "Appended(1, 0)"),
@@ -190,20 +222,16 @@ const DELIVERED_ONCE: [(Act, &str); 10] = [
     (Act::Mark(0, "fwd", 2), "NoVersion"),
 ];
 
-const ONE_ITEM_BOOKS: [(usize, usize, &str); 2] = [
-    (0, 0, "0 0 0 1000 A, done 2 at 1"),
-    (0, 1, "done 1 at 1"),
-];
+static ONE_ITEM_BOOKS: [Book; 2] = [(0, 0, "0 0 0 1000 A, done 2 at 1"), (0, 1, "done 1 at 1")];
 
 #[test]
-fn an_item_is_delivered_once_to_each_output(rt: HostRuntime) -> Result<(), Fail> {
-    let alloc = rt.alloc();
-    let mut world = World::new(alloc, 1, 2, 4)?;
-    answer_all(&rt, alloc, &mut world, &DELIVERED_ONCE)?;
-    compare_books(&rt, alloc, &world, &ONE_ITEM_BOOKS)
+fn an_item_is_delivered_once_to_each_output(rt: HostRuntime) {
+    let world = World::new(rt.alloc(), 1, 2, 4).ok();
+    let wrong = first_wrong(rt.alloc(), world, &DELIVERED_ONCE, &ONE_ITEM_BOOKS);
+    assert!(rt; wrong == (None, None), "row and book {wrong:?}");
 }
 
-const BETWEEN_MARKS: [(Act, &str); 21] = [
+static BETWEEN_MARKS: [Answered; 21] = [
     (Act::Load("p1", FIRST, Table::One), "Loaded(1)"),
     (Act::Load("p2", SECOND, Table::One), "Loaded(1)"),
     (Act::Put(1, "xyz"), "Appended(0, 0)"),
@@ -227,7 +255,7 @@ const BETWEEN_MARKS: [(Act, &str); 21] = [
     (Act::Deliver(0, 0), "NoItem"),
 ];
 
-const MARKED_BOOKS: [(usize, usize, &str); 3] = [
+static MARKED_BOOKS: [Book; 3] = [
     (0, 0, "done 0 at 0"),
     (1, 0, "1 3 0 1000 A, 1 4 0 1000 B, done 4 at 1"),
     (
@@ -238,14 +266,13 @@ const MARKED_BOOKS: [(usize, usize, &str); 3] = [
 ];
 
 #[test]
-fn each_record_goes_by_the_mark_before_it(rt: HostRuntime) -> Result<(), Fail> {
-    let alloc = rt.alloc();
-    let mut world = World::new(alloc, 2, 2, 8)?;
-    answer_all(&rt, alloc, &mut world, &BETWEEN_MARKS)?;
-    compare_books(&rt, alloc, &world, &MARKED_BOOKS)
+fn each_record_goes_by_the_mark_before_it(rt: HostRuntime) {
+    let world = World::new(rt.alloc(), 2, 2, 8).ok();
+    let wrong = first_wrong(rt.alloc(), world, &BETWEEN_MARKS, &MARKED_BOOKS);
+    assert!(rt; wrong == (None, None), "row and book {wrong:?}");
 }
 
-const BY_TABLES: [(Act, &str); 27] = [
+static BY_TABLES: [Answered; 27] = [
     (Act::Load("plain", &FORWARD, Table::One), "Loaded(1)"),
     (
         Act::Load("routed", BY_HEADER, Table::One),
@@ -278,25 +305,24 @@ const BY_TABLES: [(Act, &str); 27] = [
     (Act::Deliver(0, 2), "Added(1)"),
 ];
 
-const TABLE_BOOKS: [(usize, usize, &str); 3] = [
+static TABLE_BOOKS: [Book; 3] = [
     (0, 0, "0 0 0 1000 A, 0 1 0 1000 B, done 6 at 6"),
     (0, 1, "0 2 0 1000 C, done 6 at 6"),
     (0, 2, "0 3 0 1000 D, done 6 at 6"),
 ];
 
 #[test]
-fn each_record_goes_by_its_programs_table(rt: HostRuntime) -> Result<(), Fail> {
-    let alloc = rt.alloc();
-    let mut world = World::new(alloc, 1, 3, 8)?;
-    answer_all(&rt, alloc, &mut world, &BY_TABLES)?;
-    compare_books(&rt, alloc, &world, &TABLE_BOOKS)
+fn each_record_goes_by_its_programs_table(rt: HostRuntime) {
+    let world = World::new(rt.alloc(), 1, 3, 8).ok();
+    let wrong = first_wrong(rt.alloc(), world, &BY_TABLES, &TABLE_BOOKS);
+    assert!(rt; wrong == (None, None), "row and book {wrong:?}");
 }
 
 const LONGEST: &str = "abcdefghijklmnopqrstuvwxyz-01234";
 
 const TOO_LONG: &str = "abcdefghijklmnopqrstuvwxyz-012345";
 
-const REFUSED: [(Act, &str); 33] = [
+static REFUSED: [Answered; 33] = [
     (Act::Load("", &FORWARD, Table::One), "C1 Name"),
     (Act::Load("a_b", &[], Table::One), "C1 Name"),
     (Act::Load(TOO_LONG, &FORWARD, Table::One), "C1 Name"),
@@ -333,31 +359,29 @@ const REFUSED: [(Act, &str); 33] = [
 ];
 
 #[test]
-fn refusals_come_in_their_order(rt: HostRuntime) -> Result<(), Fail> {
-    let alloc = rt.alloc();
-    let mut world = World::new(alloc, 64, 64, 2)?;
-    answer_all(&rt, alloc, &mut world, &REFUSED)
+fn refusals_come_in_their_order(rt: HostRuntime) {
+    let world = World::new(rt.alloc(), 64, 64, 2).ok();
+    let wrong = first_wrong(rt.alloc(), world, &REFUSED, &[]);
+    assert!(rt; wrong == (None, None), "row and book {wrong:?}");
 }
 
-#[test]
-fn a_run_goes_on_after_a_refused_event(rt: HostRuntime) -> Result<(), Fail> {
-    let alloc = rt.alloc();
-    let mark = event_of(alloc, Act::Mark(0, "fwd", 1)).ok_or("an event")?;
-    let load = event_of(alloc, Act::Load("fwd", &FORWARD, Table::One)).ok_or("an event")?;
-    let again = event_of(alloc, Act::Mark(0, "fwd", 1)).ok_or("an event")?;
-    let put = event_of(alloc, Act::Put(0, "A")).ok_or("an event")?;
+/// A run of a mark that is refused, a load, the mark again, a record and two deliveries.
+fn run_of_six(alloc: Global) -> Option<World> {
     let events = [
-        mark,
-        load,
-        again,
-        put,
+        event_of(alloc, Act::Mark(0, "fwd", 1))?,
+        event_of(alloc, Act::Load("fwd", &FORWARD, Table::One))?,
+        event_of(alloc, Act::Mark(0, "fwd", 1))?,
+        event_of(alloc, Act::Put(0, "A"))?,
         Event::Deliver(0, 0),
         Event::Deliver(0, 0),
     ];
-    let world = run(alloc, 1, 1, 4, &events)?;
-    assert_eq!(rt;
-        book_text(alloc, &world, 0, 0)?.as_str(),
-        "0 0 0 1000 A, done 2 at 2"
-    );
-    Ok(())
+    run(alloc, 1, 1, 4, &events).ok()
+}
+
+static SIX: [Book; 1] = [(0, 0, "0 0 0 1000 A, done 2 at 2")];
+
+#[test]
+fn a_run_goes_on_after_a_refused_event(rt: HostRuntime) {
+    let wrong = first_wrong(rt.alloc(), run_of_six(rt.alloc()), &[], &SIX);
+    assert!(rt; wrong == (None, None));
 }

@@ -1,6 +1,6 @@
 use bpf_asm::{AsmFault, assemble};
-use std::alloc::{AllocError, Global};
-use std::test::Fail;
+use std::alloc::Global;
+use std::test::*;
 
 /// Texts that are refused, and why.
 const REFUSED: [(&str, AsmFault); 62] = [
@@ -83,76 +83,105 @@ fn fault_of(alloc: Global, text: &str) -> Option<AsmFault> {
     }
 }
 
-#[test]
-fn every_fault(rt: HostRuntime) -> Result<(), Fail> {
-    for (text, fault) in &REFUSED {
-        assert_eq!(rt; fault_of(rt.alloc(), text), Some(*fault), "{text}");
-    }
-    Ok(())
+fn is_fault(alloc: Global, text: &str, want: AsmFault) -> bool {
+    fault_of(alloc, text) == Some(want)
 }
 
-/// A number of lines with one word.
-fn lines(alloc: Global, count: usize) -> Result<String, AllocError> {
+/// The number of the first text with another fault.
+fn first_other(alloc: Global, rows: &[(&str, AsmFault)]) -> Option<usize> {
+    for (k, row) in rows.iter().enumerate() {
+        if !is_fault(alloc, row.0, row.1) {
+            return Some(k);
+        }
+    }
+    None
+}
+
+#[test]
+fn every_fault(rt: HostRuntime) {
+    let wrong = first_other(rt.alloc(), &REFUSED);
+    assert!(rt; wrong.is_none(), "row {wrong:?}");
+}
+
+/// A number of lines with one word, and others.
+fn lines(alloc: Global, count: usize, others: &str) -> Option<String> {
     let mut text = String::new(alloc);
     for _ in 0..count {
-        text.push_str("exit\n")?;
+        text.push_str("exit\n").ok()?;
     }
-    Ok(text)
+    text.push_str(others).ok()?;
+    Some(text)
+}
+
+/// The fault of a text of these lines.
+fn fault_of_lines(alloc: Global, count: usize, others: &str) -> Option<AsmFault> {
+    let text = lines(alloc, count, others)?;
+    fault_of(alloc, text.as_str())
+}
+
+/// How many bytes the image of so many lines has.
+fn size_of_lines(alloc: Global, count: usize) -> Option<usize> {
+    let text = lines(alloc, count, "")?;
+    let image = assemble(alloc, text.as_str()).ok()?;
+    Some(image.len())
+}
+
+/// How many lines of one word there are, the lines after them, and the fault.
+const LONG: [(usize, &str, AsmFault); 6] = [
+    (0, "exit\n\n# one\nmov64 r0\nfoo", AsmFault::Operand(4)),
+    (0, "foo\nmov64 r11, 0\n", AsmFault::Word(1)),
+    (16_383, "imm64 r0, 0\nfoo\n", AsmFault::Size(16_384)),
+    (16_384, "foo\n", AsmFault::Word(16_385)),
+    (16_385, "", AsmFault::Size(16_385)),
+    (16_385, "foo\n", AsmFault::Size(16_385)),
+];
+
+/// The number of the first row with another fault.
+fn first_other_line(alloc: Global, rows: &[(usize, &str, AsmFault)]) -> Option<usize> {
+    for (k, row) in rows.iter().enumerate() {
+        if fault_of_lines(alloc, row.0, row.1) != Some(row.2) {
+            return Some(k);
+        }
+    }
+    None
 }
 
 #[test]
-fn the_lowest_line(rt: HostRuntime) -> Result<(), Fail> {
-    let alloc = rt.alloc();
-    assert_eq!(rt;
-        fault_of(alloc, "exit\n\n# one\nmov64 r0\nfoo"),
-        Some(AsmFault::Operand(4))
-    );
-    assert_eq!(rt;
-        fault_of(alloc, "foo\nmov64 r11, 0\n"),
-        Some(AsmFault::Word(1))
-    );
-    let mut text = lines(alloc, 16_383)?;
-    text.push_str("imm64 r0, 0\nfoo\n")?;
-    assert_eq!(rt;
-        fault_of(alloc, text.as_str()),
-        Some(AsmFault::Size(16_384))
-    );
-    let mut text = lines(alloc, 16_384)?;
-    let image = assemble(alloc, text.as_str())?;
-    assert_eq!(rt; image.len(), 131_072);
-    text.push_str("foo\n")?;
-    assert_eq!(rt;
-        fault_of(alloc, text.as_str()),
-        Some(AsmFault::Word(16_385))
-    );
-    let mut text = lines(alloc, 16_385)?;
-    assert_eq!(rt;
-        fault_of(alloc, text.as_str()),
-        Some(AsmFault::Size(16_385))
-    );
-    text.push_str("foo\n")?;
-    assert_eq!(rt;
-        fault_of(alloc, text.as_str()),
-        Some(AsmFault::Size(16_385))
-    );
-    Ok(())
+fn the_lowest_line(rt: HostRuntime) {
+    let wrong = first_other_line(rt.alloc(), &LONG);
+    assert!(rt; wrong.is_none(), "row {wrong:?}");
+    assert!(rt; size_of_lines(rt.alloc(), 16_384) == Some(131_072));
+}
+
+/// Faults, their texts and their lines.
+const TEXTS: [(AsmFault, &str, Option<usize>); 6] = [
+    (AsmFault::Word(1), "A1 Word", Some(1)),
+    (AsmFault::Operand(2), "A2 Operand", Some(2)),
+    (AsmFault::Number(3), "A3 Number", Some(3)),
+    (AsmFault::Register(4), "A4 Register", Some(4)),
+    (AsmFault::Size(5), "A5 Size", Some(5)),
+    (AsmFault::Memory, "A6 Memory", None),
+];
+
+fn is_shown_as(alloc: Global, fault: AsmFault, text: &str) -> bool {
+    match format!(in alloc; "{fault}") {
+        Ok(shown) => shown.as_str() == text,
+        Err(_) => false,
+    }
+}
+
+/// The number of the first row with another text or line.
+fn first_other_text(alloc: Global, rows: &[(AsmFault, &str, Option<usize>)]) -> Option<usize> {
+    for (k, row) in rows.iter().enumerate() {
+        if row.0.line() != row.2 || !is_shown_as(alloc, row.0, row.1) {
+            return Some(k);
+        }
+    }
+    None
 }
 
 #[test]
-fn fault_texts(rt: HostRuntime) -> Result<(), Fail> {
-    let alloc = rt.alloc();
-    let faults = [
-        (AsmFault::Word(1), "A1 Word", Some(1)),
-        (AsmFault::Operand(2), "A2 Operand", Some(2)),
-        (AsmFault::Number(3), "A3 Number", Some(3)),
-        (AsmFault::Register(4), "A4 Register", Some(4)),
-        (AsmFault::Size(5), "A5 Size", Some(5)),
-        (AsmFault::Memory, "A6 Memory", None),
-    ];
-    for (fault, text, line) in &faults {
-        let shown = format!(in alloc; "{fault}")?;
-        assert_eq!(rt; shown.as_str(), *text);
-        assert_eq!(rt; fault.line(), *line);
-    }
-    Ok(())
+fn fault_texts(rt: HostRuntime) {
+    let wrong = first_other_text(rt.alloc(), &TEXTS);
+    assert!(rt; wrong.is_none(), "row {wrong:?}");
 }

@@ -1,6 +1,7 @@
 use bpf_asm::{assemble, disassemble};
-use bpf_isa::{decode, encode};
-use std::test::Fail;
+use bpf_isa::{Code, decode, encode};
+use std::alloc::Global;
+use std::test::*;
 
 /// Each word with a number and with a register, and each kind of operand with the ends of its range.
 const TEXT: &str = "add64 r1, -1\n\
@@ -223,17 +224,43 @@ const IMAGE: [u8; 1168] = [
     0x00, 0x00, 0x00, 0x00, 0x01, 0x00, 0x00, 0x00, 0x95, 0x00, 0x00, 0x00, 0x00, 0x00, 0x00, 0x00,
 ];
 
+/// Whether the image of a text is this.
+fn is_assembled(alloc: Global, text: &str, image: &[u8]) -> bool {
+    match assemble(alloc, text) {
+        Ok(made) => made.as_slice() == image,
+        Err(_) => false,
+    }
+}
+
+/// Whether code is written as this image.
+fn is_encoded(alloc: Global, code: &Code, image: &[u8]) -> bool {
+    match encode(alloc, code) {
+        Ok(made) => made.as_slice() == image,
+        Err(_) => false,
+    }
+}
+
+/// Whether the text of code is this.
+fn is_disassembled(alloc: Global, code: &Code, text: &str) -> bool {
+    match disassemble(alloc, code) {
+        Ok(made) => made.as_str() == text,
+        Err(_) => false,
+    }
+}
+
+/// Whether a text and an image mean the same, in each direction.
+fn is_same(alloc: Global, text: &str, image: &[u8]) -> bool {
+    match decode(alloc, image) {
+        Ok(code) => is_assembled(alloc, text, image)
+            && is_encoded(alloc, &code, image)
+            && is_disassembled(alloc, &code, text),
+        Err(_) => false,
+    }
+}
+
 #[test]
-fn every_word(rt: HostRuntime) -> Result<(), Fail> {
-    let image = assemble(rt.alloc(), TEXT)?;
-    assert_eq!(rt; image.as_slice(), IMAGE.as_slice());
-    let code = decode(rt.alloc(), &IMAGE)?;
-    let text = disassemble(rt.alloc(), &code)?;
-    assert_eq!(rt; text.as_str(), TEXT);
-    let again = assemble(rt.alloc(), text.as_str())?;
-    let encoded = encode(rt.alloc(), &code)?;
-    assert_eq!(rt; again.as_slice(), encoded.as_slice());
-    Ok(())
+fn every_word(rt: HostRuntime) {
+    assert!(rt; is_same(rt.alloc(), TEXT, &IMAGE));
 }
 
 /// One line each, and its image.
@@ -255,32 +282,31 @@ const EXAMPLES: [(&str, &[u8]); 3] = [
     ),
 ];
 
-#[test]
-fn single_lines(rt: HostRuntime) -> Result<(), Fail> {
-    for (line, image) in &EXAMPLES {
-        let read = assemble(rt.alloc(), line)?;
-        assert_eq!(rt; read.as_slice(), *image);
-        let code = decode(rt.alloc(), image)?;
-        let encoded = encode(rt.alloc(), &code)?;
-        assert_eq!(rt; encoded.as_slice(), *image);
-        let text = disassemble(rt.alloc(), &code)?;
-        assert_eq!(rt; text.as_str(), *line);
+/// The number of the first row whose text and image are not the same.
+fn first_other(alloc: Global, rows: &[(&str, &[u8])]) -> Option<usize> {
+    for (k, row) in rows.iter().enumerate() {
+        if !is_same(alloc, row.0, row.1) {
+            return Some(k);
+        }
     }
-    Ok(())
+    None
 }
+
+#[test]
+fn single_lines(rt: HostRuntime) {
+    let wrong = first_other(rt.alloc(), &EXAMPLES);
+    assert!(rt; wrong.is_none(), "row {wrong:?}");
+}
+
+const LOAD_AND_EXIT: [u8; 16] = [
+    0xb7, 0, 0, 0, 0xfb, 0xff, 0xff, 0xff, 0x95, 0, 0, 0, 0, 0, 0, 0,
+];
+
+const SPREAD: &str = "\n  # all of it\n  mov64    r0,   -5  \n#\n\n   exit  ";
 
 /// Spaces, comments and empty lines where they may be.
 #[test]
-fn skipped_parts(rt: HostRuntime) -> Result<(), Fail> {
-    let image = [
-        0xb7, 0, 0, 0, 0xfb, 0xff, 0xff, 0xff, 0x95, 0, 0, 0, 0, 0, 0, 0,
-    ];
-    let spread = assemble(
-        rt.alloc(),
-        "\n  # all of it\n  mov64    r0,   -5  \n#\n\n   exit  ",
-    )?;
-    assert_eq!(rt; spread.as_slice(), image.as_slice());
-    let dense = assemble(rt.alloc(), "mov64 r0,-5\nexit")?;
-    assert_eq!(rt; dense.as_slice(), image.as_slice());
-    Ok(())
+fn skipped_parts(rt: HostRuntime) {
+    assert!(rt; is_assembled(rt.alloc(), SPREAD, &LOAD_AND_EXIT));
+    assert!(rt; is_assembled(rt.alloc(), "mov64 r0,-5\nexit", &LOAD_AND_EXIT));
 }

@@ -1,5 +1,7 @@
-use crate::images::explained;
-use std::test::Fail;
+use crate::images::has_refusal;
+use machine_spec::Table;
+use std::alloc::Global;
+use std::test::*;
 
 /// Refused programs, each with what is said of its fault. Those of several lines are what clang 14
 /// makes with `-O2 -target bpf -mcpu=v3` of the C above them.
@@ -226,14 +228,18 @@ the jump leads back to slot -1",
     ),
 ];
 
-#[test]
-fn says_what_to_do(rt: HostRuntime) -> Result<(), Fail> {
-    let alloc = rt.alloc();
-    for (program, want) in HINTS {
-        let explanation = explained(alloc, program)?;
-        let refusal = explanation.refusal.ok_or("accepted")?;
-        let text = format!(in alloc; "{refusal}")?;
-        assert_eq!(rt; text.as_str(), want);
+/// The number of the first program whose refusal is shown in another way.
+fn first_other(alloc: Global, rows: &[(&str, &str)]) -> Option<usize> {
+    for (k, row) in rows.iter().enumerate() {
+        if !has_refusal(alloc, row.0, Table::One, row.1) {
+            return Some(k);
+        }
     }
-    Ok(())
+    None
+}
+
+#[test]
+fn says_what_to_do(rt: HostRuntime) {
+    let wrong = first_other(rt.alloc(), &HINTS);
+    assert!(rt; wrong.is_none(), "row {wrong:?}");
 }

@@ -1,7 +1,8 @@
-use crate::images::{explained, refusal_text};
+use crate::images::{has_lines, has_reason};
 use explain::{Extent, explain_image};
 use machine_spec::{IsaFault, Table};
-use std::test::Fail;
+use std::alloc::Global;
+use std::test::*;
 
 /// Programs, each with the lines of its instructions and those of its refusal.
 const PROGRAMS: [(&str, &str, &str); 5] = [
@@ -107,31 +108,42 @@ ok
     ),
 ];
 
-#[test]
-fn lists_instructions(rt: HostRuntime) -> Result<(), Fail> {
-    let alloc = rt.alloc();
-    for (program, lines, refusal) in PROGRAMS {
-        let explanation = explained(alloc, program)?;
-        assert_eq!(rt; explanation.lines.as_str(), lines);
-        let text = refusal_text(alloc, &explanation)?;
-        assert_eq!(rt; text.as_str(), refusal);
-    }
-    Ok(())
+fn is_listed(alloc: Global, row: &(&str, &str, &str)) -> bool {
+    has_lines(alloc, row.0, Table::One, Extent::All, row.1) && has_reason(alloc, row.0, row.2)
 }
+
+/// The number of the first program with other lines.
+fn first_other(alloc: Global, rows: &[(&str, &str, &str)]) -> Option<usize> {
+    for (k, row) in rows.iter().enumerate() {
+        if !is_listed(alloc, row) {
+            return Some(k);
+        }
+    }
+    None
+}
+
+#[test]
+fn lists_instructions(rt: HostRuntime) {
+    let wrong = first_other(rt.alloc(), &PROGRAMS);
+    assert!(rt; wrong.is_none(), "row {wrong:?}");
+}
+
+/// Why an image has no code, if it has none.
+fn fault_of(alloc: Global, image: &[u8], table: Table, extent: Extent) -> Option<IsaFault> {
+    explain_image(alloc, image, table, extent).err()
+}
+
+/// Half a slot.
+const CUT: [u8; 4] = [0x95, 0, 0, 0];
+
+/// An instruction that the profile leaves out.
+const LEFT_OUT: [u8; 8] = [0xdb, 0, 0, 0, 0, 0, 0, 0];
 
 /// An image with no code has its own refusal.
 #[test]
-fn refuses_images(rt: HostRuntime) -> Result<(), Fail> {
-    let alloc = rt.alloc();
-    let cut = explain_image(alloc, &[0x95, 0, 0, 0], Table::Two, Extent::All).err();
+fn refuses_images(rt: HostRuntime) {
+    let cut = fault_of(rt.alloc(), &CUT, Table::Two, Extent::All);
     assert!(rt; cut == Some(IsaFault::Size));
-    let left_out = explain_image(
-        alloc,
-        &[0xdb, 0, 0, 0, 0, 0, 0, 0],
-        Table::One,
-        Extent::Refused,
-    )
-    .err();
+    let left_out = fault_of(rt.alloc(), &LEFT_OUT, Table::One, Extent::Refused);
     assert!(rt; left_out == Some(IsaFault::NotInProfile(0)));
-    Ok(())
 }

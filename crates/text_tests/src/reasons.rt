@@ -1,5 +1,6 @@
-use crate::images::{explained, refusal_text};
-use std::test::Fail;
+use crate::images::has_reason;
+use std::alloc::Global;
+use std::test::*;
 
 /// Refused programs, each with its fault and what that is about.
 const REFUSALS: [(&str, &str); 27] = [
@@ -110,13 +111,18 @@ const REFUSALS: [(&str, &str); 27] = [
     ),
 ];
 
-#[test]
-fn says_what_a_refusal_is_about(rt: HostRuntime) -> Result<(), Fail> {
-    let alloc = rt.alloc();
-    for (program, refusal) in REFUSALS {
-        let explanation = explained(alloc, program)?;
-        let text = refusal_text(alloc, &explanation)?;
-        assert_eq!(rt; text.as_str(), refusal);
+/// The number of the first program whose refusal has another reason.
+fn first_other(alloc: Global, rows: &[(&str, &str)]) -> Option<usize> {
+    for (k, row) in rows.iter().enumerate() {
+        if !has_reason(alloc, row.0, row.1) {
+            return Some(k);
+        }
     }
-    Ok(())
+    None
+}
+
+#[test]
+fn says_what_a_refusal_is_about(rt: HostRuntime) {
+    let wrong = first_other(rt.alloc(), &REFUSALS);
+    assert!(rt; wrong.is_none(), "row {wrong:?}");
 }

@@ -6,7 +6,7 @@ use script::{
     load_text, parse, push_row,
 };
 use std::alloc::{AllocError, Global};
-use std::test::Fail;
+use std::test::*;
 use wire_spec::Headers;
 
 /// A `load` as one text.
@@ -126,16 +126,33 @@ const LINES: [(&str, &str); 46] = [
     (" ", "none"),
 ];
 
-#[test]
-fn reads_lines(rt: HostRuntime) -> Result<(), Fail> {
-    for (line, said) in &LINES {
-        let text = shown(rt.alloc(), line)?;
-        assert_eq!(rt; text.as_str(), *said, "{line}");
+fn is_shown(alloc: Global, line: &str, want: &str) -> bool {
+    match shown(alloc, line) {
+        Ok(text) => text.as_str() == want,
+        Err(_) => false,
     }
-    Ok(())
 }
 
-const FAULTS: [(&str, bool, bool, Option<ScriptFault>); 20] = [
+/// The number of the first line that is read in another way.
+fn first_other(alloc: Global, rows: &[(&str, &str)]) -> Option<usize> {
+    for (k, row) in rows.iter().enumerate() {
+        if !is_shown(alloc, row.0, row.1) {
+            return Some(k);
+        }
+    }
+    None
+}
+
+#[test]
+fn reads_lines(rt: HostRuntime) {
+    let wrong = first_other(rt.alloc(), &LINES);
+    assert!(rt; wrong.is_none(), "row {wrong:?}");
+}
+
+/// A line, whether the script has begun and whether its program is loaded, and the first fault.
+type Faulty = (&'static str, bool, bool, Option<ScriptFault>);
+
+const FAULTS: [Faulty; 20] = [
     ("go", false, true, Some(ScriptFault::Order)),
     ("go", true, true, None),
     ("append 0 f", false, true, Some(ScriptFault::Order)),
@@ -168,36 +185,58 @@ const FAULTS: [(&str, bool, bool, Option<ScriptFault>); 20] = [
     ),
 ];
 
-#[test]
-fn reports_faults(rt: HostRuntime) -> Result<(), Fail> {
-    for (line, has_begun, is_loaded, fault) in &FAULTS {
-        let command = parse(rt.alloc(), line)?.ok_or("a command")?;
-        assert!(rt;
-            first_fault(&command, *has_begun, *is_loaded) == *fault,
-            "{line}"
-        );
+/// The first fault of a line's command, if it has one. None where there is no command or memory ran out.
+fn fault_of(alloc: Global, row: &Faulty) -> Option<Option<ScriptFault>> {
+    let command = parse(alloc, row.0).ok()??;
+    Some(first_fault(&command, row.1, row.2))
+}
+
+/// The number of the first row with another fault.
+fn first_other_fault(alloc: Global, rows: &[Faulty]) -> Option<usize> {
+    for (k, row) in rows.iter().enumerate() {
+        if fault_of(alloc, row) != Some(row.3) {
+            return Some(k);
+        }
     }
-    Ok(())
+    None
 }
 
 #[test]
-fn writes_lines(rt: HostRuntime) -> Result<(), Fail> {
-    let alloc = rt.alloc();
-    assert!(rt; load_text(alloc, "fwd", 1)?.as_str() == "load fwd version 1\n");
-    assert!(rt; deploy_text(alloc, 0, 3, "fwd", 2)?.as_str() == "deploy 0 index 3 fwd version 2\n");
-    assert!(rt; append_text(alloc, 0, 1, 10)?.as_str() == "append 0 index 1 base 10\n");
-    assert!(rt; close_text(alloc, 63, 65_535)?.as_str() == "close 63 index 65535\n");
-    assert!(rt; fetch_text(alloc, &None)?.as_str() == "none\n");
-    let bytes = Some(Vec::from_slice(alloc, &[0, 0x0f, 0xa0])?);
-    assert!(rt; fetch_text(alloc, &bytes)?.as_str() == "000fa0\n");
-    Ok(())
+fn reports_faults(rt: HostRuntime) {
+    let wrong = first_other_fault(rt.alloc(), &FAULTS);
+    assert!(rt; wrong.is_none(), "row {wrong:?}");
+}
+
+fn is_text(text: Result<String, AllocError>, want: &str) -> bool {
+    match text {
+        Ok(text) => text.as_str() == want,
+        Err(_) => false,
+    }
+}
+
+/// Whether this is the text of a fetch of these bytes.
+fn is_fetched(alloc: Global, bytes: &[u8], want: &str) -> bool {
+    match Vec::from_slice(alloc, bytes) {
+        Ok(bytes) => is_text(fetch_text(alloc, &Some(bytes)), want),
+        Err(_) => false,
+    }
 }
 
 #[test]
-fn writes_rows(rt: HostRuntime) -> Result<(), Fail> {
+fn writes_lines(rt: HostRuntime) {
     let alloc = rt.alloc();
-    let mut text = String::from_str(alloc, "x")?;
-    let row = Row {
+    assert!(rt; is_text(load_text(alloc, "fwd", 1), "load fwd version 1\n"));
+    let deploy = deploy_text(alloc, 0, 3, "fwd", 2);
+    assert!(rt; is_text(deploy, "deploy 0 index 3 fwd version 2\n"));
+    assert!(rt; is_text(append_text(alloc, 0, 1, 10), "append 0 index 1 base 10\n"));
+    assert!(rt; is_text(close_text(alloc, 63, 65_535), "close 63 index 65535\n"));
+    assert!(rt; is_text(fetch_text(alloc, &None), "none\n"));
+    assert!(rt; is_fetched(alloc, &[0, 0x0f, 0xa0], "000fa0\n"));
+}
+
+/// The row of a null value and the key `k` with a byte ff.
+fn row_of(alloc: Global) -> Row {
+    Row {
         input: 0,
         offset: 7,
         number: 1,
@@ -207,8 +246,18 @@ fn writes_rows(rt: HostRuntime) -> Result<(), Fail> {
         headers: Headers {
             list: Vec::new(alloc),
         },
-    };
-    push_row(&mut text, 3, &row)?;
-    assert!(rt; text.as_str() == "xrow 3 0 7 1 1000 6bff - 0\n");
-    Ok(())
+    }
+}
+
+/// The text of a row, behind a text.
+fn row_text(alloc: Global, before: &str, row: &Row) -> Result<String, AllocError> {
+    let mut text = String::from_str(alloc, before)?;
+    push_row(&mut text, 3, row)?;
+    Ok(text)
+}
+
+#[test]
+fn writes_rows(rt: HostRuntime) {
+    let text = row_text(rt.alloc(), "x", &row_of(rt.alloc()));
+    assert!(rt; is_text(text, "xrow 3 0 7 1 1000 6bff - 0\n"));
 }

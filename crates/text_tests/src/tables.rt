@@ -1,7 +1,8 @@
-use crate::images::explained_to;
+use crate::images::{has_lines, has_refusal};
 use explain::Extent;
 use machine_spec::Table;
-use std::test::Fail;
+use std::alloc::Global;
+use std::test::*;
 
 /// It asks for the value of the first header.
 const HEADER_VALUE: &str = "mov64 r1, r10\nadd64 r1, -8\nmov64 r2, 0\nmov64 r3, 8\ncall 12\nexit\n";
@@ -64,14 +65,20 @@ refused: V12 HelperArg at 4
     ),
 ];
 
-#[test]
-fn lists_programs_of_both_tables(rt: HostRuntime) -> Result<(), Fail> {
-    let alloc = rt.alloc();
-    for (program, table, lines) in LISTINGS {
-        let explanation = explained_to(alloc, program, table, Extent::All)?;
-        assert_eq!(rt; explanation.lines.as_str(), lines);
+/// The number of the first program with other lines.
+fn first_other_lines(alloc: Global, rows: &[(&str, Table, &str)]) -> Option<usize> {
+    for (k, row) in rows.iter().enumerate() {
+        if !has_lines(alloc, row.0, row.1, Extent::All, row.2) {
+            return Some(k);
+        }
     }
-    Ok(())
+    None
+}
+
+#[test]
+fn lists_programs_of_both_tables(rt: HostRuntime) {
+    let wrong = first_other_lines(rt.alloc(), &LISTINGS);
+    assert!(rt; wrong.is_none(), "row {wrong:?}");
 }
 
 /// Refused programs, each with its table and what is said of its fault.
@@ -117,14 +124,18 @@ the call at slot 0 leaves nothing in r1 to r5: keep values in r6 to r9",
     ),
 ];
 
-#[test]
-fn says_what_a_refusal_by_a_table_is_about(rt: HostRuntime) -> Result<(), Fail> {
-    let alloc = rt.alloc();
-    for (program, table, want) in REFUSALS {
-        let explanation = explained_to(alloc, program, table, Extent::All)?;
-        let refusal = explanation.refusal.ok_or("accepted")?;
-        let text = format!(in alloc; "{refusal}")?;
-        assert_eq!(rt; text.as_str(), want);
+/// The number of the first program whose refusal is shown in another way.
+fn first_other_refusal(alloc: Global, rows: &[(&str, Table, &str)]) -> Option<usize> {
+    for (k, row) in rows.iter().enumerate() {
+        if !has_refusal(alloc, row.0, row.1, row.2) {
+            return Some(k);
+        }
     }
-    Ok(())
+    None
+}
+
+#[test]
+fn says_what_a_refusal_by_a_table_is_about(rt: HostRuntime) {
+    let wrong = first_other_refusal(rt.alloc(), &REFUSALS);
+    assert!(rt; wrong.is_none(), "row {wrong:?}");
 }

@@ -1,7 +1,8 @@
-use crate::images::explained_to;
+use crate::images::has_lines;
 use explain::Extent;
 use machine_spec::Table;
-use std::test::Fail;
+use std::alloc::Global;
+use std::test::*;
 
 /// Programs, each with the lines of the instructions that lead to the refused one.
 const WAYS: [(&str, &str); 9] = [
@@ -101,12 +102,18 @@ refused: V7 RecordBounds at 0
     ),
 ];
 
-#[test]
-fn lists_what_leads_to_a_refusal(rt: HostRuntime) -> Result<(), Fail> {
-    let alloc = rt.alloc();
-    for (program, lines) in WAYS {
-        let explanation = explained_to(alloc, program, Table::One, Extent::Refused)?;
-        assert_eq!(rt; explanation.lines.as_str(), lines);
+/// The number of the first program with other lines.
+fn first_other(alloc: Global, rows: &[(&str, &str)]) -> Option<usize> {
+    for (k, row) in rows.iter().enumerate() {
+        if !has_lines(alloc, row.0, Table::One, Extent::Refused, row.1) {
+            return Some(k);
+        }
     }
-    Ok(())
+    None
+}
+
+#[test]
+fn lists_what_leads_to_a_refusal(rt: HostRuntime) {
+    let wrong = first_other(rt.alloc(), &WAYS);
+    assert!(rt; wrong.is_none(), "row {wrong:?}");
 }

@@ -1,9 +1,9 @@
 use abstract_regs::State;
 use bpf_isa::{Code, decode};
 use machine_spec::{Region, Table};
-use notes::check;
-use std::alloc::Global;
-use std::test::Fail;
+use notes::{Verified, check};
+use std::alloc::{AllocError, Global};
+use std::test::*;
 use verifier_spec::{Abs, StackSet};
 
 // mov64 r0, 0; exit
@@ -15,8 +15,21 @@ const FIRST_BYTE: [u8; 32] = [
     0, 0, 0, 0, 0,
 ];
 
-/// The entry state with r0 and the value's least and greatest length changed.
-fn state(r0: Abs, value_min: u32, value_max: u32) -> Result<State, Fail> {
+/// What is claimed of an instruction.
+#[derive(Clone, Copy)]
+enum Claim {
+    /// It is not reached.
+    Unreached,
+    /// The state of the start.
+    Entry,
+    /// The state of the start with the greatest number in r0, and the value's least length.
+    With(u64, u32),
+    /// The state after a call at the start, with the greatest number in r0.
+    Called(u64),
+}
+
+/// The state of the start with r0 and the value's least length changed.
+fn with(r0: Abs, value_min: u32) -> Option<State> {
     let registers = [
         r0,
         Abs::Addr(Region::Value, 0, 0),
@@ -31,150 +44,11 @@ fn state(r0: Abs, value_min: u32, value_max: u32) -> Result<State, Fail> {
         Abs::Addr(Region::Stack, 512, 512),
     ];
     let set = StackSet { words: [0; 8] };
-    let state = State::new(registers, 0, 4096, value_min, value_max, set);
-    Ok(state.ok_or("the state is in its ranges")?)
+    State::new(registers, 0, 4096, value_min, 1_048_576, set)
 }
 
-/// What the check under a helper table reports of an image and a list of states.
-fn reported(
-    alloc: Global,
-    image: &[u8],
-    table: Table,
-    claims: &[Option<State>],
-) -> Result<String, Fail> {
-    let code = decode(alloc, image)?;
-    let claims = Vec::from_slice(alloc, claims)?;
-    Ok(match check(alloc, code, table, claims) {
-        Ok(verified) => format!(in alloc; "accepted {}", verified.code().len())?,
-        Err(fault) => format!(in alloc; "{fault}")?,
-    })
-}
-
-#[test]
-fn accepts_a_constant(rt: HostRuntime) -> Result<(), Fail> {
-    let zero = state(Abs::Num(0, 0), 0, 1_048_576)?;
-    let claims = vec![in rt.alloc(); Some(State::entry()), Some(zero)]?;
-    let verified = check(rt.alloc(), decode(rt.alloc(), &ZERO)?, Table::One, claims)?;
-    assert_eq!(rt; verified.code().len(), 2);
-    assert_eq!(rt; verified.kept(), 0);
-    assert_eq!(rt; verified.regions(0).0, None);
-    Ok(())
-}
-
-#[test]
-fn accepts_a_guarded_load(rt: HostRuntime) -> Result<(), Fail> {
-    let claims = vec![in rt.alloc();
-        Some(State::entry()),
-        Some(state(Abs::Num(0, 0), 0, 1_048_576)?),
-        Some(state(Abs::Num(0, 0), 1, 1_048_576)?),
-        Some(state(Abs::Num(0, 255), 0, 1_048_576)?),
-    ]?;
-    let verified = check(
-        rt.alloc(),
-        decode(rt.alloc(), &FIRST_BYTE)?,
-        Table::One,
-        claims,
-    )?;
-    assert_eq!(rt; verified.code().len(), 4);
-    assert_eq!(rt; verified.kept(), 1);
-    assert_eq!(rt; verified.regions(1).0, None);
-    assert_eq!(rt; verified.regions(2).0, Some(Region::Value));
-    assert_eq!(rt; verified.regions(2).1, None);
-    Ok(())
-}
-
-const MOVE: [u8; 8] = [0xb7, 0, 0, 0, 0, 0, 0, 0];
-
-const LOAD: [u8; 8] = [0x71, 0x10, 0, 0, 0, 0, 0, 0];
-
-const FORWARD: [u8; 8] = [0xa5, 2, 5, 0, 1, 0, 0, 0];
-
-const BACK: [u8; 8] = [0xa5, 2, 0xff, 0xff, 1, 0, 0, 0];
-
-const EXIT: [u8; 8] = [0x95, 0, 0, 0, 0, 0, 0, 0];
-
-#[test]
-fn refuses_lists(rt: HostRuntime) -> Result<(), Fail> {
-    let alloc = rt.alloc();
-    let entry = Some(State::entry());
-    let zero = Some(state(Abs::Num(0, 0), 0, 1_048_576)?);
-    let some = Some(state(Abs::Num(0, 0), 1, 1_048_576)?);
-    let more = Some(state(Abs::Num(0, 0), 2, 1_048_576)?);
-    let byte = Some(state(Abs::Num(0, 255), 0, 1_048_576)?);
-    let narrow = Some(state(Abs::Num(0, 255), 1, 1_048_576)?);
-    let cases: [(&[u8], &[Option<State>], &str); 8] = [
-        // another length than the code's, reported before the missing exit
-        (&ZERO, &[entry], "V15 Notes at 0"),
-        (&MOVE, &[], "V15 Notes at 0"),
-        // a first state that doesn't cover the entry
-        (&ZERO, &[None, zero], "V15 Notes at 0"),
-        (&ZERO, &[some, some], "V15 Notes at 0"),
-        // an edge that is not covered
-        (&ZERO, &[entry, None], "V15 Notes at 0"),
-        (&FIRST_BYTE, &[entry, zero, more, byte], "V15 Notes at 1"),
-        (&FIRST_BYTE, &[entry, zero, some, narrow], "V15 Notes at 1"),
-        (&FIRST_BYTE, &[entry, zero, some, zero], "V15 Notes at 2"),
-    ];
-    for (image, claims, want) in cases {
-        let text = reported(alloc, image, Table::One, claims)?;
-        assert_eq!(rt; text.as_str(), want);
-    }
-    Ok(())
-}
-
-fn image_of(alloc: Global, forms: &[&[u8]]) -> Result<Vec<u8>, Fail> {
-    let mut image = Vec::new(alloc);
-    for form in forms {
-        image.extend_from_slice(form)?;
-    }
-    Ok(image)
-}
-
-#[test]
-fn refuses_instructions(rt: HostRuntime) -> Result<(), Fail> {
-    let alloc = rt.alloc();
-    let entry = Some(State::entry());
-    let zero = Some(state(Abs::Num(0, 0), 0, 1_048_576)?);
-    let byte = Some(state(Abs::Num(0, 255), 0, 1_048_576)?);
-    let cases: [(&[&[u8]], &[Option<State>], &str); 9] = [
-        // where jumps lead and how the code ends, reported before an instruction's other checks
-        (&[&FORWARD, &EXIT], &[entry, zero], "V1 JumpTarget at 0"),
-        (&[&BACK], &[entry], "V2 BackJump at 0"),
-        (&[&LOAD], &[entry], "V3 RunsOff at 0"),
-        (
-            &[&MOVE, &EXIT, &FORWARD, &EXIT],
-            &[entry, zero, None, None],
-            "V1 JumpTarget at 2",
-        ),
-        // the lowest instruction that fails a check, with its own checks before its edges
-        (&[&LOAD, &EXIT], &[entry, byte], "V7 RecordBounds at 0"),
-        (&[&LOAD, &EXIT], &[entry, None], "V7 RecordBounds at 0"),
-        (
-            &[&MOVE, &LOAD, &LOAD],
-            &[entry, zero, zero],
-            "V7 RecordBounds at 1",
-        ),
-        (&[&EXIT], &[entry], "V4 Unset at 0"),
-        // an instruction that is not reached has no others
-        (
-            &[&MOVE, &EXIT, &LOAD, &EXIT],
-            &[entry, zero, None, None],
-            "accepted 4",
-        ),
-    ];
-    for (forms, claims, want) in cases {
-        let image = image_of(alloc, forms)?;
-        let text = reported(alloc, &image, Table::One, claims)?;
-        assert_eq!(rt; text.as_str(), want);
-    }
-    Ok(())
-}
-
-// call 10; exit
-const HEADER_COUNT: [u8; 16] = [0x85, 0, 0, 0, 10, 0, 0, 0, 0x95, 0, 0, 0, 0, 0, 0, 0];
-
-/// The state after a call in the entry state, with r0.
-fn called(r0: Abs) -> Result<State, Fail> {
+/// The state after a call at the start, with r0.
+fn called(r0: Abs) -> Option<State> {
     let registers = [
         r0,
         Abs::None,
@@ -189,24 +63,280 @@ fn called(r0: Abs) -> Result<State, Fail> {
         Abs::Addr(Region::Stack, 512, 512),
     ];
     let set = StackSet { words: [0; 8] };
-    let state = State::new(registers, 0, 4096, 0, 1_048_576, set);
-    Ok(state.ok_or("the state is in its ranges")?)
+    State::new(registers, 0, 4096, 0, 1_048_576, set)
 }
 
-/// The same list is an annotation under one helper table and none under the other.
-#[test]
-fn annotates_under_a_table(rt: HostRuntime) -> Result<(), Fail> {
-    let alloc = rt.alloc();
-    let entry = Some(State::entry());
-    let count = [entry, Some(called(Abs::Num(0, 16))?)];
-    let fewer = [entry, Some(called(Abs::Num(0, 15))?)];
-    for (table, claims, want) in [
-        (Table::Two, &count, "accepted 2"),
-        (Table::Two, &fewer, "V15 Notes at 0"),
-        (Table::One, &count, "V11 Helper at 0"),
-    ] {
-        let text = reported(alloc, &HEADER_COUNT, table, claims)?;
-        assert_eq!(rt; text.as_str(), want);
+fn state_of(claim: Claim) -> Option<State> {
+    match claim {
+        Claim::Unreached => None,
+        Claim::Entry => Some(State::entry()),
+        Claim::With(most, value_min) => with(Abs::Num(0, most), value_min),
+        Claim::Called(most) => called(Abs::Num(0, most)),
     }
-    Ok(())
+}
+
+fn states_of(alloc: Global, claims: &[Claim]) -> Option<Vec<Option<State>>> {
+    let mut states = Vec::new(alloc);
+    for claim in claims {
+        states.push(state_of(*claim)).ok()?;
+    }
+    Some(states)
+}
+
+/// The program of an image and these claims under table one.
+fn program_of(alloc: Global, image: &[u8], claims: &[Claim]) -> Option<Verified> {
+    let code = decode(alloc, image).ok()?;
+    let states = states_of(alloc, claims)?;
+    check(alloc, code, Table::One, states).ok()
+}
+
+/// How many instructions the program of an image and these claims has and how many states it keeps.
+fn counts_of(alloc: Global, image: &[u8], claims: &[Claim]) -> Option<(usize, usize)> {
+    let verified = program_of(alloc, image, claims)?;
+    Some((verified.code().len(), verified.kept()))
+}
+
+/// The regions of an instruction of that program.
+fn regions_of(
+    alloc: Global,
+    image: &[u8],
+    claims: &[Claim],
+    k: usize,
+) -> Option<(Option<Region>, Option<Region>)> {
+    let verified = program_of(alloc, image, claims)?;
+    if k < verified.code().len() {
+        Some(verified.regions(k))
+    } else {
+        None
+    }
+}
+
+/// Of `ZERO`.
+const CONSTANT: [Claim; 2] = [Claim::Entry, Claim::With(0, 0)];
+
+#[test]
+fn accepts_a_constant(rt: HostRuntime) {
+    let alloc = rt.alloc();
+    assert!(rt; counts_of(alloc, &ZERO, &CONSTANT) == Some((2, 0)));
+    assert!(rt; regions_of(alloc, &ZERO, &CONSTANT, 0) == Some((None, None)));
+}
+
+/// Of `FIRST_BYTE`.
+const GUARDED: [Claim; 4] = [
+    Claim::Entry,
+    Claim::With(0, 0),
+    Claim::With(0, 1),
+    Claim::With(255, 0),
+];
+
+#[test]
+fn accepts_a_guarded_load(rt: HostRuntime) {
+    let alloc = rt.alloc();
+    assert!(rt; counts_of(alloc, &FIRST_BYTE, &GUARDED) == Some((4, 1)));
+    assert!(rt; regions_of(alloc, &FIRST_BYTE, &GUARDED, 1) == Some((None, None)));
+    let load = regions_of(alloc, &FIRST_BYTE, &GUARDED, 2);
+    assert!(rt; load == Some((Some(Region::Value), None)));
+}
+
+const MOVE: [u8; 8] = [0xb7, 0, 0, 0, 0, 0, 0, 0];
+
+const LOAD: [u8; 8] = [0x71, 0x10, 0, 0, 0, 0, 0, 0];
+
+const FORWARD: [u8; 8] = [0xa5, 2, 5, 0, 1, 0, 0, 0];
+
+const BACK: [u8; 8] = [0xa5, 2, 0xff, 0xff, 1, 0, 0, 0];
+
+const EXIT: [u8; 8] = [0x95, 0, 0, 0, 0, 0, 0, 0];
+
+/// What the check under a helper table answers of code and a list of states.
+fn answer(
+    alloc: Global,
+    code: Code,
+    table: Table,
+    states: Vec<Option<State>>,
+) -> Result<String, AllocError> {
+    match check(alloc, code, table, states) {
+        Ok(verified) => {
+            let count = verified.code().len();
+            format!(in alloc; "accepted {count}")
+        }
+        Err(fault) => format!(in alloc; "{fault}"),
+    }
+}
+
+/// The same of an image in parts and of claims.
+fn reported(alloc: Global, table: Table, forms: &[&[u8]], claims: &[Claim]) -> Option<String> {
+    let code = decode(alloc, &image_of(alloc, forms)?).ok()?;
+    answer(alloc, code, table, states_of(alloc, claims)?).ok()
+}
+
+fn image_of(alloc: Global, forms: &[&[u8]]) -> Option<Vec<u8>> {
+    let mut image = Vec::new(alloc);
+    for form in forms {
+        image.extend_from_slice(form).ok()?;
+    }
+    Some(image)
+}
+
+/// An image in parts, claims, and what the check answers.
+type Row = (&'static [&'static [u8]], &'static [Claim], &'static str);
+
+fn is_reported(alloc: Global, table: Table, row: &Row) -> bool {
+    match reported(alloc, table, row.0, row.1) {
+        Some(text) => text.as_str() == row.2,
+        None => false,
+    }
+}
+
+/// The number of the first row of which the check answers something else.
+fn first_wrong(alloc: Global, table: Table, rows: &[Row]) -> Option<usize> {
+    for (k, row) in rows.iter().enumerate() {
+        if !is_reported(alloc, table, row) {
+            return Some(k);
+        }
+    }
+    None
+}
+
+const LISTS: [Row; 8] = [
+    // another length than the code's, reported before the missing exit
+    (&[&ZERO], &[Claim::Entry], "V15 Notes at 0"),
+    (&[&MOVE], &[], "V15 Notes at 0"),
+    // a first state that doesn't cover the entry
+    (
+        &[&ZERO],
+        &[Claim::Unreached, Claim::With(0, 0)],
+        "V15 Notes at 0",
+    ),
+    (
+        &[&ZERO],
+        &[Claim::With(0, 1), Claim::With(0, 1)],
+        "V15 Notes at 0",
+    ),
+    // an edge that is not covered
+    (
+        &[&ZERO],
+        &[Claim::Entry, Claim::Unreached],
+        "V15 Notes at 0",
+    ),
+    (
+        &[&FIRST_BYTE],
+        &[
+            Claim::Entry,
+            Claim::With(0, 0),
+            Claim::With(0, 2),
+            Claim::With(255, 0),
+        ],
+        "V15 Notes at 1",
+    ),
+    (
+        &[&FIRST_BYTE],
+        &[
+            Claim::Entry,
+            Claim::With(0, 0),
+            Claim::With(0, 1),
+            Claim::With(255, 1),
+        ],
+        "V15 Notes at 1",
+    ),
+    (
+        &[&FIRST_BYTE],
+        &[
+            Claim::Entry,
+            Claim::With(0, 0),
+            Claim::With(0, 1),
+            Claim::With(0, 0),
+        ],
+        "V15 Notes at 2",
+    ),
+];
+
+#[test]
+fn refuses_lists(rt: HostRuntime) {
+    let wrong = first_wrong(rt.alloc(), Table::One, &LISTS);
+    assert!(rt; wrong.is_none(), "row {wrong:?}");
+}
+
+const REFUSED: [Row; 9] = [
+    // where jumps lead and how the code ends, reported before an instruction's other checks
+    (
+        &[&FORWARD, &EXIT],
+        &[Claim::Entry, Claim::With(0, 0)],
+        "V1 JumpTarget at 0",
+    ),
+    (&[&BACK], &[Claim::Entry], "V2 BackJump at 0"),
+    (&[&LOAD], &[Claim::Entry], "V3 RunsOff at 0"),
+    (
+        &[&MOVE, &EXIT, &FORWARD, &EXIT],
+        &[
+            Claim::Entry,
+            Claim::With(0, 0),
+            Claim::Unreached,
+            Claim::Unreached,
+        ],
+        "V1 JumpTarget at 2",
+    ),
+    // the lowest instruction that fails a check, with its own checks before its edges
+    (
+        &[&LOAD, &EXIT],
+        &[Claim::Entry, Claim::With(255, 0)],
+        "V7 RecordBounds at 0",
+    ),
+    (
+        &[&LOAD, &EXIT],
+        &[Claim::Entry, Claim::Unreached],
+        "V7 RecordBounds at 0",
+    ),
+    (
+        &[&MOVE, &LOAD, &LOAD],
+        &[Claim::Entry, Claim::With(0, 0), Claim::With(0, 0)],
+        "V7 RecordBounds at 1",
+    ),
+    (&[&EXIT], &[Claim::Entry], "V4 Unset at 0"),
+    // an instruction that is not reached has no others
+    (
+        &[&MOVE, &EXIT, &LOAD, &EXIT],
+        &[
+            Claim::Entry,
+            Claim::With(0, 0),
+            Claim::Unreached,
+            Claim::Unreached,
+        ],
+        "accepted 4",
+    ),
+];
+
+#[test]
+fn refuses_instructions(rt: HostRuntime) {
+    let wrong = first_wrong(rt.alloc(), Table::One, &REFUSED);
+    assert!(rt; wrong.is_none(), "row {wrong:?}");
+}
+
+// call 10; exit
+const HEADER_COUNT: [u8; 16] = [0x85, 0, 0, 0, 10, 0, 0, 0, 0x95, 0, 0, 0, 0, 0, 0, 0];
+
+/// The same list is an annotation under one helper table and none under the other.
+const COUNT: Row = (
+    &[&HEADER_COUNT],
+    &[Claim::Entry, Claim::Called(16)],
+    "accepted 2",
+);
+
+const FEWER: Row = (
+    &[&HEADER_COUNT],
+    &[Claim::Entry, Claim::Called(15)],
+    "V15 Notes at 0",
+);
+
+const NO_HELPER: Row = (
+    &[&HEADER_COUNT],
+    &[Claim::Entry, Claim::Called(16)],
+    "V11 Helper at 0",
+);
+
+#[test]
+fn annotates_under_a_table(rt: HostRuntime) {
+    assert!(rt; is_reported(rt.alloc(), Table::Two, &COUNT));
+    assert!(rt; is_reported(rt.alloc(), Table::Two, &FEWER));
+    assert!(rt; is_reported(rt.alloc(), Table::One, &NO_HELPER));
 }

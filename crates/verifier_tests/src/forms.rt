@@ -5,44 +5,47 @@ use annotate::load;
 use machine_spec::{Distance, Instruction, Source, Table, Test, Width};
 use predecode::{Decoded, Rare, paired, predecode};
 use std::alloc::Global;
-use std::test::Fail;
+use std::test::*;
+
+/// jlt64 r2, 1, +1 over ld8 r0, [r1+0].
+const GUARDED: [u64; 4] = [ZERO, 0xa502_0100_0100_0000, 0x7110_0000_0000_0000, EXIT];
+
+/// Whether these are the forms of `GUARDED`.
+fn are_guarded(forms: &[Decoded]) -> bool {
+    matches!(
+        forms,
+        [
+            Decoded::Set {
+                dst: 0,
+                constant: 0
+            },
+            Decoded::IfLessNumber {
+                dst: 2,
+                constant: 1,
+                slots: 1,
+                target: 3
+            },
+            Decoded::LoadValueByte {
+                dst: 0,
+                base: 1,
+                offset: 0
+            },
+            Decoded::Exit,
+        ]
+    )
+}
+
+/// Whether the program is predecoded so, and needs a stack.
+fn predecoded(alloc: Global) -> Option<(bool, bool)> {
+    let image = image_of(alloc, &GUARDED).ok()?;
+    let verified = load(alloc, &image, Table::One).ok()?;
+    Some((are_guarded(verified.decoded()), verified.needs_stack()))
+}
 
 /// A load from the value has its region, and the jump over it the number of the exit.
 #[test]
-fn a_program_is_predecoded(rt: HostRuntime) -> Result<(), Fail> {
-    let alloc = rt.alloc();
-    let slots = [
-        ZERO,
-        0xa502_0100_0100_0000, // jlt64 r2, 1, +1
-        0x7110_0000_0000_0000, // ld8 r0, [r1+0]
-        EXIT,
-    ];
-    let verified = load(alloc, &image_of(alloc, &slots)?, Table::One)?;
-    assert!(rt;
-        matches!(
-            verified.decoded(),
-            [
-                Decoded::Set {
-                    dst: 0,
-                    constant: 0
-                },
-                Decoded::IfLessNumber {
-                    dst: 2,
-                    constant: 1,
-                    slots: 1,
-                    target: 3
-                },
-                Decoded::LoadValueByte {
-                    dst: 0,
-                    base: 1,
-                    offset: 0
-                },
-                Decoded::Exit,
-            ]
-        )
-    );
-    assert!(rt; !verified.needs_stack());
-    Ok(())
+fn a_program_is_predecoded(rt: HostRuntime) {
+    assert!(rt; predecoded(rt.alloc()) == Some((true, false)));
 }
 
 /// A store, a call of helper 1 or 2, and a call of helper 4 or 5 with bytes of the stack, also with
@@ -133,50 +136,65 @@ fn first_wrong(alloc: Global, rows: &[(&[u64], bool)]) -> Option<usize> {
 
 #[test]
 fn programs_that_need_a_stack(rt: HostRuntime) {
-    assert!(rt; first_wrong(rt.alloc(), &STACKS).is_none());
+    let wrong = first_wrong(rt.alloc(), &STACKS);
+    assert!(rt; wrong.is_none(), "row {wrong:?}");
+}
+
+/// A number of 64 bits.
+const WIDE: Instruction = Instruction::Wide(1, 0x1122_3344_5566_7788);
+
+fn is_wide(form: Decoded) -> bool {
+    matches!(
+        form,
+        Decoded::Rare(Rare::Wide {
+            dst: 1,
+            low: 0x5566_7788,
+            high: 0x1122_3344
+        })
+    )
+}
+
+const JUMP: Instruction = Instruction::Jump(Distance::Short(2));
+
+fn is_jump(form: Decoded) -> bool {
+    matches!(
+        form,
+        Decoded::Rare(Rare::Jump {
+            target: 9,
+            distance: Distance::Short(2)
+        })
+    )
+}
+
+/// A comparison of 32 bits.
+const COMPARISON: Instruction = Instruction::JumpIf(
+    Width::Bits32,
+    Test::Less,
+    3,
+    Source::Register(4),
+    5,
+);
+
+fn is_comparison(form: Decoded) -> bool {
+    matches!(
+        form,
+        Decoded::Rare(Rare::JumpIf {
+            width: Width::Bits32,
+            test: Test::Less,
+            dst: 3,
+            src: 4,
+            slots: 5,
+            target: 7
+        })
+    )
 }
 
 /// A number of 64 bits is in two halves; a jump has its target, and a comparison of 32 bits its width.
 #[test]
-fn single_instructions(rt: HostRuntime) -> Result<(), Fail> {
-    let regions = (None, None);
-    let wide = predecode(Instruction::Wide(1, 0x1122_3344_5566_7788), regions, 0);
-    assert!(rt;
-        matches!(
-            wide,
-            Decoded::Rare(Rare::Wide {
-                dst: 1,
-                low: 0x5566_7788,
-                high: 0x1122_3344
-            })
-        )
-    );
-    let jump = predecode(Instruction::Jump(Distance::Short(2)), regions, 9);
-    assert!(rt;
-        matches!(
-            jump,
-            Decoded::Rare(Rare::Jump {
-                target: 9,
-                distance: Distance::Short(2)
-            })
-        )
-    );
-    let test = Instruction::JumpIf(Width::Bits32, Test::Less, 3, Source::Register(4), 5);
-    let test = predecode(test, regions, 7);
-    assert!(rt;
-        matches!(
-            test,
-            Decoded::Rare(Rare::JumpIf {
-                width: Width::Bits32,
-                test: Test::Less,
-                dst: 3,
-                src: 4,
-                slots: 5,
-                target: 7
-            })
-        )
-    );
-    Ok(())
+fn single_instructions(rt: HostRuntime) {
+    assert!(rt; is_wide(predecode(WIDE, (None, None), 0)));
+    assert!(rt; is_jump(predecode(JUMP, (None, None), 9)));
+    assert!(rt; is_comparison(predecode(COMPARISON, (None, None), 7)));
 }
 
 /// A load of a byte of the value.
@@ -223,39 +241,45 @@ fn first_other_range(rows: &[(Test, i32, Option<(u8, u8)>)]) -> Option<usize> {
     None
 }
 
+/// A jump on a number in this register.
+fn jump_on(dst: u8) -> Instruction {
+    Instruction::JumpIf(Width::Bits64, Test::Equal, dst, Source::Immediate(65), 4)
+}
+
+fn is_load(form: Decoded) -> bool {
+    matches!(
+        form,
+        Decoded::LoadValueByte {
+            dst: 3,
+            base: 1,
+            offset: 7
+        }
+    )
+}
+
+fn is_both(form: Decoded) -> bool {
+    matches!(
+        form,
+        Decoded::ByteIn {
+            dst: 3,
+            base: 1,
+            low: 65,
+            span: 0,
+            test: Test::Equal,
+            number: 65,
+            offset: 7,
+            slots: 4,
+            target: 9,
+        }
+    )
+}
+
 /// A load of a byte and a jump on it are one where the bytes that take the jump are a range; a jump on
 /// another register stays by itself.
 #[test]
 fn a_load_and_its_jump_are_one(rt: HostRuntime) {
-    assert!(rt; first_other_range(&RANGES).is_none());
-    let jump = Instruction::JumpIf(Width::Bits64, Test::Equal, 4, Source::Immediate(65), 4);
-    let first = paired(LOAD, jump, 9);
-    assert!(rt;
-        matches!(
-            first,
-            Decoded::LoadValueByte {
-                dst: 3,
-                base: 1,
-                offset: 7
-            }
-        )
-    );
-    let jump = Instruction::JumpIf(Width::Bits64, Test::Equal, 3, Source::Immediate(65), 4);
-    let both = paired(LOAD, jump, 9);
-    assert!(rt;
-        matches!(
-            both,
-            Decoded::ByteIn {
-                dst: 3,
-                base: 1,
-                low: 65,
-                span: 0,
-                test: Test::Equal,
-                number: 65,
-                offset: 7,
-                slots: 4,
-                target: 9,
-            }
-        )
-    );
+    let wrong = first_other_range(&RANGES);
+    assert!(rt; wrong.is_none(), "row {wrong:?}");
+    assert!(rt; is_load(paired(LOAD, jump_on(4), 9)));
+    assert!(rt; is_both(paired(LOAD, jump_on(3), 9)));
 }

@@ -2,11 +2,9 @@
 
 use annotate::{joined_states, load};
 use bpf_isa::decode;
-use machine_spec::Table;
+use machine_spec::{Region, Table};
 use notes::claim_at;
 use std::alloc::{AllocError, Global};
-use std::process::Abort;
-use std::test::Fail;
 use verifier_spec::Abs;
 
 pub const ZERO: u64 = 0xb700_0000_0000_0000; // mov64 r0, 0
@@ -22,20 +20,15 @@ pub(crate) fn image_of(alloc: Global, slots: &[u64]) -> Result<Vec<u8>, AllocErr
     Ok(image)
 }
 
-/// What is known of a register before an instruction, if it is reached.
-fn kind_of(
-    alloc: Global,
-    image: &[u8],
-    table: Table,
-    k: usize,
-    register: usize,
-) -> Result<Option<Abs>, Fail> {
-    let states = joined_states(alloc, &decode(alloc, image)?, table)?;
-    Ok(claim_at(&states, k).map(|s| s.kind(register)))
+/// What is known of a register before an instruction. None where it is not reached or memory ran out.
+fn kind_of(alloc: Global, table: Table, image: &[u8], k: usize, register: usize) -> Option<Abs> {
+    let code = decode(alloc, image).ok()?;
+    let states = joined_states(alloc, &code, table).ok()?;
+    Some(claim_at(&states, k)?.kind(register))
 }
 
 /// What a load under a helper table answers: how many instructions are accepted, or the fault's text.
-pub(crate) fn answer(alloc: Global, image: &[u8], table: Table) -> Result<String, AllocError> {
+fn answer(alloc: Global, table: Table, image: &[u8]) -> Result<String, AllocError> {
     match load(alloc, image, table) {
         Ok(verified) => {
             let count = verified.code().len();
@@ -45,43 +38,58 @@ pub(crate) fn answer(alloc: Global, image: &[u8], table: Table) -> Result<String
     }
 }
 
-/// The load of an image of these slots under a helper table answers this.
-pub(crate) fn check_answer(
+/// Whether the load of an image under a helper table answers this.
+pub(crate) fn has_answer(alloc: Global, table: Table, image: &[u8], want: &str) -> bool {
+    match answer(alloc, table, image) {
+        Ok(got) => got.as_str() == want,
+        Err(_) => false,
+    }
+}
+
+/// The same of an image of these slots.
+pub(crate) fn have_answer(alloc: Global, table: Table, slots: &[u64], want: &str) -> bool {
+    match image_of(alloc, slots) {
+        Ok(image) => has_answer(alloc, table, &image, want),
+        Err(_) => false,
+    }
+}
+
+/// The number of the first row of whose slots a load under a helper table answers something else.
+pub(crate) fn first_wrong(alloc: Global, table: Table, rows: &[(&[u64], &str)]) -> Option<usize> {
+    for (k, row) in rows.iter().enumerate() {
+        if !have_answer(alloc, table, row.0, row.1) {
+            return Some(k);
+        }
+    }
+    None
+}
+
+/// What is known of a register before an instruction of an image of these slots.
+pub(crate) fn known_of(
     alloc: Global,
-    rt: &impl Abort,
     table: Table,
     slots: &[u64],
-    want: &str,
-) -> Result<(), Fail> {
-    let image = image_of(alloc, slots)?;
-    let got = answer(alloc, &image, table)?;
-    assert_eq!(rt; got.as_str(), want, "of {slots:?}");
-    Ok(())
-}
-
-/// The loads of images of slots under a helper table answer these texts.
-pub(crate) fn check_answers(
-    alloc: Global,
-    rt: &impl Abort,
-    table: Table,
-    cases: &[(&[u64], &str)],
-) -> Result<(), Fail> {
-    for (slots, want) in cases {
-        check_answer(alloc, rt, table, slots, want)?;
-    }
-    Ok(())
-}
-
-/// Before this instruction of an image under a helper table this is known of a register.
-pub(crate) fn check_kind(
-    alloc: Global,
-    rt: &impl Abort,
-    table: Table,
-    image: &[u8],
     k: usize,
     register: usize,
-    want: Abs,
-) -> Result<(), Fail> {
-    assert_eq!(rt; kind_of(alloc, image, table, k, register)?, Some(want));
-    Ok(())
+) -> Option<Abs> {
+    let image = image_of(alloc, slots).ok()?;
+    kind_of(alloc, table, &image, k, register)
+}
+
+/// How many instructions a program of these slots has, and the regions of one of them. None where it is
+/// refused or memory ran out.
+pub(crate) fn regions_of(
+    alloc: Global,
+    table: Table,
+    slots: &[u64],
+    k: usize,
+) -> Option<(usize, Option<Region>, Option<Region>)> {
+    let image = image_of(alloc, slots).ok()?;
+    let verified = load(alloc, &image, table).ok()?;
+    let count = verified.code().len();
+    if k >= count {
+        return None;
+    }
+    let (first, second) = verified.regions(k);
+    Some((count, first, second))
 }

@@ -7,11 +7,19 @@ mod addresses;
 #[cfg(test)]
 mod annotations;
 #[cfg(test)]
+mod calls;
+#[cfg(test)]
+mod checks;
+#[cfg(test)]
 mod forms;
 #[cfg(test)]
 mod images;
 #[cfg(test)]
 mod loads;
+#[cfg(test)]
+mod results;
+#[cfg(test)]
+mod rooms;
 #[cfg(test)]
 mod sparse;
 #[cfg(test)]

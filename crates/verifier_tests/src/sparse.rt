@@ -2,12 +2,11 @@
 
 use abstract_regs::State;
 use annotate::{joined_states, load};
-use bpf_isa::decode;
+use bpf_isa::{Code, decode};
 use machine_spec::{Region, Table};
 use notes::{check_sparse, claim_at};
-use std::alloc::Global;
-use std::process::Abort;
-use std::test::Fail;
+use std::alloc::{AllocError, Global};
+use std::test::*;
 
 /// r0 = 0 and EXIT.
 const ZERO: [u8; 16] = [0xb7, 0, 0, 0, 0, 0, 0, 0, 0x95, 0, 0, 0, 0, 0, 0, 0];
@@ -30,133 +29,180 @@ const OUTSIDE: [u8; 32] = [
     0, 0, 0, 0, 0, 0, 0,
 ];
 
-/// The joined state of an instruction that is reached.
-fn joined(alloc: Global, image: &[u8], k: usize) -> Result<State, Fail> {
-    let states = joined_states(alloc, &decode(alloc, image)?, Table::One)?;
-    Ok(*claim_at(&states, k).ok_or("it is reached")?)
+/// call 10 and EXIT.
+const HEADER_COUNT: [u8; 16] = [0x85, 0, 0, 0, 10, 0, 0, 0, 0x95, 0, 0, 0, 0, 0, 0, 0];
+
+/// The joined state of an instruction. None where it is not reached or memory ran out.
+fn joined(alloc: Global, image: &[u8], k: usize) -> Option<State> {
+    let code = decode(alloc, image).ok()?;
+    let states = joined_states(alloc, &code, Table::One).ok()?;
+    Some(*claim_at(&states, k)?)
 }
 
-/// What the check under a helper table answers of an image and states with numbers.
-fn reported(
+/// What the check under a helper table answers of code and states with numbers.
+fn answer(
     alloc: Global,
-    image: &[u8],
+    code: Code,
     table: Table,
-    pairs: &[(usize, State)],
-) -> Result<String, Fail> {
-    let code = decode(alloc, image)?;
-    let pairs = Vec::from_slice(alloc, pairs)?;
-    Ok(match check_sparse(alloc, code, table, pairs) {
-        Ok(verified) => format!(in alloc; "kept {}", verified.kept())?,
-        Err(fault) => format!(in alloc; "{fault}")?,
-    })
+    pairs: Vec<(usize, State)>,
+) -> Result<String, AllocError> {
+    match check_sparse(alloc, code, table, pairs) {
+        Ok(verified) => {
+            let count = verified.kept();
+            format!(in alloc; "kept {count}")
+        }
+        Err(fault) => format!(in alloc; "{fault}"),
+    }
 }
 
-/// The check of an image and states with numbers under table one answers this.
-fn check_reported(
+/// The same of an image.
+fn reported(alloc: Global, table: Table, image: &[u8], pairs: &[(usize, State)]) -> Option<String> {
+    let code = decode(alloc, image).ok()?;
+    let pairs = Vec::from_slice(alloc, pairs).ok()?;
+    answer(alloc, code, table, pairs).ok()
+}
+
+/// Whether the check of an image and states with numbers answers this.
+fn reports(
     alloc: Global,
-    rt: &impl Abort,
+    table: Table,
     image: &[u8],
     pairs: &[(usize, State)],
     want: &str,
-) -> Result<(), Fail> {
-    assert_eq!(rt; reported(alloc, image, Table::One, pairs)?.as_str(), want);
-    Ok(())
+) -> bool {
+    match reported(alloc, table, image, pairs) {
+        Some(got) => got.as_str() == want,
+        None => false,
+    }
 }
 
-/// A load of an image keeps this many states.
-fn check_kept(alloc: Global, rt: &impl Abort, image: &[u8], count: usize) -> Result<(), Fail> {
-    assert_eq!(rt; load(alloc, image, Table::One)?.kept(), count);
-    Ok(())
+/// How many states a load of an image keeps.
+fn kept(alloc: Global, image: &[u8]) -> Option<usize> {
+    let verified = load(alloc, image, Table::One).ok()?;
+    Some(verified.kept())
 }
 
-/// An image has four instructions, and the third has this region first.
-fn check_region(
-    alloc: Global,
-    rt: &impl Abort,
-    image: &[u8],
-    want: Option<Region>,
-) -> Result<(), Fail> {
-    let verified = load(alloc, image, Table::One)?;
-    assert_eq!(rt; verified.code().len(), 4);
-    assert_eq!(rt; verified.regions(2).0, want);
-    Ok(())
+/// The first region of the third instruction of four.
+fn third_region(alloc: Global, image: &[u8]) -> Option<Option<Region>> {
+    let verified = load(alloc, image, Table::One).ok()?;
+    if verified.code().len() == 4 {
+        Some(verified.regions(2).0)
+    } else {
+        None
+    }
 }
 
 #[test]
-fn loads_keep_the_states_of_jump_targets(rt: HostRuntime) -> Result<(), Fail> {
-    check_kept(rt.alloc(), &rt, &ZERO, 0)?;
-    check_kept(rt.alloc(), &rt, &FIRST_BYTE, 1)?;
-    check_kept(rt.alloc(), &rt, &UNREACHED, 1)
+fn loads_keep_the_states_of_jump_targets(rt: HostRuntime) {
+    assert!(rt; kept(rt.alloc(), &ZERO) == Some(0));
+    assert!(rt; kept(rt.alloc(), &FIRST_BYTE) == Some(1));
+    assert!(rt; kept(rt.alloc(), &UNREACHED) == Some(1));
 }
 
 /// An instruction that no jump and no other instruction leads to has no region.
 #[test]
-fn unreached_has_no_region(rt: HostRuntime) -> Result<(), Fail> {
-    check_region(rt.alloc(), &rt, &FIRST_BYTE, Some(Region::Value))?;
-    check_region(rt.alloc(), &rt, &UNREACHED, None)
+fn unreached_has_no_region(rt: HostRuntime) {
+    assert!(rt; third_region(rt.alloc(), &FIRST_BYTE) == Some(Some(Region::Value)));
+    assert!(rt; third_region(rt.alloc(), &UNREACHED) == Some(None));
 }
 
-#[test]
-fn states_follow_from_those_of_jump_targets(rt: HostRuntime) -> Result<(), Fail> {
-    let last = joined(rt.alloc(), &FIRST_BYTE, 3)?;
-    check_reported(rt.alloc(), &rt, &FIRST_BYTE, &[(3, last)], "kept 1")?;
-    check_reported(rt.alloc(), &rt, &FIRST_BYTE, &[], "V15 Notes at 1")?;
-    check_reported(rt.alloc(), &rt, &ZERO, &[], "kept 0")
+/// Numbers, each with the joined state of an instruction, or with that of the start where there is none;
+/// and what a check answers of them.
+type Row = (&'static [(usize, Option<usize>)], &'static str);
+
+/// The state of the start, or the joined state of an instruction.
+fn state_of(alloc: Global, image: &[u8], which: Option<usize>) -> Option<State> {
+    match which {
+        Some(k) => joined(alloc, image, k),
+        None => Some(State::entry()),
+    }
 }
+
+/// These states with their numbers.
+fn pairs_of(
+    alloc: Global,
+    image: &[u8],
+    given: &[(usize, Option<usize>)],
+) -> Option<Vec<(usize, State)>> {
+    let mut pairs = Vec::new(alloc);
+    for (number, which) in given {
+        pairs.push((*number, state_of(alloc, image, *which)?)).ok()?;
+    }
+    Some(pairs)
+}
+
+fn is_answered(alloc: Global, image: &[u8], row: &Row) -> bool {
+    match pairs_of(alloc, image, row.0) {
+        Some(pairs) => reports(alloc, Table::One, image, &pairs, row.1),
+        None => false,
+    }
+}
+
+/// The number of the first row of which a check under table one answers something else.
+fn first_wrong(alloc: Global, image: &[u8], rows: &[Row]) -> Option<usize> {
+    for (k, row) in rows.iter().enumerate() {
+        if !is_answered(alloc, image, row) {
+            return Some(k);
+        }
+    }
+    None
+}
+
+/// Of `FIRST_BYTE`.
+const TARGETS: [Row; 2] = [(&[(3, Some(3))], "kept 1"), (&[], "V15 Notes at 1")];
+
+#[test]
+fn states_follow_from_those_of_jump_targets(rt: HostRuntime) {
+    let wrong = first_wrong(rt.alloc(), &FIRST_BYTE, &TARGETS);
+    assert!(rt; wrong.is_none(), "row {wrong:?}");
+    assert!(rt; reports(rt.alloc(), Table::One, &ZERO, &[], "kept 0"));
+}
+
+/// Of `OUTSIDE`.
+const REFUSED: [Row; 2] = [
+    (&[], "V15 Notes at 1"),
+    (&[(3, Some(1))], "V1 JumpTarget at 2"),
+];
 
 /// Nothing follows on an instruction that fails a check: no state covers the first jump's edge.
 #[test]
-fn nothing_follows_on_a_refused_instruction(rt: HostRuntime) -> Result<(), Fail> {
-    let last = joined(rt.alloc(), &OUTSIDE, 1)?;
-    check_reported(rt.alloc(), &rt, &OUTSIDE, &[], "V15 Notes at 1")?;
-    check_reported(
-        rt.alloc(),
-        &rt,
-        &OUTSIDE,
-        &[(3, last)],
-        "V1 JumpTarget at 2",
-    )
+fn nothing_follows_on_a_refused_instruction(rt: HostRuntime) {
+    let wrong = first_wrong(rt.alloc(), &OUTSIDE, &REFUSED);
+    assert!(rt; wrong.is_none(), "row {wrong:?}");
 }
+
+/// Of `ZERO`.
+const ANYWHERE: [Row; 3] = [
+    (&[(0, None), (1, Some(1))], "kept 0"),
+    (&[(0, Some(1))], "V15 Notes at 0"),
+    (&[(1, None)], "V4 Unset at 1"),
+];
 
 /// States elsewhere are taken where they are given, and not kept.
 #[test]
-fn states_are_taken_anywhere(rt: HostRuntime) -> Result<(), Fail> {
-    let entry = State::entry();
-    let second = joined(rt.alloc(), &ZERO, 1)?;
-    check_reported(rt.alloc(), &rt, &ZERO, &[(0, entry), (1, second)], "kept 0")?;
-    check_reported(rt.alloc(), &rt, &ZERO, &[(0, second)], "V15 Notes at 0")?;
-    check_reported(rt.alloc(), &rt, &ZERO, &[(1, entry)], "V4 Unset at 1")
+fn states_are_taken_anywhere(rt: HostRuntime) {
+    let wrong = first_wrong(rt.alloc(), &ZERO, &ANYWHERE);
+    assert!(rt; wrong.is_none(), "row {wrong:?}");
 }
+
+/// Of `ZERO`.
+const NUMBERS: [Row; 3] = [
+    (&[(2, Some(1))], "V15 Notes at 0"),
+    (&[(1, Some(1)), (0, None)], "V15 Notes at 0"),
+    (&[(1, Some(1)), (1, Some(1))], "V15 Notes at 0"),
+];
 
 /// The numbers rise and are those of instructions.
 #[test]
-fn numbers_rise(rt: HostRuntime) -> Result<(), Fail> {
-    let entry = State::entry();
-    let last = joined(rt.alloc(), &ZERO, 1)?;
-    check_reported(rt.alloc(), &rt, &ZERO, &[(2, last)], "V15 Notes at 0")?;
-    check_reported(
-        rt.alloc(),
-        &rt,
-        &ZERO,
-        &[(1, last), (0, entry)],
-        "V15 Notes at 0",
-    )?;
-    check_reported(
-        rt.alloc(),
-        &rt,
-        &ZERO,
-        &[(1, last), (1, last)],
-        "V15 Notes at 0",
-    )
+fn numbers_rise(rt: HostRuntime) {
+    let wrong = first_wrong(rt.alloc(), &ZERO, &NUMBERS);
+    assert!(rt; wrong.is_none(), "row {wrong:?}");
 }
-
-/// call 10 and EXIT.
-const HEADER_COUNT: [u8; 16] = [0x85, 0, 0, 0, 10, 0, 0, 0, 0x95, 0, 0, 0, 0, 0, 0, 0];
 
 /// The states follow under the table that the check is given.
 #[test]
-fn states_follow_under_a_table(rt: HostRuntime) -> Result<(), Fail> {
-    let got = reported(rt.alloc(), &HEADER_COUNT, Table::Two, &[])?;
-    assert_eq!(rt; got.as_str(), "kept 0");
-    check_reported(rt.alloc(), &rt, &HEADER_COUNT, &[], "V11 Helper at 0")
+fn states_follow_under_a_table(rt: HostRuntime) {
+    let alloc = rt.alloc();
+    assert!(rt; reports(alloc, Table::Two, &HEADER_COUNT, &[], "kept 0"));
+    assert!(rt; reports(alloc, Table::One, &HEADER_COUNT, &[], "V11 Helper at 0"));
 }

@@ -1,8 +1,8 @@
+use crate::verdicts::all_hold;
 use batch::{Batch, BatchFault, decode, encode, fits, share};
 use bytes::Bytes;
 use kafka_record::Record;
-use std::alloc::{AllocError, Global};
-use std::process::Abort;
+use std::alloc::Global;
 use std::test::*;
 
 /// A record of key `k` and value `v`, with zero offsets and timestamps and producer fields -1.
@@ -148,25 +148,25 @@ const LARGEST: &[u8] = &[
     0x00, 0x00, 0x00, 0x00, 0x00, 0x00, 0x00, 0x00, 0x00, 0x3f, 0xff, 0xf4,
 ];
 
-/// The batch is written as these bytes.
-fn is_written_as(
-    rt: &impl Abort,
-    alloc: Global,
-    batch: &Batch,
-    bytes: &[u8],
-) -> Result<(), AllocError> {
-    assert!(rt; fits(batch));
-    let out = encode(alloc, batch)?;
-    assert_eq!(rt; out.as_slice(), bytes);
-    Ok(())
+/// Whether the batch fits and is written as these bytes.
+fn is_written_as(alloc: Global, batch: &Batch, bytes: &[u8]) -> bool {
+    if !fits(batch) {
+        return false;
+    }
+    match encode(alloc, batch) {
+        Ok(out) => out.as_slice() == bytes,
+        Err(_) => false,
+    }
 }
 
-/// Reads a batch that begins the bytes, and writes it again.
-fn round_trip(rt: &impl Abort, alloc: Global, bytes: &'static [u8]) -> Result<Batch, Fail> {
-    let (batch, used) = decode(alloc, Bytes::from_static(bytes))?;
-    assert_eq!(rt; used, bytes.len());
-    is_written_as(rt, alloc, &batch, bytes)?;
-    Ok(batch)
+/// The batch of all these bytes. None where there is none, or it is not written as them again.
+fn round_trip(alloc: Global, bytes: &'static [u8]) -> Option<Batch> {
+    let (batch, used) = decode(alloc, Bytes::from_static(bytes)).ok()?;
+    if used == bytes.len() && is_written_as(alloc, &batch, bytes) {
+        Some(batch)
+    } else {
+        None
+    }
 }
 
 /// Base offset, leader epoch and base timestamp.
@@ -183,32 +183,44 @@ fn count_of(batch: &Batch) -> usize {
     batch.records.list.len()
 }
 
-/// The bytes are read as a batch with this start, this producer and this many records.
-fn reads_as(
-    rt: &impl Abort,
-    alloc: Global,
-    bytes: &'static [u8],
-    start: (i64, i32, i64),
-    producer: (i64, i16, i32),
-    count: usize,
-) -> Result<(), Fail> {
-    let batch = round_trip(rt, alloc, bytes)?;
-    assert_eq!(rt; start_of(&batch), start);
-    assert_eq!(rt; producer_of(&batch), producer);
-    assert_eq!(rt; count_of(&batch), count);
-    Ok(())
+/// Bytes and how many they are; the start, the producer and the number of records of their batch.
+type Read = (
+    &'static [u8],
+    usize,
+    (i64, i32, i64),
+    (i64, i16, i32),
+    usize,
+);
+
+const START: i64 = 1_700_000_000_000;
+
+const READ_ONE: Read = (ONE, 70, (0, 0, 0), (-1, -1, -1), 1);
+
+const READ_TWO: Read = (TWO, 79, (0, 0, 0), (-1, -1, -1), 2);
+
+const READ_CLIENT_ONE: Read = (CLIENT_ONE, 70, (0, 0, START), (-1, -1, -1), 1);
+
+const READ_CLIENT_FOUR: Read = (CLIENT_FOUR, 193, (0, 0, START), (4711, 3, 12), 4);
+
+fn has_numbers(batch: &Batch, want: &Read) -> bool {
+    start_of(batch) == want.2 && producer_of(batch) == want.3 && count_of(batch) == want.4
+}
+
+fn is_read(alloc: Global, want: &Read) -> bool {
+    match round_trip(alloc, want.0) {
+        Some(batch) => want.0.len() == want.1 && has_numbers(&batch, want),
+        None => false,
+    }
 }
 
 #[test]
-fn one_record(rt: HostRuntime) -> Result<(), Fail> {
-    assert_eq!(rt; ONE.len(), 70);
-    reads_as(&rt, rt.alloc(), ONE, (0, 0, 0), (-1, -1, -1), 1)
+fn one_record(rt: HostRuntime) {
+    assert!(rt; is_read(rt.alloc(), &READ_ONE));
 }
 
 #[test]
-fn two_records(rt: HostRuntime) -> Result<(), Fail> {
-    assert_eq!(rt; TWO.len(), 79);
-    reads_as(&rt, rt.alloc(), TWO, (0, 0, 0), (-1, -1, -1), 2)
+fn two_records(rt: HostRuntime) {
+    assert!(rt; is_read(rt.alloc(), &READ_TWO));
 }
 
 fn has_text(text: &Option<Bytes>, want: Option<&[u8]>) -> bool {
@@ -219,127 +231,101 @@ fn has_text(text: &Option<Bytes>, want: Option<&[u8]>) -> bool {
     }
 }
 
-fn delta_of(records: &[Record], k: usize) -> Option<i64> {
-    match records.get(k) {
-        Some(record) => Some(record.timestamp_delta),
-        None => None,
-    }
-}
-
-fn has_key(records: &[Record], k: usize, want: Option<&[u8]>) -> bool {
-    match records.get(k) {
-        Some(record) => has_text(&record.key, want),
-        None => false,
-    }
-}
-
-fn has_value(records: &[Record], k: usize, want: Option<&[u8]>) -> bool {
-    match records.get(k) {
-        Some(record) => has_text(&record.value, want),
-        None => false,
-    }
-}
-
 /// Whether there are two headers: one with a null value, and then one with the key `ä`.
-fn has_two_headers(records: &[Record], k: usize) -> bool {
-    match records.get(k) {
-        Some(record) => match record.headers.list.as_slice() {
-            [first, second] => { first.value.is_none() && second.key.as_slice() == "ä".as_bytes() }
-            _ => false,
-        },
+fn has_two_headers(record: &Record) -> bool {
+    match record.headers.list.as_slice() {
+        [first, second] => first.value.is_none() && second.key.as_slice() == "ä".as_bytes(),
+        _ => false,
+    }
+}
+
+/// Whether the second record is later by 5, with a null key, an empty value and two headers.
+fn is_second(record: &Record) -> bool {
+    record.timestamp_delta == 5
+        && has_text(&record.key, None)
+        && has_text(&record.value, Some(b""))
+        && has_two_headers(record)
+}
+
+/// Whether the third record is earlier by 1, with an empty key and a null value.
+fn is_third(record: &Record) -> bool {
+    record.timestamp_delta == -1
+        && has_text(&record.key, Some(b""))
+        && has_text(&record.value, None)
+}
+
+fn are_understood(records: &[Record]) -> bool {
+    match records {
+        [_first, second, third, fourth] => is_second(second)
+            && is_third(third)
+            && has_text(&fourth.key, Some(b"longer key")),
+        _ => false,
+    }
+}
+
+fn four_are_understood(alloc: Global) -> bool {
+    match round_trip(alloc, CLIENT_FOUR) {
+        Some(batch) => are_understood(batch.records.list.as_slice()),
         None => false,
     }
 }
 
-/// Records by their numbers, and their timestamp deltas.
-const DELTAS: [(usize, i64); 2] = [(1, 5), (2, -1)];
-
-/// Records by their numbers, and their keys.
-const KEYS: [(usize, Option<&[u8]>); 3] = [(1, None), (2, Some(b"")), (3, Some(b"longer key"))];
-
-/// Records by their numbers, and their values.
-const VALUES: [(usize, Option<&[u8]>); 2] = [(1, Some(b"")), (2, None)];
-
-fn deltas_are(rt: &impl Abort, records: &[Record], rows: &[(usize, i64)]) {
-    for (k, want) in rows {
-        assert_eq!(rt; delta_of(records, *k), Some(*want), "record {k}");
-    }
+#[test]
+fn a_client_is_understood(rt: HostRuntime) {
+    assert!(rt; is_read(rt.alloc(), &READ_CLIENT_ONE));
+    assert!(rt; is_read(rt.alloc(), &READ_CLIENT_FOUR));
+    assert!(rt; four_are_understood(rt.alloc()));
 }
 
-fn keys_are(rt: &impl Abort, records: &[Record], rows: &[(usize, Option<&[u8]>)]) {
-    for (k, want) in rows {
-        assert!(rt; has_key(records, *k, *want), "record {k}");
-    }
+/// `ONE` and `TWO` in a row.
+fn both(alloc: Global) -> Option<Bytes> {
+    let mut bytes = Vec::from_slice(alloc, ONE).ok()?;
+    bytes.extend_from_slice(TWO).ok()?;
+    Bytes::from_vec(bytes).ok()
 }
 
-fn values_are(rt: &impl Abort, records: &[Record], rows: &[(usize, Option<&[u8]>)]) {
-    for (k, want) in rows {
-        assert!(rt; has_value(records, *k, *want), "record {k}");
-    }
-}
-
-fn four_are_understood(rt: &impl Abort, records: &[Record]) {
-    deltas_are(rt, records, &DELTAS);
-    keys_are(rt, records, &KEYS);
-    values_are(rt, records, &VALUES);
-    assert!(rt; has_two_headers(records, 1));
+/// How many bytes of both in a row are read, and as how many records.
+fn read_of_both(alloc: Global) -> Option<(usize, usize)> {
+    let (batch, used) = decode(alloc, both(alloc)?).ok()?;
+    Some((used, count_of(&batch)))
 }
 
 #[test]
-fn a_client_is_understood(rt: HostRuntime) -> Result<(), Fail> {
+fn what_follows_stays(rt: HostRuntime) {
+    assert!(rt; read_of_both(rt.alloc()) == Some((70, 1)));
+}
+
+/// Why these bytes begin with no batch.
+fn fault_of(alloc: Global, bytes: &[u8]) -> Option<BatchFault> {
+    decode(alloc, Bytes::copy_from_slice(alloc, bytes).ok()?).err()
+}
+
+/// Puts bytes at places, where there are such places.
+fn put(bytes: &mut [u8], changes: &[(usize, u8)]) {
+    for (place, byte) in changes {
+        if let Some(old) = bytes.get_mut(*place) {
+            *old = *byte;
+        }
+    }
+}
+
+/// Why `ONE` with other bytes at some places begins with no batch.
+fn fault_with(alloc: Global, changes: &[(usize, u8)]) -> Option<BatchFault> {
+    let mut bytes = Vec::from_slice(alloc, ONE).ok()?;
+    put(bytes.as_mut_slice(), changes);
+    fault_of(alloc, &bytes)
+}
+
+#[test]
+fn changed_bytes(rt: HostRuntime) {
     let alloc = rt.alloc();
-    let start = (0, 0, 1_700_000_000_000);
-    reads_as(&rt, alloc, CLIENT_ONE, start, (-1, -1, -1), 1)?;
-    reads_as(&rt, alloc, CLIENT_FOUR, start, (4711, 3, 12), 4)?;
-    let batch = round_trip(&rt, alloc, CLIENT_FOUR)?;
-    four_are_understood(&rt, batch.records.list.as_slice());
-    Ok(())
+    assert!(rt; fault_of(alloc, &ONE[..69]) == Some(BatchFault::Short));
+    assert!(rt; fault_of(alloc, &ONE[..11]) == Some(BatchFault::Short));
+    assert!(rt; fault_with(alloc, &[(68, 0x77)]) == Some(BatchFault::Crc));
+    assert!(rt; fault_with(alloc, &[(68, 0x77), (11, 48)]) == Some(BatchFault::Length));
 }
 
-/// How many bytes of `ONE` and `TWO` in a row are read, and as how many records.
-fn read_of_both(alloc: Global) -> Result<(usize, usize), Fail> {
-    let mut bytes = Vec::from_slice(alloc, ONE)?;
-    bytes.extend_from_slice(TWO)?;
-    let (batch, used) = decode(alloc, Bytes::from_vec(bytes)?)?;
-    Ok((used, count_of(&batch)))
-}
-
-#[test]
-fn what_follows_stays(rt: HostRuntime) -> Result<(), Fail> {
-    assert_eq!(rt; read_of_both(rt.alloc())?, (70, 1));
-    Ok(())
-}
-
-fn fault_of(alloc: Global, bytes: &[u8]) -> Result<Option<BatchFault>, AllocError> {
-    let bytes = Bytes::copy_from_slice(alloc, bytes)?;
-    Ok(decode(alloc, bytes).err())
-}
-
-fn is_refused(
-    rt: &impl Abort,
-    alloc: Global,
-    bytes: &[u8],
-    want: BatchFault,
-) -> Result<(), AllocError> {
-    let fault = fault_of(alloc, bytes)?;
-    assert_eq!(rt; fault, Some(want));
-    Ok(())
-}
-
-#[test]
-fn changed_bytes(rt: HostRuntime) -> Result<(), Fail> {
-    let alloc = rt.alloc();
-    is_refused(&rt, alloc, &ONE[..69], BatchFault::Short)?;
-    is_refused(&rt, alloc, &ONE[..11], BatchFault::Short)?;
-    let mut bytes = Vec::from_slice(alloc, ONE)?;
-    bytes[68] = 0x77;
-    is_refused(&rt, alloc, &bytes, BatchFault::Crc)?;
-    bytes[11] = 48;
-    is_refused(&rt, alloc, &bytes, BatchFault::Length)?;
-    Ok(())
-}
-
-const REFUSED: [(&[u8], BatchFault); 12] = [
+static REFUSED: [(&[u8], BatchFault); 12] = [
     (SAME_DELTA, BatchFault::Record(1)),
     (LEFT_OVER, BatchFault::Record(1)),
     (MISSING, BatchFault::Record(2)),
@@ -354,23 +340,22 @@ const REFUSED: [(&[u8], BatchFault); 12] = [
     (LARGEST, BatchFault::Short),
 ];
 
-fn are_refused(
-    rt: &impl Abort,
-    alloc: Global,
-    rows: &[(&[u8], BatchFault)],
-) -> Result<(), AllocError> {
-    for (bytes, want) in rows {
-        is_refused(rt, alloc, bytes, *want)?;
+/// The number of the first row whose bytes are not refused so.
+fn first_wrong(alloc: Global, rows: &[(&[u8], BatchFault)]) -> Option<usize> {
+    for (k, row) in rows.iter().enumerate() {
+        if fault_of(alloc, row.0) != Some(row.1) {
+            return Some(k);
+        }
     }
-    Ok(())
+    None
 }
 
 #[test]
-fn refusals(rt: HostRuntime) -> Result<(), Fail> {
-    Ok(are_refused(&rt, rt.alloc(), &REFUSED)?)
+fn refusals(rt: HostRuntime) {
+    all_hold(&rt, first_wrong(rt.alloc(), &REFUSED));
 }
 
-const TEXTS: [(BatchFault, &str); 10] = [
+static TEXTS: [(BatchFault, &str); 10] = [
     (BatchFault::Short, "B1 Short"),
     (BatchFault::Length, "B2 Length"),
     (BatchFault::TooLarge, "B3 TooLarge"),
@@ -383,21 +368,26 @@ const TEXTS: [(BatchFault, &str); 10] = [
     (BatchFault::Memory, "B10 Memory"),
 ];
 
-fn are_shown_as(
-    rt: &impl Abort,
-    alloc: Global,
-    rows: &[(BatchFault, &str)],
-) -> Result<(), AllocError> {
-    for (fault, text) in rows {
-        let shown = format!(in alloc; "{fault}")?;
-        assert_eq!(rt; shown.as_str(), *text);
+fn is_shown_as(alloc: Global, fault: BatchFault, text: &str) -> bool {
+    match format!(in alloc; "{fault}") {
+        Ok(shown) => shown.as_str() == text,
+        Err(_) => false,
     }
-    Ok(())
+}
+
+/// The number of the first row whose fault is not shown so.
+fn first_other_text(alloc: Global, rows: &[(BatchFault, &str)]) -> Option<usize> {
+    for (k, row) in rows.iter().enumerate() {
+        if !is_shown_as(alloc, row.0, row.1) {
+            return Some(k);
+        }
+    }
+    None
 }
 
 #[test]
-fn texts(rt: HostRuntime) -> Result<(), Fail> {
-    Ok(are_shown_as(&rt, rt.alloc(), &TEXTS)?)
+fn texts(rt: HostRuntime) {
+    all_hold(&rt, first_other_text(rt.alloc(), &TEXTS));
 }
 
 fn fits_at(batch: &mut Batch, base_timestamp: i64) -> bool {
@@ -410,34 +400,42 @@ fn fits_without_records(batch: &mut Batch) -> bool {
     fits(batch)
 }
 
-#[test]
-fn without_records(rt: HostRuntime) -> Result<(), Fail> {
-    let mut batch = round_trip(&rt, rt.alloc(), ONE)?;
-    assert!(rt; !fits_at(&mut batch, -1));
-    assert!(rt; fits_at(&mut batch, (1 << 62) - 1));
-    assert!(rt; !fits_without_records(&mut batch));
-    Ok(())
+/// Whether `ONE` fits before the first timestamp, at the last one, and then without its record.
+fn fit(alloc: Global) -> Option<(bool, bool, bool)> {
+    let mut batch = round_trip(alloc, ONE)?;
+    let early = fits_at(&mut batch, -1);
+    let late = fits_at(&mut batch, (1 << 62) - 1);
+    Some((early, late, fits_without_records(&mut batch)))
 }
 
-fn a_share_is_written_as(rt: &impl Abort, alloc: Global, bytes: &'static [u8]) -> Result<(), Fail> {
-    let (batch, _) = decode(alloc, Bytes::from_static(bytes))?;
-    let shared = share(alloc, &batch)?;
-    Ok(is_written_as(rt, alloc, &shared, bytes)?)
+#[test]
+fn without_records(rt: HostRuntime) {
+    assert!(rt; fit(rt.alloc()) == Some((false, true, false)));
+}
+
+/// Whether a share of the batch of these bytes is written as them.
+fn is_shared(alloc: Global, bytes: &'static [u8]) -> Option<bool> {
+    let (batch, _) = decode(alloc, Bytes::from_static(bytes)).ok()?;
+    let shared = share(alloc, &batch).ok()?;
+    Some(is_written_as(alloc, &shared, bytes))
 }
 
 /// A share of a batch with another offset and epoch, which is gone then.
-fn share_of_changed(alloc: Global, bytes: &'static [u8]) -> Result<Batch, Fail> {
-    let (mut batch, _) = decode(alloc, Bytes::from_static(bytes))?;
+fn share_of_changed(alloc: Global, bytes: &'static [u8]) -> Option<Batch> {
+    let (mut batch, _) = decode(alloc, Bytes::from_static(bytes)).ok()?;
     batch.base_offset = 42;
     batch.leader_epoch = 9;
-    Ok(share(alloc, &batch)?)
+    share(alloc, &batch).ok()
+}
+
+/// Offset, epoch and number of records of a share.
+fn shared_numbers(alloc: Global, bytes: &'static [u8]) -> Option<(i64, i32, usize)> {
+    let shared = share_of_changed(alloc, bytes)?;
+    Some((shared.base_offset, shared.leader_epoch, count_of(&shared)))
 }
 
 #[test]
-fn another_owner(rt: HostRuntime) -> Result<(), Fail> {
-    a_share_is_written_as(&rt, rt.alloc(), CLIENT_FOUR)?;
-    let shared = share_of_changed(rt.alloc(), CLIENT_FOUR)?;
-    assert_eq!(rt; (shared.base_offset, shared.leader_epoch), (42, 9));
-    assert_eq!(rt; count_of(&shared), 4);
-    Ok(())
+fn another_owner(rt: HostRuntime) {
+    assert!(rt; is_shared(rt.alloc(), CLIENT_FOUR) == Some(true));
+    assert!(rt; shared_numbers(rt.alloc(), CLIENT_FOUR) == Some((42, 9, 4)));
 }

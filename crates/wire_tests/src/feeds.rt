@@ -1,9 +1,9 @@
 //! Batches of a stream that is cut anywhere.
 
 use crate::batches::{CLIENT_FOUR, ONE, TWO};
+use crate::verdicts::all_hold;
 use batch::{Batch, BatchFault, Feed, encode, fits};
 use std::alloc::{AllocError, Global};
-use std::process::Abort;
 use std::test::*;
 
 /// A stream, the batches that it gave, written one after the other, and why there is no further one.
@@ -78,107 +78,130 @@ impl Stream {
         self.feed.feed(third)?;
         self.drain(alloc)
     }
-}
 
-/// The bytes of three batches.
-fn three(alloc: Global) -> Result<Vec<u8>, AllocError> {
-    let mut bytes = Vec::from_slice(alloc, ONE)?;
-    bytes.extend_from_slice(CLIENT_FOUR)?;
-    bytes.extend_from_slice(TWO)?;
-    Ok(bytes)
-}
-
-fn are_given(rt: &impl Abort, alloc: Global, bytes: &[u8]) -> Result<(), AllocError> {
-    for size in 1..=bytes.len() {
-        let mut stream = Stream::new(alloc);
-        stream.take(alloc, bytes, size)?;
-        assert_eq!(rt; stream.written.as_slice(), bytes);
+    /// Whether it gave these batches and then met this fault.
+    fn is(&self, bytes: &[u8], fault: Option<BatchFault>) -> bool {
+        self.written.as_slice() == bytes && self.fault == fault
     }
-    Ok(())
 }
 
-#[test]
-fn pieces_of_any_size(rt: HostRuntime) -> Result<(), Fail> {
-    let bytes = three(rt.alloc())?;
-    are_given(&rt, rt.alloc(), &bytes)?;
-    Ok(())
+/// These bytes one after the other.
+fn joined(alloc: Global, parts: &[&[u8]]) -> Option<Vec<u8>> {
+    let mut bytes = Vec::new(alloc);
+    for part in parts {
+        bytes.extend_from_slice(part).ok()?;
+    }
+    Some(bytes)
 }
 
-/// The bytes are given where they are cut there and after so many more.
-fn is_given_at(
-    rt: &impl Abort,
-    alloc: Global,
-    bytes: &[u8],
-    cut: usize,
-    second: usize,
-) -> Result<(), AllocError> {
+static THREE: [&[u8]; 3] = [ONE, CLIENT_FOUR, TWO];
+
+/// Whether the bytes are given where they come in pieces of this size.
+fn is_given(alloc: Global, bytes: &[u8], size: usize) -> bool {
     let mut stream = Stream::new(alloc);
-    stream.take_parts(alloc, bytes, cut, second)?;
-    assert_eq!(rt; stream.written.as_slice(), bytes);
-    Ok(())
+    stream.take(alloc, bytes, size).is_ok() && stream.is(bytes, None)
 }
 
-fn are_given_at_cuts(rt: &impl Abort, alloc: Global, bytes: &[u8]) -> Result<(), AllocError> {
-    for cut in 0..=bytes.len() {
-        is_given_at(rt, alloc, bytes, cut, 1)?;
-        is_given_at(rt, alloc, bytes, cut, 75)?;
+fn are_given(alloc: Global, bytes: &[u8]) -> bool {
+    for size in 1..=bytes.len() {
+        if !is_given(alloc, bytes, size) {
+            return false;
+        }
     }
-    Ok(())
+    true
+}
+
+fn three_are_given(alloc: Global) -> bool {
+    match joined(alloc, &THREE) {
+        Some(bytes) => are_given(alloc, &bytes),
+        None => false,
+    }
 }
 
 #[test]
-fn parts_that_are_fed_at_once(rt: HostRuntime) -> Result<(), Fail> {
-    let bytes = three(rt.alloc())?;
-    are_given_at_cuts(&rt, rt.alloc(), &bytes)?;
-    Ok(())
+fn pieces_of_any_size(rt: HostRuntime) {
+    assert!(rt; three_are_given(rt.alloc()));
+}
+
+/// Whether the bytes are given where they are cut there and after so many more.
+fn is_given_at(alloc: Global, bytes: &[u8], cut: usize, second: usize) -> bool {
+    let mut stream = Stream::new(alloc);
+    stream.take_parts(alloc, bytes, cut, second).is_ok() && stream.is(bytes, None)
+}
+
+fn are_given_at_cuts(alloc: Global, bytes: &[u8]) -> bool {
+    for cut in 0..=bytes.len() {
+        if !is_given_at(alloc, bytes, cut, 1) || !is_given_at(alloc, bytes, cut, 75) {
+            return false;
+        }
+    }
+    true
+}
+
+fn three_are_given_at_cuts(alloc: Global) -> bool {
+    match joined(alloc, &THREE) {
+        Some(bytes) => are_given_at_cuts(alloc, &bytes),
+        None => false,
+    }
+}
+
+#[test]
+fn parts_that_are_fed_at_once(rt: HostRuntime) {
+    assert!(rt; three_are_given_at_cuts(rt.alloc()));
 }
 
 /// Whether a byte more gives a batch.
-fn gives(feed: &mut Feed, piece: &[u8]) -> Result<bool, AllocError> {
-    feed.feed(piece)?;
-    Ok(matches!(feed.next(), Ok(Some(_))))
+fn gives(feed: &mut Feed, piece: &[u8]) -> bool {
+    feed.feed(piece).is_ok() && matches!(feed.next(), Ok(Some(_)))
 }
 
-/// After which byte of a stream each batch is given.
-fn ends_of_batches(alloc: Global, bytes: &[u8]) -> Result<Vec<usize>, AllocError> {
+/// After which byte of a stream each of two batches is given. None where another number of batches is.
+fn ends_of_two(alloc: Global, bytes: &[u8]) -> Option<(usize, usize)> {
     let mut feed = Feed::new(alloc);
-    let mut ends = Vec::new(alloc);
+    let mut ends = (0, 0);
+    let mut count = 0usize;
     for (index, piece) in bytes.chunks(1).enumerate() {
-        if gives(&mut feed, piece)? {
-            ends.push(index.wrapping_add(1))?;
+        if gives(&mut feed, piece) {
+            ends = (ends.1, index.wrapping_add(1));
+            count = count.wrapping_add(1);
         }
     }
-    Ok(ends)
+    if count == 2 { Some(ends) } else { None }
 }
 
-#[test]
-fn byte_by_byte(rt: HostRuntime) -> Result<(), Fail> {
-    let mut bytes = Vec::from_slice(rt.alloc(), ONE)?;
-    bytes.extend_from_slice(ONE)?;
-    let ends = ends_of_batches(rt.alloc(), &bytes)?;
-    assert_eq!(rt; ends.as_slice(), [70, 140].as_slice());
-    Ok(())
-}
-
-/// What a stream is refused with after each piece.
-fn faults_of(alloc: Global, pieces: &[&[u8]]) -> Result<Vec<Option<BatchFault>>, AllocError> {
-    let mut stream = Stream::new(alloc);
-    let mut faults = Vec::new(alloc);
-    for piece in pieces {
-        stream.take(alloc, piece, usize::MAX)?;
-        faults.push(stream.fault)?;
+fn ends_are(alloc: Global, want: (usize, usize)) -> bool {
+    match joined(alloc, &[ONE, ONE]) {
+        Some(bytes) => ends_of_two(alloc, &bytes) == Some(want),
+        None => false,
     }
-    Ok(faults)
 }
 
 #[test]
-fn a_length_is_refused_at_once(rt: HostRuntime) -> Result<(), Fail> {
-    let front: &[u8] = &[0, 0, 0, 0, 0, 0, 0, 0, 0, 0, 0, 48];
-    let pieces: &[&[u8]] = &[&front[..11], &front[11..], ONE];
-    let faults = faults_of(rt.alloc(), pieces)?;
-    let refused = Some(BatchFault::Length);
-    assert_eq!(rt; faults.as_slice(), [None, refused, refused].as_slice());
-    Ok(())
+fn byte_by_byte(rt: HostRuntime) {
+    assert!(rt; ends_are(rt.alloc(), (70, 140)));
+}
+
+/// The number of the first piece after which a stream is refused in another way than with it in its row.
+fn first_other(alloc: Global, rows: &[(&[u8], Option<BatchFault>)]) -> Option<usize> {
+    let mut stream = Stream::new(alloc);
+    for (k, row) in rows.iter().enumerate() {
+        if stream.take(alloc, row.0, usize::MAX).is_err() || stream.fault != row.1 {
+            return Some(k);
+        }
+    }
+    None
+}
+
+/// The first bytes of a batch with a length that is refused, in two pieces, and a batch.
+static REFUSED: [(&[u8], Option<BatchFault>); 3] = [
+    (&[0, 0, 0, 0, 0, 0, 0, 0, 0, 0, 0], None),
+    (&[48], Some(BatchFault::Length)),
+    (ONE, Some(BatchFault::Length)),
+];
+
+#[test]
+fn a_length_is_refused_at_once(rt: HostRuntime) {
+    all_hold(&rt, first_other(rt.alloc(), &REFUSED));
 }
 
 /// Damaged bytes of the second of three batches, with its refusal. The places are from 0.
@@ -192,52 +215,53 @@ const DAMAGE: &[(usize, u8, BatchFault)] = &[
     (69, 1, BatchFault::Crc),
 ];
 
-/// A batch, a damaged one and another one.
-fn damaged(alloc: Global, at: usize, byte: u8) -> Result<Vec<u8>, AllocError> {
-    let mut bytes = Vec::from_slice(alloc, TWO)?;
-    let start = bytes.len();
-    bytes.extend_from_slice(ONE)?;
-    if let Some(place) = bytes.get_mut(at.saturating_add(start)) {
-        *place = byte;
+/// Puts a byte at a place, where there is such a place.
+fn put_byte(bytes: &mut [u8], place: usize, byte: u8) {
+    if let Some(old) = bytes.get_mut(place) {
+        *old = byte;
     }
-    bytes.extend_from_slice(ONE)?;
-    Ok(bytes)
 }
 
-/// A stream gives the batch before the damage, and the fault twice.
-fn is_refused(
-    rt: &impl Abort,
-    alloc: Global,
-    bytes: &[u8],
-    size: usize,
-    fault: BatchFault,
-) -> Result<(), AllocError> {
+/// A batch, one that is damaged at a place, and another one.
+fn damaged(alloc: Global, at: usize, byte: u8) -> Option<Vec<u8>> {
+    let mut bytes = joined(alloc, &[TWO, ONE, ONE])?;
+    put_byte(bytes.as_mut_slice(), at.saturating_add(TWO.len()), byte);
+    Some(bytes)
+}
+
+/// Whether a stream gives the batch before the damage, and the fault twice.
+fn is_refused(alloc: Global, bytes: &[u8], size: usize, fault: BatchFault) -> bool {
     let mut stream = Stream::new(alloc);
-    stream.take(alloc, bytes, size)?;
-    assert_eq!(rt; stream.written.as_slice(), TWO);
-    assert_eq!(rt; stream.fault, Some(fault));
-    stream.drain(alloc)?;
-    assert_eq!(rt; stream.written.as_slice(), TWO);
-    assert_eq!(rt; stream.fault, Some(fault));
-    Ok(())
+    stream.take(alloc, bytes, size).is_ok()
+        && stream.is(TWO, Some(fault))
+        && stream.drain(alloc).is_ok()
+        && stream.is(TWO, Some(fault))
 }
 
-fn are_refused(
-    rt: &impl Abort,
-    alloc: Global,
-    rows: &[(usize, u8, BatchFault)],
-) -> Result<(), AllocError> {
-    for (at, byte, fault) in rows {
-        let bytes = damaged(alloc, *at, *byte)?;
-        for size in [1, 7, 64, 300] {
-            is_refused(rt, alloc, &bytes, size, *fault)?;
+/// The same where the bytes come in pieces of some sizes.
+fn is_refused_in_pieces(alloc: Global, bytes: &[u8], sizes: &[usize], fault: BatchFault) -> bool {
+    for size in sizes {
+        if !is_refused(alloc, bytes, *size, fault) {
+            return false;
         }
     }
-    Ok(())
+    true
+}
+
+/// The number of the first row whose damage does not end the stream.
+fn first_wrong(alloc: Global, rows: &[(usize, u8, BatchFault)]) -> Option<usize> {
+    for (k, row) in rows.iter().enumerate() {
+        let Some(bytes) = damaged(alloc, row.0, row.1) else {
+            return Some(k);
+        };
+        if !is_refused_in_pieces(alloc, &bytes, &[1, 7, 64, 300], row.2) {
+            return Some(k);
+        }
+    }
+    None
 }
 
 #[test]
-fn damage_ends_the_stream(rt: HostRuntime) -> Result<(), Fail> {
-    are_refused(&rt, rt.alloc(), DAMAGE)?;
-    Ok(())
+fn damage_ends_the_stream(rt: HostRuntime) {
+    all_hold(&rt, first_wrong(rt.alloc(), DAMAGE));
 }

@@ -13,3 +13,5 @@ mod records;
 mod values;
 #[cfg(test)]
 mod varints;
+#[cfg(test)]
+mod verdicts;

@@ -1,47 +1,40 @@
+use crate::verdicts::all_hold;
 use bytes::Bytes;
 use kafka_record::{Header, Headers, Record, RecordFault, fits, read, share, size, write};
-use std::alloc::{AllocError, Global};
-use std::process::Abort;
+use std::alloc::Global;
 use std::test::*;
 
-/// A byte 9, and behind it the record as it is written.
-fn written(alloc: Global, record: &Record, delta: i32) -> Result<Vec<u8>, Fail> {
-    let mut out = Vec::new(alloc);
-    out.push(9)?;
+/// A byte 9, and behind it the record as it is written. None where it does not fit.
+fn written(alloc: Global, record: &Record, delta: i32) -> Option<Vec<u8>> {
     if !fits(record) {
-        Err("the record fits")?
+        return None;
     }
-    write(record, delta, &mut out)?;
-    Ok(out)
+    let mut out = Vec::new(alloc);
+    out.push(9).ok()?;
+    write(record, delta, &mut out).ok()?;
+    Some(out)
 }
 
-/// The record is written as these bytes, behind what was there.
-fn is_written_as(
-    rt: &impl Abort,
-    alloc: Global,
-    record: &Record,
-    delta: i32,
-    bytes: &[u8],
-) -> Result<(), Fail> {
-    assert!(rt; fits(record));
-    assert_eq!(rt; size(record, delta), bytes.len());
-    let out = written(alloc, record, delta)?;
-    assert_eq!(rt; out.len(), bytes.len() + 1);
-    assert_eq!(rt; &out[1..], bytes);
-    Ok(())
+fn has_size(record: &Record, delta: i32, count: usize) -> bool {
+    fits(record) && size(record, delta) == count
 }
 
-/// Reads a record and writes it again.
-fn round_trip(
-    rt: &impl Abort,
-    alloc: Global,
-    bytes: &'static [u8],
-    delta: i32,
-) -> Result<Record, Fail> {
-    let (record, used) = read(alloc, &Bytes::from_static(bytes), 0, delta)?;
-    assert_eq!(rt; used, bytes.len());
-    is_written_as(rt, alloc, &record, delta, bytes)?;
-    Ok(record)
+/// Whether the record is written as these bytes, behind what was there.
+fn is_written_as(alloc: Global, record: &Record, delta: i32, bytes: &[u8]) -> bool {
+    match written(alloc, record, delta) {
+        Some(out) => has_size(record, delta, bytes.len()) && out.get(1..) == Some(bytes),
+        None => false,
+    }
+}
+
+/// The record of all these bytes. None where there is none, or it is not written as them again.
+fn round_trip(alloc: Global, bytes: &'static [u8], delta: i32) -> Option<Record> {
+    let (record, used) = read(alloc, &Bytes::from_static(bytes), 0, delta).ok()?;
+    if used == bytes.len() && is_written_as(alloc, &record, delta, bytes) {
+        Some(record)
+    } else {
+        None
+    }
 }
 
 fn is_bad(alloc: Global, bytes: &'static [u8], at: usize, delta: i32) -> bool {
@@ -72,56 +65,54 @@ fn is_one_header(headers: &Headers, value: Option<&[u8]>) -> bool {
     }
 }
 
-/// The bytes are read as a record of these, with no headers.
-fn reads_as(
-    rt: &impl Abort,
+/// Whether the bytes are read as a record of these, with no headers.
+fn is_read_as(
     alloc: Global,
     bytes: &'static [u8],
     key: Option<&[u8]>,
     value: Option<&[u8]>,
-) -> Result<(), Fail> {
-    let record = round_trip(rt, alloc, bytes, 0)?;
-    assert!(rt; is_of(&record, 0, key, value));
-    assert!(rt; record.headers.list.is_empty());
-    Ok(())
+) -> bool {
+    match round_trip(alloc, bytes, 0) {
+        Some(record) => is_of(&record, 0, key, value) && record.headers.list.is_empty(),
+        None => false,
+    }
+}
+
+const KEY_AND_VALUE: &[u8] = &[0x10, 0, 0, 0, 0x02, 0x6b, 0x02, 0x76, 0];
+
+#[test]
+fn a_key_and_a_value(rt: HostRuntime) {
+    assert!(rt; is_read_as(rt.alloc(), KEY_AND_VALUE, Some(b"k"), Some(b"v")));
+}
+
+const LATER: &[u8] = &[0x10, 0, 0, 2, 0x02, 0x6b, 0x02, 0x76, 0];
+
+#[test]
+fn an_offset_delta(rt: HostRuntime) {
+    assert!(rt; round_trip(rt.alloc(), LATER, 1).is_some());
+    assert!(rt; is_bad(rt.alloc(), LATER, 0, 0));
+}
+
+/// A null key and an empty value.
+const NULL_KEY: &[u8] = &[0x0c, 0, 0, 0, 0x01, 0, 0];
+
+/// A null key, a null value and one header with a null value.
+const NULLS: &[u8] = &[0x12, 0, 0, 0, 0x01, 0x01, 0x02, 0x02, 0x68, 0x01];
+
+fn nulls_are_read(alloc: Global) -> bool {
+    match round_trip(alloc, NULLS, 0) {
+        Some(record) => is_of(&record, 0, None, None) && is_one_header(&record.headers, None),
+        None => false,
+    }
 }
 
 #[test]
-fn a_key_and_a_value(rt: HostRuntime) -> Result<(), Fail> {
-    let bytes = &[0x10, 0, 0, 0, 0x02, 0x6b, 0x02, 0x76, 0];
-    reads_as(&rt, rt.alloc(), bytes, Some(b"k"), Some(b"v"))
+fn nulls(rt: HostRuntime) {
+    assert!(rt; is_read_as(rt.alloc(), NULL_KEY, None, Some(b"")));
+    assert!(rt; nulls_are_read(rt.alloc()));
 }
 
-#[test]
-fn an_offset_delta(rt: HostRuntime) -> Result<(), Fail> {
-    let bytes: &'static [u8] = &[0x10, 0, 0, 2, 0x02, 0x6b, 0x02, 0x76, 0];
-    let _ = round_trip(&rt, rt.alloc(), bytes, 1)?;
-    assert!(rt; is_bad(rt.alloc(), bytes, 0, 0));
-    Ok(())
-}
-
-/// Bytes of a record with null key, null value and one header with a null value.
-fn nulls_are_read(rt: &impl Abort, alloc: Global) -> Result<(), Fail> {
-    let bytes = &[0x12, 0, 0, 0, 0x01, 0x01, 0x02, 0x02, 0x68, 0x01];
-    let record = round_trip(rt, alloc, bytes, 0)?;
-    assert!(rt; is_of(&record, 0, None, None));
-    assert!(rt; is_one_header(&record.headers, None));
-    Ok(())
-}
-
-#[test]
-fn nulls(rt: HostRuntime) -> Result<(), Fail> {
-    reads_as(
-        &rt,
-        rt.alloc(),
-        &[0x0c, 0, 0, 0, 0x01, 0, 0],
-        None,
-        Some(b""),
-    )?;
-    nulls_are_read(&rt, rt.alloc())
-}
-
-const REFUSED: [&[u8]; 8] = [
+static REFUSED: [&[u8]; 8] = [
     // nothing, and a record cut short
     &[],
     &[0x10, 0, 0, 0, 0x02, 0x6b, 0x02, 0x76],
@@ -137,57 +128,64 @@ const REFUSED: [&[u8]; 8] = [
     &[0x12, 0, 0, 0, 0x01, 0x01, 0x02, 0x02, 0xff, 0x01],
 ];
 
-fn are_bad(rt: &impl Abort, alloc: Global, rows: &[&'static [u8]]) {
-    for bytes in rows {
-        assert!(rt; is_bad(alloc, bytes, 0, 0), "at {bytes:?}");
+/// The number of the first row that is not refused.
+fn first_taken(alloc: Global, rows: &[&'static [u8]]) -> Option<usize> {
+    for (k, bytes) in rows.iter().enumerate() {
+        if !is_bad(alloc, bytes, 0, 0) {
+            return Some(k);
+        }
     }
+    None
 }
 
 #[test]
 fn refusals(rt: HostRuntime) {
-    are_bad(&rt, rt.alloc(), &REFUSED);
+    all_hold(&rt, first_taken(rt.alloc(), &REFUSED));
 }
 
 const ENDS: [usize; 3] = [0, 1, usize::MAX];
 
-fn are_past_the_end(rt: &impl Abort, alloc: Global, places: &[usize]) {
+fn are_past_the_end(alloc: Global, places: &[usize]) -> bool {
     for at in places {
-        assert!(rt; is_bad(alloc, &[], *at, 0), "at {at}");
+        if !is_bad(alloc, &[], *at, 0) {
+            return false;
+        }
     }
+    true
 }
 
 /// Past the end of the bytes no record begins.
 #[test]
 fn past_the_end(rt: HostRuntime) {
-    are_past_the_end(&rt, rt.alloc(), &ENDS);
+    assert!(rt; are_past_the_end(rt.alloc(), &ENDS));
 }
 
 /// The bytes of a record without key and value, whose headers have keys of no bytes and null values.
-fn with_headers(alloc: Global, count: usize, start: &[u8]) -> Result<Vec<u8>, AllocError> {
-    let mut bytes = Vec::from_slice(alloc, start)?;
+fn with_headers(alloc: Global, count: usize, start: &[u8]) -> Option<Vec<u8>> {
+    let mut bytes = Vec::from_slice(alloc, start).ok()?;
     for _ in 0..count {
-        bytes.extend_from_slice(&[0, 0x01])?;
+        bytes.extend_from_slice(&[0, 0x01]).ok()?;
     }
-    Ok(bytes)
+    Some(bytes)
 }
 
 /// Whether a record with `count` headers is read.
-fn is_read(alloc: Global, count: usize, start: &[u8]) -> Result<bool, AllocError> {
-    let bytes = Bytes::from_vec(with_headers(alloc, count, start)?)?;
-    Ok(read(alloc, &bytes, 0, 0).is_ok())
+fn is_read(alloc: Global, count: usize, start: &[u8]) -> Option<bool> {
+    let bytes = Bytes::from_vec(with_headers(alloc, count, start)?).ok()?;
+    Some(read(alloc, &bytes, 0, 0).is_ok())
 }
 
 #[test]
-fn at_most_sixteen_headers(rt: HostRuntime) -> Result<(), Fail> {
+fn at_most_sixteen_headers(rt: HostRuntime) {
     let alloc = rt.alloc();
-    assert!(rt; is_read(alloc, 16, &[0x4c, 0, 0, 0, 0x01, 0x01, 0x20])?);
-    assert!(rt; !is_read(alloc, 17, &[0x50, 0, 0, 0, 0x01, 0x01, 0x22])?);
-    Ok(())
+    assert!(rt; is_read(alloc, 16, &[0x4c, 0, 0, 0, 0x01, 0x01, 0x20]) == Some(true));
+    assert!(rt; is_read(alloc, 17, &[0x50, 0, 0, 0, 0x01, 0x01, 0x22]) == Some(false));
 }
 
 /// Whether a record with a key of this length and a null value fits.
-fn key_fits(alloc: Global, length: usize) -> Result<bool, AllocError> {
-    let key = Bytes::from_vec(vec![in alloc; 7; length]?)?;
+fn key_fits(alloc: Global, length: usize) -> Option<bool> {
+    let bytes = vec![in alloc; 7; length].ok()?;
+    let key = Bytes::from_vec(bytes).ok()?;
     let record = Record {
         timestamp_delta: 0,
         key: Some(key),
@@ -196,37 +194,47 @@ fn key_fits(alloc: Global, length: usize) -> Result<bool, AllocError> {
             list: Vec::new(alloc),
         },
     };
-    Ok(fits(&record))
+    Some(fits(&record))
 }
 
 #[test]
-fn limits(rt: HostRuntime) -> Result<(), Fail> {
-    assert!(rt; key_fits(rt.alloc(), 4096)?);
-    assert!(rt; !key_fits(rt.alloc(), 4097)?);
-    Ok(())
+fn limits(rt: HostRuntime) {
+    assert!(rt; key_fits(rt.alloc(), 4096) == Some(true));
+    assert!(rt; key_fits(rt.alloc(), 4097) == Some(false));
 }
 
-/// A share of a record that is gone.
-fn share_of_gone(alloc: Global) -> Result<Record, AllocError> {
-    let mut given = Record {
+/// A record of the key `key`, a null value and no headers.
+fn bare(alloc: Global) -> Option<Record> {
+    Some(Record {
         timestamp_delta: -7,
-        key: Some(Bytes::copy_from_slice(alloc, b"key")?),
+        key: Some(Bytes::copy_from_slice(alloc, b"key").ok()?),
         value: None,
         headers: Headers {
             list: Vec::new(alloc),
         },
-    };
-    given.headers.list.push(Header {
+    })
+}
+
+/// A share of a record that is gone.
+fn share_of_gone(alloc: Global) -> Option<Record> {
+    let mut given = bare(alloc)?;
+    let header = Header {
         key: Bytes::from_static(b"h"),
         value: Some(Bytes::from_static(b"x")),
-    })?;
-    share(alloc, &given)
+    };
+    given.headers.list.push(header).ok()?;
+    share(alloc, &given).ok()
+}
+
+fn is_shared(alloc: Global) -> bool {
+    match share_of_gone(alloc) {
+        Some(shared) => is_of(&shared, -7, Some(b"key"), None)
+            && is_one_header(&shared.headers, Some(b"x")),
+        None => false,
+    }
 }
 
 #[test]
-fn another_owner(rt: HostRuntime) -> Result<(), Fail> {
-    let shared = share_of_gone(rt.alloc())?;
-    assert!(rt; is_of(&shared, -7, Some(b"key"), None));
-    assert!(rt; is_one_header(&shared.headers, Some(b"x")));
-    Ok(())
+fn another_owner(rt: HostRuntime) {
+    assert!(rt; is_shared(rt.alloc()));
 }

@@ -1,8 +1,8 @@
+use crate::verdicts::all_hold;
 use batch::{Batch, BatchFault, Headers, Records, decode, encode, fits};
 use bytes::Bytes;
 use kafka_record::Record;
 use std::alloc::{AllocError, Global};
-use std::process::Abort;
 use std::test::*;
 
 /// One record without a key, with a value of this many bytes.
@@ -33,40 +33,56 @@ fn batch_with(alloc: Global, length: usize) -> Result<Batch, AllocError> {
 }
 
 /// The bytes of that batch, if it fits.
-fn bytes_with(alloc: Global, length: usize) -> Result<Vec<u8>, Fail> {
-    let batch = batch_with(alloc, length)?;
-    if !fits(&batch) {
-        Err("the batch fits")?
+fn bytes_with(alloc: Global, length: usize) -> Option<Vec<u8>> {
+    let batch = batch_with(alloc, length).ok()?;
+    if fits(&batch) {
+        encode(alloc, &batch).ok()
+    } else {
+        None
     }
-    Ok(encode(alloc, &batch)?)
 }
 
 /// How many bytes are read as a batch, or the refusal.
-fn read_of(alloc: Global, bytes: &[u8]) -> Result<Result<usize, BatchFault>, AllocError> {
-    let bytes = Bytes::copy_from_slice(alloc, bytes)?;
-    Ok(match decode(alloc, bytes) {
+fn read_of(alloc: Global, bytes: &[u8]) -> Result<usize, BatchFault> {
+    let Ok(bytes) = Bytes::copy_from_slice(alloc, bytes) else {
+        return Err(BatchFault::Memory);
+    };
+    match decode(alloc, bytes) {
         Ok((_, used)) => Ok(used),
         Err(fault) => Err(fault),
-    })
+    }
 }
 
 /// The value's length, and how many bytes a batch of it has.
-const SIZES: [(usize, usize); 3] = [(65_536, 65_608), (65_537, 65_609), (1_048_576, 1_048_650)];
+static SIZES: [(usize, usize); 3] = [(65_536, 65_608), (65_537, 65_609), (1_048_576, 1_048_650)];
 
-fn is_read(rt: &impl Abort, alloc: Global, length: usize, size: usize) -> Result<(), Fail> {
-    let bytes = bytes_with(alloc, length)?;
-    assert_eq!(rt; bytes.len(), size);
-    assert_eq!(rt; read_of(alloc, &bytes)?, Ok(size));
-    Ok(())
+fn is_read(alloc: Global, length: usize, size: usize) -> bool {
+    match bytes_with(alloc, length) {
+        Some(bytes) => bytes.len() == size && read_of(alloc, &bytes) == Ok(size),
+        None => false,
+    }
+}
+
+/// The number of the first row whose value is not read so.
+fn first_wrong(alloc: Global, rows: &[(usize, usize)]) -> Option<usize> {
+    for (k, row) in rows.iter().enumerate() {
+        if !is_read(alloc, row.0, row.1) {
+            return Some(k);
+        }
+    }
+    None
+}
+
+/// Whether a batch with a value of this length fits.
+fn value_fits(alloc: Global, length: usize) -> Option<bool> {
+    let batch = batch_with(alloc, length).ok()?;
+    Some(fits(&batch))
 }
 
 #[test]
-fn values_up_to_the_limit(rt: HostRuntime) -> Result<(), Fail> {
-    for (length, size) in SIZES {
-        is_read(&rt, rt.alloc(), length, size)?;
-    }
-    assert!(rt; !fits(&batch_with(rt.alloc(), 1_048_577)?));
-    Ok(())
+fn values_up_to_the_limit(rt: HostRuntime) {
+    all_hold(&rt, first_wrong(rt.alloc(), &SIZES));
+    assert!(rt; value_fits(rt.alloc(), 1_048_577) == Some(false));
 }
 
 /// The bytes at the places that hold the lowest seven bits of a length, and of batchLength's lowest
@@ -88,17 +104,22 @@ fn seal(bytes: &mut [u8]) {
 }
 
 /// The bytes of the batch with the longest value, whose value has one byte more.
-fn one_too_long(alloc: Global) -> Result<Vec<u8>, Fail> {
+fn one_too_long(alloc: Global) -> Option<Vec<u8>> {
     let mut bytes = bytes_with(alloc, 1_048_576)?;
-    bytes.push(0)?;
+    bytes.push(0).ok()?;
     lengthen(&mut bytes);
     seal(&mut bytes);
-    Ok(bytes)
+    Some(bytes)
+}
+
+fn is_refused(alloc: Global) -> bool {
+    match one_too_long(alloc) {
+        Some(bytes) => read_of(alloc, &bytes) == Err(BatchFault::Record(0)),
+        None => false,
+    }
 }
 
 #[test]
-fn a_value_past_the_limit(rt: HostRuntime) -> Result<(), Fail> {
-    let bytes = one_too_long(rt.alloc())?;
-    assert_eq!(rt; read_of(rt.alloc(), &bytes)?, Err(BatchFault::Record(0)));
-    Ok(())
+fn a_value_past_the_limit(rt: HostRuntime) {
+    assert!(rt; is_refused(rt.alloc()));
 }
