@@ -85,6 +85,16 @@ pub fn ends<Id: Names + Send + Sync, C: Send, R: Threads + Wait + Sync, G: Gate 
     }
 }
 
+/// Whether each worker came to its end.
+fn are_done(ended: &[Ended]) -> bool {
+    for end in ended {
+        if !matches!(end, Ended::Done(_)) {
+            return false;
+        }
+    }
+    true
+}
+
 /// Runs workers over what the logs have now; whether each came to its end.
 pub fn drain<Id: Names + Send + Sync, C: Send, R: Threads + Wait + Sync>(
     rt: &R,
@@ -92,7 +102,7 @@ pub fn drain<Id: Names + Send + Sync, C: Send, R: Threads + Wait + Sync>(
     broker: &Broker<Id, C>,
 ) -> bool {
     match broker.start(rt, alloc, Until::Drained, &Open) {
-        Ok(ended) => ended.iter().all(|end| matches!(end, Ended::Done(_))),
+        Ok(ended) => are_done(&ended),
         Err(_) => false,
     }
 }

@@ -35,6 +35,8 @@ mod streams;
 #[cfg(test)]
 mod threads;
 #[cfg(test)]
+mod verdicts;
+#[cfg(test)]
 mod waits;
 #[cfg(test)]
 mod workers;

@@ -1,10 +1,9 @@
 use crate::scripts::BEGIN;
-use crate::shelf::{BATCHES, answers, empty_shelf, script_answers};
-use commands::Files;
+use crate::shelf::{BATCHES, answers, script_answers, shelf_of};
+use crate::verdicts::all_hold;
 use std::alloc::Global;
-use std::process::Abort;
 use std::sync::Wait;
-use std::test::Fail;
+use std::test::*;
 use std::thread::Threads;
 
 /// A batch of one record: key `k`, value `v`, timestamp 0.
@@ -26,14 +25,22 @@ const APPENDED: &str = "load fwd version 1\ndeploy 0 index 0 fwd version 1\n\
         row 0 0 5 0 0 6b 76 0\n\
         out 0 in 0 done 4 rows 6\nin 0 items 4 records 6 unprogrammed 0 kept 6\n";
 
-#[test]
-fn appends_batches(rt: HostRuntime) -> Result<(), Fail> {
-    let alloc = rt.alloc();
+fn are_appended<R: Threads + Wait + Sync>(rt: &R, alloc: Global) -> bool {
     let script = format!(in alloc;
         "{BEGIN}deploy 0 fwd\nappend 0 batches.bin\nappend 0 hex:{ONE}\ngo\n"
-    )?;
-    let want = (0, APPENDED, "");
-    script_answers(&rt, alloc, &["run", "stdin"], script.as_str(), want)
+    );
+    match script {
+        Ok(script) => {
+            let want = (0, APPENDED, "");
+            script_answers(rt, alloc, &["run", "stdin"], script.as_str(), want)
+        }
+        Err(_) => false,
+    }
+}
+
+#[test]
+fn appends_batches(rt: HostRuntime) {
+    assert!(rt; are_appended(&rt, rt.alloc()));
 }
 
 /// `ONE` without its last byte.
@@ -46,7 +53,7 @@ const FIRST: &str = "append 0 index 0 base 0\n";
 /// How many cells the log has, a line in three parts, the status, and what is printed on both outputs.
 type Line = (usize, [&'static str; 3], u8, &'static str, &'static str);
 
-const LINES: [Line; 11] = [
+static LINES: [Line; 11] = [
     (8, ["append 0 hex:", "", ""], 0, "", ""),
     (
         8,
@@ -108,36 +115,42 @@ const LINES: [Line; 11] = [
     (8, ["append 0", "", ""], 1, "", "line 2: S1 Syntax\n"),
 ];
 
-/// A script whose second line this is has its answer.
-fn line_answers<R: Threads + Wait + Abort + Sync>(
+/// Whether a script whose second line this is has its answer.
+fn line_answers<R: Threads + Wait + Sync>(rt: &R, alloc: Global, row: &Line) -> bool {
+    let (cells, [call, first, second], status, out, err) = *row;
+    match format!(in alloc; "partitions 1 1 {cells}\n{call}{first}{second}\n") {
+        Ok(script) => {
+            let want = (status, out, err);
+            script_answers(rt, alloc, &["run", "script"], script.as_str(), want)
+        }
+        Err(_) => false,
+    }
+}
+
+/// The number of the first line with another answer.
+fn first_other_line<R: Threads + Wait + Sync>(
     rt: &R,
     alloc: Global,
-    row: &Line,
-) -> Result<(), Fail> {
-    let (cells, [call, first, second], status, out, err) = *row;
-    let script = format!(in alloc; "partitions 1 1 {cells}\n{call}{first}{second}\n")?;
-    script_answers(
-        rt,
-        alloc,
-        &["run", "script"],
-        script.as_str(),
-        (status, out, err),
-    )
+    rows: &[Line],
+) -> Option<usize> {
+    for (k, row) in rows.iter().enumerate() {
+        if !line_answers(rt, alloc, row) {
+            return Some(k);
+        }
+    }
+    None
 }
 
 #[test]
-fn keeps_the_batches_before_a_faulty_one(rt: HostRuntime) -> Result<(), Fail> {
-    for row in &LINES {
-        line_answers(&rt, rt.alloc(), row)?;
-    }
-    Ok(())
+fn keeps_the_batches_before_a_faulty_one(rt: HostRuntime) {
+    all_hold(&rt, first_other_line(&rt, rt.alloc(), &LINES));
 }
 
 /// Two batches and the first `cut` bytes of a third.
-fn cut_batches(alloc: Global, cut: usize) -> Result<Vec<u8>, Fail> {
-    let mut bytes = Vec::from_slice(alloc, &BATCHES)?;
-    bytes.extend_from_slice(BATCHES.get(..cut).ok_or("cut")?)?;
-    Ok(bytes)
+fn cut_batches(alloc: Global, cut: usize) -> Option<Vec<u8>> {
+    let mut bytes = Vec::from_slice(alloc, &BATCHES).ok()?;
+    bytes.extend_from_slice(BATCHES.get(..cut)?).ok()?;
+    Some(bytes)
 }
 
 /// The lines of two batches, of one record and of four.
@@ -148,7 +161,7 @@ const TWO: &str = "append 0 index 0 base 0\nappend 0 index 1 base 1\n";
 /// read, and one that is `slow` gives a byte a read.
 type File = (u64, &'static str, usize, &'static str, &'static str, u8);
 
-const FILES: [File; 7] = [
+static FILES: [File; 7] = [
     (0, "whole", 0, TWO, "", 0),
     (0, "slow", 0, TWO, "", 0),
     (0, "cut", 30, TWO, "line 2: B1 Short\n", 1),
@@ -158,60 +171,101 @@ const FILES: [File; 7] = [
     (1, "endless", 0, "", "line 2: P1 Partition\n", 1),
 ];
 
-/// A script whose second line appends the file has its answer.
-fn append_answers<R: Threads + Wait + Abort + Sync>(
+/// Whether a script whose second line appends the file with these bytes has its answer.
+fn append_answers<R: Threads + Wait + Sync>(
     rt: &R,
     alloc: Global,
     row: &File,
-) -> Result<(), Fail> {
-    let (input, name, cut, out, err, status) = *row;
-    let mut files = empty_shelf(alloc);
-    files.write(name, &cut_batches(alloc, cut)?)?;
-    let script = format!(in alloc; "partitions 1 1 8\nappend {input} {name}\n")?;
-    answers(
-        rt,
-        &mut files,
-        &["run", "stdin"],
-        script.as_bytes(),
-        (status, out, err),
-    )
+    bytes: &[u8],
+) -> bool {
+    let (input, name, _cut, out, err, status) = *row;
+    let Some(mut files) = shelf_of(alloc, &[(name, bytes)]) else {
+        return false;
+    };
+    match format!(in alloc; "partitions 1 1 8\nappend {input} {name}\n") {
+        Ok(script) => {
+            let want = (status, out, err);
+            answers(rt, &mut files, &["run", "stdin"], script.as_bytes(), want)
+        }
+        Err(_) => false,
+    }
+}
+
+/// The same with the bytes of its row.
+fn file_answers<R: Threads + Wait + Sync>(rt: &R, alloc: Global, row: &File) -> bool {
+    match cut_batches(alloc, row.2) {
+        Some(bytes) => append_answers(rt, alloc, row, &bytes),
+        None => false,
+    }
+}
+
+/// The number of the first file with another answer.
+fn first_other_file<R: Threads + Wait + Sync>(
+    rt: &R,
+    alloc: Global,
+    rows: &[File],
+) -> Option<usize> {
+    for (k, row) in rows.iter().enumerate() {
+        if !file_answers(rt, alloc, row) {
+            return Some(k);
+        }
+    }
+    None
 }
 
 #[test]
-fn appends_the_batches_before_the_end_of_a_file(rt: HostRuntime) -> Result<(), Fail> {
-    for row in &FILES {
-        append_answers(&rt, rt.alloc(), row)?;
-    }
-    Ok(())
+fn appends_the_batches_before_the_end_of_a_file(rt: HostRuntime) {
+    all_hold(&rt, first_other_file(&rt, rt.alloc(), &FILES));
 }
 
-/// The bytes of `BATCHES` 300 times, and what is printed of them.
-fn long_file(alloc: Global) -> Result<(Vec<u8>, String), Fail> {
+/// The bytes of `BATCHES` so often.
+fn long_bytes(alloc: Global, pairs: u32) -> Option<Vec<u8>> {
     let mut bytes = Vec::new(alloc);
-    let mut lines = String::new(alloc);
-    for pair in 0..300u32 {
-        bytes.extend_from_slice(&BATCHES)?;
-        let (index, base) = (2 * pair, 5 * pair);
-        write!(lines, "append 0 index {index} base {base}\n")?;
-        let (index, base) = (2 * pair + 1, 5 * pair + 1);
-        write!(lines, "append 0 index {index} base {base}\n")?;
+    for _ in 0..pairs {
+        bytes.extend_from_slice(&BATCHES).ok()?;
     }
-    Ok((bytes, lines))
+    Some(bytes)
+}
+
+/// What is printed of them.
+fn long_lines(alloc: Global, pairs: u32) -> Option<String> {
+    let mut lines = String::new(alloc);
+    for pair in 0..pairs {
+        let (first, base) = (pair.wrapping_mul(2), pair.wrapping_mul(5));
+        let (second, next) = (first.wrapping_add(1), base.wrapping_add(1));
+        write!(
+            lines,
+            "append 0 index {first} base {base}\nappend 0 index {second} base {next}\n"
+        )
+        .ok()?;
+    }
+    Some(lines)
+}
+
+/// Whether the lines are printed of a file of these bytes.
+fn long_answers<R: Threads + Wait + Sync>(
+    rt: &R,
+    alloc: Global,
+    bytes: &[u8],
+    lines: &str,
+) -> bool {
+    let script = b"partitions 1 1 600\nappend 0 long\n";
+    match shelf_of(alloc, &[("long", bytes)]) {
+        Some(mut files) => answers(rt, &mut files, &["run", "stdin"], script, (0, lines, "")),
+        None => false,
+    }
+}
+
+fn is_appended<R: Threads + Wait + Sync>(rt: &R, alloc: Global, pairs: u32, size: usize) -> bool {
+    match (long_bytes(alloc, pairs), long_lines(alloc, pairs)) {
+        (Some(bytes), Some(lines)) => bytes.len() == size
+            && long_answers(rt, alloc, &bytes, lines.as_str()),
+        _ => false,
+    }
 }
 
 /// A file of 300 times two batches is longer than what is read at once.
 #[test]
-fn appends_a_long_file(rt: HostRuntime) -> Result<(), Fail> {
-    let (bytes, lines) = long_file(rt.alloc())?;
-    assert_eq!(rt; bytes.len(), 78_900);
-    let mut files = empty_shelf(rt.alloc());
-    files.write("long", &bytes)?;
-    let script = b"partitions 1 1 600\nappend 0 long\n";
-    answers(
-        &rt,
-        &mut files,
-        &["run", "stdin"],
-        script,
-        (0, lines.as_str(), ""),
-    )
+fn appends_a_long_file(rt: HostRuntime) {
+    assert!(rt; is_appended(&rt, rt.alloc(), 300, 78_900));
 }

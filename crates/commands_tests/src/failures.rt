@@ -1,13 +1,13 @@
 //! Readers that fail at each of their calls, and writers that fail after each number of bytes.
 
-use crate::shelf::{BATCHES, FORWARD, words_of};
+use crate::shelf::{BATCHES, Called, FORWARD, input_of, words_of};
+use crate::verdicts::all_hold;
 use commands::{Files, command};
-use std::alloc::{AllocError, Global};
+use std::alloc::Global;
 use std::io;
 use std::io::{Cursor, Read, Write};
-use std::process::Abort;
 use std::sync::Wait;
-use std::test::Fail;
+use std::test::*;
 use std::thread::Threads;
 
 /// Gives one byte at each call, and fails at one call, which is counted from 1.
@@ -94,9 +94,6 @@ impl Write for Narrow {
     }
 }
 
-/// What a call answers: its status, what it writes to standard output, and to standard error.
-type Called = (u8, Vec<u8>, Vec<u8>);
-
 /// A call with a standard output that takes so many bytes.
 fn bytes_of<R: Threads + Wait + Sync>(
     rt: &R,
@@ -123,16 +120,21 @@ fn called<R: Threads + Wait + Sync>(
     script: &str,
     fails: usize,
     room: usize,
-) -> Result<Called, AllocError> {
+) -> Option<Called> {
     let words = words_of(alloc, words)?;
-    let mut stdin = Cursor::new(Vec::from_slice(alloc, script.as_bytes())?);
+    let mut stdin = input_of(alloc, script.as_bytes())?;
     let mut files = Torn { alloc, fails };
-    Ok(bytes_of(rt, &mut files, &words, &mut stdin, room))
+    Some(bytes_of(rt, &mut files, &words, &mut stdin, room))
 }
 
 /// Whether this is what a call answers.
-fn is_called(got: &Called, status: u8, out: &[u8], err: &str) -> bool {
-    got.0 == status && got.1.as_slice() == out && got.2.as_slice() == err.as_bytes()
+fn is_called(got: Option<Called>, status: u8, out: &[u8], err: &str) -> bool {
+    match got {
+        Some(got) => got.0 == status
+            && got.1.as_slice() == out
+            && got.2.as_slice() == err.as_bytes(),
+        None => false,
+    }
 }
 
 /// Room for all that a call writes.
@@ -144,7 +146,7 @@ const SCRIPT: &str =
     fetch 1 0 9\n";
 
 /// What calls with files that don't fail write to standard output.
-const TEXTS: [(&[&str], &str); 5] = [
+static TEXTS: [(&[&str], &str); 5] = [
     (
         &["run", "stdin"],
         "load f version 1\ndeploy 0 index 0 f version 1\nappend 0 index 1 base 0\n\
@@ -177,44 +179,46 @@ fn has_beginning<R: Threads + Wait + Sync>(
     words: &[&str],
     text: &[u8],
     room: usize,
-) -> Result<bool, AllocError> {
-    let called = called(rt, alloc, words, SCRIPT, 0, room)?;
-    Ok(match text.get(..room) {
-        Some(begin) if room < text.len() => is_called(&called, 3, begin, "file stdout\n"),
-        _ => is_called(&called, 0, text, ""),
-    })
+) -> bool {
+    let called = called(rt, alloc, words, SCRIPT, 0, room);
+    match text.get(..room) {
+        Some(begin) if room < text.len() => is_called(called, 3, begin, "file stdout\n"),
+        _ => is_called(called, 0, text, ""),
+    }
 }
 
-/// A call whose standard output takes each number of bytes has written a beginning of the text.
-fn each_beginning<R: Threads + Wait + Abort + Sync>(
+/// Whether a call whose standard output takes each number of bytes has written a beginning of the text.
+fn has_beginnings<R: Threads + Wait + Sync>(
     rt: &R,
     alloc: Global,
     words: &[&str],
     text: &[u8],
-) -> Result<(), Fail> {
+) -> bool {
     for room in 0..=text.len() {
-        assert!(rt;
-            has_beginning(rt, alloc, words, text, room)?,
-            "{words:?} after {room}"
-        );
+        if !has_beginning(rt, alloc, words, text, room) {
+            return false;
+        }
     }
-    Ok(())
+    true
 }
 
-fn all_beginnings<R: Threads + Wait + Abort + Sync>(
+/// The number of the first call that has written something else.
+fn first_other<R: Threads + Wait + Sync>(
     rt: &R,
     alloc: Global,
     rows: &[(&[&str], &str)],
-) -> Result<(), Fail> {
-    for (words, text) in rows {
-        each_beginning(rt, alloc, words, text.as_bytes())?;
+) -> Option<usize> {
+    for (k, row) in rows.iter().enumerate() {
+        if !has_beginnings(rt, alloc, row.0, row.1.as_bytes()) {
+            return Some(k);
+        }
     }
-    Ok(())
+    None
 }
 
 #[test]
-fn a_failed_output_has_a_beginning(rt: HostRuntime) -> Result<(), Fail> {
-    all_beginnings(&rt, rt.alloc(), &TEXTS)
+fn a_failed_output_has_a_beginning(rt: HostRuntime) {
+    all_hold(&rt, first_other(&rt, rt.alloc(), &TEXTS));
 }
 
 /// What is printed of batches whose reader fails at a call.
@@ -228,44 +232,47 @@ fn appended_before(fails: usize) -> &'static str {
 
 const APPENDING: &str = "partitions 1 1 8\nappend 0 batches\n";
 
-/// Each batch that was read whole before a reader fails is appended.
-fn each_read_of_batches<R: Threads + Wait + Abort + Sync>(
-    rt: &R,
-    alloc: Global,
-) -> Result<(), Fail> {
-    for fails in 1..=264 {
-        let called = called(rt, alloc, &["run", "stdin"], APPENDING, fails, ALL)?;
-        let before = appended_before(fails).as_bytes();
-        assert!(rt;
-            is_called(&called, 3, before, "file batches\n"),
-            "read {fails}"
-        );
-    }
-    Ok(())
+/// Whether a reader that fails at this call leaves the batches before it.
+fn is_appended<R: Threads + Wait + Sync>(rt: &R, alloc: Global, fails: usize) -> bool {
+    let called = called(rt, alloc, &["run", "stdin"], APPENDING, fails, ALL);
+    let before = appended_before(fails).as_bytes();
+    is_called(called, 3, before, "file batches\n")
 }
 
-/// Nothing is said of an image whose reader fails.
-fn each_read_of_an_image<R: Threads + Wait + Abort + Sync>(
+/// The first call of a reader of batches whose failure leaves something else.
+fn first_wrong_read<R: Threads + Wait + Sync>(rt: &R, alloc: Global) -> Option<usize> {
+    for fails in 1..=264 {
+        if !is_appended(rt, alloc, fails) {
+            return Some(fails);
+        }
+    }
+    None
+}
+
+/// Whether nothing is said of an image whose reader fails at this call.
+fn is_unread<R: Threads + Wait + Sync>(rt: &R, alloc: Global, word: &str, fails: usize) -> bool {
+    let called = called(rt, alloc, &[word, "image"], "", fails, ALL);
+    is_called(called, 3, &[], "file image\n")
+}
+
+/// The first call of a reader of an image after whose failure something else is said.
+fn first_wrong_image_read<R: Threads + Wait + Sync>(
     rt: &R,
     alloc: Global,
     word: &str,
-) -> Result<(), Fail> {
+) -> Option<usize> {
     for fails in 1..=25 {
-        let called = called(rt, alloc, &[word, "image"], "", fails, ALL)?;
-        assert!(rt;
-            is_called(&called, 3, &[], "file image\n"),
-            "{word}, read {fails}"
-        );
+        if !is_unread(rt, alloc, word, fails) {
+            return Some(fails);
+        }
     }
-    Ok(())
+    None
 }
 
 #[test]
-fn a_failed_input_leaves_what_was_read_before(rt: HostRuntime) -> Result<(), Fail> {
-    let alloc = rt.alloc();
-    each_read_of_batches(&rt, alloc)?;
-    for word in ["check", "dis", "explain"] {
-        each_read_of_an_image(&rt, alloc, word)?;
-    }
-    Ok(())
+fn a_failed_input_leaves_what_was_read_before(rt: HostRuntime) {
+    all_hold(&rt, first_wrong_read(&rt, rt.alloc()));
+    all_hold(&rt, first_wrong_image_read(&rt, rt.alloc(), "check"));
+    all_hold(&rt, first_wrong_image_read(&rt, rt.alloc(), "dis"));
+    all_hold(&rt, first_wrong_image_read(&rt, rt.alloc(), "explain"));
 }

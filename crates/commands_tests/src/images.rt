@@ -1,9 +1,15 @@
-use crate::shelf::{FORWARD, answers, empty_shelf, file_answers};
-use commands::Files;
-use std::test::Fail;
+use crate::shelf::{FORWARD, answers, file_answers, shelf_of};
+use crate::verdicts::all_hold;
+use std::alloc::Global;
+use std::sync::Wait;
+use std::test::*;
+use std::thread::Threads;
+
+/// An image, what is printed on both outputs, and the status.
+type Image = (&'static [u8], &'static str, &'static str, u8);
 
 /// Images, with what `check` prints of them and with which status it ends.
-const IMAGES: [(&[u8], &str, &str, u8); 8] = [
+static IMAGES: [Image; 8] = [
     (
         b"\xb7\0\0\0\0\0\0\0\x95\0\0\0\0\0\0\0",
         "accepted 2 instructions\n",
@@ -24,17 +30,36 @@ const IMAGES: [(&[u8], &str, &str, u8); 8] = [
     ),
 ];
 
-#[test]
-fn checks_images(rt: HostRuntime) -> Result<(), Fail> {
-    for (image, out, err, status) in &IMAGES {
-        let want = (*status, *out, *err);
-        file_answers(&rt, rt.alloc(), &["check", "image"], ("image", image), want)?;
+fn is_checked<R: Threads + Wait + Sync>(rt: &R, alloc: Global, row: &Image) -> bool {
+    let want = (row.3, row.1, row.2);
+    file_answers(rt, alloc, &["check", "image"], ("image", row.0), want)
+}
+
+/// The number of the first image with another answer.
+fn first_other<R: Threads + Wait + Sync>(rt: &R, alloc: Global, rows: &[Image]) -> Option<usize> {
+    for (k, row) in rows.iter().enumerate() {
+        if !is_checked(rt, alloc, row) {
+            return Some(k);
+        }
     }
-    Ok(())
+    None
+}
+
+#[test]
+fn checks_images(rt: HostRuntime) {
+    all_hold(&rt, first_other(&rt, rt.alloc(), &IMAGES));
 }
 
 /// Calls with the bytes of the image, what they print, what they say on standard error and their status.
-const EXPLAINED: [(&[&str], &[u8], &str, &str, u8); 6] = [
+type Explained = (
+    &'static [&'static str],
+    &'static [u8],
+    &'static str,
+    &'static str,
+    u8,
+);
+
+static EXPLAINED: [Explained; 6] = [
     (
         &["explain", "image"],
         b"\xb7\0\0\0\0\0\0\0\x95\0\0\0\0\0\0\0",
@@ -108,46 +133,89 @@ registers are r0 to r10
     ),
 ];
 
-#[test]
-fn explains_images(rt: HostRuntime) -> Result<(), Fail> {
-    for (words, image, out, err, status) in &EXPLAINED {
-        let want = (*status, *out, *err);
-        file_answers(&rt, rt.alloc(), words, ("image", image), want)?;
+fn is_explained<R: Threads + Wait + Sync>(rt: &R, alloc: Global, row: &Explained) -> bool {
+    let want = (row.4, row.2, row.3);
+    file_answers(rt, alloc, row.0, ("image", row.1), want)
+}
+
+/// The number of the first call with another answer.
+fn first_other_explained<R: Threads + Wait + Sync>(
+    rt: &R,
+    alloc: Global,
+    rows: &[Explained],
+) -> Option<usize> {
+    for (k, row) in rows.iter().enumerate() {
+        if !is_explained(rt, alloc, row) {
+            return Some(k);
+        }
     }
-    Ok(())
+    None
+}
+
+#[test]
+fn explains_images(rt: HostRuntime) {
+    all_hold(&rt, first_other_explained(&rt, rt.alloc(), &EXPLAINED));
 }
 
 /// How many bytes an image has, what is said of it on standard error and the status.
-const GREATEST: [(usize, &str, &str, u8); 2] = [
+type Great = (usize, &'static str, &'static str, u8);
+
+static GREATEST: [Great; 2] = [
     (131_073, "I1 Size\n", "line 2: I1 Size\n", 1),
     (131_072, "file endless\n", "file endless\n", 3),
 ];
 
+/// Whether the call that checks an image, and the one of a script that loads it, have their answer.
+fn are_answered<R: Threads + Wait + Sync>(
+    rt: &R,
+    alloc: Global,
+    row: &Great,
+    image: &[u8],
+) -> bool {
+    let script = b"partitions 1 1 8\nload a endless";
+    let Some(mut files) = shelf_of(alloc, &[("endless", image)]) else {
+        return false;
+    };
+    answers(
+        rt,
+        &mut files,
+        &["check", "endless"],
+        b"",
+        (row.3, "", row.1),
+    ) && answers(
+        rt,
+        &mut files,
+        &["run", "stdin"],
+        script,
+        (row.3, "", row.2),
+    )
+}
+
+/// The same of so many zeros.
+fn is_great<R: Threads + Wait + Sync>(rt: &R, alloc: Global, row: &Great) -> bool {
+    match vec![in alloc; 0; row.0] {
+        Ok(image) => are_answered(rt, alloc, row, &image),
+        Err(_) => false,
+    }
+}
+
+/// The number of the first image with another answer.
+fn first_other_great<R: Threads + Wait + Sync>(
+    rt: &R,
+    alloc: Global,
+    rows: &[Great],
+) -> Option<usize> {
+    for (k, row) in rows.iter().enumerate() {
+        if !is_great(rt, alloc, row) {
+            return Some(k);
+        }
+    }
+    None
+}
+
 /// An image of 16,384 slots and a byte is not distinguished from one of which no end is read, and
 /// one of 16,384 slots is.
 #[test]
-fn reads_one_byte_past_the_greatest_image(rt: HostRuntime) -> Result<(), Fail> {
-    let alloc = rt.alloc();
-    for (count, checked, run, status) in &GREATEST {
-        let bytes = vec![in alloc; 0; *count]?;
-        let file = ("endless", bytes.as_slice());
-        file_answers(
-            &rt,
-            alloc,
-            &["check", "endless"],
-            file,
-            (*status, "", *checked),
-        )?;
-        let mut files = empty_shelf(alloc);
-        files.write("endless", &bytes)?;
-        let script = b"partitions 1 1 8\nload a endless";
-        answers(
-            &rt,
-            &mut files,
-            &["run", "stdin"],
-            script,
-            (*status, "", *run),
-        )?;
-    }
-    Ok(())
+fn reads_one_byte_past_the_greatest_image(rt: HostRuntime) {
+    all_hold(&rt, first_other_great(&rt, rt.alloc(), &GREATEST));
 }

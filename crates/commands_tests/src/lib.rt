@@ -4,6 +4,8 @@
 #[cfg(test)]
 mod batches;
 #[cfg(test)]
+mod causes;
+#[cfg(test)]
 mod failures;
 #[cfg(test)]
 mod images;
@@ -23,5 +25,7 @@ mod tables;
 mod texts;
 #[cfg(test)]
 mod transforms;
+#[cfg(test)]
+mod verdicts;
 #[cfg(test)]
 mod words;

@@ -1,10 +1,13 @@
 //! Lists of programs that are verified anew.
 
-use crate::shelf::{Shelf, answers, empty_shelf};
+use crate::shelf::{Shelf, answers, shelf_of};
 use crate::tables::FIRST_HEADER;
+use crate::verdicts::all_hold;
 use commands::Files;
 use std::alloc::Global;
-use std::test::Fail;
+use std::sync::Wait;
+use std::test::*;
+use std::thread::Threads;
 
 /// mov64 r0, 0; exit
 const KEEP: [u8; 16] = [0xb7, 0, 0, 0, 0, 0, 0, 0, 0x95, 0, 0, 0, 0, 0, 0, 0];
@@ -16,20 +19,23 @@ const FAR: [u8; 40] = [
     0, 0, 0, 0, 0, 0, 0, 0x95, 0, 0, 0, 0, 0, 0, 0,
 ];
 
-/// An accepted program, a refused one, one that only the second helper table accepts, and a cut one.
-fn program_shelf(alloc: Global) -> Result<Shelf, Fail> {
-    let mut files = empty_shelf(alloc);
-    files.write("a", &KEEP)?;
-    files.write("b", &FAR)?;
-    files.write("header", &FIRST_HEADER)?;
-    files.write("cut", &KEEP[..12])?;
-    Ok(files)
-}
+/// `KEEP` without its last bytes.
+const CUT: [u8; 12] = [0xb7, 0, 0, 0, 0, 0, 0, 0, 0x95, 0, 0, 0];
+
+/// An accepted program, a refused one, one that only the second helper table accepts, a cut one, and a
+/// list that is no text.
+static FILES: [(&str, &[u8]); 5] = [
+    ("a", &KEEP),
+    ("b", &FAR),
+    ("header", &FIRST_HEADER),
+    ("cut", &CUT),
+    ("binary", b"a\n\xff\n"),
+];
 
 /// A list, what is printed of it, what is said of it on standard error and the status.
 type Row = (&'static str, &'static str, &'static str, u8);
 
-const LISTS: [Row; 22] = [
+static LISTS: [Row; 22] = [
     ("a\nb", "a accepted 2 instructions\n", "b V5 Type at 2\n", 1),
     (
         "b\na\n",
@@ -94,39 +100,42 @@ const LISTS: [Row; 22] = [
     ("b\nnothing\na\n", "", "b V5 Type at 2\nfile nothing\n", 3),
 ];
 
-#[test]
-fn rechecks_the_programs_of_a_list(rt: HostRuntime) -> Result<(), Fail> {
-    let mut files = program_shelf(rt.alloc())?;
-    for (list, out, err, status) in &LISTS {
-        files.write("list", list.as_bytes())?;
-        answers(
-            &rt,
-            &mut files,
-            &["recheck", "list"],
-            b"",
-            (*status, *out, *err),
-        )?;
+/// Whether the list has its answer.
+fn is_answered<R: Threads + Wait + Sync>(rt: &R, files: &mut Shelf, row: &Row) -> bool {
+    let want = (row.3, row.1, row.2);
+    files.write("list", row.0.as_bytes()).is_ok()
+        && answers(rt, files, &["recheck", "list"], b"", want)
+}
+
+/// The number of the first list with another answer; 0 where there are no files.
+fn first_other<R: Threads + Wait + Sync>(rt: &R, alloc: Global, rows: &[Row]) -> Option<usize> {
+    let Some(mut files) = shelf_of(alloc, &FILES) else {
+        return Some(0);
+    };
+    for (k, row) in rows.iter().enumerate() {
+        if !is_answered(rt, &mut files, row) {
+            return Some(k);
+        }
     }
-    Ok(())
+    None
+}
+
+#[test]
+fn rechecks_the_programs_of_a_list(rt: HostRuntime) {
+    all_hold(&rt, first_other(&rt, rt.alloc(), &LISTS));
+}
+
+/// Whether a call that reads this file as a list can't.
+fn is_unread<R: Threads + Wait + Sync>(rt: &R, alloc: Global, name: &str, err: &str) -> bool {
+    match shelf_of(alloc, &FILES) {
+        Some(mut files) => answers(rt, &mut files, &["recheck", name], b"a\n", (3, "", err)),
+        None => false,
+    }
 }
 
 /// Standard input is no list, and a list is text.
 #[test]
-fn reports_a_list_that_can_not_be_read(rt: HostRuntime) -> Result<(), Fail> {
-    let mut files = program_shelf(rt.alloc())?;
-    files.write("binary", b"a\n\xff\n")?;
-    answers(
-        &rt,
-        &mut files,
-        &["recheck", "stdin"],
-        b"a\n",
-        (3, "", "file stdin\n"),
-    )?;
-    answers(
-        &rt,
-        &mut files,
-        &["recheck", "binary"],
-        b"a\n",
-        (3, "", "file binary\n"),
-    )
+fn reports_a_list_that_can_not_be_read(rt: HostRuntime) {
+    assert!(rt; is_unread(&rt, rt.alloc(), "stdin", "file stdin\n"));
+    assert!(rt; is_unread(&rt, rt.alloc(), "binary", "file binary\n"));
 }

@@ -1,8 +1,8 @@
 use crate::shelf::script_answers;
+use crate::verdicts::all_hold;
 use std::alloc::Global;
-use std::process::Abort;
 use std::sync::Wait;
-use std::test::Fail;
+use std::test::*;
 use std::thread::Threads;
 
 pub(crate) const BEGIN: &str =
@@ -18,15 +18,23 @@ const FORWARDED: &str =
     row 0 0 0 0 1000 6b 76 0\n\
     out 0 in 0 done 2 rows 1\nin 0 items 2 records 1 unprogrammed 0 kept 1\n";
 
-#[test]
-fn forwards_a_record(rt: HostRuntime) -> Result<(), Fail> {
+/// Whether a script has this answer from a file and from standard input.
+fn both_answer<R: Threads + Wait + Sync>(rt: &R, alloc: Global) -> bool {
     let want = (0, FORWARDED, "");
-    script_answers(&rt, rt.alloc(), &["run", "stdin"], FORWARDING, want)?;
-    script_answers(&rt, rt.alloc(), &["run", "script"], FORWARDING, want)
+    script_answers(rt, alloc, &["run", "stdin"], FORWARDING, want)
+        && script_answers(rt, alloc, &["run", "script"], FORWARDING, want)
 }
 
+#[test]
+fn forwards_a_record(rt: HostRuntime) {
+    assert!(rt; both_answer(&rt, rt.alloc()));
+}
+
+/// A text, what is printed on both outputs, and the status.
+type Row = (&'static str, &'static str, &'static str, u8);
+
 /// Lines after those of `BEGIN`, with what is then printed on both outputs and the status.
-const ENDS: [(&str, &str, &str, u8); 18] = [
+static ENDS: [Row; 18] = [
     ("", "load fwd version 1\n", "", 0),
     ("\n# nothing\n\n", "load fwd version 1\n", "", 0),
     ("frob\n", "load fwd version 1\n", "line 3: S1 Syntax\n", 1),
@@ -112,33 +120,35 @@ const ENDS: [(&str, &str, &str, u8); 18] = [
     ),
 ];
 
-/// The lines have their answer.
-fn ends_so<R: Threads + Wait + Abort + Sync>(
-    rt: &R,
-    alloc: Global,
-    row: &(&str, &str, &str, u8),
-) -> Result<(), Fail> {
+/// Whether the lines have their answer.
+fn ends_so<R: Threads + Wait + Sync>(rt: &R, alloc: Global, row: &Row) -> bool {
     let (rest, out, err, status) = *row;
-    let script = format!(in alloc; "{BEGIN}{rest}")?;
-    script_answers(
-        rt,
-        alloc,
-        &["run", "stdin"],
-        script.as_str(),
-        (status, out, err),
-    )
+    match format!(in alloc; "{BEGIN}{rest}") {
+        Ok(script) => {
+            let want = (status, out, err);
+            script_answers(rt, alloc, &["run", "stdin"], script.as_str(), want)
+        }
+        Err(_) => false,
+    }
+}
+
+/// The number of the first row that ends in another way.
+fn first_other_end<R: Threads + Wait + Sync>(rt: &R, alloc: Global, rows: &[Row]) -> Option<usize> {
+    for (k, row) in rows.iter().enumerate() {
+        if !ends_so(rt, alloc, row) {
+            return Some(k);
+        }
+    }
+    None
 }
 
 #[test]
-fn reports_where_a_script_ends(rt: HostRuntime) -> Result<(), Fail> {
-    for row in &ENDS {
-        ends_so(&rt, rt.alloc(), row)?;
-    }
-    Ok(())
+fn reports_where_a_script_ends(rt: HostRuntime) {
+    all_hold(&rt, first_other_end(&rt, rt.alloc(), &ENDS));
 }
 
 /// Scripts, with what they print on both outputs and their status.
-const FIRST: [(&str, &str, &str, u8); 18] = [
+static FIRST: [Row; 18] = [
     ("", "", "", 0),
     ("go", "", "line 1: S2 Order\n", 1),
     ("append 0 nothing", "", "line 1: S2 Order\n", 1),
@@ -184,25 +194,40 @@ const FIRST: [(&str, &str, &str, u8); 18] = [
     ),
 ];
 
-#[test]
-fn needs_partitions_first(rt: HostRuntime) -> Result<(), Fail> {
-    for (script, out, err, status) in &FIRST {
-        let want = (*status, *out, *err);
-        script_answers(&rt, rt.alloc(), &["run", "script"], script, want)?;
+/// Whether a script from a file has its answer.
+fn has_answer<R: Threads + Wait + Sync>(rt: &R, alloc: Global, row: &Row) -> bool {
+    let want = (row.3, row.1, row.2);
+    script_answers(rt, alloc, &["run", "script"], row.0, want)
+}
+
+/// The number of the first script with another answer.
+fn first_other<R: Threads + Wait + Sync>(rt: &R, alloc: Global, rows: &[Row]) -> Option<usize> {
+    for (k, row) in rows.iter().enumerate() {
+        if !has_answer(rt, alloc, row) {
+            return Some(k);
+        }
     }
-    Ok(())
+    None
+}
+
+#[test]
+fn needs_partitions_first(rt: HostRuntime) {
+    all_hold(&rt, first_other(&rt, rt.alloc(), &FIRST));
 }
 
 /// A word that spells `count` bytes.
-fn bytes_word(alloc: Global, count: usize) -> Result<String, Fail> {
+fn bytes_word(alloc: Global, count: usize) -> Option<String> {
     if count == 0 {
-        return Ok(String::from_str(alloc, ".")?);
+        String::from_str(alloc, ".").ok()
+    } else {
+        "61".repeat(alloc, count).ok()
     }
-    Ok("61".repeat(alloc, count)?)
 }
 
 /// How many bytes a key and a value have, the status, and what is printed on both outputs.
-const LIMITS: [(usize, usize, u8, &str, &str); 4] = [
+type Limit = (usize, usize, u8, &'static str, &'static str);
+
+static LIMITS: [Limit; 4] = [
     (4096, 0, 0, "append 0 index 0 base 0\n", ""),
     (4097, 0, 1, "", "line 2: S3 Range\n"),
     (0, 1_048_576, 0, "append 0 index 0 base 0\n", ""),
@@ -210,18 +235,37 @@ const LIMITS: [(usize, usize, u8, &str, &str); 4] = [
 ];
 
 /// A script that puts a record with a key and a value of so many bytes.
-fn put_script(alloc: Global, key: usize, value: usize) -> Result<String, Fail> {
+fn put_script(alloc: Global, key: usize, value: usize) -> Option<String> {
     let key = bytes_word(alloc, key)?;
     let value = bytes_word(alloc, value)?;
-    Ok(format!(in alloc; "partitions 1 1 8\nput 0 0 {key} {value}\n")?)
+    format!(in alloc; "partitions 1 1 8\nput 0 0 {key} {value}\n").ok()
+}
+
+fn is_limited<R: Threads + Wait + Sync>(rt: &R, alloc: Global, row: &Limit) -> bool {
+    match put_script(alloc, row.0, row.1) {
+        Some(script) => {
+            let want = (row.2, row.3, row.4);
+            script_answers(rt, alloc, &["run", "script"], script.as_str(), want)
+        }
+        None => false,
+    }
+}
+
+/// The number of the first row with another answer.
+fn first_other_limit<R: Threads + Wait + Sync>(
+    rt: &R,
+    alloc: Global,
+    rows: &[Limit],
+) -> Option<usize> {
+    for (k, row) in rows.iter().enumerate() {
+        if !is_limited(rt, alloc, row) {
+            return Some(k);
+        }
+    }
+    None
 }
 
 #[test]
-fn limits_keys_and_values(rt: HostRuntime) -> Result<(), Fail> {
-    for (key, value, status, out, err) in LIMITS {
-        let script = put_script(rt.alloc(), key, value)?;
-        let want = (status, out, err);
-        script_answers(&rt, rt.alloc(), &["run", "script"], script.as_str(), want)?;
-    }
-    Ok(())
+fn limits_keys_and_values(rt: HostRuntime) {
+    all_hold(&rt, first_other_limit(&rt, rt.alloc(), &LIMITS));
 }

@@ -1,13 +1,11 @@
 //! Files in memory, and calls of the program over them.
 
 use commands::{Files, command};
-use std::alloc::{AllocError, Global};
+use std::alloc::Global;
 use std::collections::BTreeMap;
 use std::io;
 use std::io::{Cursor, Read, Write};
-use std::process::Abort;
 use std::sync::Wait;
-use std::test::Fail;
 use std::thread::Threads;
 
 /// Files in memory, of which no one called `locked` can be written.
@@ -115,59 +113,62 @@ pub(crate) fn empty_shelf(alloc: Global) -> Shelf {
     }
 }
 
-/// The words of a call.
-pub(crate) fn words_of(alloc: Global, words: &[&str]) -> Result<Vec<String>, AllocError> {
-    let mut all = Vec::new(alloc);
-    for word in words {
-        all.push(String::from_str(alloc, word)?)?;
+/// Puts files on a shelf; none where one can't be written.
+fn put_all(shelf: &mut Shelf, files: &[(&str, &[u8])]) -> Option<()> {
+    for (name, content) in files {
+        shelf.write(name, content).ok()?;
     }
-    Ok(all)
+    Some(())
 }
 
-/// The status of a call, and what it writes to standard output and error.
+/// These files.
+pub(crate) fn shelf_of(alloc: Global, files: &[(&str, &[u8])]) -> Option<Shelf> {
+    let mut shelf = empty_shelf(alloc);
+    put_all(&mut shelf, files)?;
+    Some(shelf)
+}
+
+/// The words of a call.
+pub(crate) fn words_of(alloc: Global, words: &[&str]) -> Option<Vec<String>> {
+    let mut all = Vec::new(alloc);
+    for word in words {
+        all.push(String::from_str(alloc, word).ok()?).ok()?;
+    }
+    Some(all)
+}
+
+/// Bytes to read.
+pub(crate) fn input_of(alloc: Global, bytes: &[u8]) -> Option<Cursor<Vec<u8>>> {
+    Some(Cursor::new(Vec::from_slice(alloc, bytes).ok()?))
+}
+
+/// What a call answers: its status, and what it writes to standard output and error.
+pub(crate) type Called = (u8, Vec<u8>, Vec<u8>);
+
 fn bytes_of<R: Threads + Wait + Sync>(
     rt: &R,
     alloc: Global,
     files: &mut Shelf,
     words: &[String],
     stdin: &mut Cursor<Vec<u8>>,
-) -> (u8, Vec<u8>, Vec<u8>) {
+) -> Called {
     let mut stdout = Vec::new(alloc);
     let mut stderr = Vec::new(alloc);
     let status = command(rt, alloc, words, files, stdin, &mut stdout, &mut stderr);
     (status, stdout, stderr)
 }
 
-/// Bytes as text.
-pub(crate) fn text_of(bytes: Vec<u8>) -> Result<String, Fail> {
-    match String::from_utf8(bytes) {
-        Ok(text) => Ok(text),
-        Err(_) => Err(Fail::from("text")),
-    }
-}
-
-/// What a call answers: its status, and what it writes to standard output and error.
+/// The same of a call's words and standard input.
 pub(crate) fn called_with<R: Threads + Wait + Sync>(
     rt: &R,
-    alloc: Global,
     files: &mut Shelf,
     words: &[&str],
     input: &[u8],
-) -> Result<(u8, String, String), Fail> {
+) -> Option<Called> {
+    let alloc = files.alloc;
     let all = words_of(alloc, words)?;
-    let mut stdin = Cursor::new(Vec::from_slice(alloc, input)?);
-    let (status, out, err) = bytes_of(rt, alloc, files, &all, &mut stdin);
-    Ok((status, text_of(out)?, text_of(err)?))
-}
-
-/// A script as a file, and some other files.
-fn script_shelf(alloc: Global, script: &str) -> io::Result<Shelf> {
-    let mut files = empty_shelf(alloc);
-    files.write("forward.bin", &FORWARD)?;
-    files.write("script", script.as_bytes())?;
-    files.write("bad", b"go\xff")?;
-    files.write("batches.bin", &BATCHES)?;
-    Ok(files)
+    let mut stdin = input_of(alloc, input)?;
+    Some(bytes_of(rt, alloc, files, &all, &mut stdin))
 }
 
 /// The same with a script as a file and as standard input, and some other files.
@@ -176,64 +177,68 @@ pub(crate) fn called<R: Threads + Wait + Sync>(
     alloc: Global,
     words: &[&str],
     script: &str,
-) -> Result<(u8, String, String), Fail> {
-    let mut files = script_shelf(alloc, script)?;
-    called_with(rt, alloc, &mut files, words, script.as_bytes())
+) -> Option<Called> {
+    let mut files = shelf_of(
+        alloc,
+        &[
+            ("forward.bin", &FORWARD),
+            ("script", script.as_bytes()),
+            ("bad", b"go\xff"),
+            ("batches.bin", &BATCHES),
+        ],
+    )?;
+    called_with(rt, &mut files, words, script.as_bytes())
 }
 
 /// What a call is to answer: its status, and what it writes to standard output and error.
 pub(crate) type Answer<'a> = (u8, &'a str, &'a str);
 
-/// A call has this answer.
-fn is_answer<R: Abort>(rt: &R, call: &[&str], script: &str, got: Answer<'_>, want: Answer<'_>) {
-    assert!(rt; got.2 == want.2, "{call:?}, {script}: {}", got.2);
-    assert!(rt; got.1 == want.1, "{call:?}, {script}: {}", got.1);
-    assert_eq!(rt; got.0, want.0, "{call:?}, {script}");
+fn is_answer(got: &Called, want: Answer<'_>) -> bool {
+    got.0 == want.0
+        && got.1.as_slice() == want.1.as_bytes()
+        && got.2.as_slice() == want.2.as_bytes()
 }
 
-/// A call over these files has this answer.
-pub(crate) fn answers<R: Threads + Wait + Abort + Sync>(
+/// Whether a call over these files has this answer.
+pub(crate) fn answers<R: Threads + Wait + Sync>(
     rt: &R,
     files: &mut Shelf,
     words: &[&str],
     input: &[u8],
     want: Answer<'_>,
-) -> Result<(), Fail> {
-    let (status, out, err) = called_with(rt, files.alloc, files, words, input)?;
-    is_answer(rt, words, "", (status, out.as_str(), err.as_str()), want);
-    Ok(())
+) -> bool {
+    match called_with(rt, files, words, input) {
+        Some(got) => is_answer(&got, want),
+        None => false,
+    }
 }
 
-/// A call over one file has this answer.
-pub(crate) fn file_answers<R: Threads + Wait + Abort + Sync>(
+/// Whether a call over one file has this answer.
+pub(crate) fn file_answers<R: Threads + Wait + Sync>(
     rt: &R,
     alloc: Global,
     words: &[&str],
     file: (&str, &[u8]),
     want: Answer<'_>,
-) -> Result<(), Fail> {
-    let mut files = empty_shelf(alloc);
-    files.write(file.0, file.1)?;
-    answers(rt, &mut files, words, b"", want)
+) -> bool {
+    match shelf_of(alloc, &[file]) {
+        Some(mut files) => answers(rt, &mut files, words, b"", want),
+        None => false,
+    }
 }
 
-/// A call has this answer with a script as a file and as standard input, and some other files.
-pub(crate) fn script_answers<R: Threads + Wait + Abort + Sync>(
+/// Whether a call has this answer with a script as a file and as standard input, and some other files.
+pub(crate) fn script_answers<R: Threads + Wait + Sync>(
     rt: &R,
     alloc: Global,
     words: &[&str],
     script: &str,
     want: Answer<'_>,
-) -> Result<(), Fail> {
-    let (status, out, err) = called(rt, alloc, words, script)?;
-    is_answer(
-        rt,
-        words,
-        script,
-        (status, out.as_str(), err.as_str()),
-        want,
-    );
-    Ok(())
+) -> bool {
+    match called(rt, alloc, words, script) {
+        Some(got) => is_answer(&got, want),
+        None => false,
+    }
 }
 
 /// mov64 r1, 0; call 3; exit

@@ -1,7 +1,9 @@
-use crate::shelf::{Shelf, answers, empty_shelf, file_answers};
-use commands::Files;
+use crate::shelf::{Shelf, answers, file_answers, shelf_of};
+use crate::verdicts::all_hold;
 use std::alloc::Global;
-use std::test::Fail;
+use std::sync::Wait;
+use std::test::*;
+use std::thread::Threads;
 
 /// A program with an operand of each kind.
 const PROGRAM: &str = "mov64 r0, 0\njlt64 r2, 16, +1\nst32 [r10-8], 0\nexit\n";
@@ -12,33 +14,58 @@ const PROGRAM_IMAGE: [u8; 32] = [
     0, 0x95, 0, 0, 0, 0, 0, 0, 0,
 ];
 
+/// The image without its last bytes.
+const CUT: [u8; 12] = [0xb7, 0, 0, 0, 0, 0, 0, 0, 0xa5, 0x02, 0x01, 0];
+
 /// A program's text, one with a bad line, one that is not UTF-8, and an image that is cut.
-fn text_shelf(alloc: Global) -> Result<Shelf, Fail> {
-    let mut files = empty_shelf(alloc);
-    files.write("text", PROGRAM.as_bytes())?;
-    files.write("faulty", b"exit\nmov64 r11, 0\nfrob\n")?;
-    files.write("binary", b"exit\n#\xff\n")?;
-    files.write("cut", &PROGRAM_IMAGE[..12])?;
-    Ok(files)
+static FILES: [(&str, &[u8]); 4] = [
+    (
+        "text",
+        b"mov64 r0, 0\njlt64 r2, 16, +1\nst32 [r10-8], 0\nexit\n",
+    ),
+    ("faulty", b"exit\nmov64 r11, 0\nfrob\n"),
+    ("binary", b"exit\n#\xff\n"),
+    ("cut", &CUT),
+];
+
+/// Whether a file has these bytes, or is not there.
+fn has_file(files: &Shelf, name: &str, want: Option<&[u8]>) -> bool {
+    match (files.files.get(name), want) {
+        (Some(bytes), Some(want)) => bytes.as_slice() == want,
+        (None, None) => true,
+        _ => false,
+    }
+}
+
+/// Whether the image of a text is written.
+fn is_written<R: Threads + Wait + Sync>(rt: &R, alloc: Global) -> bool {
+    match shelf_of(alloc, &FILES) {
+        Some(mut files) => answers(rt, &mut files, &["asm", "text", "image"], b"", (0, "", ""))
+            && has_file(&files, "image", Some(&PROGRAM_IMAGE)),
+        None => false,
+    }
 }
 
 #[test]
-fn writes_the_image_of_a_text(rt: HostRuntime) -> Result<(), Fail> {
-    let mut files = text_shelf(rt.alloc())?;
-    answers(&rt, &mut files, &["asm", "text", "image"], b"", (0, "", ""))?;
-    let image = files.files.get("image").ok_or("no image")?;
-    assert!(rt; image.as_slice() == PROGRAM_IMAGE.as_slice());
-    Ok(())
+fn writes_the_image_of_a_text(rt: HostRuntime) {
+    assert!(rt; is_written(&rt, rt.alloc()));
 }
 
-#[test]
-fn prints_the_text_of_an_image(rt: HostRuntime) -> Result<(), Fail> {
+/// Whether the text of an image is printed.
+fn is_printed<R: Threads + Wait + Sync>(rt: &R, alloc: Global) -> bool {
     let file = ("image", PROGRAM_IMAGE.as_slice());
-    file_answers(&rt, rt.alloc(), &["dis", "image"], file, (0, PROGRAM, ""))
+    file_answers(rt, alloc, &["dis", "image"], file, (0, PROGRAM, ""))
+}
+
+#[test]
+fn prints_the_text_of_an_image(rt: HostRuntime) {
+    assert!(rt; is_printed(&rt, rt.alloc()));
 }
 
 /// Calls that print nothing, with what they write to standard error and their status.
-const REFUSED: [(&[&str], &str, u8); 8] = [
+type Row = (&'static [&'static str], &'static str, u8);
+
+static REFUSED: [Row; 8] = [
     (&["asm", "faulty", "image"], "line 2: A4 Register\n", 1),
     (&["asm", "binary", "image"], "file binary\n", 3),
     (&["asm", "nothing", "image"], "file nothing\n", 3),
@@ -53,13 +80,23 @@ const REFUSED: [(&[&str], &str, u8); 8] = [
     ),
 ];
 
+/// The number of the first call with another answer, or that leaves an image; 0 where there are no files.
+fn first_other<R: Threads + Wait + Sync>(rt: &R, alloc: Global, rows: &[Row]) -> Option<usize> {
+    let Some(mut files) = shelf_of(alloc, &FILES) else {
+        return Some(0);
+    };
+    for (k, row) in rows.iter().enumerate() {
+        if !answers(rt, &mut files, row.0, b"", (row.2, "", row.1))
+            || !has_file(&files, "image", None)
+        {
+            return Some(k);
+        }
+    }
+    None
+}
+
 /// No refused text leaves an image.
 #[test]
-fn reports_why_no_text_is_read_or_written(rt: HostRuntime) -> Result<(), Fail> {
-    let mut files = text_shelf(rt.alloc())?;
-    for (words, err, status) in &REFUSED {
-        answers(&rt, &mut files, words, b"", (*status, "", *err))?;
-    }
-    assert!(rt; files.files.get("image").is_none());
-    Ok(())
+fn reports_why_no_text_is_read_or_written(rt: HostRuntime) {
+    all_hold(&rt, first_other(&rt, rt.alloc(), &REFUSED));
 }

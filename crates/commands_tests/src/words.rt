@@ -1,11 +1,12 @@
 use crate::scripts::BEGIN;
-use crate::shelf::{Shelf, empty_shelf, script_answers, text_of, words_of};
+use crate::shelf::{Shelf, empty_shelf, input_of, script_answers, words_of};
+use crate::verdicts::all_hold;
 use commands::{command, tell_no_words};
 use std::alloc::Global;
 use std::io;
 use std::io::{Cursor, Write};
 use std::sync::Wait;
-use std::test::Fail;
+use std::test::*;
 use std::thread::Threads;
 
 /// A writer that takes nothing.
@@ -25,30 +26,26 @@ impl Write for Full {
 const USAGE: &str = "usage: klog COMMAND FILE ...\n";
 
 /// Why there are no words, what is said of it, and the status.
-const UNHAD: [(io::ErrorKind, &str, u8); 2] = [
+static UNHAD: [(io::ErrorKind, &str, u8); 2] = [
     (io::ErrorKind::InvalidData, USAGE, 2),
     (io::ErrorKind::OutOfMemory, "memory\n", 3),
 ];
 
-/// What is said where there are no words, and the status.
-fn told(alloc: Global, kind: io::ErrorKind) -> Result<(String, u8), Fail> {
+/// Whether this is said where there are no words, with this status.
+fn is_told(alloc: Global, row: &(io::ErrorKind, &str, u8)) -> bool {
     let mut stderr = Vec::new(alloc);
-    let status = tell_no_words(&mut stderr, &io::Error::from(kind));
-    Ok((text_of(stderr)?, status))
+    let status = tell_no_words(&mut stderr, &io::Error::from(row.0));
+    status == row.2 && stderr.as_slice() == row.1.as_bytes()
 }
 
 #[test]
-fn words_that_can_not_be_had(rt: HostRuntime) -> Result<(), Fail> {
-    for (kind, text, status) in UNHAD {
-        let found = told(rt.alloc(), kind)?;
-        assert!(rt; found.0.as_str() == text, "{}", found.0);
-        assert_eq!(rt; found.1, status);
-    }
-    Ok(())
+fn words_that_can_not_be_had(rt: HostRuntime) {
+    assert!(rt; is_told(rt.alloc(), &UNHAD[0]));
+    assert!(rt; is_told(rt.alloc(), &UNHAD[1]));
 }
 
 /// Words that are no call.
-const NO_CALLS: [&[&str]; 24] = [
+static NO_CALLS: [&[&str]; 24] = [
     &[],
     &["run"],
     &["run", "a", "b"],
@@ -76,21 +73,44 @@ const NO_CALLS: [&[&str]; 24] = [
 ];
 
 /// Scripts that can not be read, and what is said of them.
-const UNREAD: [(&str, &str); 3] = [
+static UNREAD: [(&str, &str); 3] = [
     ("nothing", "file nothing\n"),
     ("-", "file -\n"),
     ("bad", "file bad\n"),
 ];
 
+/// The number of the first words that are taken as a call.
+fn first_call<R: Threads + Wait + Sync>(rt: &R, alloc: Global, rows: &[&[&str]]) -> Option<usize> {
+    for (k, row) in rows.iter().enumerate() {
+        if !script_answers(rt, alloc, row, "", (2, "", USAGE)) {
+            return Some(k);
+        }
+    }
+    None
+}
+
+fn is_unread<R: Threads + Wait + Sync>(rt: &R, alloc: Global, row: &(&str, &str)) -> bool {
+    script_answers(rt, alloc, &["run", row.0], "", (3, "", row.1))
+}
+
+/// The number of the first script that is read.
+fn first_read<R: Threads + Wait + Sync>(
+    rt: &R,
+    alloc: Global,
+    rows: &[(&str, &str)],
+) -> Option<usize> {
+    for (k, row) in rows.iter().enumerate() {
+        if !is_unread(rt, alloc, row) {
+            return Some(k);
+        }
+    }
+    None
+}
+
 #[test]
-fn refuses_words(rt: HostRuntime) -> Result<(), Fail> {
-    for words in &NO_CALLS {
-        script_answers(&rt, rt.alloc(), words, "", (2, "", USAGE))?;
-    }
-    for (name, err) in &UNREAD {
-        script_answers(&rt, rt.alloc(), &["run", *name], "", (3, "", *err))?;
-    }
-    Ok(())
+fn refuses_words(rt: HostRuntime) {
+    all_hold(&rt, first_call(&rt, rt.alloc(), &NO_CALLS));
+    all_hold(&rt, first_read(&rt, rt.alloc(), &UNREAD));
 }
 
 /// The status of a call whose standard output takes nothing, and what it writes to standard error.
@@ -106,14 +126,22 @@ fn full_call<R: Threads + Wait + Sync>(
     (status, stderr)
 }
 
-#[test]
-fn reports_that_output_fails(rt: HostRuntime) -> Result<(), Fail> {
-    let alloc = rt.alloc();
+/// The same of a script of `BEGIN`.
+fn full_script<R: Threads + Wait + Sync>(rt: &R, alloc: Global) -> Option<(u8, Vec<u8>)> {
     let mut files = empty_shelf(alloc);
     let words = words_of(alloc, &["run", "stdin"])?;
-    let mut stdin = Cursor::new(Vec::from_slice(alloc, BEGIN.as_bytes())?);
-    let (status, stderr) = full_call(&rt, alloc, &mut files, &words, &mut stdin);
-    assert_eq!(rt; status, 3);
-    assert!(rt; stderr.as_slice() == b"file stdout\n".as_slice());
-    Ok(())
+    let mut stdin = input_of(alloc, BEGIN.as_bytes())?;
+    Some(full_call(rt, alloc, &mut files, &words, &mut stdin))
+}
+
+fn is_full<R: Threads + Wait + Sync>(rt: &R, alloc: Global) -> bool {
+    match full_script(rt, alloc) {
+        Some((status, stderr)) => status == 3 && stderr.as_slice() == b"file stdout\n".as_slice(),
+        None => false,
+    }
+}
+
+#[test]
+fn reports_that_output_fails(rt: HostRuntime) {
+    assert!(rt; is_full(&rt, rt.alloc()));
 }

@@ -109,9 +109,8 @@ fn change_one(
             *byte ^= change;
         }
         let want = expected(&bytes, place);
-        assert_eq!(rt;
-            reading_of(alloc, &bytes)?,
-            want,
+        assert!(rt;
+            reading_of(alloc, &bytes)? == want,
             "byte {place} changed by {change}"
         );
         count(counts, want);
@@ -148,18 +147,17 @@ fn change_each(rt: &impl Abort, alloc: Global, whole: &[u8]) -> Result<[u32; 6],
 fn cut_each(rt: &impl Abort, alloc: Global, whole: &[u8]) -> Result<(), Fail> {
     for length in 0..whole.len() {
         let reading = reading_of(alloc, whole.get(..length).unwrap_or(whole))?;
-        assert_eq!(rt;
-            reading,
-            Reading::Refused(BatchFault::Short),
+        assert!(rt;
+            reading == Reading::Refused(BatchFault::Short),
             "cut to {length}"
         );
     }
-    assert_eq!(rt; reading_of(alloc, whole)?, Reading::Whole);
+    assert!(rt; reading_of(alloc, whole)? == Reading::Whole);
     Ok(())
 }
 
 /// A batch, and how many of those with one changed byte are read or refused as B1 to B5.
-const DAMAGED: [(&[u8], [u32; 6]); 2] = [
+static DAMAGED: [(&[u8], [u32; 6]); 2] = [
     (ONE, [3060, 515, 177, 319, 255, 13524]),
     (THREE, [3060, 481, 177, 319, 255, 22228]),
 ];
@@ -167,7 +165,7 @@ const DAMAGED: [(&[u8], [u32; 6]); 2] = [
 fn damage_each(rt: &impl Abort, alloc: Global, rows: &[(&[u8], [u32; 6])]) -> Result<(), Fail> {
     for (whole, want) in rows {
         cut_each(rt, alloc, whole)?;
-        assert_eq!(rt; change_each(rt, alloc, whole)?, *want);
+        assert!(rt; change_each(rt, alloc, whole)? == *want);
     }
     Ok(())
 }

@@ -1,9 +1,7 @@
 use annotate::load;
 use bpf_machine::{End, trace};
 use bytes::Bytes;
-use exec::{
-    Emission, Emissions, Header, Headers, Outcome, Place, Record, is_place, is_within_limits, run,
-};
+use exec::{Emission, Header, Headers, Outcome, Place, Record, is_place, is_within_limits, run};
 use machine_spec::Table;
 use notes::Verified;
 use std::alloc::{AllocError, Global};
@@ -46,7 +44,7 @@ pub(crate) const PLACE: Place = Place {
 };
 
 /// The values of the records that programs run on.
-const VALUES: [Option<&[u8]>; 4] = [None, Some(&[]), Some(&[7]), Some(&[0xff; 16])];
+static VALUES: [Option<&[u8]>; 4] = [None, Some(&[]), Some(&[7]), Some(&[0xff; 16])];
 
 /// A record with a key and a header.
 fn record_of(alloc: Global, value: Option<&'static [u8]>) -> Result<Record, AllocError> {
@@ -76,7 +74,14 @@ fn is_same_header(left: &Header, right: &Header) -> bool {
 }
 
 fn are_same_headers(left: &[Header], right: &[Header]) -> bool {
-    left.len() == right.len() && left.iter().zip(right).all(|(a, b)| is_same_header(a, b))
+    let mut rest = right;
+    for header in left {
+        match rest.split_first() {
+            Some((first, others)) if is_same_header(header, first) => rest = others,
+            _ => return false,
+        }
+    }
+    rest.is_empty()
 }
 
 fn is_same_emission(left: &Emission, right: &Emission) -> bool {
@@ -86,19 +91,23 @@ fn is_same_emission(left: &Emission, right: &Emission) -> bool {
         && are_same_headers(&left.headers.list, &right.headers.list)
 }
 
-fn are_same_emissions(left: &Emissions, right: &Emissions) -> bool {
-    left.list.len() == right.list.len()
-        && left
-            .list
-            .iter()
-            .zip(&right.list)
-            .all(|(a, b)| is_same_emission(a, b))
+fn are_same_emissions(left: &[Emission], right: &[Emission]) -> bool {
+    let mut rest = right;
+    for emission in left {
+        match rest.split_first() {
+            Some((first, others)) if is_same_emission(emission, first) => rest = others,
+            _ => return false,
+        }
+    }
+    rest.is_empty()
 }
 
 /// Whether the plain machine's end is the interpreter's outcome.
 fn is_same(end: &End, outcome: &Outcome) -> bool {
     match (end, outcome) {
-        (End::Out(Outcome::Kept(left)), Outcome::Kept(right)) => are_same_emissions(left, right),
+        (End::Out(Outcome::Kept(left)), Outcome::Kept(right)) => {
+            are_same_emissions(&left.list, &right.list)
+        }
         (End::Out(Outcome::Rejected(left)), Outcome::Rejected(right)) => left == right,
         (_, _) => false,
     }
@@ -181,7 +190,7 @@ fn change_each(
 #[test]
 fn a_changed_image_runs_as_the_plain_machine(rt: HostRuntime) -> Result<(), Fail> {
     let alloc = rt.alloc();
-    assert_eq!(rt; change_each(&rt, alloc, FIRST_BYTE, 0, 32)?, 2053);
+    assert!(rt; change_each(&rt, alloc, FIRST_BYTE, 0, 32)? == 2053);
     Ok(())
 }
 
@@ -202,19 +211,19 @@ fn change_classes(
 
 #[test]
 fn the_first_third_of_all_classes_runs_as_the_plain_machine(rt: HostRuntime) -> Result<(), Fail> {
-    assert_eq!(rt; change_classes(&rt, rt.alloc(), 0, 48)?, 4096);
+    assert!(rt; change_classes(&rt, rt.alloc(), 0, 48)? == 4096);
     Ok(())
 }
 
 #[test]
 fn the_second_third_of_all_classes_runs_as_the_plain_machine(rt: HostRuntime) -> Result<(), Fail> {
-    assert_eq!(rt; change_classes(&rt, rt.alloc(), 48, 96)?, 3187);
+    assert!(rt; change_classes(&rt, rt.alloc(), 48, 96)? == 3187);
     Ok(())
 }
 
 #[test]
 fn the_last_third_of_all_classes_runs_as_the_plain_machine(rt: HostRuntime) -> Result<(), Fail> {
-    assert_eq!(rt; change_classes(&rt, rt.alloc(), 96, 144)?, 1153);
+    assert!(rt; change_classes(&rt, rt.alloc(), 96, 144)? == 1153);
     Ok(())
 }
 
@@ -234,7 +243,7 @@ fn a_cut_image_is_refused(rt: HostRuntime) -> Result<(), Fail> {
     for length in 0..=FIRST_BYTE.len() {
         let cut = FIRST_BYTE.get(..length).unwrap_or(FIRST_BYTE);
         let answer = answer_of(alloc, cut)?;
-        assert_eq!(rt; answer.as_str(), fault_of_cut(length), "cut to {length}");
+        assert!(rt; answer.as_str() == fault_of_cut(length), "cut to {length}");
     }
     Ok(())
 }

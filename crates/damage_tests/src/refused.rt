@@ -45,7 +45,7 @@ enum Call {
     ImageFault,
 }
 
-const CALLS: [Call; 12] = [
+static CALLS: [Call; 12] = [
     Call::Decode,
     Call::Encode,
     Call::Feed,
@@ -307,7 +307,7 @@ fn make_each<R: Print + Abort>(rt: &R, alloc: Global, calls: &[Call]) {
             let _ = println!(rt; "refused {call:?}: no memory");
             answer_once = answer_of_call(alloc, *call);
         }
-        assert_eq!(rt; answer_once, Answer::Right, "{call:?}");
+        assert!(rt; answer_once == Answer::Right, "{call:?}");
     }
 }
 

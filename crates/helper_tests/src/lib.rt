@@ -13,3 +13,5 @@ mod loads;
 mod runs;
 #[cfg(test)]
 mod table;
+#[cfg(test)]
+mod verdicts;

@@ -3,7 +3,7 @@
 use machine_spec::{Argument, Helper, Instruction, Summary, Table};
 use std::process::Abort;
 
-const NUMBERS: [(i32, Option<Helper>); 12] = [
+static NUMBERS: [(i32, Option<Helper>); 12] = [
     (3, Some(Helper::EmitRecord)),
     (99, None),
     (-3, None),
@@ -19,7 +19,7 @@ const NUMBERS: [(i32, Option<Helper>); 12] = [
 ];
 
 /// Tables, numbers and the helpers that they name there.
-const TABLES: [(Table, i32, Option<Helper>); 6] = [
+static TABLES: [(Table, i32, Option<Helper>); 6] = [
     (Table::One, 9, Some(Helper::Partition)),
     (Table::One, 10, None),
     (Table::One, 12, None),
@@ -29,7 +29,7 @@ const TABLES: [(Table, i32, Option<Helper>); 6] = [
 ];
 
 /// Helpers, and an argument of each by its place.
-const ARGUMENTS: [(Helper, usize, Argument); 9] = [
+static ARGUMENTS: [(Helper, usize, Argument); 9] = [
     (Helper::EmitRecord, 0, Argument::Number(1)),
     (Helper::Partition, 0, Argument::Nothing),
     (Helper::LoadKey, 0, Argument::Room(1, 3)),
@@ -42,7 +42,7 @@ const ARGUMENTS: [(Helper, usize, Argument); 9] = [
 ];
 
 /// Helpers, their numbers and the greatest number that each answers.
-const ANSWERS: [(Helper, i32, u64); 6] = [
+static ANSWERS: [(Helper, i32, u64); 6] = [
     (Helper::EmitRecord, 3, 3),
     (Helper::Partition, 9, 63),
     (Helper::LoadKey, 2, 1),
@@ -53,13 +53,13 @@ const ANSWERS: [(Helper, i32, u64); 6] = [
 
 fn numbers_name(rt: &impl Abort, rows: &[(i32, Option<Helper>)]) {
     for (number, want) in rows {
-        assert_eq!(rt; Helper::with_number(*number), *want, "{number}");
+        assert!(rt; Helper::with_number(*number) == *want, "{number}");
     }
 }
 
 fn tables_name(rt: &impl Abort, rows: &[(Table, i32, Option<Helper>)]) {
     for (table, number, want) in rows {
-        assert_eq!(rt; table.with_number(*number), *want, "{table:?} {number}");
+        assert!(rt; table.with_number(*number) == *want, "{table:?} {number}");
     }
 }
 
@@ -67,7 +67,7 @@ fn arguments_are(rt: &impl Abort, rows: &[(Helper, usize, Argument)]) {
     for (helper, place, want) in rows {
         let signature = helper.signature();
         let argument = signature.arguments.get(*place).copied();
-        assert_eq!(rt; argument, Some(*want), "{helper:?} {place}");
+        assert!(rt; argument == Some(*want), "{helper:?} {place}");
     }
 }
 
@@ -92,11 +92,11 @@ fn helpers_by_number(rt: HostRuntime) {
 #[test]
 fn helpers_of_calls(rt: HostRuntime) {
     let emission = Summary::of(Instruction::Call(3));
-    assert_eq!(rt; emission.helper(), Some(Helper::EmitRecord));
+    assert!(rt; emission.helper() == Some(Helper::EmitRecord));
     assert!(rt; !emission.calls_no_helper(Table::One));
     assert!(rt; !emission.writes_frame());
     assert!(rt; Summary::of(Instruction::Call(99)).calls_no_helper(Table::Two));
     assert!(rt; Summary::of(Instruction::Call(12)).calls_no_helper(Table::One));
     assert!(rt; Summary::of(Instruction::Wide(10, 0)).writes_frame());
-    assert_eq!(rt; Summary::of(Instruction::Exit).helper(), None);
+    assert!(rt; Summary::of(Instruction::Exit).helper() == None);
 }

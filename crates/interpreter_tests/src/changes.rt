@@ -4,7 +4,7 @@ use arithmetic::{change, test};
 use machine_spec::{ByteOrder, Change, ExtendedWidth, SwappedWidth, Test, Width};
 use std::process::Abort;
 
-const CHANGES: [(Change, u64, u64); 112] = [
+static CHANGES: [(Change, u64, u64); 112] = [
     (Change::Negate(Width::Bits64), 0x0, 0x0),
     (Change::Negate(Width::Bits32), 0x0, 0x0),
     (
@@ -523,7 +523,7 @@ const CHANGES: [(Change, u64, u64); 112] = [
     ),
 ];
 
-const TESTS: [(Test, u64, u64, bool, bool); 77] = [
+static TESTS: [(Test, u64, u64, bool, bool); 77] = [
     (Test::Equal, 0x5, 0x5, true, true),
     (Test::Equal, 0x4, 0x5, false, false),
     (Test::Equal, 0x5, 0x4, false, false),

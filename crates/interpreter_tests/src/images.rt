@@ -6,7 +6,7 @@ use std::test::Fail;
 
 const MOVE: [u8; 8] = [0xb7, 0, 0, 0, 0, 0, 0, 0];
 
-const FORMS: [[u8; 8]; 16] = [
+static FORMS: [[u8; 8]; 16] = [
     [0xb7, 0x01, 0, 0, 0xff, 0xff, 0xff, 0xff],
     [0xbf, 0x26, 0, 0, 0, 0, 0, 0],
     [0x07, 0x06, 0, 0, 0x01, 0x02, 0, 0x80],
@@ -25,7 +25,7 @@ const FORMS: [[u8; 8]; 16] = [
     [0x95, 0, 0, 0, 0, 0, 0, 0],
 ];
 
-const INSTRUCTIONS: [Instruction; 16] = [
+static INSTRUCTIONS: [Instruction; 16] = [
     Instruction::Move(Width::Bits64, 1, Source::Immediate(-1)),
     Instruction::Move(Width::Bits64, 6, Source::Register(2)),
     Instruction::Compute(
@@ -68,17 +68,17 @@ fn image_of(alloc: Global, slots: &[[u8; 8]]) -> Result<Vec<u8>, AllocError> {
 fn begins_with(rt: &impl Abort, code: &Code, instructions: &[Instruction]) {
     for (k, instruction) in instructions.iter().enumerate() {
         assert!(rt; k < code.len());
-        assert_eq!(rt; code.instr(k), *instruction, "at {k}");
-        assert_eq!(rt; code.slot(k), k);
-        assert_eq!(rt; code.get(k).instruction, *instruction, "at {k}");
-        assert_eq!(rt; code.at(k), Some(k));
+        assert!(rt; code.instr(k) == *instruction, "at {k}");
+        assert!(rt; code.slot(k) == k);
+        assert!(rt; code.get(k).instruction == *instruction, "at {k}");
+        assert!(rt; code.at(k) == Some(k));
     }
 }
 
 /// At each of these slots the instruction with that number begins, if one does.
 fn are_at(rt: &impl Abort, code: &Code, rows: &[(usize, Option<usize>)]) {
     for (slot, want) in rows {
-        assert_eq!(rt; code.at(*slot), *want, "at {slot}");
+        assert!(rt; code.at(*slot) == *want, "at {slot}");
     }
 }
 
@@ -90,7 +90,7 @@ fn is_written_as(
     image: &[u8],
 ) -> Result<(), AllocError> {
     let again = encode(alloc, code)?;
-    assert_eq!(rt; again.as_slice(), image);
+    assert!(rt; again.as_slice() == image);
     Ok(())
 }
 
@@ -103,7 +103,7 @@ fn has_starts(
     rows: &[(usize, Option<usize>)],
 ) -> Result<(), Fail> {
     let code = decode(alloc, image)?;
-    assert_eq!(rt; code.len(), count);
+    assert!(rt; code.len() == count);
     are_at(rt, &code, rows);
     Ok(is_written_as(rt, alloc, &code, image)?)
 }
@@ -138,7 +138,7 @@ fn slot_of(opcode: u8, has_source: bool, offset: u8, imm: u8) -> [u8; 8] {
 type Form = (u8, bool, u8, u8);
 
 /// The forms of a class, without its bits.
-const OF_A_CLASS: [Form; 31] = [
+static OF_A_CLASS: [Form; 31] = [
     (0x00, false, 0, 5),
     (0x08, true, 0, 0),
     (0x10, false, 0, 5),
@@ -174,7 +174,7 @@ const OF_A_CLASS: [Form; 31] = [
     (0xb8, true, 16, 0),
 ];
 
-const OF_NO_CLASS: [Form; 10] = [
+static OF_NO_CLASS: [Form; 10] = [
     (0xbf, true, 32, 0),
     // byte orders
     (0xd4, false, 0, 16),
@@ -210,7 +210,7 @@ fn arithmetic_forms(rt: HostRuntime) -> Result<(), Fail> {
 }
 
 /// Slots that are no instruction, each with the refusal of the image that is this slot.
-const REFUSED: [([u8; 8], IsaFault); 29] = [
+static REFUSED: [([u8; 8], IsaFault); 29] = [
     ([0xdb, 0, 0, 0, 0, 0, 0, 0], IsaFault::NotInProfile(0)),
     ([0x85, 0x10, 0, 0, 1, 0, 0, 0], IsaFault::NotInProfile(0)),
     ([0x18, 0x10, 0, 0, 0, 0, 0, 0], IsaFault::NotInProfile(0)),
@@ -247,7 +247,7 @@ const REFUSED: [([u8; 8], IsaFault); 29] = [
 
 fn are_refused<R: Abort>(rt: &R, alloc: Global, rows: &[([u8; 8], IsaFault)]) {
     for (slot, fault) in rows {
-        assert_eq!(rt; decode(alloc, slot).err(), Some(*fault), "at {slot:?}");
+        assert!(rt; decode(alloc, slot).err() == Some(*fault), "at {slot:?}");
     }
 }
 
@@ -257,7 +257,7 @@ fn refused_slots(rt: HostRuntime) {
 }
 
 /// Jumps, stores, sign-extending loads and a 64-bit immediate, with their fields.
-const MORE_FORMS: [[u8; 8]; 15] = [
+static MORE_FORMS: [[u8; 8]; 15] = [
     [0x05, 0, 0xfe, 0xff, 0, 0, 0, 0],
     [0x06, 0, 0, 0, 0, 0, 0, 0x80],
     [0x91, 0x10, 0x01, 0, 0, 0, 0, 0],
@@ -275,7 +275,7 @@ const MORE_FORMS: [[u8; 8]; 15] = [
     [0, 0, 0, 0, 0x01, 0, 0, 0],
 ];
 
-const MORE_INSTRUCTIONS: [Instruction; 14] = [
+static MORE_INSTRUCTIONS: [Instruction; 14] = [
     Instruction::Jump(Distance::Short(-2)),
     Instruction::Jump(Distance::Long(i32::MIN)),
     Instruction::Load(Size::Byte, Extension::Sign, 0, 1, 1),
@@ -293,23 +293,23 @@ const MORE_INSTRUCTIONS: [Instruction; 14] = [
 ];
 
 /// Slots, and the instructions that begin there.
-const MORE_STARTS: [(usize, Option<usize>); 2] = [(14, None), (15, Some(14))];
+static MORE_STARTS: [(usize, Option<usize>); 2] = [(14, None), (15, Some(14))];
 
 /// Jumps over the wide instruction, into its second slot and to itself.
-const TARGETS: [(i32, Option<usize>); 3] = [(2, Some(14)), (1, None), (0, Some(13))];
+static TARGETS: [(i32, Option<usize>); 3] = [(2, Some(14)), (1, None), (0, Some(13))];
 
 /// Jumps from slot 12 lead to these instructions.
 fn jumps_lead(rt: &impl Abort, code: &Code, rows: &[(i32, Option<usize>)]) {
     for (distance, want) in rows {
-        assert_eq!(rt; code.target(12, Some(*distance)), *want, "by {distance}");
+        assert!(rt; code.target(12, Some(*distance)) == *want, "by {distance}");
     }
 }
 
 /// The slot after a wide instruction's two.
 fn after_a_wide_one(rt: &impl Abort, alloc: Global, image: &[u8]) -> Result<(), Fail> {
     let code = decode(alloc, image)?;
-    assert_eq!(rt; code.len(), 15);
-    assert_eq!(rt; code.slot(14), 15);
+    assert!(rt; code.len() == 15);
+    assert!(rt; code.slot(14) == 15);
     jumps_lead(rt, &code, &TARGETS);
     Ok(())
 }
@@ -332,11 +332,11 @@ fn is_refused(
     fault: IsaFault,
 ) -> Result<(), AllocError> {
     let image = image_of(alloc, slots)?;
-    assert_eq!(rt; decode(alloc, &image).err(), Some(fault), "at {slots:?}");
+    assert!(rt; decode(alloc, &image).err() == Some(fault), "at {slots:?}");
     Ok(())
 }
 
-const SECOND_SLOTS: [[u8; 8]; 4] = [
+static SECOND_SLOTS: [[u8; 8]; 4] = [
     [0x95, 0, 0, 0, 0, 0, 0, 0],
     [0, 0x10, 0, 0, 0, 0, 0, 0],
     [0, 0, 1, 0, 0, 0, 0, 0],
@@ -367,11 +367,11 @@ fn first_refusal(rt: HostRuntime) -> Result<(), Fail> {
 }
 
 /// Images of no whole number of slots, and one of none.
-const ODD_IMAGES: [&[u8]; 3] = [&[], &[0; 12], &[0; 7]];
+static ODD_IMAGES: [&[u8]; 3] = [&[], &[0; 12], &[0; 7]];
 
 fn have_no_size(rt: &impl Abort, alloc: Global, images: &[&[u8]]) {
     for image in images {
-        assert_eq!(rt; decode(alloc, image).err(), Some(IsaFault::Size));
+        assert!(rt; decode(alloc, image).err() == Some(IsaFault::Size));
     }
 }
 
@@ -396,7 +396,7 @@ fn sizes(rt: HostRuntime) -> Result<(), Fail> {
     Ok(())
 }
 
-const TEXTS: [(IsaFault, &str); 7] = [
+static TEXTS: [(IsaFault, &str); 7] = [
     (IsaFault::Size, "I1 Size"),
     (IsaFault::Opcode(16_383), "I2 Opcode slot 16383"),
     (IsaFault::Register(0), "I3 Register slot 0"),
@@ -413,7 +413,7 @@ fn are_shown_as(
 ) -> Result<(), AllocError> {
     for (fault, text) in rows {
         let shown = format!(in alloc; "{fault}")?;
-        assert_eq!(rt; shown.as_str(), *text);
+        assert!(rt; shown.as_str() == *text);
     }
     Ok(())
 }

@@ -4,7 +4,7 @@ use arithmetic::compute;
 use machine_spec::{Operation, Width};
 use std::process::Abort;
 
-const OPERATIONS: [(Operation, u64, u64, u64, u64); 104] = [
+static OPERATIONS: [(Operation, u64, u64, u64, u64); 104] = [
     (Operation::Add, 0x7, 0x0, 0x7, 0x7),
     (Operation::Add, 0x100000007, 0x0, 0x100000007, 0x7),
     (Operation::Add, 0xffffffffffffffff, 0x1, 0x0, 0x0),

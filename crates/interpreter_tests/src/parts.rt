@@ -3,15 +3,15 @@
 use machine_spec::{Direction, Distance, Operation, Region, Size, Width};
 use std::process::Abort;
 
-const SIZES: [(Size, u8); 2] = [(Size::Half, 2), (Size::Double, 8)];
+static SIZES: [(Size, u8); 2] = [(Size::Half, 2), (Size::Double, 8)];
 
-const DISTANCES: [(Distance, i32); 2] = [
+static DISTANCES: [(Distance, i32); 2] = [
     (Distance::Short(-1), -1),
     (Distance::Long(70_000), 70_000),
 ];
 
 /// Operations at a width, and whether they move an address.
-const MOVES: [(Operation, Width, bool); 3] = [
+static MOVES: [(Operation, Width, bool); 3] = [
     (Operation::Add, Width::Bits64, true),
     (Operation::Add, Width::Bits32, false),
     (Operation::Mul, Width::Bits64, false),
@@ -19,23 +19,19 @@ const MOVES: [(Operation, Width, bool); 3] = [
 
 fn sizes_count(rt: &impl Abort, rows: &[(Size, u8)]) {
     for (size, want) in rows {
-        assert_eq!(rt; size.byte_count(), *want, "{size:?}");
+        assert!(rt; size.byte_count() == *want, "{size:?}");
     }
 }
 
 fn distances_span(rt: &impl Abort, rows: &[(Distance, i32)]) {
     for (distance, want) in rows {
-        assert_eq!(rt; distance.slots(), *want, "{distance:?}");
+        assert!(rt; distance.slots() == *want, "{distance:?}");
     }
 }
 
 fn operations_move(rt: &impl Abort, rows: &[(Operation, Width, bool)]) {
     for (operation, width, want) in rows {
-        assert_eq!(rt;
-            operation.moves_address(*width),
-            *want,
-            "{operation:?} {width:?}"
-        );
+        assert!(rt; operation.moves_address(*width) == *want, "{operation:?} {width:?}");
     }
 }
 

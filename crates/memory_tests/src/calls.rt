@@ -142,6 +142,15 @@ pub(crate) fn items<Id: Names, C, R: Wait>(rt: &R, broker: &Broker<Id, C>) -> Op
     Some(trail.len())
 }
 
+fn is_among(faults: &[BrokerFault], fault: BrokerFault) -> bool {
+    for it in faults {
+        if *it == fault {
+            return true;
+        }
+    }
+    false
+}
+
 /// Whether a call that can only be refused so was, and the log has the items that it had before.
 fn is_refused<Id: Names, C, R: Wait + Print>(
     rt: &R,
@@ -152,7 +161,7 @@ fn is_refused<Id: Names, C, R: Wait + Print>(
     before: usize,
 ) -> bool {
     say(rt, call, fault);
-    faults.iter().any(|it| *it == fault) && items(rt, broker) == Some(before)
+    is_among(faults, fault) && items(rt, broker) == Some(before)
 }
 
 fn deploy_once<Id: Names, C, R: Wait>(

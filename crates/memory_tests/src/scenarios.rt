@@ -67,24 +67,24 @@ fn try_twice<R: Threads + Wait + Print + Sync>(
 
 #[test]
 fn a_refused_append_can_be_made_again(rt: HostRuntime) -> Result<(), Fail> {
-    assert_eq!(rt; try_twice(&rt, rt.alloc(), Scenario::Calls), Ok(()));
+    assert!(rt; try_twice(&rt, rt.alloc(), Scenario::Calls) == Ok(()));
     Ok(())
 }
 
 #[test]
 fn a_refused_step_can_be_made_again(rt: HostRuntime) -> Result<(), Fail> {
-    assert_eq!(rt; try_twice(&rt, rt.alloc(), Scenario::Steps), Ok(()));
+    assert!(rt; try_twice(&rt, rt.alloc(), Scenario::Steps) == Ok(()));
     Ok(())
 }
 
 #[test]
 fn a_refused_start_can_be_made_again(rt: HostRuntime) -> Result<(), Fail> {
-    assert_eq!(rt; try_twice(&rt, rt.alloc(), Scenario::Start), Ok(()));
+    assert!(rt; try_twice(&rt, rt.alloc(), Scenario::Start) == Ok(()));
     Ok(())
 }
 
 #[test]
 fn a_refused_stream_can_be_made_again(rt: HostRuntime) -> Result<(), Fail> {
-    assert_eq!(rt; try_twice(&rt, rt.alloc(), Scenario::Stream), Ok(()));
+    assert!(rt; try_twice(&rt, rt.alloc(), Scenario::Stream) == Ok(()));
     Ok(())
 }

@@ -14,7 +14,7 @@ use std::sync::Wait;
 const O3: BrokerFault = BrokerFault::Book(BookFault::Memory);
 
 /// What the steps of output 1 do to a mark and two batches of two records, one after the other.
-const STEPS: [Stepped; 4] = [
+static STEPS: [Stepped; 4] = [
     Stepped::Added(0),
     Stepped::Added(2),
     Stepped::Added(2),

@@ -1,7 +1,8 @@
 //! Calls of helpers, on a record at offset 5 of partition 7 with timestamp 1000.
 
-use crate::runs::{Case, all_end_as, each_ends_as};
-use std::test::Fail;
+use crate::runs::{Case, first_other, first_other_on};
+use crate::verdicts::all_hold;
+use std::test::*;
 
 const TO_FIRST: u64 = 0xb701_0000_0000_0000; // mov64 r1, 0
 
@@ -17,7 +18,7 @@ const PARTITION: u64 = 0x8500_0000_0900_0000; // call 9
 
 const EXIT: u64 = 0x9500_0000_0000_0000;
 
-const PLACES: [(&[u64], &str); 7] = [
+static PLACES: [(&[u64], &str); 7] = [
     (&[OFFSET, EXIT], "rejected 5 after 2"),
     (&[TIMESTAMP, EXIT], "rejected 1000 after 2"),
     (&[PARTITION, EXIT], "rejected 7 after 2"),
@@ -35,11 +36,11 @@ const PLACES: [(&[u64], &str); 7] = [
 ];
 
 #[test]
-fn places(rt: HostRuntime) -> Result<(), Fail> {
-    all_end_as(&rt, rt.alloc(), None, &PLACES)
+fn places(rt: HostRuntime) {
+    all_hold(&rt, first_other_on(rt.alloc(), None, &PLACES));
 }
 
-const NULL_VALUES: [(&[u64], &str); 4] = [
+static NULL_VALUES: [(&[u64], &str); 4] = [
     (&[TO_FIRST, EMIT_NULL, EXIT], "kept 1 after 3"),
     (&[TO_TENTH, EMIT_NULL, EXIT], "rejected 1 after 3"),
     // r1 is an address
@@ -48,8 +49,8 @@ const NULL_VALUES: [(&[u64], &str); 4] = [
 ];
 
 #[test]
-fn null_values(rt: HostRuntime) -> Result<(), Fail> {
-    all_end_as(&rt, rt.alloc(), None, &NULL_VALUES)
+fn null_values(rt: HostRuntime) {
+    all_hold(&rt, first_other_on(rt.alloc(), None, &NULL_VALUES));
 }
 
 const EMIT_VALUE: u64 = 0x8500_0000_0400_0000; // call 4
@@ -60,7 +61,7 @@ const LENGTH: u64 = 0xbf23_0000_0000_0000; // mov64 r3, r2
 
 const NEXT: u64 = 0x0702_0000_0100_0000; // add64 r2, 1
 
-const BYTES_BY_ADDRESS: [(&[u64], &str); 10] = [
+static BYTES_BY_ADDRESS: [(&[u64], &str); 10] = [
     (
         &[LENGTH, VALUE, TO_FIRST, EMIT_VALUE, EXIT],
         "kept 1 after 5",
@@ -134,8 +135,11 @@ const BYTES_BY_ADDRESS: [(&[u64], &str); 10] = [
 
 /// Bytes by address: they lie in their region, which is this record's value, or are set in the stack.
 #[test]
-fn bytes_by_address(rt: HostRuntime) -> Result<(), Fail> {
-    all_end_as(&rt, rt.alloc(), Some(b"v"), &BYTES_BY_ADDRESS)
+fn bytes_by_address(rt: HostRuntime) {
+    all_hold(
+        &rt,
+        first_other_on(rt.alloc(), Some(b"v"), &BYTES_BY_ADDRESS),
+    );
 }
 
 const SET_FOUR: u64 = 0x620a_f8ff_0000_0000; // st32 [r10-8], 0
@@ -144,7 +148,7 @@ const STACK_BYTES: u64 = 0xbfa2_0000_0000_0000; // mov64 r2, r10
 
 const EIGHT_BEFORE: u64 = 0x0702_0000_f8ff_ffff; // add64 r2, -8
 
-const BYTES_OF_THE_STACK: [(&[u64], &str); 2] = [
+static BYTES_OF_THE_STACK: [(&[u64], &str); 2] = [
     // mov64 r3, 4
     (
         &[
@@ -175,8 +179,8 @@ const BYTES_OF_THE_STACK: [(&[u64], &str); 2] = [
 
 /// Four of the eight bytes are set.
 #[test]
-fn bytes_of_the_stack(rt: HostRuntime) -> Result<(), Fail> {
-    all_end_as(&rt, rt.alloc(), None, &BYTES_OF_THE_STACK)
+fn bytes_of_the_stack(rt: HostRuntime) {
+    all_hold(&rt, first_other_on(rt.alloc(), None, &BYTES_OF_THE_STACK));
 }
 
 const EMIT: u64 = 0x8500_0000_0500_0000; // call 5
@@ -188,7 +192,7 @@ const KEY_LENGTH: u64 = 0xbf45_0000_0000_0000; // mov64 r5, r4
 const SAVED_KEY: u64 = 0xbf64_0000_0000_0000; // mov64 r4, r6
 
 /// Key and value change places: r5 is the new value's length, and r3 the new key's.
-const TWO_PIECES: [(&[u64], &str); 3] = [
+static TWO_PIECES: [(&[u64], &str); 3] = [
     (
         &[
             SAVE_KEY, KEY_LENGTH, SAVED_KEY, LENGTH, VALUE, TO_FIRST, EMIT, EXIT,
@@ -227,8 +231,8 @@ const TWO_PIECES: [(&[u64], &str); 3] = [
 
 /// Each of the two pieces is tried.
 #[test]
-fn two_pieces_by_address(rt: HostRuntime) -> Result<(), Fail> {
-    all_end_as(&rt, rt.alloc(), Some(b"value"), &TWO_PIECES)
+fn two_pieces_by_address(rt: HostRuntime) {
+    all_hold(&rt, first_other_on(rt.alloc(), Some(b"value"), &TWO_PIECES));
 }
 
 const LOAD_VALUE: u64 = 0x8500_0000_0100_0000; // call 1
@@ -267,7 +271,7 @@ const NUMBER_PAST_ALL: &[u64] = &[
     EXIT,
 ];
 
-const PARTS_OF_THE_VALUE: [Case; 6] = [
+static PARTS_OF_THE_VALUE: [Case; 6] = [
     (
         FIRST_NUMBER,
         Some(&[1, 0, 0, 0, 0, 0, 0, 0]),
@@ -286,15 +290,15 @@ const PARTS_OF_THE_VALUE: [Case; 6] = [
 
 /// The first eight bytes of the value, or zeros.
 #[test]
-fn parts_of_the_value(rt: HostRuntime) -> Result<(), Fail> {
-    each_ends_as(&rt, rt.alloc(), &PARTS_OF_THE_VALUE)
+fn parts_of_the_value(rt: HostRuntime) {
+    all_hold(&rt, first_other(rt.alloc(), &PARTS_OF_THE_VALUE));
 }
 
 const THREE: u64 = 0xb703_0000_0300_0000; // mov64 r3, 3
 
 const COPIED_BYTE: u64 = 0x71a0_f8ff_0000_0000; // ld8 r0, [r10-8]: the first byte that was copied
 
-const ROOM_FOR_A_PART: [(&[u64], &str); 12] = [
+static ROOM_FOR_A_PART: [(&[u64], &str); 12] = [
     (
         &[
             STACK_END,
@@ -409,6 +413,9 @@ const ROOM_FOR_A_PART: [(&[u64], &str); 12] = [
 
 /// Room for a part: what the key `key` gives, and room that is none.
 #[test]
-fn room_for_a_part(rt: HostRuntime) -> Result<(), Fail> {
-    all_end_as(&rt, rt.alloc(), Some(b"value"), &ROOM_FOR_A_PART)
+fn room_for_a_part(rt: HostRuntime) {
+    all_hold(
+        &rt,
+        first_other_on(rt.alloc(), Some(b"value"), &ROOM_FOR_A_PART),
+    );
 }

@@ -11,3 +11,5 @@ mod runs;
 mod trap_order;
 #[cfg(test)]
 mod traps;
+#[cfg(test)]
+mod verdicts;

@@ -2,9 +2,7 @@
 
 use bpf_machine::{End, Headers, Outcome, Place, Record, Table, Trap, trace};
 use bytes::Bytes;
-use std::alloc::Global;
-use std::process::Abort;
-use std::test::Fail;
+use std::alloc::{AllocError, Global};
 
 fn record_of(alloc: Global, value: Option<&'static [u8]>) -> Record {
     Record {
@@ -35,77 +33,87 @@ fn trap_name(trap: Trap) -> &'static str {
     }
 }
 
+/// An end, and after how many instructions.
+fn end_text(alloc: Global, end: End, count: u64) -> Result<String, AllocError> {
+    match end {
+        End::Out(Outcome::Kept(emissions)) => {
+            format!(in alloc; "kept {} after {count}", emissions.list.len())
+        }
+        End::Out(Outcome::Rejected(code)) => format!(in alloc; "rejected {code} after {count}"),
+        End::Trap(trap) => format!(in alloc; "{} after {count}", trap_name(trap)),
+    }
+}
+
 /// What the program of these bytes and table one ends with on a record with this value and the key `key`, and
-/// after how many instructions.
-pub(crate) fn end_of_bytes(
+/// after how many instructions, where there is one output.
+fn end_of_bytes(
     alloc: Global,
     image: &[u8],
     value: Option<&'static [u8]>,
-    outputs: usize,
-) -> Result<String, Fail> {
+) -> Result<String, AllocError> {
     let place = Place {
         partition: 7,
         offset: 5,
         timestamp: 1000,
-        outputs,
+        outputs: 1,
     };
     let (end, count) = trace(alloc, image, &record_of(alloc, value), &place, Table::One)?;
-    Ok(match end {
-        End::Out(Outcome::Kept(emissions)) => {
-            format!(in alloc; "kept {} after {count}", emissions.list.len())?
-        }
-        End::Out(Outcome::Rejected(code)) => format!(in alloc; "rejected {code} after {count}")?,
-        End::Trap(trap) => format!(in alloc; "{} after {count}", trap_name(trap))?,
-    })
+    end_text(alloc, end, count)
 }
 
-/// The same of the program of these slots, each written as its eight bytes read from left to right.
-pub(crate) fn end_of(
+/// Whether it ends like this.
+pub(crate) fn bytes_end_as(
     alloc: Global,
-    slots: &[u64],
+    image: &[u8],
     value: Option<&'static [u8]>,
-    outputs: usize,
-) -> Result<String, Fail> {
+    want: &str,
+) -> bool {
+    match end_of_bytes(alloc, image, value) {
+        Ok(end) => end.as_str() == want,
+        Err(_) => false,
+    }
+}
+
+/// The image of these slots, each written as its eight bytes read from left to right.
+fn image_of(alloc: Global, slots: &[u64]) -> Option<Vec<u8>> {
     let mut image = Vec::new(alloc);
     for slot in slots {
-        image.extend_from_slice(&slot.to_be_bytes())?;
+        image.extend_from_slice(&slot.to_be_bytes()).ok()?;
     }
-    end_of_bytes(alloc, &image, value, outputs)
+    Some(image)
 }
 
 /// Slots, the record's value, and the program's end on it.
 pub(crate) type Case = (&'static [u64], Option<&'static [u8]>, &'static str);
 
-/// The program of these slots ends like this, where there is one output.
-fn ends_as(
-    rt: &impl Abort,
-    alloc: Global,
-    slots: &[u64],
-    value: Option<&'static [u8]>,
-    want: &str,
-) -> Result<(), Fail> {
-    let end = end_of(alloc, slots, value, 1)?;
-    assert_eq!(rt; end.as_str(), want);
-    Ok(())
-}
-
-/// Each program ends as its case says.
-pub(crate) fn each_ends_as(rt: &impl Abort, alloc: Global, cases: &[Case]) -> Result<(), Fail> {
-    for (slots, value, want) in cases {
-        ends_as(rt, alloc, slots, *value, want)?;
+/// The same of the program of these slots.
+fn ends_as(alloc: Global, slots: &[u64], value: Option<&'static [u8]>, want: &str) -> bool {
+    match image_of(alloc, slots) {
+        Some(image) => bytes_end_as(alloc, &image, value, want),
+        None => false,
     }
-    Ok(())
 }
 
-/// Each program ends as its case says, on a record with this value.
-pub(crate) fn all_end_as(
-    rt: &impl Abort,
+/// The number of the first case whose program ends in another way.
+pub(crate) fn first_other(alloc: Global, cases: &[Case]) -> Option<usize> {
+    for (k, case) in cases.iter().enumerate() {
+        if !ends_as(alloc, case.0, case.1, case.2) {
+            return Some(k);
+        }
+    }
+    None
+}
+
+/// The same on a record with this value.
+pub(crate) fn first_other_on(
     alloc: Global,
     value: Option<&'static [u8]>,
     cases: &[(&'static [u64], &'static str)],
-) -> Result<(), Fail> {
-    for (slots, want) in cases {
-        ends_as(rt, alloc, slots, value, want)?;
+) -> Option<usize> {
+    for (k, case) in cases.iter().enumerate() {
+        if !ends_as(alloc, case.0, value, case.1) {
+            return Some(k);
+        }
     }
-    Ok(())
+    None
 }

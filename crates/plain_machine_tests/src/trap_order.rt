@@ -3,12 +3,13 @@
 //! The order is K6, K11, K4, K5, K10, K7, K8, K9, K12, K13, K2. Pairs that no instruction can have
 //! both are left out: a call has none of K6, K5 and K7 to K10, and an access is of one region.
 
-use crate::runs::all_end_as;
-use std::test::Fail;
+use crate::runs::first_other_on;
+use crate::verdicts::all_hold;
+use std::test::*;
 
 const EXIT: u64 = 0x9500_0000_0000_0000;
 
-const TRAP_ORDER: [(&[u64], &str); 15] = [
+static TRAP_ORDER: [(&[u64], &str); 15] = [
     // K6, then K4: mov64 r10, r0 of nothing
     (&[0xbf0a_0000_0000_0000, EXIT], "K6 after 0"),
     // K6, then K5: neg64 r10
@@ -48,6 +49,6 @@ const TRAP_ORDER: [(&[u64], &str); 15] = [
 ];
 
 #[test]
-fn trap_order(rt: HostRuntime) -> Result<(), Fail> {
-    all_end_as(&rt, rt.alloc(), Some(&[]), &TRAP_ORDER)
+fn trap_order(rt: HostRuntime) {
+    all_hold(&rt, first_other_on(rt.alloc(), Some(&[]), &TRAP_ORDER));
 }

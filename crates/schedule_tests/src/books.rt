@@ -6,7 +6,7 @@ use part_log::Names;
 use std::sync::Wait;
 
 /// The rows of both records in an output partition.
-const ROWS: [[Seen; 2]; 2] = [
+static ROWS: [[Seen; 2]; 2] = [
     [(0, 0, Some(b'A')), (1, 0, None)],
     [(0, 1, Some(b'A')), (1, 1, None)],
 ];

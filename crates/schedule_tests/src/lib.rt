@@ -18,3 +18,5 @@ mod play;
 mod rows;
 #[cfg(test)]
 mod threads;
+#[cfg(test)]
+mod verdicts;

@@ -156,7 +156,7 @@ fn try_each<R: Threads + Wait + Abort + Sync>(
     Ok(())
 }
 
-const STOPS: [Case; 8] = [
+static STOPS: [Case; 8] = [
     Case::StopAt(1),
     Case::StopAt(2),
     Case::StopAt(3),
@@ -172,7 +172,7 @@ fn a_worker_goes_on_where_one_was_stopped(rt: HostRuntime) -> Result<(), Fail> {
     try_each(&rt, rt.alloc(), &STOPS)
 }
 
-const TWICE: [Case; 2] = [Case::StartTwice(0), Case::StartTwice(1)];
+static TWICE: [Case; 2] = [Case::StartTwice(0), Case::StartTwice(1)];
 
 #[test]
 fn two_starts_at_once_take_each_item_once(rt: HostRuntime) -> Result<(), Fail> {
@@ -182,7 +182,7 @@ fn two_starts_at_once_take_each_item_once(rt: HostRuntime) -> Result<(), Fail> {
     Ok(())
 }
 
-const BESIDE: [Case; 2] = [Case::StartAndStep(0), Case::StartAndStep(1)];
+static BESIDE: [Case; 2] = [Case::StartAndStep(0), Case::StartAndStep(1)];
 
 #[test]
 fn a_worker_and_steps_take_each_item_once(rt: HostRuntime) -> Result<(), Fail> {

@@ -4,7 +4,7 @@ use std::test::Fail;
 
 /// The lines of scripts in `examples`, and what `klog run` prints of each. The images are those of
 /// the C sources in `examples/c`.
-const EXAMPLES: [(&str, &str); 5] = [
+static EXAMPLES: [(&str, &str); 5] = [
     // transforms.klog
     (
         "partitions 3 2 16\n\
@@ -197,10 +197,10 @@ const EXAMPLES: [(&str, &str); 5] = [
 #[test]
 fn runs_the_examples(rt: HostRuntime) -> Result<(), Fail> {
     let alloc = rt.alloc();
-    for (script, printed) in EXAMPLES {
+    for (script, printed) in &EXAMPLES {
         let (status, out, err) = run(&rt, alloc, script)?;
         assert!(rt; err.as_str() == "", "{err}");
-        assert!(rt; out.as_str() == printed, "{out}");
+        assert!(rt; out.as_str() == *printed, "{out}");
         assert!(rt; status == 0);
     }
     Ok(())

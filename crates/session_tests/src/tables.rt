@@ -65,7 +65,7 @@ fn the_first_table_has_no_headers(rt: HostRuntime) -> Result<(), Fail> {
         )?;
         let (ended, _out, err) = run(&rt, alloc, script.as_str())?;
         assert!(rt; err.as_str() == want, "{word}: {err}");
-        assert_eq!(rt; ended, status);
+        assert!(rt; ended == status);
     }
     Ok(())
 }

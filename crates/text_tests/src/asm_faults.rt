@@ -1,9 +1,10 @@
+use crate::verdicts::all_hold;
 use bpf_asm::{AsmFault, assemble};
 use std::alloc::Global;
 use std::test::*;
 
 /// Texts that are refused, and why.
-const REFUSED: [(&str, AsmFault); 62] = [
+static REFUSED: [(&str, AsmFault); 62] = [
     // No such word.
     ("foo r0", AsmFault::Word(1)),
     ("exit\nEXIT", AsmFault::Word(2)),
@@ -99,8 +100,7 @@ fn first_other(alloc: Global, rows: &[(&str, AsmFault)]) -> Option<usize> {
 
 #[test]
 fn every_fault(rt: HostRuntime) {
-    let wrong = first_other(rt.alloc(), &REFUSED);
-    assert!(rt; wrong.is_none(), "row {wrong:?}");
+    all_hold(&rt, first_other(rt.alloc(), &REFUSED));
 }
 
 /// A number of lines with one word, and others.
@@ -127,7 +127,7 @@ fn size_of_lines(alloc: Global, count: usize) -> Option<usize> {
 }
 
 /// How many lines of one word there are, the lines after them, and the fault.
-const LONG: [(usize, &str, AsmFault); 6] = [
+static LONG: [(usize, &str, AsmFault); 6] = [
     (0, "exit\n\n# one\nmov64 r0\nfoo", AsmFault::Operand(4)),
     (0, "foo\nmov64 r11, 0\n", AsmFault::Word(1)),
     (16_383, "imm64 r0, 0\nfoo\n", AsmFault::Size(16_384)),
@@ -148,13 +148,12 @@ fn first_other_line(alloc: Global, rows: &[(usize, &str, AsmFault)]) -> Option<u
 
 #[test]
 fn the_lowest_line(rt: HostRuntime) {
-    let wrong = first_other_line(rt.alloc(), &LONG);
-    assert!(rt; wrong.is_none(), "row {wrong:?}");
+    all_hold(&rt, first_other_line(rt.alloc(), &LONG));
     assert!(rt; size_of_lines(rt.alloc(), 16_384) == Some(131_072));
 }
 
 /// Faults, their texts and their lines.
-const TEXTS: [(AsmFault, &str, Option<usize>); 6] = [
+static TEXTS: [(AsmFault, &str, Option<usize>); 6] = [
     (AsmFault::Word(1), "A1 Word", Some(1)),
     (AsmFault::Operand(2), "A2 Operand", Some(2)),
     (AsmFault::Number(3), "A3 Number", Some(3)),
@@ -182,6 +181,5 @@ fn first_other_text(alloc: Global, rows: &[(AsmFault, &str, Option<usize>)]) -> 
 
 #[test]
 fn fault_texts(rt: HostRuntime) {
-    let wrong = first_other_text(rt.alloc(), &TEXTS);
-    assert!(rt; wrong.is_none(), "row {wrong:?}");
+    all_hold(&rt, first_other_text(rt.alloc(), &TEXTS));
 }

@@ -1,3 +1,4 @@
+use crate::verdicts::all_hold;
 use bpf_asm::{assemble, disassemble};
 use bpf_isa::{Code, decode, encode};
 use std::alloc::Global;
@@ -264,7 +265,7 @@ fn every_word(rt: HostRuntime) {
 }
 
 /// One line each, and its image.
-const EXAMPLES: [(&str, &[u8]); 3] = [
+static EXAMPLES: [(&str, &[u8]); 3] = [
     (
         "jlt64 r2, 16, +1\n",
         &[0xa5, 0x02, 0x01, 0x00, 0x10, 0x00, 0x00, 0x00],
@@ -294,8 +295,7 @@ fn first_other(alloc: Global, rows: &[(&str, &[u8])]) -> Option<usize> {
 
 #[test]
 fn single_lines(rt: HostRuntime) {
-    let wrong = first_other(rt.alloc(), &EXAMPLES);
-    assert!(rt; wrong.is_none(), "row {wrong:?}");
+    all_hold(&rt, first_other(rt.alloc(), &EXAMPLES));
 }
 
 const LOAD_AND_EXIT: [u8; 16] = [

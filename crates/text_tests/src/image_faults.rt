@@ -1,3 +1,4 @@
+use crate::verdicts::all_hold;
 use explain::{Extent, explain_image, image_fault_text};
 use machine_spec::Table;
 use std::alloc::Global;
@@ -6,7 +7,7 @@ use std::test::*;
 /// Images without code, each with its fault and what that is about. Those with calls, maps and atomic
 /// operations are slots that clang 14 makes for `-target bpf -mcpu=v3`, the first with the word that
 /// names a map as a loader of Linux leaves it.
-const IMAGES: [(&[u8], &str); 19] = [
+static IMAGES: [(&[u8], &str); 19] = [
     // The first sixteen bytes of each object file for BPF.
     (
         b"\x7fELF\x02\x01\x01\0\0\0\0\0\0\0\0\0",
@@ -167,8 +168,7 @@ fn first_other(alloc: Global, rows: &[(&[u8], &str)]) -> Option<usize> {
 
 #[test]
 fn says_why_an_image_has_no_code(rt: HostRuntime) {
-    let wrong = first_other(rt.alloc(), &IMAGES);
-    assert!(rt; wrong.is_none(), "row {wrong:?}");
+    all_hold(&rt, first_other(rt.alloc(), &IMAGES));
 }
 
 /// Whether that is said of an image of so many bytes.

@@ -20,4 +20,6 @@ mod script_lines;
 #[cfg(test)]
 mod tables;
 #[cfg(test)]
+mod verdicts;
+#[cfg(test)]
 mod ways;

@@ -1,11 +1,12 @@
 use crate::images::{has_lines, has_reason};
+use crate::verdicts::all_hold;
 use explain::{Extent, explain_image};
 use machine_spec::{IsaFault, Table};
 use std::alloc::Global;
 use std::test::*;
 
 /// Programs, each with the lines of its instructions and those of its refusal.
-const PROGRAMS: [(&str, &str, &str); 5] = [
+static PROGRAMS: [(&str, &str, &str); 5] = [
     // The value has at least four bytes, and the fifth is loaded.
     (
         "imm64 r6, 4294967296\nmov64 r0, 0\njlt64 r2, 4, +2\nld32 r0, [r1+1]\nexit\nexit\n",
@@ -124,8 +125,7 @@ fn first_other(alloc: Global, rows: &[(&str, &str, &str)]) -> Option<usize> {
 
 #[test]
 fn lists_instructions(rt: HostRuntime) {
-    let wrong = first_other(rt.alloc(), &PROGRAMS);
-    assert!(rt; wrong.is_none(), "row {wrong:?}");
+    all_hold(&rt, first_other(rt.alloc(), &PROGRAMS));
 }
 
 /// Why an image has no code, if it has none.

@@ -1,9 +1,10 @@
 use crate::images::has_reason;
+use crate::verdicts::all_hold;
 use std::alloc::Global;
 use std::test::*;
 
 /// Refused programs, each with its fault and what that is about.
-const REFUSALS: [(&str, &str); 27] = [
+static REFUSALS: [(&str, &str); 27] = [
     (
         "ja +5\nexit\n",
         "V1 JumpTarget at 0\nthe jump leads to slot 6, where no instruction begins\n",
@@ -123,6 +124,5 @@ fn first_other(alloc: Global, rows: &[(&str, &str)]) -> Option<usize> {
 
 #[test]
 fn says_what_a_refusal_is_about(rt: HostRuntime) {
-    let wrong = first_other(rt.alloc(), &REFUSALS);
-    assert!(rt; wrong.is_none(), "row {wrong:?}");
+    all_hold(&rt, first_other(rt.alloc(), &REFUSALS));
 }

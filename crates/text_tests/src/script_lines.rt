@@ -1,3 +1,4 @@
+use crate::verdicts::all_hold;
 use bytes::Bytes;
 use log_spec::Row;
 use machine_spec::Table;
@@ -71,7 +72,7 @@ fn shown(alloc: Global, line: &str) -> Result<String, AllocError> {
     }
 }
 
-const LINES: [(&str, &str); 46] = [
+static LINES: [(&str, &str); 46] = [
     ("partitions 1 1 8", "partitions 1 1 8"),
     ("partitions 1 1 08", "none"),
     ("partitions 1 1 +8", "none"),
@@ -145,14 +146,13 @@ fn first_other(alloc: Global, rows: &[(&str, &str)]) -> Option<usize> {
 
 #[test]
 fn reads_lines(rt: HostRuntime) {
-    let wrong = first_other(rt.alloc(), &LINES);
-    assert!(rt; wrong.is_none(), "row {wrong:?}");
+    all_hold(&rt, first_other(rt.alloc(), &LINES));
 }
 
 /// A line, whether the script has begun and whether its program is loaded, and the first fault.
 type Faulty = (&'static str, bool, bool, Option<ScriptFault>);
 
-const FAULTS: [Faulty; 20] = [
+static FAULTS: [Faulty; 20] = [
     ("go", false, true, Some(ScriptFault::Order)),
     ("go", true, true, None),
     ("append 0 f", false, true, Some(ScriptFault::Order)),
@@ -203,8 +203,7 @@ fn first_other_fault(alloc: Global, rows: &[Faulty]) -> Option<usize> {
 
 #[test]
 fn reports_faults(rt: HostRuntime) {
-    let wrong = first_other_fault(rt.alloc(), &FAULTS);
-    assert!(rt; wrong.is_none(), "row {wrong:?}");
+    all_hold(&rt, first_other_fault(rt.alloc(), &FAULTS));
 }
 
 fn is_text(text: Result<String, AllocError>, want: &str) -> bool {

@@ -1,4 +1,5 @@
 use crate::images::{has_lines, has_refusal};
+use crate::verdicts::all_hold;
 use explain::Extent;
 use machine_spec::Table;
 use std::alloc::Global;
@@ -8,7 +9,7 @@ use std::test::*;
 const HEADER_VALUE: &str = "mov64 r1, r10\nadd64 r1, -8\nmov64 r2, 0\nmov64 r3, 8\ncall 12\nexit\n";
 
 /// Programs, each with its table and the lines of its instructions.
-const LISTINGS: [(&str, Table, &str); 4] = [
+static LISTINGS: [(&str, Table, &str); 4] = [
     (
         "call 10\nexit\n",
         Table::One,
@@ -77,12 +78,11 @@ fn first_other_lines(alloc: Global, rows: &[(&str, Table, &str)]) -> Option<usiz
 
 #[test]
 fn lists_programs_of_both_tables(rt: HostRuntime) {
-    let wrong = first_other_lines(rt.alloc(), &LISTINGS);
-    assert!(rt; wrong.is_none(), "row {wrong:?}");
+    all_hold(&rt, first_other_lines(rt.alloc(), &LISTINGS));
 }
 
 /// Refused programs, each with its table and what is said of its fault.
-const REFUSALS: [(&str, Table, &str); 6] = [
+static REFUSALS: [(&str, Table, &str); 6] = [
     (
         HEADER_VALUE,
         Table::One,
@@ -136,6 +136,5 @@ fn first_other_refusal(alloc: Global, rows: &[(&str, Table, &str)]) -> Option<us
 
 #[test]
 fn says_what_a_refusal_by_a_table_is_about(rt: HostRuntime) {
-    let wrong = first_other_refusal(rt.alloc(), &REFUSALS);
-    assert!(rt; wrong.is_none(), "row {wrong:?}");
+    all_hold(&rt, first_other_refusal(rt.alloc(), &REFUSALS));
 }

@@ -1,11 +1,12 @@
 use crate::images::has_lines;
+use crate::verdicts::all_hold;
 use explain::Extent;
 use machine_spec::Table;
 use std::alloc::Global;
 use std::test::*;
 
 /// Programs, each with the lines of the instructions that lead to the refused one.
-const WAYS: [(&str, &str); 9] = [
+static WAYS: [(&str, &str); 9] = [
     // One arm ends in exit, and the other leads to the refused load.
     (
         "mov64 r0, 0\njlt64 r2, 4, +3\nimm64 r0, 1\nexit\nmov64 r6, r1\nld8 r0, [r6+3]\nexit\n",
@@ -114,6 +115,5 @@ fn first_other(alloc: Global, rows: &[(&str, &str)]) -> Option<usize> {
 
 #[test]
 fn lists_what_leads_to_a_refusal(rt: HostRuntime) {
-    let wrong = first_other(rt.alloc(), &WAYS);
-    assert!(rt; wrong.is_none(), "row {wrong:?}");
+    all_hold(&rt, first_other(rt.alloc(), &WAYS));
 }

@@ -122,7 +122,7 @@ fn has(
 /// rows before the end, and all of them, as base offsets and numbers of records.
 type Filling<'a> = (&'a [(usize, usize)], &'a [(i64, usize)], &'a [(i64, usize)]);
 
-const FILLINGS: [Filling<'static>; 7] = [
+static FILLINGS: [Filling<'static>; 7] = [
     (&[], &[], &[]),
     (&[(1, 0)], &[], &[(0, 1)]),
     (&[(4000, 0), (4000, 0)], &[], &[(0, 8000)]),
@@ -193,14 +193,14 @@ fn offset_after(alloc: Global, program: &Program, offset: u64) -> Option<(bool, 
 }
 
 /// An offset, and whether a batch is taken there, with the offset after it.
-const LAST: [(u64, (bool, u64)); 2] = [
+static LAST: [(u64, (bool, u64)); 2] = [
     (TIMESTAMP_END - 10_000, (true, TIMESTAMP_END - 9_998)),
     (TIMESTAMP_END - 9_999, (false, TIMESTAMP_END - 9_999)),
 ];
 
 fn are_taken(rt: &impl Abort, alloc: Global, program: &Program, rows: &[(u64, (bool, u64))]) {
     for (offset, want) in rows {
-        assert_eq!(rt; offset_after(alloc, program, *offset), Some(*want));
+        assert!(rt; offset_after(alloc, program, *offset) == Some(*want));
     }
 }
 

@@ -40,7 +40,7 @@ fn made(
 /// batches and bytes are before, or are read in all.
 type Damage = (usize, usize, Option<Stop>, usize, usize);
 
-const DAMAGES: [Damage; 7] = [
+static DAMAGES: [Damage; 7] = [
     (0, 999, None, 0, 0),
     (157, 999, None, 2, 157),
     (82, 999, None, 1, 82),
@@ -108,7 +108,7 @@ fn makes(alloc: Global, program: &Program, bytes: &[u8], want: &[Size], records:
 }
 
 /// A header and 5 records of 7 bytes.
-const FIVE: [Size; 2] = [(5, 1, 96), (0, 0, 0)];
+static FIVE: [Size; 2] = [(5, 1, 96), (0, 0, 0)];
 
 #[test]
 fn rows_of_two_batches_are_in_one(rt: HostRuntime) -> Result<(), Fail> {
@@ -128,7 +128,7 @@ fn many(alloc: Global) -> Result<Vec<u8>, Fail> {
 }
 
 /// 64 records of 7 bytes, 8,128 of 8 and 1,808 of 9 after a header, and one of 7 after another.
-const MANY: [Size; 2] = [(10_001, 2, 81_873), (0, 0, 0)];
+static MANY: [Size; 2] = [(10_001, 2, 81_873), (0, 0, 0)];
 
 #[test]
 fn rows_past_a_batch_are_in_the_next(rt: HostRuntime) -> Result<(), Fail> {
@@ -171,7 +171,7 @@ fn counts_rejects_by_rising_code(rt: HostRuntime) -> Result<(), Fail> {
 /// An offset, why the transform stops, if it does, and where.
 type Ending = (u64, Option<Stop>, BatchPlace);
 
-const ENDINGS: [Ending; 2] = [
+static ENDINGS: [Ending; 2] = [
     (
         TIMESTAMP_END - 10_002,
         Some(Stop::Full),

@@ -91,7 +91,7 @@ pub(crate) fn damaged(alloc: Global, len: usize, place: usize) -> Result<Vec<u8>
 /// and bytes were read before, and how many rows were written.
 type Damage = (usize, usize, Option<BatchFault>, u64, u64, usize);
 
-const DAMAGES: [Damage; 7] = [
+static DAMAGES: [Damage; 7] = [
     (0, 999, None, 0, 0, 0),
     (157, 999, None, 2, 157, 5),
     (82, 999, None, 1, 82, 3),

@@ -72,7 +72,7 @@ const FAILED: TransformFault = TransformFault::Output {
 };
 
 /// How many bytes a writer takes, and whether its stream fails. The batch has 68 bytes.
-const ROOMS: [(usize, bool); 4] = [(0, true), (67, true), (68, false), (1000, false)];
+static ROOMS: [(usize, bool); 4] = [(0, true), (67, true), (68, false), (1000, false)];
 
 /// Whether a stream fails for its writer, or not, and the writer has what it could take.
 fn ends(alloc: Global, program: &Program, room: usize, fails: bool) -> Result<bool, Fail> {
@@ -84,8 +84,8 @@ fn ends(alloc: Global, program: &Program, room: usize, fails: bool) -> Result<bo
 #[test]
 fn a_writer_that_fails_ends_the_stream(rt: HostRuntime) -> Result<(), Fail> {
     let program = program_of(rt.alloc(), &FORWARD).ok_or("a program")?;
-    for (room, fails) in ROOMS {
-        assert!(rt; ends(rt.alloc(), &program, room, fails)?, "{room}");
+    for (room, fails) in &ROOMS {
+        assert!(rt; ends(rt.alloc(), &program, *room, *fails)?, "{room}");
     }
     Ok(())
 }

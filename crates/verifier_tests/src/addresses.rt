@@ -1,4 +1,5 @@
 use crate::images::{EXIT, ZERO, first_wrong, known_of, regions_of};
+use crate::verdicts::all_hold;
 use machine_spec::{Region, Table};
 use std::test::*;
 use verifier_spec::Abs;
@@ -22,7 +23,7 @@ const EIGHT: u64 = 0xb703_0000_0800_0000; // mov64 r3, 8
 const SET_FOUR: u64 = 0x620a_f8ff_0000_0000; // st32 [r10-8], 0
 
 /// Bytes that a helper reads by address lie in the key or the value, or are set in the stack.
-const BY_ADDRESS: [(&[u64], &str); 16] = [
+static BY_ADDRESS: [(&[u64], &str); 16] = [
     // the whole value
     (&[LENGTH, VALUE, TO_FIRST, EMIT_VALUE, EXIT], "accepted 5"),
     // as long as the key: mov64 r3, r4
@@ -147,8 +148,7 @@ const BY_ADDRESS: [(&[u64], &str); 16] = [
 
 #[test]
 fn bytes_by_address(rt: HostRuntime) {
-    let wrong = first_wrong(rt.alloc(), Table::One, &BY_ADDRESS);
-    assert!(rt; wrong.is_none(), "row {wrong:?}");
+    all_hold(&rt, first_wrong(rt.alloc(), Table::One, &BY_ADDRESS));
 }
 
 const KEEP_KEY: u64 = 0xbf36_0000_0000_0000; // mov64 r6, r3
@@ -165,7 +165,7 @@ const EXCHANGE: [u64; 8] = [
 ];
 
 /// The same, with mov64 r5, r2, and with mov64 r3, r5.
-const EXCHANGES: [(&[u64], &str); 3] = [
+static EXCHANGES: [(&[u64], &str); 3] = [
     (&EXCHANGE, "accepted 8"),
     (
         &[
@@ -198,8 +198,7 @@ const EXCHANGES: [(&[u64], &str); 3] = [
 /// Key and value by address: each of the two is checked.
 #[test]
 fn two_pieces_by_address(rt: HostRuntime) {
-    let wrong = first_wrong(rt.alloc(), Table::One, &EXCHANGES);
-    assert!(rt; wrong.is_none(), "row {wrong:?}");
+    all_hold(&rt, first_wrong(rt.alloc(), Table::One, &EXCHANGES));
 }
 
 /// What is known after an emission by address, and the regions that the interpreter takes: bytes of the value

@@ -1,3 +1,4 @@
+use crate::verdicts::all_hold;
 use abstract_regs::State;
 use bpf_isa::{Code, decode};
 use machine_spec::{Region, Table};
@@ -112,7 +113,7 @@ fn regions_of(
 }
 
 /// Of `ZERO`.
-const CONSTANT: [Claim; 2] = [Claim::Entry, Claim::With(0, 0)];
+static CONSTANT: [Claim; 2] = [Claim::Entry, Claim::With(0, 0)];
 
 #[test]
 fn accepts_a_constant(rt: HostRuntime) {
@@ -122,7 +123,7 @@ fn accepts_a_constant(rt: HostRuntime) {
 }
 
 /// Of `FIRST_BYTE`.
-const GUARDED: [Claim; 4] = [
+static GUARDED: [Claim; 4] = [
     Claim::Entry,
     Claim::With(0, 0),
     Claim::With(0, 1),
@@ -198,7 +199,7 @@ fn first_wrong(alloc: Global, table: Table, rows: &[Row]) -> Option<usize> {
     None
 }
 
-const LISTS: [Row; 8] = [
+static LISTS: [Row; 8] = [
     // another length than the code's, reported before the missing exit
     (&[&ZERO], &[Claim::Entry], "V15 Notes at 0"),
     (&[&MOVE], &[], "V15 Notes at 0"),
@@ -253,11 +254,10 @@ const LISTS: [Row; 8] = [
 
 #[test]
 fn refuses_lists(rt: HostRuntime) {
-    let wrong = first_wrong(rt.alloc(), Table::One, &LISTS);
-    assert!(rt; wrong.is_none(), "row {wrong:?}");
+    all_hold(&rt, first_wrong(rt.alloc(), Table::One, &LISTS));
 }
 
-const REFUSED: [Row; 9] = [
+static REFUSED: [Row; 9] = [
     // where jumps lead and how the code ends, reported before an instruction's other checks
     (
         &[&FORWARD, &EXIT],
@@ -308,8 +308,7 @@ const REFUSED: [Row; 9] = [
 
 #[test]
 fn refuses_instructions(rt: HostRuntime) {
-    let wrong = first_wrong(rt.alloc(), Table::One, &REFUSED);
-    assert!(rt; wrong.is_none(), "row {wrong:?}");
+    all_hold(&rt, first_wrong(rt.alloc(), Table::One, &REFUSED));
 }
 
 // call 10; exit

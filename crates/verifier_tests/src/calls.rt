@@ -1,13 +1,14 @@
 //! Calls of helpers, and what they answer.
 
 use crate::images::{EXIT, first_wrong, known_of};
+use crate::verdicts::all_hold;
 use machine_spec::Table;
 use std::alloc::Global;
 use std::test::*;
 use verifier_spec::Abs;
 
 /// Calls: what they answer, and that they leave r1 to r5 unknown.
-const CALLS: [(&[u64], &str); 5] = [
+static CALLS: [(&[u64], &str); 5] = [
     // call 7; mov64 r0, r1
     (
         &[0x8500_0000_0700_0000, 0xbf10_0000_0000_0000, EXIT],
@@ -25,12 +26,11 @@ const CALLS: [(&[u64], &str); 5] = [
 
 #[test]
 fn calls(rt: HostRuntime) {
-    let wrong = first_wrong(rt.alloc(), Table::One, &CALLS);
-    assert!(rt; wrong.is_none(), "row {wrong:?}");
+    all_hold(&rt, first_wrong(rt.alloc(), Table::One, &CALLS));
 }
 
 /// Call 7, call 8 and call 9, and the greatest number that is in r0 afterwards.
-const ANSWERS: [(u64, u64); 3] = [
+static ANSWERS: [(u64, u64); 3] = [
     (0x8500_0000_0700_0000, 0x3fff_ffff_ffff_ffff),
     (0x8500_0000_0800_0000, 0x3fff_ffff_ffff_ffff),
     (0x8500_0000_0900_0000, 63),
@@ -49,6 +49,5 @@ fn first_other_number(alloc: Global, rows: &[(u64, u64)]) -> Option<usize> {
 
 #[test]
 fn answers(rt: HostRuntime) {
-    let wrong = first_other_number(rt.alloc(), &ANSWERS);
-    assert!(rt; wrong.is_none(), "row {wrong:?}");
+    all_hold(&rt, first_other_number(rt.alloc(), &ANSWERS));
 }

@@ -2,6 +2,7 @@
 
 use crate::results::SUM;
 use crate::states::{edges, with_bytes, with_lengths, with_two};
+use crate::verdicts::all_hold;
 use abstract_regs::{Abs, Check, State};
 use machine_spec::{Extension, Instruction, Operation, Region, Size, Source, Table, Test, Width};
 use std::test::*;
@@ -28,7 +29,7 @@ fn first_other_check_of(state: Option<State>, rows: &[Checked]) -> Option<usize>
 }
 
 /// Checks at the start.
-const CHECKED: [Checked; 18] = [
+static CHECKED: [Checked; 18] = [
     (
         Instruction::Move(Width::Bits64, 10, Source::Register(0)),
         Some(Check::Frame),
@@ -92,13 +93,13 @@ const CHECKED: [Checked; 18] = [
 ];
 
 /// A comparison of a number is allowed.
-const COMPARED: [Checked; 1] = [(
+static COMPARED: [Checked; 1] = [(
     Instruction::JumpIf(Width::Bits64, Test::Equal, 5, Source::Immediate(0), 1),
     None,
 )];
 
 /// An address is in r0.
-const RETURNED: [Checked; 1] = [(Instruction::Exit, Some(Check::Exit))];
+static RETURNED: [Checked; 1] = [(Instruction::Exit, Some(Check::Exit))];
 
 /// The state after r0 = r1 at the start.
 fn with_address() -> Option<State> {
@@ -108,14 +109,13 @@ fn with_address() -> Option<State> {
 
 #[test]
 fn checks_in_order(rt: HostRuntime) {
-    let wrong = first_other_check(&State::entry(), &CHECKED);
-    assert!(rt; wrong.is_none(), "row {wrong:?}");
-    assert!(rt; first_other_check(&State::entry(), &COMPARED).is_none());
-    assert!(rt; first_other_check_of(with_address(), &RETURNED).is_none());
+    all_hold(&rt, first_other_check(&State::entry(), &CHECKED));
+    all_hold(&rt, first_other_check(&State::entry(), &COMPARED));
+    all_hold(&rt, first_other_check_of(with_address(), &RETURNED));
 }
 
 /// Instructions that fail two checks at the start.
-const TWO_FAULTS: [Checked; 13] = [
+static TWO_FAULTS: [Checked; 13] = [
     // V6 and V4, V5, V7, V8, V9
     (
         Instruction::Move(Width::Bits64, 10, Source::Register(0)),
@@ -176,7 +176,7 @@ const TWO_FAULTS: [Checked; 13] = [
 ];
 
 /// V4 and V13 at the start, and V4 and V12 where no register but r10 is set.
-const UNSET: [Checked; 2] = [
+static UNSET: [Checked; 2] = [
     (Instruction::Exit, Some(Check::Unset)),
     (Instruction::Call(3), Some(Check::Unset)),
 ];
@@ -184,11 +184,10 @@ const UNSET: [Checked; 2] = [
 /// Of two checks that an instruction fails the one before the other is reported.
 #[test]
 fn reports_the_first_of_two_faults(rt: HostRuntime) {
-    let wrong = first_other_check(&State::entry(), &TWO_FAULTS);
-    assert!(rt; wrong.is_none(), "row {wrong:?}");
-    assert!(rt; first_other_check(&State::entry(), &UNSET[..1]).is_none());
+    all_hold(&rt, first_other_check(&State::entry(), &TWO_FAULTS));
+    all_hold(&rt, first_other_check(&State::entry(), &UNSET[..1]));
     let bare = with_two(Abs::None, Abs::None);
-    assert!(rt; first_other_check_of(bare, &UNSET).is_none());
+    all_hold(&rt, first_other_check_of(bare, &UNSET));
 }
 
 /// An address in r1, a number in r2, and the check that their sum fails.
@@ -200,7 +199,7 @@ const START: Abs = Abs::Addr(Region::Value, 0, 0);
 
 const REFUSED: Option<Check> = Some(Check::WrongType);
 
-const NEAR: [Near; 5] = [
+static NEAR: [Near; 5] = [
     (START, Abs::Num(0, 4_294_967_296), None),
     (START, Abs::Num(0, 4_294_967_297), REFUSED),
     (EDGE, Abs::Num(u64::MAX, u64::MAX), REFUSED),
@@ -225,14 +224,13 @@ fn first_other_distance(rows: &[Near]) -> Option<usize> {
 
 #[test]
 fn keeps_addresses_near(rt: HostRuntime) {
-    let wrong = first_other_distance(&NEAR);
-    assert!(rt; wrong.is_none(), "row {wrong:?}");
+    all_hold(&rt, first_other_distance(&NEAR));
 }
 
 /// Eight bytes of the value at its byte 8, with at least sixteen bytes, and with fifteen.
 const EIGHT: Instruction = Instruction::Load(Size::Double, Extension::Zero, 0, 1, 8);
 
-const SIXTEEN: [Checked; 3] = [
+static SIXTEEN: [Checked; 3] = [
     (EIGHT, None),
     (
         Instruction::Load(Size::Word, Extension::Zero, 0, 3, 0),
@@ -244,10 +242,10 @@ const SIXTEEN: [Checked; 3] = [
     ),
 ];
 
-const FIFTEEN: [Checked; 1] = [(EIGHT, Some(Check::RecordBounds))];
+static FIFTEEN: [Checked; 1] = [(EIGHT, Some(Check::RecordBounds))];
 
 /// Where the last eight bytes of the stack are set.
-const LAST: [Checked; 3] = [
+static LAST: [Checked; 3] = [
     (
         Instruction::Load(Size::Double, Extension::Zero, 0, 10, -8),
         None,
@@ -265,15 +263,15 @@ const LAST: [Checked; 3] = [
 #[test]
 fn reads_what_is_known_to_be_there(rt: HostRuntime) {
     let sixteen = with_lengths(4, 4096, 16, 1_048_576);
-    assert!(rt; first_other_check_of(sixteen, &SIXTEEN).is_none());
+    all_hold(&rt, first_other_check_of(sixteen, &SIXTEEN));
     let fifteen = with_lengths(4, 4096, 15, 1_048_576);
-    assert!(rt; first_other_check_of(fifteen, &FIFTEEN).is_none());
+    all_hold(&rt, first_other_check_of(fifteen, &FIFTEEN));
     let bytes = with_bytes(0xff00_0000_0000_0000);
-    assert!(rt; first_other_check_of(bytes, &LAST).is_none());
+    all_hold(&rt, first_other_check_of(bytes, &LAST));
 }
 
 /// A helper's number, and the check that its call fails at the start under table one and under table two.
-const NUMBERS: [(i32, Option<Check>, Option<Check>); 5] = [
+static NUMBERS: [(i32, Option<Check>, Option<Check>); 5] = [
     (9, None, None),
     (10, Some(Check::Helper), None),
     (11, Some(Check::Helper), Some(Check::HelperArg)),
@@ -302,6 +300,5 @@ fn first_other_call(rows: &[(i32, Option<Check>, Option<Check>)]) -> Option<usiz
 /// Which helper a number names is the table's.
 #[test]
 fn checks_calls_under_a_table(rt: HostRuntime) {
-    let wrong = first_other_call(&NUMBERS);
-    assert!(rt; wrong.is_none(), "row {wrong:?}");
+    all_hold(&rt, first_other_call(&NUMBERS));
 }

@@ -1,6 +1,7 @@
 //! Instructions as the interpreter takes them.
 
 use crate::images::{EXIT, ZERO, image_of};
+use crate::verdicts::all_hold;
 use annotate::load;
 use machine_spec::{Distance, Instruction, Source, Table, Test, Width};
 use predecode::{Decoded, Rare, paired, predecode};
@@ -50,7 +51,7 @@ fn a_program_is_predecoded(rt: HostRuntime) {
 
 /// A store, a call of helper 1 or 2, and a call of helper 4 or 5 with bytes of the stack, also with
 /// none, need a stack where they are reached. Emissions of the record's own bytes do not.
-const STACKS: [(&[u64], bool); 10] = [
+static STACKS: [(&[u64], bool); 10] = [
     (&[ZERO, EXIT], false),
     (&[0x720a_ffff_0000_0000, ZERO, EXIT], true), // st8 [r10-1], 0
     (
@@ -136,8 +137,7 @@ fn first_wrong(alloc: Global, rows: &[(&[u64], bool)]) -> Option<usize> {
 
 #[test]
 fn programs_that_need_a_stack(rt: HostRuntime) {
-    let wrong = first_wrong(rt.alloc(), &STACKS);
-    assert!(rt; wrong.is_none(), "row {wrong:?}");
+    all_hold(&rt, first_wrong(rt.alloc(), &STACKS));
 }
 
 /// A number of 64 bits.
@@ -214,7 +214,7 @@ fn range_of(test: Test, constant: i32) -> Option<(u8, u8)> {
 }
 
 /// A test, its number, and the first byte of which it holds with how many more there are.
-const RANGES: [(Test, i32, Option<(u8, u8)>); 14] = [
+static RANGES: [(Test, i32, Option<(u8, u8)>); 14] = [
     (Test::Equal, 65, Some((65, 0))),
     (Test::NotEqual, 65, Some((66, 254))),
     (Test::NotEqual, 255, Some((0, 254))),
@@ -278,8 +278,7 @@ fn is_both(form: Decoded) -> bool {
 /// another register stays by itself.
 #[test]
 fn a_load_and_its_jump_are_one(rt: HostRuntime) {
-    let wrong = first_other_range(&RANGES);
-    assert!(rt; wrong.is_none(), "row {wrong:?}");
+    all_hold(&rt, first_other_range(&RANGES));
     assert!(rt; is_load(paired(LOAD, jump_on(4), 9)));
     assert!(rt; is_both(paired(LOAD, jump_on(3), 9)));
 }

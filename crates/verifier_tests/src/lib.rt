@@ -26,3 +26,5 @@ mod sparse;
 mod states;
 #[cfg(test)]
 mod tables;
+#[cfg(test)]
+mod verdicts;

@@ -1,11 +1,12 @@
 use crate::images::{EXIT, ZERO, first_wrong, has_answer};
+use crate::verdicts::all_hold;
 use machine_spec::Table;
 use std::test::*;
 
 /// Part of a slot is no image.
 const PART: [u8; 12] = [0; 12];
 
-const STRAIGHT: [(&[u64], &str); 15] = [
+static STRAIGHT: [(&[u64], &str); 15] = [
     (&[], "I1 Size"),
     (&[ZERO, EXIT], "accepted 2"),
     (&[0xdb00_0000_0000_0000], "I6 NotInProfile slot 0"),
@@ -25,14 +26,13 @@ const STRAIGHT: [(&[u64], &str); 15] = [
 
 #[test]
 fn straight_programs(rt: HostRuntime) {
-    let wrong = first_wrong(rt.alloc(), Table::One, &STRAIGHT);
-    assert!(rt; wrong.is_none(), "row {wrong:?}");
+    all_hold(&rt, first_wrong(rt.alloc(), Table::One, &STRAIGHT));
     assert!(rt; has_answer(rt.alloc(), Table::One, &PART, "I1 Size"));
 }
 
 const FIRST_BYTE: u64 = 0x7110_0000_0000_0000; // ld8 r0, [r1+0]
 
-const TESTED: [(&[u64], &str); 8] = [
+static TESTED: [(&[u64], &str); 8] = [
     (&[FIRST_BYTE, EXIT], "V7 RecordBounds at 0"),
     // jlt64 r2, 1, +2
     (
@@ -112,8 +112,7 @@ const TESTED: [(&[u64], &str); 8] = [
 
 #[test]
 fn a_test_of_the_length_makes_a_load_safe(rt: HostRuntime) {
-    let wrong = first_wrong(rt.alloc(), Table::One, &TESTED);
-    assert!(rt; wrong.is_none(), "row {wrong:?}");
+    all_hold(&rt, first_wrong(rt.alloc(), Table::One, &TESTED));
 }
 
 const KEEP_LENGTH: u64 = 0xbf26_0000_0000_0000; // mov64 r6, r2
@@ -123,7 +122,7 @@ const SHIFT: u64 = 0x6706_0000_1400_0000; // lsh64 r6, 20
 const MOVE_ON: u64 = 0x0f61_0000_0000_0000; // add64 r1, r6
 
 /// Where ways meet, what is known is what all of them know.
-const MEETING: [(&[u64], &str); 9] = [
+static MEETING: [(&[u64], &str); 9] = [
     // jlt64 r2, 1, +1; ld8 r0, [r1+0]
     (
         &[ZERO, 0xa502_0100_0100_0000, 0x7110_0000_0000_0000, EXIT],
@@ -193,8 +192,7 @@ const MEETING: [(&[u64], &str); 9] = [
 
 #[test]
 fn branches_that_meet(rt: HostRuntime) {
-    let wrong = first_wrong(rt.alloc(), Table::One, &MEETING);
-    assert!(rt; wrong.is_none(), "row {wrong:?}");
+    all_hold(&rt, first_wrong(rt.alloc(), Table::One, &MEETING));
 }
 
 const READ_LAST: u64 = 0x71a0_ffff_0000_0000; // ld8 r0, [r10-1]
@@ -212,7 +210,7 @@ const BACK: u64 = 0x0707_0000_f0ff_ffff; // add64 r7, -16
 const AND_ON: u64 = 0x0f57_0000_0000_0000; // add64 r7, r5
 
 /// Stack bytes are readable where every way has stored them at one known place.
-const STORES: [(&[u64], &str); 17] = [
+static STORES: [(&[u64], &str); 17] = [
     // st32 [r10-8], 0
     (
         &[0x620a_f8ff_0000_0000, READ_EIGHT, EXIT],
@@ -304,8 +302,7 @@ const STORES: [(&[u64], &str); 17] = [
 
 #[test]
 fn stores(rt: HostRuntime) {
-    let wrong = first_wrong(rt.alloc(), Table::One, &STORES);
-    assert!(rt; wrong.is_none(), "row {wrong:?}");
+    all_hold(&rt, first_wrong(rt.alloc(), Table::One, &STORES));
 }
 
 const SKIP: u64 = 0x0500_0100_0000_0000; // ja +1
@@ -319,7 +316,7 @@ const UPPER: u64 = 0x0000_0000_0100_0000;
 const IF_UNSET: u64 = 0x1506_0100_0000_0000; // jeq64 r6, 0, +1
 
 /// Jumps without a condition, 64-bit immediates, and which of two faults is reported.
-const JUMPS: [(&[u64], &str); 17] = [
+static JUMPS: [(&[u64], &str); 17] = [
     (&[0x0500_ffff_0000_0000, EXIT], "V2 BackJump at 0"),
     (&[0x0600_0000_ffff_ffff, EXIT], "V2 BackJump at 0"),
     (&[SKIP, WIDE, 0, EXIT], "V1 JumpTarget at 0"),
@@ -352,6 +349,5 @@ const JUMPS: [(&[u64], &str); 17] = [
 
 #[test]
 fn jumps_and_wide_numbers(rt: HostRuntime) {
-    let wrong = first_wrong(rt.alloc(), Table::One, &JUMPS);
-    assert!(rt; wrong.is_none(), "row {wrong:?}");
+    all_hold(&rt, first_wrong(rt.alloc(), Table::One, &JUMPS));
 }

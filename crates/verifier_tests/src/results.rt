@@ -1,6 +1,7 @@
 //! What is known at the next instruction and at the target of a jump.
 
 use crate::states::{Lengths, are_same, edges, has_kinds, is_entry, kind_of, of_lengths, with_two};
+use crate::verdicts::all_hold;
 use abstract_regs::{Abs, State};
 use machine_spec::{
     Distance, Extension, Instruction, Operation, Region, Size, Source, Test, Width,
@@ -26,7 +27,7 @@ pub(crate) const SUM: Instruction = Instruction::Compute(
 );
 
 /// Kinds of r1 and r2, and of their sum.
-const SUMS: [(Abs, Abs, Abs); 8] = [
+static SUMS: [(Abs, Abs, Abs); 8] = [
     (Abs::Num(5, 9), Abs::Num(2, 3), Abs::Num(7, 12)),
     (
         Abs::Num(1, 0xffff_ffff_ffff_fffe),
@@ -69,14 +70,13 @@ fn first_other_sum(rows: &[(Abs, Abs, Abs)]) -> Option<usize> {
 
 #[test]
 fn adds_intervals(rt: HostRuntime) {
-    let wrong = first_other_sum(&SUMS);
-    assert!(rt; wrong.is_none(), "row {wrong:?}");
+    all_hold(&rt, first_other_sum(&SUMS));
 }
 
 /// An instruction, a register, and what is known of it after the instruction at the start.
 type After = (Instruction, usize, Option<Abs>);
 
-const MOVES: [After; 4] = [
+static MOVES: [After; 4] = [
     (
         Instruction::Move(Width::Bits64, 6, Source::Register(2)),
         6,
@@ -119,14 +119,13 @@ const BELOW: Instruction = Instruction::Compute(
 
 #[test]
 fn sets_registers(rt: HostRuntime) {
-    let wrong = first_other_after(&State::entry(), &MOVES);
-    assert!(rt; wrong.is_none(), "row {wrong:?}");
+    all_hold(&rt, first_other_after(&State::entry(), &MOVES));
     let end = Abs::Addr(Region::Stack, 512, 512);
     let below = Some(Abs::Addr(Region::Stack, 504, 504));
     assert!(rt; first_after(end, Abs::None, BELOW) == below);
 }
 
-const LOADS: [After; 8] = [
+static LOADS: [After; 8] = [
     (
         Instruction::Load(Size::Byte, Extension::Zero, 0, 1, 0),
         0,
@@ -179,14 +178,13 @@ fn first_other_at(lengths: &Lengths, rows: &[After]) -> Option<usize> {
 
 #[test]
 fn loads_numbers(rt: HostRuntime) {
-    let wrong = first_other_at(&(8, 8, 8, 8), &LOADS);
-    assert!(rt; wrong.is_none(), "row {wrong:?}");
+    all_hold(&rt, first_other_at(&(8, 8, 8, 8), &LOADS));
 }
 
 /// An operation on r1 and r2, their kinds, and that of r1 afterwards.
 type Computed = (Operation, Abs, Abs, Abs);
 
-const COMPUTED: [Computed; 5] = [
+static COMPUTED: [Computed; 5] = [
     (
         Operation::And,
         Abs::Num(5, 9),
@@ -236,8 +234,7 @@ fn first_other_computed(rows: &[Computed]) -> Option<usize> {
 
 #[test]
 fn computes_intervals(rt: HostRuntime) {
-    let wrong = first_other_computed(&COMPUTED);
-    assert!(rt; wrong.is_none(), "row {wrong:?}");
+    all_hold(&rt, first_other_computed(&COMPUTED));
 }
 
 /// What a test of r1 against a constant leaves of it where the jump is taken, and where it isn't.
@@ -254,7 +251,7 @@ const ABOVE: Option<Abs> = Some(Abs::Num(6, 9));
 const UNDER: Option<Abs> = Some(Abs::Num(5, 8));
 
 /// Of 5 to 9.
-const NARROWED: [Narrowed; 22] = [
+static NARROWED: [Narrowed; 22] = [
     (Test::Equal, 5, LEAST, ABOVE),
     (Test::Equal, 9, MOST, UNDER),
     (Test::Equal, 7, Some(Abs::Num(7, 7)), WHOLE),
@@ -300,8 +297,7 @@ fn first_other_narrowed(kind: Abs, rows: &[Narrowed]) -> Option<usize> {
 
 #[test]
 fn narrows_both_ways(rt: HostRuntime) {
-    let wrong = first_other_narrowed(Abs::Num(5, 9), &NARROWED);
-    assert!(rt; wrong.is_none(), "row {wrong:?}");
+    all_hold(&rt, first_other_narrowed(Abs::Num(5, 9), &NARROWED));
     let single = first_other_narrowed(Abs::Num(5, 5), &[(Test::Equal, 5, LEAST, None)]);
     assert!(rt; single.is_none());
 }
@@ -309,7 +305,7 @@ fn narrows_both_ways(rt: HostRuntime) {
 /// A register with a length, a constant, and the lengths where it is less and where it is not.
 type Bounded = (u8, i32, Lengths, Lengths);
 
-const BOUNDED: [Bounded; 2] = [
+static BOUNDED: [Bounded; 2] = [
     (2, 16, (0, 4096, 0, 15), (0, 4096, 16, 1_048_576)),
     (4, 4, (0, 3, 0, 1_048_576), (4, 4096, 0, 1_048_576)),
 ];
@@ -353,7 +349,7 @@ fn jumps_without_a_condition(rt: HostRuntime) {
 }
 
 /// The kinds after a call.
-const SPENT: [Abs; 11] = [
+static SPENT: [Abs; 11] = [
     Abs::Num(0, 3),
     Abs::None,
     Abs::None,

@@ -1,6 +1,7 @@
 //! Room on the stack that helpers write.
 
 use crate::images::{EXIT, ZERO, first_wrong, known_of, regions_of};
+use crate::verdicts::all_hold;
 use machine_spec::{Region, Table};
 use std::test::*;
 use verifier_spec::Abs;
@@ -20,7 +21,7 @@ const FROM_START: u64 = 0xb702_0000_0000_0000; // mov64 r2, 0
 const LAST_BYTES: u64 = 0x79a0_f8ff_0000_0000; // ld64 r0, [r10-8]
 
 /// Programs that name room for a part, and what a load answers.
-const ROOMS: [(&[u64], &str); 10] = [
+static ROOMS: [(&[u64], &str); 10] = [
     (
         &[END, BELOW, FROM_START, EIGHT, LOAD_VALUE, LAST_BYTES, EXIT],
         "accepted 7",
@@ -139,8 +140,7 @@ const ROOMS: [(&[u64], &str); 10] = [
 /// Room that a helper writes: its address and its length, and what is known of the stack afterwards.
 #[test]
 fn room_on_the_stack(rt: HostRuntime) {
-    let wrong = first_wrong(rt.alloc(), Table::One, &ROOMS);
-    assert!(rt; wrong.is_none(), "row {wrong:?}");
+    all_hold(&rt, first_wrong(rt.alloc(), Table::One, &ROOMS));
 }
 
 const NOT_EMPTY: u64 = 0xa502_0600_0100_0000; // jlt64 r2, 1, +6
@@ -152,7 +152,7 @@ const AT_LEAST_FOUR: u64 = 0xa502_0700_0400_0000; // jlt64 r2, 4, +7
 const AT_MOST_EIGHT: u64 = 0x2502_0600_0800_0000; // jgt64 r2, 8, +6
 
 /// A length that a jump bounds by 512, as the whole stack has, and by 513: jgt64 r2, 512, +5.
-const BOUNDED: [(&[u64], &str); 2] = [
+static BOUNDED: [(&[u64], &str); 2] = [
     (
         &[
             ZERO,
@@ -185,12 +185,11 @@ const BOUNDED: [(&[u64], &str); 2] = [
 
 #[test]
 fn room_of_a_bounded_length(rt: HostRuntime) {
-    let wrong = first_wrong(rt.alloc(), Table::One, &BOUNDED);
-    assert!(rt; wrong.is_none(), "row {wrong:?}");
+    all_hold(&rt, first_wrong(rt.alloc(), Table::One, &BOUNDED));
 }
 
 /// Four bytes are set after a load of 4 to 8 bytes to one place: ld32 r0, [r10-8]; ld8 r0, [r10-4].
-const SET_BY_A_PART: [(&[u64], &str); 2] = [
+static SET_BY_A_PART: [(&[u64], &str); 2] = [
     (
         &[
             ZERO,
@@ -231,8 +230,7 @@ const PART: [u64; 6] = [END, BELOW, FROM_START, EIGHT, LOAD_VALUE, EXIT];
 #[test]
 fn after_a_part_is_copied(rt: HostRuntime) {
     let alloc = rt.alloc();
-    let wrong = first_wrong(alloc, Table::One, &SET_BY_A_PART);
-    assert!(rt; wrong.is_none(), "row {wrong:?}");
+    all_hold(&rt, first_wrong(alloc, Table::One, &SET_BY_A_PART));
     let regions = regions_of(alloc, Table::One, &PART, 4);
     assert!(rt; regions == Some((6, Some(Region::Stack), None)));
     assert!(rt; known_of(alloc, Table::One, &PART, 5, 0) == Some(Abs::Num(0, 1)));

@@ -1,5 +1,6 @@
 //! Programs by the states of some instructions: what is kept, what follows, and what is refused.
 
+use crate::verdicts::all_hold;
 use abstract_regs::State;
 use annotate::{joined_states, load};
 use bpf_isa::{Code, decode};
@@ -149,17 +150,16 @@ fn first_wrong(alloc: Global, image: &[u8], rows: &[Row]) -> Option<usize> {
 }
 
 /// Of `FIRST_BYTE`.
-const TARGETS: [Row; 2] = [(&[(3, Some(3))], "kept 1"), (&[], "V15 Notes at 1")];
+static TARGETS: [Row; 2] = [(&[(3, Some(3))], "kept 1"), (&[], "V15 Notes at 1")];
 
 #[test]
 fn states_follow_from_those_of_jump_targets(rt: HostRuntime) {
-    let wrong = first_wrong(rt.alloc(), &FIRST_BYTE, &TARGETS);
-    assert!(rt; wrong.is_none(), "row {wrong:?}");
+    all_hold(&rt, first_wrong(rt.alloc(), &FIRST_BYTE, &TARGETS));
     assert!(rt; reports(rt.alloc(), Table::One, &ZERO, &[], "kept 0"));
 }
 
 /// Of `OUTSIDE`.
-const REFUSED: [Row; 2] = [
+static REFUSED: [Row; 2] = [
     (&[], "V15 Notes at 1"),
     (&[(3, Some(1))], "V1 JumpTarget at 2"),
 ];
@@ -167,12 +167,11 @@ const REFUSED: [Row; 2] = [
 /// Nothing follows on an instruction that fails a check: no state covers the first jump's edge.
 #[test]
 fn nothing_follows_on_a_refused_instruction(rt: HostRuntime) {
-    let wrong = first_wrong(rt.alloc(), &OUTSIDE, &REFUSED);
-    assert!(rt; wrong.is_none(), "row {wrong:?}");
+    all_hold(&rt, first_wrong(rt.alloc(), &OUTSIDE, &REFUSED));
 }
 
 /// Of `ZERO`.
-const ANYWHERE: [Row; 3] = [
+static ANYWHERE: [Row; 3] = [
     (&[(0, None), (1, Some(1))], "kept 0"),
     (&[(0, Some(1))], "V15 Notes at 0"),
     (&[(1, None)], "V4 Unset at 1"),
@@ -181,12 +180,11 @@ const ANYWHERE: [Row; 3] = [
 /// States elsewhere are taken where they are given, and not kept.
 #[test]
 fn states_are_taken_anywhere(rt: HostRuntime) {
-    let wrong = first_wrong(rt.alloc(), &ZERO, &ANYWHERE);
-    assert!(rt; wrong.is_none(), "row {wrong:?}");
+    all_hold(&rt, first_wrong(rt.alloc(), &ZERO, &ANYWHERE));
 }
 
 /// Of `ZERO`.
-const NUMBERS: [Row; 3] = [
+static NUMBERS: [Row; 3] = [
     (&[(2, Some(1))], "V15 Notes at 0"),
     (&[(1, Some(1)), (0, None)], "V15 Notes at 0"),
     (&[(1, Some(1)), (1, Some(1))], "V15 Notes at 0"),
@@ -195,8 +193,7 @@ const NUMBERS: [Row; 3] = [
 /// The numbers rise and are those of instructions.
 #[test]
 fn numbers_rise(rt: HostRuntime) {
-    let wrong = first_wrong(rt.alloc(), &ZERO, &NUMBERS);
-    assert!(rt; wrong.is_none(), "row {wrong:?}");
+    all_hold(&rt, first_wrong(rt.alloc(), &ZERO, &NUMBERS));
 }
 
 /// The states follow under the table that the check is given.

@@ -1,5 +1,6 @@
 //! Abstract states: their ranges and their order.
 
+use crate::verdicts::all_hold;
 use abstract_regs::{Abs, StackSet, State};
 use machine_spec::{Instruction, Region, Table};
 use std::test::*;
@@ -117,7 +118,7 @@ fn begins_with_the_arguments(rt: HostRuntime) {
 const PAST: i64 = 4_294_967_297;
 
 /// Kinds, and whether a state has them.
-const KINDS: [(Abs, bool); 9] = [
+static KINDS: [(Abs, bool); 9] = [
     (Abs::Num(3, 2), false),
     (Abs::Len(Region::Stack), false),
     (Abs::Addr(Region::Value, 5, 4), false),
@@ -142,7 +143,7 @@ fn first_other_kind(rows: &[(Abs, bool)]) -> Option<usize> {
 pub(crate) type Lengths = (u32, u32, u32, u32);
 
 /// Lengths, and whether a state has them.
-const LENGTHS: [(Lengths, bool); 5] = [
+static LENGTHS: [(Lengths, bool); 5] = [
     ((5, 4, 0, 0), false),
     ((0, 4097, 0, 0), false),
     ((0, 0, 5, 4), false),
@@ -165,14 +166,12 @@ fn first_other_lengths(rows: &[(Lengths, bool)]) -> Option<usize> {
 
 #[test]
 fn refuses_what_is_out_of_range(rt: HostRuntime) {
-    let kind = first_other_kind(&KINDS);
-    assert!(rt; kind.is_none(), "row {kind:?}");
-    let lengths = first_other_lengths(&LENGTHS);
-    assert!(rt; lengths.is_none(), "row {lengths:?}");
+    all_hold(&rt, first_other_kind(&KINDS));
+    all_hold(&rt, first_other_lengths(&LENGTHS));
 }
 
 /// Two kinds, and whether a state with the first in r1 is within one with the second.
-const ORDERED: [(Abs, Abs, bool); 15] = [
+static ORDERED: [(Abs, Abs, bool); 15] = [
     (Abs::Num(3, 7), Abs::None, true),
     (Abs::None, Abs::Num(0, u64::MAX), false),
     (Abs::Num(3, 7), Abs::Num(3, 7), true),
@@ -223,12 +222,11 @@ fn first_disordered(rows: &[(Abs, Abs, bool)]) -> Option<usize> {
 
 #[test]
 fn orders_states(rt: HostRuntime) {
-    let wrong = first_disordered(&ORDERED);
-    assert!(rt; wrong.is_none(), "row {wrong:?}");
+    all_hold(&rt, first_disordered(&ORDERED));
 }
 
 /// Lengths, and whether they are within 2 to 9 for both.
-const WITHIN: [(Lengths, bool); 6] = [
+static WITHIN: [(Lengths, bool); 6] = [
     ((2, 9, 2, 9), true),
     ((3, 8, 3, 8), true),
     ((1, 9, 2, 9), false),
@@ -247,7 +245,7 @@ fn first_other_within(rows: &[(Lengths, bool)]) -> Option<usize> {
 }
 
 /// Sets of the last bytes, and whether the first is within the second: it has all its bytes.
-const SETS: [(u64, u64, bool); 4] = [(0, 0, true), (3, 1, true), (1, 3, false), (2, 1, false)];
+static SETS: [(u64, u64, bool); 4] = [(0, 0, true), (3, 1, true), (1, 3, false), (2, 1, false)];
 
 fn first_other_set(rows: &[(u64, u64, bool)]) -> Option<usize> {
     for (k, row) in rows.iter().enumerate() {
@@ -260,8 +258,6 @@ fn first_other_set(rows: &[(u64, u64, bool)]) -> Option<usize> {
 
 #[test]
 fn orders_lengths_and_bytes(rt: HostRuntime) {
-    let lengths = first_other_within(&WITHIN);
-    assert!(rt; lengths.is_none(), "row {lengths:?}");
-    let set = first_other_set(&SETS);
-    assert!(rt; set.is_none(), "row {set:?}");
+    all_hold(&rt, first_other_within(&WITHIN));
+    all_hold(&rt, first_other_set(&SETS));
 }

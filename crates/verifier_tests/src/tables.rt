@@ -2,6 +2,7 @@
 //! that read headers.
 
 use crate::images::{EXIT, ZERO, first_wrong, have_answer, image_of, known_of, regions_of};
+use crate::verdicts::all_hold;
 use annotate::load;
 use machine_spec::{Region, Table};
 use std::alloc::Global;
@@ -28,7 +29,7 @@ const READ_EIGHT: u64 = 0x79a0_f8ff_0000_0000; // ld64 r0, [r10-8]
 const FIRST_VALUE: [u64; 6] = [END, BELOW, FIRST, EIGHT, HEADER_VALUE, EXIT];
 
 /// A helper that only table two has is none for a program of table one, where it is reached.
-const ONE: [(&[u64], &str); 5] = [
+static ONE: [(&[u64], &str); 5] = [
     (&FIRST_VALUE, "V11 Helper at 4"),
     (
         &[END, BELOW, FIRST, EIGHT, HEADER_KEY, EXIT],
@@ -46,11 +47,10 @@ const ONE: [(&[u64], &str); 5] = [
 
 #[test]
 fn table_one(rt: HostRuntime) {
-    let wrong = first_wrong(rt.alloc(), Table::One, &ONE);
-    assert!(rt; wrong.is_none(), "row {wrong:?}");
+    all_hold(&rt, first_wrong(rt.alloc(), Table::One, &ONE));
 }
 
-const TWO: [(&[u64], &str); 11] = [
+static TWO: [(&[u64], &str); 11] = [
     (&FIRST_VALUE, "accepted 6"),
     (&[END, BELOW, FIRST, EIGHT, HEADER_KEY, EXIT], "accepted 6"),
     (
@@ -88,12 +88,11 @@ const TWO: [(&[u64], &str); 11] = [
 
 #[test]
 fn table_two(rt: HostRuntime) {
-    let wrong = first_wrong(rt.alloc(), Table::Two, &TWO);
-    assert!(rt; wrong.is_none(), "row {wrong:?}");
+    all_hold(&rt, first_wrong(rt.alloc(), Table::Two, &TWO));
 }
 
 /// The room is 1 to 512 bytes of the stack, and the position a number.
-const ROOMS: [(u64, u64, u64, &str); 8] = [
+static ROOMS: [(u64, u64, u64, &str); 8] = [
     // add64 r1, -512; mov64 r3, 512 and 513
     (
         0x0701_0000_00fe_ffff,
@@ -137,8 +136,7 @@ fn first_other_room(alloc: Global, rows: &[(u64, u64, u64, &str)]) -> Option<usi
 
 #[test]
 fn rooms(rt: HostRuntime) {
-    let wrong = first_other_room(rt.alloc(), &ROOMS);
-    assert!(rt; wrong.is_none(), "row {wrong:?}");
+    all_hold(&rt, first_other_room(rt.alloc(), &ROOMS));
 }
 
 const AT_LEAST: u64 = 0xbf53_0000_0000_0000; // mov64 r3, r5
@@ -146,7 +144,7 @@ const AT_LEAST: u64 = 0xbf53_0000_0000_0000; // mov64 r3, r5
 const FOUR_MORE: u64 = 0x0703_0000_0400_0000; // add64 r3, 4
 
 /// The first bytes of room that has at least four: ld32 r0, [r10-8], and eight.
-const SET: [(&[u64], &str); 2] = [
+static SET: [(&[u64], &str); 2] = [
     (
         &[
             END,
@@ -177,8 +175,7 @@ const SET: [(&[u64], &str); 2] = [
 
 #[test]
 fn bytes_of_a_header_are_set(rt: HostRuntime) {
-    let wrong = first_wrong(rt.alloc(), Table::Two, &SET);
-    assert!(rt; wrong.is_none(), "row {wrong:?}");
+    all_hold(&rt, first_wrong(rt.alloc(), Table::Two, &SET));
 }
 
 /// Whether after a call before this place r0 has a number from 0 to this one, and r1 is unknown.
