@@ -31,7 +31,10 @@ fn distances_span(rt: &impl Abort, rows: &[(Distance, i32)]) {
 
 fn operations_move(rt: &impl Abort, rows: &[(Operation, Width, bool)]) {
     for (operation, width, want) in rows {
-        assert!(rt; operation.moves_address(*width) == *want, "{operation:?} {width:?}");
+        assert!(rt;
+            operation.moves_address(*width) == *want,
+            "{operation:?} {width:?}"
+        );
     }
 }
 
