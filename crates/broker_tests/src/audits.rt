@@ -1,8 +1,8 @@
 //! Audits of receipts.
 
 use crate::books::Seen;
-use crate::play::{Scene, plays};
-use broker::{Audit, AuditedRows, Broker, Ended, Until};
+use crate::play::{Scene, play};
+use broker::{Audit, AuditedRows, Broker, Ended, Parts, Until};
 use broker_fixtures::{deploy, ends, is_row, put};
 use catalogue::Catalogue;
 use fixtures::BOTH;
@@ -16,8 +16,14 @@ use std::thread::Threads;
 use worker::Open;
 
 #[test]
-fn receipts_are_audited_in_order(rt: HostRuntime) {
-    assert!(rt; plays(&rt, rt.alloc(), (2, 2, 8), Scene::AuditFive));
+fn receipts_are_audited_in_order(rt: HostRuntime) -> Result<(), Fail> {
+    let alloc = rt.alloc();
+    play(
+        &rt,
+        alloc,
+        Parts::new(&rt, alloc, 2, 2, 8)?,
+        Scene::AuditFive,
+    )
 }
 
 /// Each audit of receipts finds the rows of its own item, in each book.
@@ -27,7 +33,7 @@ pub(crate) fn audit_five<Id: Names + Send + Sync, R: Threads + Wait + Abort + Sy
     broker: &Broker<Id, Catalogue<&R>>,
 ) -> Result<(), Fail> {
     for input in 0..2 {
-        assert!(rt; deploy(rt, alloc, broker, input, &BOTH) == Some(0));
+        assert_eq!(rt; deploy(rt, alloc, broker, input, &BOTH), Some(0));
     }
     let receipts = append_five(rt, alloc, broker).ok_or("receipts")?;
     assert!(rt; are_right(rt, alloc, broker, &receipts));
@@ -230,8 +236,14 @@ fn act<Id: Names + Send + Sync, C: Send, R: Threads + Wait + Sync>(
 }
 
 #[test]
-fn receipts_are_audited_by_another_thread(rt: HostRuntime) {
-    assert!(rt; plays(&rt, rt.alloc(), (1, 2, 8), Scene::AuditBeside));
+fn receipts_are_audited_by_another_thread(rt: HostRuntime) -> Result<(), Fail> {
+    let alloc = rt.alloc();
+    play(
+        &rt,
+        alloc,
+        Parts::new(&rt, alloc, 1, 2, 8)?,
+        Scene::AuditBeside,
+    )
 }
 
 /// A thread that gets the receipts audits them in each book in turn, beside a worker.
@@ -240,7 +252,7 @@ pub(crate) fn audit_beside<Id: Names + Send + Sync, R: Threads + Wait + Abort + 
     alloc: Global,
     broker: &Broker<Id, Catalogue<&R>>,
 ) -> Result<(), Fail> {
-    assert!(rt; deploy(rt, alloc, broker, 0, &BOTH) == Some(0));
+    assert_eq!(rt; deploy(rt, alloc, broker, 0, &BOTH), Some(0));
     let jobs = jobs_of(rt, alloc, broker).ok_or("receipts")?;
     assert!(rt; are_done(rt, alloc, broker, jobs)?);
     Ok(())

@@ -1,5 +1,5 @@
-use crate::play::{Scene, plays};
-use broker::{Broker, BrokerFault};
+use crate::play::{Scene, play};
+use broker::{Broker, BrokerFault, Parts};
 use broker_fixtures::{NAME, load};
 use catalogue::{CatFault, Catalogue, Finder, Known};
 use fixtures::FORWARD;
@@ -11,8 +11,9 @@ use std::sync::Wait;
 use std::test::Fail;
 
 #[test]
-fn a_deployment_is_a_mark(rt: HostRuntime) {
-    assert!(rt; plays(&rt, rt.alloc(), (1, 1, 2), Scene::Deploy));
+fn a_deployment_is_a_mark(rt: HostRuntime) -> Result<(), Fail> {
+    let alloc = rt.alloc();
+    play(&rt, alloc, Parts::new(&rt, alloc, 1, 1, 2)?, Scene::Deploy)
 }
 
 /// Each of two deployments is a mark of the version that was loaded last.
@@ -22,7 +23,7 @@ pub(crate) fn deploy_some<Id: Names, H: Wait + Drop, R: Wait + Abort>(
     broker: &Broker<Id, Catalogue<H>>,
 ) -> Result<(), Fail> {
     let known = load_forward(rt, alloc, broker).ok_or("a version")?;
-    assert!(rt; known.version() == 1);
+    assert_eq!(rt; known.version(), 1);
     let mut finder = broker.finder(rt, alloc)?;
     deploy_two(rt, alloc, broker, &mut finder, &known);
     are_refused(rt, alloc, broker, &mut finder, &known, &FULL);
@@ -65,11 +66,11 @@ fn deploy_two<Id: Names, H: Wait + Drop, R: Wait + Abort>(
 ) {
     for (index, version, next) in [(0, 1, 2), (1, 2, 3)] {
         let deployed = deploy(rt, alloc, broker, 0, NAME, finder, known);
-        assert!(rt; deployed == Ok((index, version)));
-        assert!(rt; load_again(rt, alloc, broker) == Some(next));
+        assert_eq!(rt; deployed, Ok((index, version)));
+        assert_eq!(rt; load_again(rt, alloc, broker), Some(next));
     }
     for (index, version) in [(0, 1), (1, 2)] {
-        assert!(rt; mark_at(broker, index) == Some(version));
+        assert_eq!(rt; mark_at(broker, index), Some(version));
     }
 }
 
@@ -77,14 +78,14 @@ fn deploy_two<Id: Names, H: Wait + Drop, R: Wait + Abort>(
 type Refused = (usize, &'static str, BrokerFault);
 
 /// Of a full log, with a finder that reads.
-static FULL: [Refused; 3] = [
+const FULL: [Refused; 3] = [
     (1, "other", BrokerFault::Partition),
     (0, "other", BrokerFault::NoProgram),
     (0, NAME, BrokerFault::Log(LogFault::Full)),
 ];
 
 /// The same with a finder of a catalogue that is gone.
-static LOST: [Refused; 3] = [
+const LOST: [Refused; 3] = [
     (1, "other", BrokerFault::Partition),
     (0, "other", BrokerFault::Catalogue(CatFault::NoReader)),
     (0, NAME, BrokerFault::Catalogue(CatFault::NoReader)),
@@ -101,7 +102,7 @@ fn are_refused<Id: Names, C, R: Wait + Abort>(
 ) {
     for (input, name, want) in rows {
         let deployed = deploy(rt, alloc, broker, *input, name, finder, known);
-        assert!(rt; deployed == Err(*want));
+        assert_eq!(rt; deployed, Err(*want));
     }
 }
 

@@ -2,8 +2,8 @@ ghost use Rattle.std.specs.Prelude.{IfSome};
 ghost use Rattle.log_spec.specs.Logs.{FitsLog};
 
 use crate::fetched::{one_long, sizes, two_stamped};
-use crate::play::{Scene, plays};
-use broker::{Broker, BrokerFault, Ended, Until};
+use crate::play::{Scene, play};
+use broker::{Broker, BrokerFault, Ended, Parts, Until};
 use broker_fixtures::{deploy, ends};
 use catalogue::Catalogue;
 use fixtures::{FORWARD, batch_of};
@@ -11,7 +11,7 @@ use part_log::Names;
 use std::alloc::Global;
 use std::process::Abort;
 use std::sync::Wait;
-use std::test::*;
+use std::test::Fail;
 use std::thread::Threads;
 use wire_spec::Batch;
 use worker::Open;
@@ -26,15 +26,21 @@ const TWO: [u8; 80] = [
 ];
 
 #[test]
-fn rows_are_fetched_as_a_batch(rt: HostRuntime) {
-    assert!(rt; plays(&rt, rt.alloc(), (1, 2, 8), Scene::FetchTwo));
+fn rows_are_fetched_as_a_batch(rt: HostRuntime) -> Result<(), Fail> {
+    let alloc = rt.alloc();
+    play(
+        &rt,
+        alloc,
+        Parts::new(&rt, alloc, 1, 2, 8)?,
+        Scene::FetchTwo,
+    )
 }
 
 /// An output partition, a place and a number of rows, and the batch that is fetched.
 type Fetch = (usize, usize, usize, Option<&'static [u8]>);
 
 /// The same batch is fetched again, none past the last row or of no rows, and none of another output.
-static FETCHES: [Fetch; 6] = [
+const FETCHES: [Fetch; 6] = [
     (0, 0, 10, Some(&TWO)),
     (0, 0, 2, Some(&TWO)),
     (0, 0, 2, Some(&TWO)),
@@ -46,22 +52,22 @@ static FETCHES: [Fetch; 6] = [
 /// A place and a number of rows, and the bytes and the records of the batch that is fetched.
 type Size = (usize, usize, (usize, usize));
 
-static ONE_ROW: [Size; 2] = [(1, 10, (70, 1)), (0, 1, (70, 1))];
+const ONE_ROW: [Size; 2] = [(1, 10, (70, 1)), (0, 1, (70, 1))];
 
 pub(crate) fn fetch_two<
     Id: Names + Send + Sync,
     H: Wait + Drop + Send,
     R: Threads + Wait + Sync + Abort,
 >(rt: &R, alloc: Global, broker: &Broker<Id, Catalogue<H>>) {
-    assert!(rt; deploy(rt, alloc, broker, 0, &FORWARD) == Some(0));
+    assert_eq!(rt; deploy(rt, alloc, broker, 0, &FORWARD), Some(0));
     assert!(rt; append_two(rt, alloc, broker));
-    assert!(rt; is_fetched(rt, broker, &(0, 0, 10, None)) == Ok(true));
+    assert_eq!(rt; is_fetched(rt, broker, &(0, 0, 10, None)), Ok(true));
     assert!(rt; ends(rt, alloc, broker, Until::Drained, &Open, &[Ended::Done(2)]));
     for fetch in &FETCHES {
-        assert!(rt; is_fetched(rt, broker, fetch) == Ok(true), "{fetch:?}");
+        assert_eq!(rt; is_fetched(rt, broker, fetch), Ok(true), "{fetch:?}");
     }
     let missing = is_fetched(rt, broker, &(2, 0, 10, None));
-    assert!(rt; missing == Err(BrokerFault::Partition));
+    assert_eq!(rt; missing, Err(BrokerFault::Partition));
     have_sizes(rt, alloc, broker, &ONE_ROW);
 }
 
@@ -94,17 +100,23 @@ fn have_sizes<Id: Names, C, R: Wait + Abort>(
     rows: &[Size],
 ) {
     for (place, max, want) in rows {
-        assert!(rt; sizes(rt, alloc, broker, *place, *max) == Some(*want));
+        assert_eq!(rt; sizes(rt, alloc, broker, *place, *max), Some(*want));
     }
 }
 
 #[test]
-fn a_batch_takes_as_many_rows_as_it_may(rt: HostRuntime) {
-    assert!(rt; plays(&rt, rt.alloc(), (1, 1, 32), Scene::FetchMany));
+fn a_batch_takes_as_many_rows_as_it_may(rt: HostRuntime) -> Result<(), Fail> {
+    let alloc = rt.alloc();
+    play(
+        &rt,
+        alloc,
+        Parts::new(&rt, alloc, 1, 1, 32)?,
+        Scene::FetchMany,
+    )
 }
 
 /// How often a batch is appended, and how many records it has; or of one record, the bytes of its value.
-static BATCHES: [(usize, usize, usize); 4] = [
+const BATCHES: [(usize, usize, usize); 4] = [
     (16, 1, 65_536),
     (1, 10_000, 0),
     (1, 1, 0),
@@ -112,7 +124,7 @@ static BATCHES: [(usize, usize, usize); 4] = [
 ];
 
 /// Ten thousand rows are as many as a batch may have, and three of 1,048,576 bytes.
-static LIMITS: [Size; 6] = [
+const LIMITS: [Size; 6] = [
     (0, 16, (1_048_813, 16)),
     (15, 1, (65_608, 1)),
     (16, 20_000, (81_805, 10_000)),
@@ -126,9 +138,9 @@ pub(crate) fn fetch_many<
     H: Wait + Drop + Send,
     R: Threads + Wait + Sync + Abort,
 >(rt: &R, alloc: Global, broker: &Broker<Id, Catalogue<H>>) {
-    assert!(rt; deploy(rt, alloc, broker, 0, &FORWARD) == Some(0));
-    for (times, count, bytes) in &BATCHES {
-        assert!(rt; append_times(rt, alloc, broker, *times, *count, *bytes));
+    assert_eq!(rt; deploy(rt, alloc, broker, 0, &FORWARD), Some(0));
+    for (times, count, bytes) in BATCHES {
+        assert!(rt; append_times(rt, alloc, broker, times, count, bytes));
     }
     assert!(rt; ends(rt, alloc, broker, Until::Drained, &Open, &[Ended::Done(23)]));
     have_sizes(rt, alloc, broker, &LIMITS);

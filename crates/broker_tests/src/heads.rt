@@ -55,16 +55,16 @@ fn close_one<Id: Names, R: Abort>(
     others: &PartCells<Id>,
 ) {
     let mut head = Head::new(0);
-    assert!(rt; close(alloc, &mut head, own) == Ok((0, 0, 0)));
+    assert_eq!(rt; close(alloc, &mut head, own), Ok((0, 0, 0)));
     for (cells, want) in [(others, LogFault::Clash), (own, LogFault::Closed)] {
-        assert!(rt; close(alloc, &mut head, cells) == Err(want));
+        assert_eq!(rt; close(alloc, &mut head, cells), Err(want));
     }
-    assert!(rt; head.trail().len() == 1);
+    assert_eq!(rt; head.trail().len(), 1);
 }
 
 /// A head that has no item yet finds its first cell set.
 fn append_late<Id: Names, R: Abort>(rt: &R, alloc: Global, own: &PartCells<Id>) {
     let mut late = Head::new(0);
-    assert!(rt; append(alloc, &mut late, own) == Err(LogFault::Clash));
-    assert!(rt; late.trail().len() == 0);
+    assert_eq!(rt; append(alloc, &mut late, own), Err(LogFault::Clash));
+    assert_eq!(rt; late.trail().len(), 0);
 }

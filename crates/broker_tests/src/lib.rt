@@ -35,8 +35,6 @@ mod streams;
 #[cfg(test)]
 mod threads;
 #[cfg(test)]
-mod verdicts;
-#[cfg(test)]
 mod waits;
 #[cfg(test)]
 mod workers;

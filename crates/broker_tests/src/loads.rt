@@ -1,5 +1,5 @@
-use crate::play::{Scene, plays};
-use broker::Broker;
+use crate::play::{Scene, play};
+use broker::{Broker, Parts};
 use bytes::Bytes;
 use catalogue::{Catalogue, Finder, Known};
 use fixtures::FORWARD;
@@ -20,8 +20,14 @@ const TURNS: usize = 100_000_000;
 type Published = Mutex<Vec<Known>>;
 
 #[test]
-fn deployments_are_never_older_than_known(rt: HostRuntime) {
-    assert!(rt; plays(&rt, rt.alloc(), (1, 1, LOADS), Scene::Chase));
+fn deployments_are_never_older_than_known(rt: HostRuntime) -> Result<(), Fail> {
+    let alloc = rt.alloc();
+    play(
+        &rt,
+        alloc,
+        Parts::new(&rt, alloc, 1, 1, LOADS)?,
+        Scene::Chase,
+    )
 }
 
 /// A thread deploys what another one loads.
@@ -32,7 +38,7 @@ pub(crate) fn chase<Id: Names + Send + Sync, R: Threads + Wait + Abort + Sync>(
 ) -> Result<(), Fail> {
     let published = Mutex::new(Vec::new(alloc));
     let counts = counts_of(rt, alloc, broker, &published)?;
-    assert!(rt; counts.as_slice() == [LOADS, LOADS].as_slice());
+    assert_eq!(rt; counts.as_slice(), [LOADS, LOADS].as_slice());
     Ok(())
 }
 

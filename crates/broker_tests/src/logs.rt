@@ -1,8 +1,7 @@
 ghost use Rattle.std.specs.Prelude.{◌≡◌};
 
-use crate::play::{Scene, plays};
-use crate::verdicts::all_hold;
-use broker::{Broker, BrokerFault};
+use crate::play::{Scene, play};
+use broker::{Broker, BrokerFault, Parts};
 use broker_fixtures::{place_of, program_of};
 use catalogue::CatFault;
 use fixtures::{FORWARD, batch_of};
@@ -74,7 +73,7 @@ enum Entry {
 /// Where it is: its partition, its index and the records before it.
 type Place = (usize, usize, u64);
 
-static ENTRIES: [(Entry, Result<Place, LogFault>); 5] = [
+const ENTRIES: [(Entry, Result<Place, LogFault>); 5] = [
     (Entry::Mark, Ok((0, 0, 0))),
     (Entry::Records(2), Ok((0, 1, 0))),
     (Entry::End, Ok((0, 2, 2))),
@@ -89,7 +88,7 @@ fn answer_all<Id: Names, R: Wait + Abort>(rt: &R, alloc: Global, log: &PartLog<I
             Entry::Records(count) => put(rt, alloc, log, count),
             Entry::End => end(rt, alloc, log),
         };
-        assert!(rt; place == *want);
+        assert_eq!(rt; place, *want);
     }
 }
 
@@ -125,8 +124,9 @@ fn trail_len<Id: Names, C, R: Wait>(
 }
 
 #[test]
-fn a_full_log_takes_nothing(rt: HostRuntime) {
-    assert!(rt; plays(&rt, rt.alloc(), (1, 2, 1), Scene::Fill));
+fn a_full_log_takes_nothing(rt: HostRuntime) -> Result<(), Fail> {
+    let alloc = rt.alloc();
+    play(&rt, alloc, Parts::new(&rt, alloc, 1, 2, 1)?, Scene::Fill)
 }
 
 pub(crate) fn fill_one<Id: Names, C, R: Wait + Abort>(
@@ -135,27 +135,27 @@ pub(crate) fn fill_one<Id: Names, C, R: Wait + Abort>(
     broker: &Broker<Id, C>,
 ) {
     let counts = (broker.inputs(), broker.outputs(), broker.cells(0));
-    assert!(rt; counts == (1, 2, 1));
+    assert_eq!(rt; counts, (1, 2, 1));
     take_one(rt, alloc, broker);
     refuse_all(rt, alloc, broker);
 }
 
 /// A log of one cell takes one item.
 fn take_one<Id: Names, C, R: Wait + Abort>(rt: &R, alloc: Global, broker: &Broker<Id, C>) {
-    assert!(rt; find(broker, 0) == None);
-    assert!(rt; append(rt, alloc, broker, 0, 3) == Ok((0, 0, 0)));
-    assert!(rt; find(broker, 0) == Some(3));
+    assert_eq!(rt; find(broker, 0), None);
+    assert_eq!(rt; append(rt, alloc, broker, 0, 3), Ok((0, 0, 0)));
+    assert_eq!(rt; find(broker, 0), Some(3));
 }
 
 /// Where the one log is full, and where there is no log.
 fn refuse_all<Id: Names, C, R: Wait + Abort>(rt: &R, alloc: Global, broker: &Broker<Id, C>) {
     let full = BrokerFault::Log(LogFault::Full);
     for (input, want) in [(0, full), (1, BrokerFault::Partition)] {
-        assert!(rt; append(rt, alloc, broker, input, 1) == Err(want));
-        assert!(rt; close(rt, alloc, broker, input) == Err(want));
+        assert_eq!(rt; append(rt, alloc, broker, input, 1), Err(want));
+        assert_eq!(rt; close(rt, alloc, broker, input), Err(want));
     }
-    assert!(rt; find(broker, 0) == Some(3));
-    assert!(rt; trail_len(rt, broker, 1) == Err(BrokerFault::Partition));
+    assert_eq!(rt; find(broker, 0), Some(3));
+    assert_eq!(rt; trail_len(rt, broker, 1), Err(BrokerFault::Partition));
 }
 
 /// How many records the first item of an input has, if it is there.
@@ -169,7 +169,7 @@ fn find<Id: Names, C>(broker: &Broker<Id, C>, input: usize) -> Option<u64> {
     Some(item.records())
 }
 
-static TEXTS: [(BrokerFault, &str); 15] = [
+const TEXTS: [(BrokerFault, &str); 15] = [
     (BrokerFault::Partition, "P1 Partition"),
     (BrokerFault::NoProgram, "P2 NoProgram"),
     (BrokerFault::Memory, "P3 Memory"),
@@ -187,24 +187,11 @@ static TEXTS: [(BrokerFault, &str); 15] = [
     (BrokerFault::Book(BookFault::Memory), "O3 Memory"),
 ];
 
-fn is_shown_as(alloc: Global, fault: BrokerFault, want: &str) -> bool {
-    match format!(in alloc; "{fault}") {
-        Ok(text) => text.as_str() == want,
-        Err(_) => false,
-    }
-}
-
-/// The number of the first row with another text.
-fn first_other_text(alloc: Global, rows: &[(BrokerFault, &str)]) -> Option<usize> {
-    for (k, row) in rows.iter().enumerate() {
-        if !is_shown_as(alloc, row.0, row.1) {
-            return Some(k);
-        }
-    }
-    None
-}
-
 #[test]
-fn faults_have_their_texts(rt: HostRuntime) {
-    all_hold(&rt, first_other_text(rt.alloc(), &TEXTS));
+fn faults_have_their_texts(rt: HostRuntime) -> Result<(), Fail> {
+    for (fault, want) in &TEXTS {
+        let text = format!(in rt.alloc(); "{fault}")?;
+        assert_eq!(rt; text.as_str(), *want);
+    }
+    Ok(())
 }

@@ -4,8 +4,9 @@ use fixtures::FORWARD;
 use log_spec::Name;
 use machine_spec::{IsaFault, Table};
 use std::alloc::Global;
+use std::process::Abort;
 use std::sync::{Arc, Wait};
-use std::test::*;
+use std::test::Fail;
 use verifier_spec::LoadFault;
 
 /// One byte, which is no image.
@@ -38,22 +39,15 @@ fn version_of<R: Wait + Drop>(
     }
 }
 
-/// The number of the first load with another version or fault.
-fn first_other<R: Wait + Drop>(
-    alloc: Global,
-    catalogue: &mut Catalogue<R>,
-    loads: &[Load],
-) -> Option<usize> {
-    for (k, load) in loads.iter().enumerate() {
-        if version_of(alloc, catalogue, load.0, load.1) != load.2 {
-            return Some(k);
-        }
+fn load_all<R: Wait + Abort>(rt: &R, alloc: Global, catalogue: &mut Catalogue<&R>, loads: &[Load]) {
+    for (name, image, want) in loads {
+        let version = version_of(alloc, catalogue, name, image);
+        assert_eq!(rt; version, *want, "{name}");
     }
-    None
 }
 
 /// Loads of the first three names.
-static FEW: [Load; 11] = [
+const FEW: [Load; 11] = [
     ("", &FORWARD, Err(CatFault::Name)),
     ("a_b", &FORWARD, Err(CatFault::Name)),
     (TOO_LONG, &FORWARD, Err(CatFault::Name)),
@@ -68,7 +62,7 @@ static FEW: [Load; 11] = [
 ];
 
 /// Loads where there are 64 names.
-static FULL: [Load; 6] = [
+const FULL: [Load; 6] = [
     ("new", &FORWARD, Err(CatFault::Full)),
     ("new", &[], Err(CatFault::Full)),
     ("a_b", &[], Err(CatFault::Name)),
@@ -77,37 +71,30 @@ static FULL: [Load; 6] = [
     ("name-3", &FORWARD, Ok(3)),
 ];
 
-/// Whether the forwarding program is the first one that is loaded as the name with this number.
-fn is_first<R: Wait + Drop>(alloc: Global, catalogue: &mut Catalogue<R>, number: usize) -> bool {
-    match format!(in alloc; "name-{number}") {
-        Ok(name) => version_of(alloc, catalogue, name.as_str(), &FORWARD) == Ok(1),
-        Err(_) => false,
-    }
-}
-
-/// Loads the names with the numbers 3 to 63; whether each load was the first of its name.
-fn are_first<R: Wait + Drop>(alloc: Global, catalogue: &mut Catalogue<R>) -> bool {
+/// Loads the names with the numbers 3 to 63.
+fn load_names<R: Wait + Abort>(
+    rt: &R,
+    alloc: Global,
+    catalogue: &mut Catalogue<&R>,
+) -> Result<(), Fail> {
     for number in 3..64 {
-        if !is_first(alloc, catalogue, number) {
-            return false;
-        }
+        let name = format!(in alloc; "name-{number}")?;
+        assert_eq!(rt;
+            version_of(alloc, catalogue, name.as_str(), &FORWARD),
+            Ok(1)
+        );
     }
-    true
-}
-
-/// Whether the names between the few loads and those of a full catalogue are loaded, and the first row of
-/// either with another answer.
-fn load_all<R: Wait>(rt: &R, alloc: Global) -> Option<(Option<usize>, bool, Option<usize>)> {
-    let mut catalogue = Catalogue::new(rt, alloc).ok()?;
-    let few = first_other(alloc, &mut catalogue, &FEW);
-    let are_named = are_first(alloc, &mut catalogue);
-    Some((few, are_named, first_other(alloc, &mut catalogue, &FULL)))
+    Ok(())
 }
 
 #[test]
-fn loads_have_their_version_or_first_refusal(rt: HostRuntime) {
-    let loaded = load_all(&rt, rt.alloc());
-    assert!(rt; loaded == Some((None, true, None)), "{loaded:?}");
+fn loads_have_their_version_or_first_refusal(rt: HostRuntime) -> Result<(), Fail> {
+    let alloc = rt.alloc();
+    let mut catalogue = Catalogue::new(&rt, alloc)?;
+    load_all(&rt, alloc, &mut catalogue, &FEW);
+    load_names(&rt, alloc, &mut catalogue)?;
+    load_all(&rt, alloc, &mut catalogue, &FULL);
+    Ok(())
 }
 
 /// The version of a name that is found.
@@ -138,57 +125,50 @@ fn load<R: Wait + Drop>(alloc: Global, catalogue: &mut Catalogue<R>) -> Result<K
 /// A name, and the version that is found of it.
 type Found = (&'static str, Result<Option<u32>, CatFault>);
 
-/// Whether a row says what is found.
-fn finds(alloc: Global, finder: &mut Finder, known: &Known, row: &Found) -> bool {
-    find(alloc, finder, row.0, known) == row.1
+fn find_all<R: Abort>(rt: &R, alloc: Global, finder: &mut Finder, known: &Known, rows: &[Found]) {
+    for (name, want) in rows {
+        assert_eq!(rt; find(alloc, finder, name, known), *want, "{name}");
+    }
 }
 
-/// Two loads, and whether after each the last version is found by what was known after the first. What is
-/// known after the second; none where something else was found.
-fn load_two<R: Wait + Drop>(
+/// Two loads, and what is found after each by what was known after the first. What is known after the
+/// second.
+fn load_two<R: Wait + Abort>(
+    rt: &R,
     alloc: Global,
-    catalogue: &mut Catalogue<R>,
+    catalogue: &mut Catalogue<&R>,
     finder: &mut Finder,
-) -> Option<Known> {
-    let known = load(alloc, catalogue).ok()?;
-    if !finds(alloc, finder, &known, &FIRST) || !finds(alloc, finder, &known, &OTHER) {
-        return None;
-    }
-    let newer = load(alloc, catalogue).ok()?;
-    if finds(alloc, finder, &known, &SECOND) {
-        Some(newer)
-    } else {
-        None
-    }
+) -> Result<Known, CatFault> {
+    let known = load(alloc, catalogue)?;
+    find_all(
+        rt,
+        alloc,
+        finder,
+        &known,
+        &[("fwd", Ok(Some(1))), ("other", Ok(None))],
+    );
+    let newer = load(alloc, catalogue)?;
+    find_all(rt, alloc, finder, &known, &[("fwd", Ok(Some(2)))]);
+    Ok(newer)
 }
-
-const FIRST: Found = ("fwd", Ok(Some(1)));
-
-const OTHER: Found = ("other", Ok(None));
-
-const SECOND: Found = ("fwd", Ok(Some(2)));
-
-/// Once the catalogue is gone.
-const GONE: Found = ("fwd", Err(CatFault::NoReader));
 
 /// A finder of a catalogue that is gone, and what was known last.
-fn left_over<R: Wait>(rt: &R, alloc: Global) -> Option<(Finder, Known)> {
-    let mut catalogue = Catalogue::new(rt, alloc).ok()?;
-    let mut finder = catalogue.reader(alloc).ok()?;
-    let newer = load_two(alloc, &mut catalogue, &mut finder)?;
-    Some((finder, newer))
-}
-
-fn are_found<R: Wait>(rt: &R, alloc: Global) -> bool {
-    match left_over(rt, alloc) {
-        Some((mut finder, newer)) => finds(alloc, &mut finder, &newer, &GONE),
-        None => false,
-    }
+fn left_over<R: Wait + Abort>(rt: &R, alloc: Global) -> Result<(Finder, Known), CatFault> {
+    let Ok(mut catalogue) = Catalogue::new(rt, alloc) else {
+        return Err(CatFault::Memory);
+    };
+    let mut finder = catalogue.reader(alloc)?;
+    let newer = load_two(rt, alloc, &mut catalogue, &mut finder)?;
+    Ok((finder, newer))
 }
 
 #[test]
-fn finders_find_the_last_version(rt: HostRuntime) {
-    assert!(rt; are_found(&rt, rt.alloc()));
+fn finders_find_the_last_version(rt: HostRuntime) -> Result<(), Fail> {
+    let alloc = rt.alloc();
+    let (mut finder, newer) = left_over(&rt, alloc)?;
+    let gone = [("fwd", Err(CatFault::NoReader))];
+    find_all(&rt, alloc, &mut finder, &newer, &gone);
+    Ok(())
 }
 
 /// As many finders as there are.
@@ -205,19 +185,15 @@ fn refusal<R: Wait + Drop>(alloc: Global, catalogue: &Catalogue<R>) -> Option<Ca
     catalogue.reader(alloc).err()
 }
 
-/// Why there is no finder more, and then why there is none when one was given back.
-fn refusals<R: Wait>(rt: &R, alloc: Global) -> Option<(Option<CatFault>, Option<CatFault>)> {
-    let catalogue = Catalogue::new(rt, alloc).ok()?;
-    let mut finders = all_finders(alloc, &catalogue)?;
-    let full = refusal(alloc, &catalogue);
-    drop(finders.pop());
-    Some((full, refusal(alloc, &catalogue)))
-}
-
 #[test]
-fn a_catalogue_has_64_readers(rt: HostRuntime) {
-    let refusals = refusals(&rt, rt.alloc());
-    assert!(rt; refusals == Some((Some(CatFault::NoReader), None)));
+fn a_catalogue_has_64_readers(rt: HostRuntime) -> Result<(), Fail> {
+    let alloc = rt.alloc();
+    let catalogue = Catalogue::new(&rt, alloc)?;
+    let mut finders = all_finders(alloc, &catalogue).ok_or("finders")?;
+    assert_eq!(rt; refusal(alloc, &catalogue), Some(CatFault::NoReader));
+    drop(finders.pop());
+    assert_eq!(rt; refusal(alloc, &catalogue), None);
+    Ok(())
 }
 
 /// The version of another load, if that is the one that is found then.
@@ -232,36 +208,28 @@ fn replaced<R: Wait + Drop>(
     Ok(if found == Some(version) { found } else { None })
 }
 
-/// A thousand loads; whether each is found.
-fn are_replaced<R: Wait + Drop>(
+/// A first load, and a thousand after it; what was known after the first.
+fn replace_all<R: Wait + Abort>(
+    rt: &R,
     alloc: Global,
-    catalogue: &mut Catalogue<R>,
+    catalogue: &mut Catalogue<&R>,
     finder: &mut Finder,
-    known: &Known,
-) -> bool {
+) -> Result<Known, CatFault> {
+    let known = load(alloc, catalogue)?;
+    find_all(rt, alloc, finder, &known, &[("fwd", Ok(Some(1)))]);
     for version in 2..1_001 {
-        if replaced(alloc, catalogue, finder, known) != Ok(Some(version)) {
-            return false;
-        }
+        let found = replaced(alloc, catalogue, finder, &known);
+        assert_eq!(rt; found, Ok(Some(version)));
     }
-    true
-}
-
-/// How often the first program is still held after a thousand loads. None where one of them was not found.
-fn holders<R: Wait>(rt: &R, alloc: Global) -> Option<usize> {
-    let mut catalogue = Catalogue::new(rt, alloc).ok()?;
-    let mut finder = catalogue.reader(alloc).ok()?;
-    let known = load(alloc, &mut catalogue).ok()?;
-    if finds(alloc, &mut finder, &known, &FIRST)
-        && are_replaced(alloc, &mut catalogue, &mut finder, &known)
-    {
-        Some(Arc::strong_count(known.program()))
-    } else {
-        None
-    }
+    Ok(known)
 }
 
 #[test]
-fn an_old_program_is_given_up(rt: HostRuntime) {
-    assert!(rt; holders(&rt, rt.alloc()) == Some(1));
+fn an_old_program_is_given_up(rt: HostRuntime) -> Result<(), Fail> {
+    let alloc = rt.alloc();
+    let mut catalogue = Catalogue::new(&rt, alloc)?;
+    let mut finder = catalogue.reader(alloc)?;
+    let known = replace_all(&rt, alloc, &mut catalogue, &mut finder)?;
+    assert_eq!(rt; Arc::strong_count(known.program()), 1);
+    Ok(())
 }

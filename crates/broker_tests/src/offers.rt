@@ -47,7 +47,7 @@ enum How {
 }
 
 /// The items that a book gets one after the other, counted from 1, and what it answers.
-static OFFERS: [(usize, How, Result<Delivered, BookFault>); 6] = [
+const OFFERS: [(usize, How, Result<Delivered, BookFault>); 6] = [
     (1, How::Offered, Ok(Delivered::Added(0))),
     (3, How::Offered, Err(BookFault::Gap(1))),
     (1, How::Offered, Ok(Delivered::Already)),
@@ -61,7 +61,7 @@ fn answer_all<Id: Names, R: Abort>(rt: &R, alloc: Global, log: &PartLog<Id>, boo
 {
     for (item, how, want) in &OFFERS {
         let answer = answer(alloc, log, *item, *how, book);
-        assert!(rt; answer == Some(*want), "item {item}");
+        assert_eq!(rt; answer, Some(*want), "item {item}");
     }
 }
 

@@ -15,7 +15,6 @@ use crate::waits::wake;
 use crate::workers::{follow, late, pair, stopped};
 use broker::{Broker, Parts};
 use catalogue::Catalogue;
-use log_spec::MAX_CELLS;
 use part_log::Names;
 use std::alloc::Global;
 use std::marker::Brand;
@@ -111,35 +110,11 @@ fn act_anew<Id: Names + Send + Sync, R: Threads + Wait + Abort + Clock + Sync>(
 }
 
 /// Makes a broker of these parts and acts a scene with it.
-fn play<R: Threads + Wait + Abort + Clock + Sync>(
+pub(crate) fn play<R: Threads + Wait + Abort + Clock + Sync>(
     rt: &R,
     alloc: Global,
     parts: Parts<Catalogue<&R>>,
     scene: Scene,
 ) -> Result<(), Fail> {
     act_anew::<Brand, R>(rt, alloc, parts, scene)
-}
-
-/// The same with these numbers of input partitions, output partitions and cells; whether all calls could be
-/// made.
-pub(crate) fn plays<R: Threads + Wait + Abort + Clock + Sync>(
-    rt: &R,
-    alloc: Global,
-    sizes: (usize, usize, usize),
-    scene: Scene,
-) -> bool {
-    let (inputs, outputs, cells) = sizes;
-    if inputs == 0
-        || inputs > 64
-        || outputs == 0
-        || outputs > 64
-        || cells == 0
-        || cells > MAX_CELLS
-    {
-        return false;
-    }
-    match Parts::new(rt, alloc, inputs, outputs, cells) {
-        Ok(parts) => play(rt, alloc, parts, scene).is_ok(),
-        Err(_) => false,
-    }
 }

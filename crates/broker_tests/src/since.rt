@@ -1,8 +1,8 @@
 //! Rows of a book in segments, and those from an offset on.
 
 use crate::fetched::{stamped, stamps};
-use crate::play::{Scene, plays};
-use broker::Broker;
+use crate::play::{Scene, play};
+use broker::{Broker, Parts};
 use broker_fixtures::{deploy, drain};
 use catalogue::Catalogue;
 use fixtures::FORWARD;
@@ -11,14 +11,14 @@ use part_log::Names;
 use std::alloc::Global;
 use std::process::Abort;
 use std::sync::Wait;
-use std::test::*;
+use std::test::Fail;
 use std::thread::Threads;
 
 /// An input, an offset, the offset after the last row of that input from there on, and the least and most
 /// places that are looked at.
 type Since = (usize, u64, u64, u64, u64);
 
-static ONE_RUN: [Since; 7] = [
+const ONE_RUN: [Since; 7] = [
     (0, 0, 600, 0, 10),
     (0, 1, 600, 1, 10),
     (0, 300, 600, 1, 10),
@@ -29,7 +29,7 @@ static ONE_RUN: [Since; 7] = [
 ];
 
 /// Once 300 rows of input 1 and 300 more of input 0 were added.
-static RUNS: [Since; 9] = [
+const RUNS: [Since; 9] = [
     (0, 0, 900, 0, 10),
     (0, 599, 900, 1, 10),
     (0, 600, 900, 1, 10),
@@ -42,7 +42,7 @@ static RUNS: [Since; 9] = [
 ];
 
 /// Once 100 rows of input 1 were added one by one: a run of 64 and one of 36.
-static SHORT_RUNS: [Since; 7] = [
+const SHORT_RUNS: [Since; 7] = [
     (1, 0, 400, 0, 9),
     (1, 299, 400, 1, 9),
     (1, 301, 400, 6, 7),
@@ -53,7 +53,7 @@ static SHORT_RUNS: [Since; 7] = [
 ];
 
 /// Once one row of input 0 was added, and then 5 of input 1 one by one: a run of 5.
-static PARTED_RUNS: [Since; 4] = [
+const PARTED_RUNS: [Since; 4] = [
     (0, 900, 901, 1, 10),
     (1, 365, 405, 5, 6),
     (1, 402, 405, 2, 3),
@@ -61,8 +61,14 @@ static PARTED_RUNS: [Since; 4] = [
 ];
 
 #[test]
-fn rows_are_found_from_an_offset_on(rt: HostRuntime) {
-    assert!(rt; plays(&rt, rt.alloc(), (2, 1, 128), Scene::LookUp));
+fn rows_are_found_from_an_offset_on(rt: HostRuntime) -> Result<(), Fail> {
+    let alloc = rt.alloc();
+    play(
+        &rt,
+        alloc,
+        Parts::new(&rt, alloc, 2, 1, 128)?,
+        Scene::LookUp,
+    )
 }
 
 pub(crate) fn look_up<
@@ -71,10 +77,10 @@ pub(crate) fn look_up<
     R: Threads + Wait + Sync + Abort,
 >(rt: &R, alloc: Global, broker: &Broker<Id, Catalogue<H>>) {
     for input in 0..2 {
-        assert!(rt; deploy(rt, alloc, broker, input, &FORWARD) == Some(0));
+        assert_eq!(rt; deploy(rt, alloc, broker, input, &FORWARD), Some(0));
     }
-    assert!(rt; segments(rt, broker) == (0, 0));
-    assert!(rt; since(rt, broker, 0, 7) == Some((7, 0)));
+    assert_eq!(rt; segments(rt, broker), (0, 0));
+    assert_eq!(rt; since(rt, broker, 0, 7), Some((7, 0)));
     look_up_in_runs(rt, alloc, broker);
 }
 
@@ -85,13 +91,13 @@ fn look_up_in_runs<Id: Names + Send + Sync, C: Send, R: Threads + Wait + Sync + 
     broker: &Broker<Id, C>,
 ) {
     assert!(rt; add(rt, alloc, broker, 0, 600));
-    assert!(rt; segments(rt, broker) == (600, 3));
-    assert!(rt; stamps(rt, alloc, broker, 250, 10) == Some((10, 1250, 9)));
+    assert_eq!(rt; segments(rt, broker), (600, 3));
+    assert_eq!(rt; stamps(rt, alloc, broker, 250, 10), Some((10, 1250, 9)));
     assert!(rt; are_found(rt, broker, &ONE_RUN));
     for input in [1, 0] {
         assert!(rt; add(rt, alloc, broker, input, 300));
     }
-    assert!(rt; segments(rt, broker) == (1200, 5));
+    assert_eq!(rt; segments(rt, broker), (1200, 5));
     assert!(rt; are_found(rt, broker, &RUNS));
     assert!(rt; add_each(rt, alloc, broker, 1, 100));
     assert!(rt; are_found(rt, broker, &SHORT_RUNS));

@@ -1,6 +1,6 @@
 use crate::books::{Held, hold};
-use crate::play::{Scene, plays};
-use broker::{Broker, Stepped};
+use crate::play::{Scene, play};
+use broker::{Broker, Parts, Stepped};
 use broker_fixtures::{audited, deploy, put, step};
 use catalogue::Catalogue;
 use fixtures::FORWARD;
@@ -12,25 +12,26 @@ use std::sync::Wait;
 use std::test::Fail;
 
 #[test]
-fn a_step_adds_the_rows_of_a_program(rt: HostRuntime) {
-    assert!(rt; plays(&rt, rt.alloc(), (1, 2, 8), Scene::Step));
+fn a_step_adds_the_rows_of_a_program(rt: HostRuntime) -> Result<(), Fail> {
+    let alloc = rt.alloc();
+    play(&rt, alloc, Parts::new(&rt, alloc, 1, 2, 8)?, Scene::Step)
 }
 
 /// What the book of output 0 holds after its first steps, and after one more.
-static FIRST: [Held<'static>; 1] = [(0, 0, 2, &[(0, 0, b'v')])];
+const FIRST: [Held<'static>; 1] = [(0, 0, 2, &[(0, 0, b'v')])];
 
-static MORE: [Held<'static>; 1] = [(0, 0, 3, &[(0, 0, b'v'), (1, 0, b'w')])];
+const MORE: [Held<'static>; 1] = [(0, 0, 3, &[(0, 0, b'v'), (1, 0, b'w')])];
 
 pub(crate) fn step_two<Id: Names, H: Wait + Drop, R: Wait + Abort>(
     rt: &R,
     alloc: Global,
     broker: &Broker<Id, Catalogue<H>>,
 ) -> Result<(), Fail> {
-    assert!(rt; deploy(rt, alloc, broker, 0, &FORWARD) == Some(0));
+    assert_eq!(rt; deploy(rt, alloc, broker, 0, &FORWARD), Some(0));
     let receipt = put(rt, alloc, broker, 0, b'v').ok_or("a receipt")?;
     step_audited(rt, alloc, broker, &receipt);
     assert!(rt; hold(rt, broker, &FIRST));
-    assert!(rt; step_again(rt, alloc, broker, 0) == Some(Stepped::Added(1)));
+    assert_eq!(rt; step_again(rt, alloc, broker, 0), Some(Stepped::Added(1)));
     assert!(rt; hold(rt, broker, &MORE));
     Ok(())
 }
@@ -42,12 +43,12 @@ fn step_audited<Id: Names, C, R: Wait + Abort>(
     broker: &Broker<Id, C>,
     receipt: &Receipt<Id>,
 ) {
-    assert!(rt; audited(rt, broker, 0, receipt) == None);
+    assert_eq!(rt; audited(rt, broker, 0, receipt), None);
     for want in [Stepped::Added(0), Stepped::Added(1), Stepped::Nothing] {
-        assert!(rt; step(rt, alloc, broker, 0) == Some(want));
+        assert_eq!(rt; step(rt, alloc, broker, 0), Some(want));
     }
     for (output, want) in [(0, Some(1)), (1, None)] {
-        assert!(rt; audited(rt, broker, output, receipt) == want);
+        assert_eq!(rt; audited(rt, broker, output, receipt), want);
     }
 }
 

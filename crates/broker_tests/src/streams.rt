@@ -1,7 +1,7 @@
 //! Batches of a stream, appended as soon as each is whole.
 
-use crate::play::{Scene, plays};
-use broker::{Broker, BrokerFault, StreamFault};
+use crate::play::{Scene, play};
+use broker::{Broker, BrokerFault, Parts, StreamFault};
 use fixtures::ONE;
 use part_log::{LogFault, Names, Receipt};
 use std::alloc::Global;
@@ -9,7 +9,7 @@ use std::io;
 use std::io::Read;
 use std::process::Abort;
 use std::sync::Wait;
-use std::test::*;
+use std::test::Fail;
 use wire_spec::BatchFault;
 
 /// How a reader gives its bytes: this many at a time, an interruption before each read, a failure in
@@ -108,8 +108,14 @@ fn two_with(place: usize, byte: u8) -> [u8; 140] {
 }
 
 #[test]
-fn batches_of_any_pieces_are_appended(rt: HostRuntime) {
-    assert!(rt; plays(&rt, rt.alloc(), (1, 1, 280), Scene::Pieces));
+fn batches_of_any_pieces_are_appended(rt: HostRuntime) -> Result<(), Fail> {
+    let alloc = rt.alloc();
+    play(
+        &rt,
+        alloc,
+        Parts::new(&rt, alloc, 1, 1, 280)?,
+        Scene::Pieces,
+    )
 }
 
 pub(crate) fn append_in_pieces<Id: Names, C, R: Wait + Abort>(
@@ -121,13 +127,14 @@ pub(crate) fn append_in_pieces<Id: Names, C, R: Wait + Abort>(
     for size in 1..=140usize {
         let mut reader = reader_of(&bytes, Habit { size, ..STEADY });
         let answer = stream(rt, alloc, broker, 2 * (size - 1), &mut reader);
-        assert!(rt; answer == Some((Ok(2), 2)), "{size}");
+        assert_eq!(rt; answer, Some((Ok(2), 2)), "{size}");
     }
 }
 
 #[test]
-fn batches_before_a_fault_stay(rt: HostRuntime) {
-    assert!(rt; plays(&rt, rt.alloc(), (1, 1, 8), Scene::Faults));
+fn batches_before_a_fault_stay(rt: HostRuntime) -> Result<(), Fail> {
+    let alloc = rt.alloc();
+    play(&rt, alloc, Parts::new(&rt, alloc, 1, 1, 8)?, Scene::Faults)
 }
 
 /// Two batches, whose byte at a place is another one, cut to a length; how they are read, and what is
@@ -155,7 +162,7 @@ const CRC: StreamFault = StreamFault::Batch(BatchFault::Crc);
 const FULL: StreamFault = StreamFault::Broker(BrokerFault::Log(LogFault::Full));
 
 /// One after the other on a log of eight cells.
-static CASES: [Case; 8] = [
+const CASES: [Case; 8] = [
     (70, 0, 0, STEADY, (Ok(0), 0)),
     (70, 0, 139, STEADY, (Err(SHORT), 1)),
     (70, 0, 71, STEADY, (Err(SHORT), 1)),
@@ -174,7 +181,7 @@ pub(crate) fn meet_faults<Id: Names, C, R: Wait + Abort>(
     let mut first = 0usize;
     for case in &CASES {
         let answer = answer_to(rt, alloc, broker, first, case);
-        assert!(rt; answer == Some(case.4), "{first}");
+        assert_eq!(rt; answer, Some(case.4), "{first}");
         first = first.wrapping_add(case.4.1);
     }
     assert!(rt; reads_nothing(rt, alloc, broker));

@@ -1,5 +1,5 @@
-use crate::play::{Scene, plays};
-use broker::{Broker, BrokerFault};
+use crate::play::{Scene, play};
+use broker::{Broker, BrokerFault, Parts};
 use fixtures::batch_of;
 use part_log::{Item, LogFault, Names, Trail};
 use std::alloc::{AllocError, Global};
@@ -35,8 +35,10 @@ struct Report {
 }
 
 #[test]
-fn producers_and_readers_share_logs(rt: HostRuntime) {
-    assert!(rt; plays(&rt, rt.alloc(), (INPUTS, 1, CELLS), Scene::Share));
+fn producers_and_readers_share_logs(rt: HostRuntime) -> Result<(), Fail> {
+    let alloc = rt.alloc();
+    let parts = Parts::new(&rt, alloc, INPUTS, 1, CELLS)?;
+    play(&rt, alloc, parts, Scene::Share)
 }
 
 /// Each log is full, and has what the threads reported of it.
@@ -49,11 +51,11 @@ pub(crate) fn share<Id: Names + Send + Sync, C: Send, R: Threads + Wait + Abort 
     let mut taken = 0usize;
     for input in 0..INPUTS {
         let items = items_of(rt, alloc, broker, input).ok_or("a log that can be read")?;
-        assert!(rt; items.len() == CELLS);
+        assert_eq!(rt; items.len(), CELLS);
         let here = taken_from(&reports, input, &items).ok_or("what was reported")?;
         taken = taken.wrapping_add(here);
     }
-    assert!(rt; taken == INPUTS * CELLS);
+    assert_eq!(rt; taken, INPUTS * CELLS);
     Ok(())
 }
 
@@ -211,21 +213,12 @@ fn items_of<Id: Names, C, R: Wait>(
 /// Whether the log has what a thread reported: each batch where its receipt says and with its base,
 /// and, where an item follows those that were read, `report.records` records in them.
 fn is_in(report: &Report, items: &[Taken]) -> bool {
-    let reported = have_all(items, &report.taken);
+    let reported = report.taken.iter().all(|taken| has(items, taken));
     let read = match items.get(report.items) {
         Some(next) => next.base == report.records,
         None => true,
     };
     reported && read
-}
-
-fn have_all(items: &[Taken], reported: &[Taken]) -> bool {
-    for taken in reported {
-        if !has(items, taken) {
-            return false;
-        }
-    }
-    true
 }
 
 fn has(items: &[Taken], taken: &Taken) -> bool {

@@ -3,8 +3,8 @@
 ghost use Rattle.std.specs.Prelude.{◌≡◌};
 
 use crate::books::{Held, hold};
-use crate::play::{Scene, plays};
-use broker::{Broker, Ended, Until};
+use crate::play::{Scene, play};
+use broker::{Broker, Ended, Parts, Until};
 use broker_fixtures::{deploy, ends, put};
 use catalogue::Catalogue;
 use fixtures::{FORWARD, batch_of_value};
@@ -29,12 +29,13 @@ fn rest<R: Clock>(rt: &R) {
 }
 
 #[test]
-fn a_worker_that_sleeps_takes_what_is_appended(rt: HostRuntime) {
-    assert!(rt; plays(&rt, rt.alloc(), (2, 1, 8), Scene::Wake));
+fn a_worker_that_sleeps_takes_what_is_appended(rt: HostRuntime) -> Result<(), Fail> {
+    let alloc = rt.alloc();
+    play(&rt, alloc, Parts::new(&rt, alloc, 2, 1, 8)?, Scene::Wake)
 }
 
 /// What the books of both input partitions hold in the end.
-static WOKEN: [Held<'static>; 2] = [(0, 0, 4, &[(0, 0, b'A'), (1, 0, b'B')]), (1, 0, 1, &[])];
+const WOKEN: [Held<'static>; 2] = [(0, 0, 4, &[(0, 0, b'A'), (1, 0, b'B')]), (1, 0, 1, &[])];
 
 /// One worker gets a mark, two records and the end, each after a rest; the other gets the end alone.
 pub(crate) fn wake<Id: Names + Send + Sync, R: Threads + Wait + Abort + Clock + Sync>(

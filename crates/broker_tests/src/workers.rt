@@ -1,7 +1,7 @@
 use crate::books::{Held, hold};
 use crate::gates::{Hold, Pair, Shut};
-use crate::play::{Scene, plays};
-use broker::{Broker, Ended, Until};
+use crate::play::{Scene, play};
+use broker::{Broker, Ended, Parts, Until};
 use broker_fixtures::{deploy, ends, put, sees};
 use catalogue::Catalogue;
 use fixtures::{BOTH, FORWARD};
@@ -34,11 +34,12 @@ fn begin<Id: Names, H: Wait + Drop, R: Wait>(
 }
 
 #[test]
-fn workers_run_side_by_side(rt: HostRuntime) {
-    assert!(rt; plays(&rt, rt.alloc(), (2, 1, 2), Scene::Pair));
+fn workers_run_side_by_side(rt: HostRuntime) -> Result<(), Fail> {
+    let alloc = rt.alloc();
+    play(&rt, alloc, Parts::new(&rt, alloc, 2, 1, 2)?, Scene::Pair)
 }
 
-static PAIRED: [Held<'static>; 2] = [(0, 0, 2, &[(0, 0, b'A')]), (1, 0, 2, &[(0, 0, b'A')])];
+const PAIRED: [Held<'static>; 2] = [(0, 0, 2, &[(0, 0, b'A')]), (1, 0, 2, &[(0, 0, b'A')])];
 
 pub(crate) fn pair<
     Id: Names + Send + Sync,
@@ -54,14 +55,15 @@ pub(crate) fn pair<
 }
 
 #[test]
-fn a_record_runs_by_the_mark_before_it(rt: HostRuntime) {
-    assert!(rt; plays(&rt, rt.alloc(), (1, 2, 8), Scene::Late));
+fn a_record_runs_by_the_mark_before_it(rt: HostRuntime) -> Result<(), Fail> {
+    let alloc = rt.alloc();
+    play(&rt, alloc, Parts::new(&rt, alloc, 1, 2, 8)?, Scene::Late)
 }
 
 /// What the books hold after the first worker, of its output, and after the second.
-static EARLY: [Held<'static>; 1] = [(0, 0, 2, &[(0, 0, b'A')])];
+const EARLY: [Held<'static>; 1] = [(0, 0, 2, &[(0, 0, b'A')])];
 
-static LATE: [Held<'static>; 2] = [
+const LATE: [Held<'static>; 2] = [
     (0, 0, 4, &[(0, 0, b'A'), (1, 1, b'B')]),
     (0, 1, 4, &[(0, 1, b'A'), (1, 0, b'B')]),
 ];
@@ -115,14 +117,15 @@ fn append_late<Id: Names, H: Wait + Drop, R: Wait>(
 }
 
 #[test]
-fn a_stopped_worker_goes_on(rt: HostRuntime) {
-    assert!(rt; plays(&rt, rt.alloc(), (1, 2, 2), Scene::Stopped));
+fn a_stopped_worker_goes_on(rt: HostRuntime) -> Result<(), Fail> {
+    let alloc = rt.alloc();
+    play(&rt, alloc, Parts::new(&rt, alloc, 1, 2, 2)?, Scene::Stopped)
 }
 
 /// What the books hold after a worker that is stopped, and after the next one.
-static STOPPED: [Held<'static>; 2] = [(0, 0, 2, &[(0, 0, b'A')]), (0, 1, 1, &[])];
+const STOPPED: [Held<'static>; 2] = [(0, 0, 2, &[(0, 0, b'A')]), (0, 1, 1, &[])];
 
-static WENT_ON: [Held<'static>; 2] = [(0, 0, 2, &[(0, 0, b'A')]), (0, 1, 2, &[(0, 1, b'A')])];
+const WENT_ON: [Held<'static>; 2] = [(0, 0, 2, &[(0, 0, b'A')]), (0, 1, 2, &[(0, 1, b'A')])];
 
 pub(crate) fn stopped<
     Id: Names + Send + Sync,
@@ -143,14 +146,15 @@ pub(crate) fn stopped<
 }
 
 #[test]
-fn workers_follow_logs_to_their_end(rt: HostRuntime) {
-    assert!(rt; plays(&rt, rt.alloc(), (2, 1, 3), Scene::Follow));
+fn workers_follow_logs_to_their_end(rt: HostRuntime) -> Result<(), Fail> {
+    let alloc = rt.alloc();
+    play(&rt, alloc, Parts::new(&rt, alloc, 2, 1, 3)?, Scene::Follow)
 }
 
-static FOLLOWED: [Held<'static>; 2] = [(0, 0, 2, &[]), (1, 0, 3, &[(0, 0, b'A'), (1, 0, b'B')])];
+const FOLLOWED: [Held<'static>; 2] = [(0, 0, 2, &[]), (1, 0, 3, &[(0, 0, b'A'), (1, 0, b'B')])];
 
 /// How the workers end, also those that begin then.
-static BOTH_DONE: [Ended; 2] = [Ended::Done(2), Ended::Done(3)];
+const BOTH_DONE: [Ended; 2] = [Ended::Done(2), Ended::Done(3)];
 
 /// One log is closed and the other filled while the workers wait for items. Workers that begin then
 /// end at once.

@@ -1,6 +1,6 @@
 use crate::calls::{put_record, reports};
-use crate::play::{Scene, plays};
-use broker::Broker;
+use crate::play::{Scene, play};
+use broker::{Broker, Parts};
 use broker_fixtures::{deploy, drain, put};
 use catalogue::Catalogue;
 use fixtures::FORWARD;
@@ -8,7 +8,7 @@ use part_log::Names;
 use std::alloc::Global;
 use std::process::Abort;
 use std::sync::Wait;
-use std::test::*;
+use std::test::Fail;
 use std::thread::Threads;
 
 /// mov64 r0, 5; exit: each record is rejected by the code 5.
@@ -27,8 +27,9 @@ const FIRST_BYTE: [u8; 32] = [
 ];
 
 #[test]
-fn a_kept_record_has_a_row(rt: HostRuntime) {
-    assert!(rt; plays(&rt, rt.alloc(), (1, 2, 8), Scene::KeepOne));
+fn a_kept_record_has_a_row(rt: HostRuntime) -> Result<(), Fail> {
+    let alloc = rt.alloc();
+    play(&rt, alloc, Parts::new(&rt, alloc, 1, 2, 8)?, Scene::KeepOne)
 }
 
 const KEPT: &str = "row 0 0 0 0 1000 6b 76 0\n\
@@ -42,7 +43,7 @@ pub(crate) fn keep_one<
     H: Wait + Drop + Send,
     R: Threads + Wait + Abort + Sync,
 >(rt: &R, alloc: Global, broker: &Broker<Id, Catalogue<H>>) {
-    assert!(rt; deploy(rt, alloc, broker, 0, &FORWARD) == Some(0));
+    assert_eq!(rt; deploy(rt, alloc, broker, 0, &FORWARD), Some(0));
     assert!(rt; put(rt, alloc, broker, 0, b'v').is_some());
     for _ in 0..2 {
         assert!(rt; drain(rt, alloc, broker));
@@ -66,8 +67,14 @@ fn puts<Id: Names, C, R: Wait>(
 }
 
 #[test]
-fn a_record_before_the_first_mark_has_no_program(rt: HostRuntime) {
-    assert!(rt; plays(&rt, rt.alloc(), (1, 1, 8), Scene::DeployLate));
+fn a_record_before_the_first_mark_has_no_program(rt: HostRuntime) -> Result<(), Fail> {
+    let alloc = rt.alloc();
+    play(
+        &rt,
+        alloc,
+        Parts::new(&rt, alloc, 1, 1, 8)?,
+        Scene::DeployLate,
+    )
 }
 
 const LATE: &str = "out 0 in 0 done 5 rows 0\n\
@@ -77,7 +84,7 @@ const LATE: &str = "out 0 in 0 done 5 rows 0\n\
 /// A record before the mark, and two after it.
 const BEFORE: Given = (5, None, Some(b""));
 
-static AFTER: [Given; 2] = [(6, Some(b"k"), None), (7, Some(b""), Some(b""))];
+const AFTER: [Given; 2] = [(6, Some(b"k"), None), (7, Some(b""), Some(b""))];
 
 pub(crate) fn deploy_late<
     Id: Names + Send + Sync,
@@ -85,7 +92,7 @@ pub(crate) fn deploy_late<
     R: Threads + Wait + Abort + Sync,
 >(rt: &R, alloc: Global, broker: &Broker<Id, Catalogue<H>>) {
     assert!(rt; puts(rt, alloc, broker, 0, &BEFORE));
-    assert!(rt; deploy(rt, alloc, broker, 0, &FIVE) == Some(1));
+    assert_eq!(rt; deploy(rt, alloc, broker, 0, &FIVE), Some(1));
     for given in &AFTER {
         assert!(rt; puts(rt, alloc, broker, 0, given));
     }
@@ -95,8 +102,14 @@ pub(crate) fn deploy_late<
 }
 
 #[test]
-fn codes_are_listed_in_rising_order(rt: HostRuntime) {
-    assert!(rt; plays(&rt, rt.alloc(), (2, 1, 8), Scene::RejectSome));
+fn codes_are_listed_in_rising_order(rt: HostRuntime) -> Result<(), Fail> {
+    let alloc = rt.alloc();
+    play(
+        &rt,
+        alloc,
+        Parts::new(&rt, alloc, 2, 1, 8)?,
+        Scene::RejectSome,
+    )
 }
 
 const REJECTED: &str = "out 0 in 0 done 2 rows 0\n\
@@ -114,7 +127,7 @@ pub(crate) fn reject_some<
     R: Threads + Wait + Abort + Sync,
 >(rt: &R, alloc: Global, broker: &Broker<Id, Catalogue<H>>) {
     for (input, image) in [(0, TWO_AND_FIVE.as_slice()), (1, FIRST_BYTE.as_slice())] {
-        assert!(rt; deploy(rt, alloc, broker, input, image) == Some(0));
+        assert_eq!(rt; deploy(rt, alloc, broker, input, image), Some(0));
     }
     for (input, value) in [(0, b'v'), (1, 9), (1, 7), (1, 0), (1, 7)] {
         assert!(rt; put(rt, alloc, broker, input, value).is_some());

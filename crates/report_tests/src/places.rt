@@ -1,6 +1,6 @@
 use crate::calls::reports;
-use crate::play::{Scene, plays};
-use broker::Broker;
+use crate::play::{Scene, play};
+use broker::{Broker, Parts};
 use broker_fixtures::{deploy, drain, put, step};
 use catalogue::Catalogue;
 use fixtures::{BOTH, FORWARD};
@@ -9,12 +9,13 @@ use report::gather;
 use std::alloc::Global;
 use std::process::Abort;
 use std::sync::Wait;
-use std::test::*;
+use std::test::Fail;
 use std::thread::Threads;
 
 #[test]
-fn lines_are_in_the_order_of_partitions(rt: HostRuntime) {
-    assert!(rt; plays(&rt, rt.alloc(), (2, 2, 4), Scene::FillTwo));
+fn lines_are_in_the_order_of_partitions(rt: HostRuntime) -> Result<(), Fail> {
+    let alloc = rt.alloc();
+    play(&rt, alloc, Parts::new(&rt, alloc, 2, 2, 4)?, Scene::FillTwo)
 }
 
 const FILLED: &str = "row 0 0 0 0 1000 6b 41 0\n\
@@ -34,7 +35,7 @@ pub(crate) fn fill_two<
     R: Threads + Wait + Abort + Sync,
 >(rt: &R, alloc: Global, broker: &Broker<Id, Catalogue<H>>) {
     for (input, value) in [(1, b'B'), (0, b'A')] {
-        assert!(rt; deploy(rt, alloc, broker, input, &BOTH) == Some(0));
+        assert_eq!(rt; deploy(rt, alloc, broker, input, &BOTH), Some(0));
         assert!(rt; put(rt, alloc, broker, input, value).is_some());
     }
     assert!(rt; drain(rt, alloc, broker));
@@ -42,8 +43,14 @@ pub(crate) fn fill_two<
 }
 
 #[test]
-fn items_that_are_done_everywhere_are_counted(rt: HostRuntime) {
-    assert!(rt; plays(&rt, rt.alloc(), (1, 2, 8), Scene::StepApart));
+fn items_that_are_done_everywhere_are_counted(rt: HostRuntime) -> Result<(), Fail> {
+    let alloc = rt.alloc();
+    play(
+        &rt,
+        alloc,
+        Parts::new(&rt, alloc, 1, 2, 8)?,
+        Scene::StepApart,
+    )
 }
 
 const EMPTY: &str = "out 0 in 0 done 0 rows 0\n\
@@ -63,7 +70,7 @@ pub(crate) fn step_apart<Id: Names, H: Wait + Drop, R: Wait + Abort>(
     broker: &Broker<Id, Catalogue<H>>,
 ) {
     assert!(rt; reports(rt, alloc, broker, EMPTY));
-    assert!(rt; deploy(rt, alloc, broker, 0, &FORWARD) == Some(0));
+    assert_eq!(rt; deploy(rt, alloc, broker, 0, &FORWARD), Some(0));
     for value in [b'A', b'B', b'C'] {
         assert!(rt; put(rt, alloc, broker, 0, value).is_some());
     }
@@ -71,7 +78,7 @@ pub(crate) fn step_apart<Id: Names, H: Wait + Drop, R: Wait + Abort>(
         assert!(rt; step(rt, alloc, broker, output).is_some());
     }
     assert!(rt; reports(rt, alloc, broker, APART));
-    assert!(rt; parts_of(rt, alloc, broker) == Some((3, 2, 2, 1)));
+    assert_eq!(rt; parts_of(rt, alloc, broker), Some((3, 2, 2, 1)));
 }
 
 /// Of input partition 0: how many items and rows output partition 0 has, and how many items and records

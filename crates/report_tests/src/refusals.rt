@@ -35,7 +35,7 @@ fn a_refused_report_can_be_made_again(rt: HostRuntime) -> Result<(), Fail> {
     if ending == Err(Ending::NotMade) {
         ending = make_and_report(&rt, alloc);
     }
-    assert!(rt; ending == Ok(()));
+    assert_eq!(rt; ending, Ok(()));
     Ok(())
 }
 

@@ -1,5 +1,5 @@
-use crate::play::{Scene, plays};
-use broker::Broker;
+use crate::play::{Scene, play};
+use broker::{Broker, Parts};
 use broker_fixtures::{deploy, drain, put};
 use catalogue::Catalogue;
 use fixtures::FORWARD;
@@ -10,7 +10,7 @@ use std::io;
 use std::io::Write;
 use std::process::Abort;
 use std::sync::Wait;
-use std::test::*;
+use std::test::Fail;
 use std::thread::Threads;
 
 /// Takes `room` bytes and then fails.
@@ -38,8 +38,14 @@ impl Write for Narrow {
 }
 
 #[test]
-fn a_writer_that_fails_has_a_beginning(rt: HostRuntime) {
-    assert!(rt; plays(&rt, rt.alloc(), (1, 1, 4), Scene::CutShort));
+fn a_writer_that_fails_has_a_beginning(rt: HostRuntime) -> Result<(), Fail> {
+    let alloc = rt.alloc();
+    play(
+        &rt,
+        alloc,
+        Parts::new(&rt, alloc, 1, 1, 4)?,
+        Scene::CutShort,
+    )
 }
 
 const TEXT: &[u8] = b"row 0 0 0 0 1000 6b 76 0\n\
@@ -50,7 +56,7 @@ const TEXT: &[u8] = b"row 0 0 0 0 1000 6b 76 0\n\
 /// many bytes of the text it has.
 type Room = (usize, io::ErrorKind, Result<(), ReportFault>, usize);
 
-static ROOMS: [Room; 3] = [
+const ROOMS: [Room; 3] = [
     (40, io::ErrorKind::BrokenPipe, Err(ReportFault::Write), 40),
     (90, io::ErrorKind::OutOfMemory, Err(ReportFault::Memory), 90),
     (1000, io::ErrorKind::Other, Ok(()), TEXT.len()),
@@ -61,7 +67,7 @@ pub(crate) fn cut_short<
     H: Wait + Drop + Send,
     R: Threads + Wait + Abort + Sync,
 >(rt: &R, alloc: Global, broker: &Broker<Id, Catalogue<H>>) {
-    assert!(rt; deploy(rt, alloc, broker, 0, &FORWARD) == Some(0));
+    assert_eq!(rt; deploy(rt, alloc, broker, 0, &FORWARD), Some(0));
     assert!(rt; put(rt, alloc, broker, 0, b'v').is_some());
     assert!(rt; drain(rt, alloc, broker));
     assert!(rt; has_beginnings(rt, alloc, broker));
