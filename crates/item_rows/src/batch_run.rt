@@ -15,9 +15,10 @@ ghost use Rattle.item_rows.specs.Blocks.{places_from, program_in, CanRun, HaveRu
 use crate::origin::Origin;
 use crate::outcomes::{push_outcome, push_outcomes};
 use crate::records::timestamp;
+use crate::room::Room;
 use crate::rows::OutputRows;
 use fates::{Counts, Fate};
-use log_item::{BLOCK, Block, LEAST, Program};
+use log_item::{BLOCK, Block, LEAST, MANY, Program};
 use machine_spec::{Emissions, Place};
 use std::alloc::{AllocError, Global};
 use wire_spec::{Batch, Record};
@@ -145,6 +146,7 @@ impl<'a> BatchRun<'a> {
         program: &Program,
         first_offset: u64,
         records: &[Record],
+        room: &mut Room,
         all: &mut [OutputRows],
         counts: &mut Counts,
     ) -> Result<(), AllocError>
@@ -152,16 +154,17 @@ impl<'a> BatchRun<'a> {
         requires run { CanRun self.now first_offset records.now counts.old }
         ensures { OnOk result (HaveRun self.now first_offset records.now all.old all.new counts.old counts.new) }
     {
-        let mut block = Block::new(self.alloc)?;
         let mut emissions = no_emissions(self.alloc);
         let mut offset = first_offset;
         let mut rest = records;
         while rest.len() >= LEAST {
             let count = rest.len().min(BLOCK);
             let (here, later) = rest.split_at(count);
+            let mut block = room.take_block(count)?;
             let places = self.run_block(program, offset, here, &mut block)?;
             let at = places.as_slice();
             push_outcomes(self.first, at, &mut block, &mut emissions, all, counts)?;
+            room.keep_block(count, block);
             offset += count as u64;
             rest = later;
         }
@@ -173,7 +176,7 @@ impl<'a> BatchRun<'a> {
         ensures { IfSome result (λ program. program_in self.now ≡ Some program.now) }
     {
         match self.program {
-            Some(program) if records >= BLOCK && program.pays() => Some(program),
+            Some(program) if records >= MANY && program.pays() => Some(program),
             _ => None,
         }
     }
@@ -183,6 +186,7 @@ impl<'a> BatchRun<'a> {
         &self,
         offset: u64,
         records: &[Record],
+        room: &mut Room,
         all: &mut [OutputRows],
         counts: &mut Counts,
     ) -> Result<(), AllocError>
@@ -190,7 +194,7 @@ impl<'a> BatchRun<'a> {
         ensures { OnOk result (HaveRun self.now offset records.now all.old all.new counts.old counts.new) }
     {
         match self.program_abreast(records.len()) {
-            Some(program) => self.push_blocks(program, offset, records, all, counts),
+            Some(program) => self.push_blocks(program, offset, records, room, all, counts),
             None => {
                 let mut emissions = no_emissions(self.alloc);
                 self.push_each(offset, records, &mut emissions, all, counts)

@@ -7,6 +7,7 @@ ghost use Rattle.item_rows.specs.ItemRows.{IsOrigin, GivesRows, AreItemRows, Are
 
 use crate::origin::Origin;
 use crate::records::push_records;
+use crate::room::Room;
 use crate::rows::{ItemRows, OutputRows, empty};
 use fates::Counts;
 use log_item::{Item, Program};
@@ -26,7 +27,7 @@ pub struct OneOutput {
 /// Adds the rows of an item: none of a mark or the end, and none of a batch with no mark before it.
 /// Returns the counts of its records.
 fn push_item(
-    alloc: Global,
+    room: &mut Room,
     origin: &Origin,
     program: Option<&Program>,
     item: &Item,
@@ -38,15 +39,15 @@ fn push_item(
         × Adds first all.old all.new (GivesRows origin.now (option_map (λ p. p.now) program.entry) (item_view item.now))) }
 {
     match item {
-        Item::Mark { .. } => Ok(Counts::new(alloc)),
-        Item::End => Ok(Counts::new(alloc)),
-        Item::Batch(logged) => push_records(alloc, program, origin, logged.batch(), first, all),
+        Item::Mark { .. } => Ok(Counts::new(room.alloc)),
+        Item::End => Ok(Counts::new(room.alloc)),
+        Item::Batch(logged) => push_records(room, program, origin, logged.batch(), first, all),
     }
 }
 
 /// For how many of an item's rows each of `count` output partitions has room at first: somewhat more
 /// than its share where each record gives one row. Its list then seldom grows.
-fn room(program: Option<&Program>, item: &Item, count: usize) -> usize
+fn rows_expected(program: Option<&Program>, item: &Item, count: usize) -> usize
     requires { 0 < count }
     ensures { result ≤ records_in (item_view item.now) }
 {
@@ -60,7 +61,7 @@ fn room(program: Option<&Program>, item: &Item, count: usize) -> usize
 
 /// The rows of an item in `count` output partitions from `first` on, and the counts of its records.
 fn rows_from(
-    alloc: Global,
+    room: &mut Room,
     origin: &Origin,
     program: Option<&Program>,
     item: &Item,
@@ -72,8 +73,9 @@ fn rows_from(
     ensures { IfOk result (λ made. AreItemCounts origin.now.input origin.now.outputs (option_map (λ p. p.now) program.entry) origin.now.offset (item_view item.now) made.counts
         × AreRowsFrom first count origin.now (option_map (λ p. p.now) program.entry) (item_view item.now) made.rows) }
 {
-    let mut all = empty(alloc, count, room(program, item, count))?;
-    let counts = push_item(alloc, origin, program, item, first, all.as_mut_slice())?;
+    let alloc = room.alloc;
+    let mut all = empty(alloc, count, rows_expected(program, item, count))?;
+    let counts = push_item(room, origin, program, item, first, all.as_mut_slice())?;
     ItemRows::new(alloc, all, counts)
 }
 
@@ -90,7 +92,21 @@ pub fn item_rows(
     ensures rows { IfOk result (λ made. AreItemRows origin.now (option_map (λ p. p.now) program.entry) (item_view item.now) made.rows) }
     ensures counts { IfOk result (λ made. AreItemCounts origin.now.input origin.now.outputs (option_map (λ p. p.now) program.entry) origin.now.offset (item_view item.now) made.counts) }
 {
-    rows_from(alloc, origin, program, item, 0, origin.outputs)
+    item_rows_in(&mut Room::new(alloc), origin, program, item)
+}
+
+/// The same, in room that is used again.
+pub fn item_rows_in(
+    room: &mut Room,
+    origin: &Origin,
+    program: Option<&Program>,
+    item: &Item,
+) -> Result<ItemRows, AllocError>
+    requires { IsOrigin origin.now }
+    ensures rows { IfOk result (λ made. AreItemRows origin.now (option_map (λ p. p.now) program.entry) (item_view item.now) made.rows) }
+    ensures counts { IfOk result (λ made. AreItemCounts origin.now.input origin.now.outputs (option_map (λ p. p.now) program.entry) origin.now.offset (item_view item.now) made.counts) }
+{
+    rows_from(room, origin, program, item, 0, origin.outputs)
 }
 
 /// The rows of an item in one output alone, and the counts of its records. Each record is run once. It
@@ -106,7 +122,7 @@ pub fn output_rows(
     ensures rows { IfOk result (λ made. GivesRows origin.now (option_map (λ p. p.now) program.entry) (item_view item.now) output made.rows.items) }
     ensures counts { IfOk result (λ made. AreItemCounts origin.now.input origin.now.outputs (option_map (λ p. p.now) program.entry) origin.now.offset (item_view item.now) (arc_value made.counts)) }
 {
-    let mut made = rows_from(alloc, origin, program, item, output, 1)?;
+    let mut made = rows_from(&mut Room::new(alloc), origin, program, item, output, 1)?;
     let counts = Arc::try_clone(made.counts())?;
     Ok(OneOutput {
         rows: made.take(alloc, 0),

@@ -8,10 +8,12 @@ mod laws;
 mod origin;
 mod outcomes;
 mod records;
+mod room;
 mod rows;
 
-pub use crate::item::{OneOutput, item_rows, output_rows};
+pub use crate::item::{OneOutput, item_rows, item_rows_in, output_rows};
 pub use crate::laws::one_list_of_rows;
 pub use crate::origin::Origin;
 pub use crate::records::timestamp;
+pub use crate::room::Room;
 pub use crate::rows::ItemRows;

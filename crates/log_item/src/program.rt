@@ -23,6 +23,8 @@ use wire_spec::Record;
 pub struct Program {
     image: Bytes,
     verified: Verified,
+    // Whether a block of records takes less time abreast.
+    pays: bool,
 }
 
 impl Model for Program {
@@ -43,7 +45,14 @@ impl Program {
     {
         let verified = annotate::load(alloc, image, table)?;
         match image.clone() {
-            Ok(image) => Ok(Program { image, verified }),
+            Ok(image) => {
+                let pays = exec::pays(&verified);
+                Ok(Program {
+                    image,
+                    verified,
+                    pays,
+                })
+            }
             Err(_) => Err(LoadFault::Isa(IsaFault::Memory)),
         }
     }
@@ -100,6 +109,6 @@ impl Program {
     /// Whether a block of records takes less time abreast than one record after the other. It is a
     /// choice between two ways to the same outcomes.
     pub fn pays(&self) -> bool {
-        exec::pays(&self.verified)
+        self.pays
     }
 }

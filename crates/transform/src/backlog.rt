@@ -18,7 +18,7 @@ const PLACE_END: u64 = 9_223_372_036_854_775_808;
 pub struct Backlog {
     // How many rows are in batches, and so the offset of the first that waits.
     place: u64,
-    open: OpenBatch,
+    batch: OpenBatch,
 }
 
 impl Model for Backlog {
@@ -27,9 +27,9 @@ impl Model for Backlog {
 
     ghost Value = { Waiting };
 
-    ghost view = { λ b. waiting b.place b.open };
+    ghost view = { λ b. waiting b.place b.batch };
 
-    ghost invariant = { λ b. b.place + length b.open ≤ 2 ^ 63 };
+    ghost invariant = { λ b. b.place + length b.batch ≤ 2 ^ 63 };
 }
 
 impl Backlog {
@@ -39,7 +39,7 @@ impl Backlog {
     {
         Backlog {
             place: 0,
-            open: OpenBatch::new(alloc),
+            batch: OpenBatch::new(alloc),
         }
     }
 
@@ -61,14 +61,14 @@ impl Backlog {
     pub fn len(&self) -> usize
         ensures { result ≡ length self.now.rows }
     {
-        self.open.len()
+        self.batch.len()
     }
 
     /// How many rows may be added: offsets are below 2^63.
     pub fn room(&self) -> u64
         ensures { result + self.now.place + length self.now.rows ≡ 2 ^ 63 }
     {
-        PLACE_END - self.place - self.open.len() as u64
+        PLACE_END - self.place - self.batch.len() as u64
     }
 
     /// Adds a row at the end, where one batch has room for it and those that wait, and returns whether
@@ -80,7 +80,7 @@ impl Backlog {
         ensures takes { IfOk result (λ added. TakesRow added self.old row.now self.new) }
         ensures err { OnErr result (self.new ≡ self.old) }
     {
-        self.open.push(row)
+        self.batch.push(row)
     }
 
     /// The bytes of the batch of all rows that wait; none of them waits then. It fails only where
@@ -91,7 +91,7 @@ impl Backlog {
         ensures err { OnErr result (self.new ≡ self.old) }
     {
         let count = self.len() as u64;
-        let bytes = self.open.take(self.place)?;
+        let bytes = self.batch.take(self.place)?;
         self.place += count;
         Ok(bytes)
     }
@@ -101,6 +101,6 @@ impl Backlog {
         requires { self.old.rows ≡ [] }
         ensures { self.new ≡ self.old }
     {
-        self.open.reuse(bytes);
+        self.batch.reuse(bytes);
     }
 }
