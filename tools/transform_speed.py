@@ -56,6 +56,13 @@ def timed(words, out):
     return used.ru_utime + used.ru_stime, time.monotonic() - begun, used.ru_maxrss
 
 
+def remove(names):
+    """Removes files, so that no program pays for those of the one before."""
+    for name in names:
+        if os.path.exists(name):
+            os.remove(name)
+
+
 def batches(name):
     """The number of batches and records in a file."""
     count = records = at = 0
@@ -85,6 +92,7 @@ def main():
         times, found = {name: [] for name in rows}, {}
         for _ in range(rounds):
             for name, words in rows.items():
+                remove(outs)
                 times[name].append(timed(words, outs[0] if name == "cat" else "/dev/null"))
                 found[name] = [batches(out) for out in (outs if "4" in name else outs[:1])]
         for name, turns in times.items():
