@@ -1,7 +1,8 @@
 //! Programs of both helper tables in one log.
 
-use crate::running::run;
-use std::test::Fail;
+use crate::runs::{Run, first_other};
+use crate::verdicts::all_hold;
+use std::test::*;
 
 /// A batch of four records with the values `A` to `D`, as another implementation spells it. They have no
 /// header, one with a null value, one with an empty value, and one with the value `AB`.
@@ -20,6 +21,9 @@ const FIRST_HEADER: &str =
 /// mov64 r1, r0; call 3; mov64 r0, 0; exit
 const TO_ITS_OUTPUT: &str = "bf010000000000008500000003000000b7000000000000009500000000000000";
 
+/// exit
+const EXIT: &str = "9500000000000000";
+
 /// What is printed: the first four records go by `plain`, the next four by `routed`, the last by `coded`.
 const PRINTED: &str = "load plain version 1\nload routed version 1\nload coded version 1\n\
     deploy 0 index 0 plain version 1\nappend 0 index 1 base 0\n\
@@ -33,39 +37,65 @@ const PRINTED: &str = "load plain version 1\nload routed version 1\nload coded v
     in 0 items 6 records 12 unprogrammed 0 kept 9\n\
     in 0 reject 1 count 1\nin 0 reject 2 count 1\nin 0 reject 4 count 1\n";
 
-#[test]
-fn each_record_goes_by_its_own_table(rt: HostRuntime) -> Result<(), Fail> {
-    let alloc = rt.alloc();
-    let loads = format!(in alloc;
-        "load plain hex:{PLAIN}\nload routed hex:{FIRST_HEADER}{TO_ITS_OUTPUT} 2\n\
-         load coded hex:{FIRST_HEADER}9500000000000000 2\n"
-    )?;
-    let script = format!(in alloc;
-        "partitions 1 5 16\n{loads}deploy 0 plain\nappend 0 hex:{BATCH}\n\
-         deploy 0 routed\nappend 0 hex:{BATCH}\ndeploy 0 coded\nappend 0 hex:{BATCH}\ngo\n"
-    )?;
-    let (status, out, err) = run(&rt, alloc, script.as_str())?;
-    assert!(rt; err.as_str() == "", "{err}");
-    assert!(rt; out.as_str() == PRINTED, "{out}");
-    assert!(rt; status == 0);
-    Ok(())
-}
+static MIXED: [Run; 1] = [(
+    &[
+        "partitions 1 5 16\nload plain hex:",
+        PLAIN,
+        "\nload routed hex:",
+        FIRST_HEADER,
+        TO_ITS_OUTPUT,
+        " 2\nload coded hex:",
+        FIRST_HEADER,
+        EXIT,
+        " 2\ndeploy 0 plain\nappend 0 hex:",
+        BATCH,
+        "\ndeploy 0 routed\nappend 0 hex:",
+        BATCH,
+        "\ndeploy 0 coded\nappend 0 hex:",
+        BATCH,
+        "\ngo\n",
+    ],
+    &[PRINTED],
+    "",
+    0,
+)];
 
 #[test]
-fn the_first_table_has_no_headers(rt: HostRuntime) -> Result<(), Fail> {
-    let alloc = rt.alloc();
-    for (word, want, status) in [
-        ("", "line 2: V11 Helper at 4\n", 1),
-        (" 1", "line 2: S1 Syntax\n", 1),
-        (" 3", "line 2: S1 Syntax\n", 1),
-        (" 2", "", 0),
-    ] {
-        let script = format!(in alloc;
-            "partitions 1 1 8\nload coded hex:{FIRST_HEADER}9500000000000000{word}\n"
-        )?;
-        let (ended, _out, err) = run(&rt, alloc, script.as_str())?;
-        assert!(rt; err.as_str() == want, "{word}: {err}");
-        assert!(rt; ended == status);
-    }
-    Ok(())
+fn each_record_goes_by_its_own_table(rt: HostRuntime) {
+    all_hold(&rt, first_other(&rt, rt.alloc(), &MIXED));
+}
+
+/// A load with no table, and with the numbers of some.
+const LOAD: &str = "partitions 1 1 8\nload coded hex:";
+
+static LOADS: [Run; 4] = [
+    (
+        &[LOAD, FIRST_HEADER, EXIT, "\n"],
+        &[],
+        "line 2: V11 Helper at 4\n",
+        1,
+    ),
+    (
+        &[LOAD, FIRST_HEADER, EXIT, " 1\n"],
+        &[],
+        "line 2: S1 Syntax\n",
+        1,
+    ),
+    (
+        &[LOAD, FIRST_HEADER, EXIT, " 3\n"],
+        &[],
+        "line 2: S1 Syntax\n",
+        1,
+    ),
+    (
+        &[LOAD, FIRST_HEADER, EXIT, " 2\n"],
+        &["load coded version 1\n"],
+        "",
+        0,
+    ),
+];
+
+#[test]
+fn the_first_table_has_no_headers(rt: HostRuntime) {
+    all_hold(&rt, first_other(&rt, rt.alloc(), &LOADS));
 }

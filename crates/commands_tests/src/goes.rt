@@ -1,7 +1,8 @@
 //! Scripts over several partitions, and what `go` and `fetch` print.
 
-use crate::running::run;
-use std::test::Fail;
+use crate::runs::{Run, first_other};
+use crate::verdicts::all_hold;
+use std::test::*;
 
 /// Two inputs and three outputs, with deployments between the records. `a` emits to output 0 and then
 /// to output 1, `b` to output 2, and version 2 of `a` to 1 and then to 0. The first record of input
@@ -44,15 +45,16 @@ const ALL_ROWS: &str = "row 0 0 0 0 1 6b 41 0\nrow 0 0 3 1 7 . - 0\nrow 0 1 2 1 
     in 0 items 7 records 4 unprogrammed 0 kept 4\n\
     in 1 items 5 records 3 unprogrammed 1 kept 2\n";
 
+static GOES: [Run; 1] = [(
+    &[DEPLOYED],
+    &[BEFORE, FIRST_ROWS, BETWEEN, ALL_ROWS, ALL_ROWS],
+    "",
+    0,
+)];
+
 #[test]
-fn prints_all_rows_at_each_go(rt: HostRuntime) -> Result<(), Fail> {
-    let alloc = rt.alloc();
-    let want = format!(in alloc; "{BEFORE}{FIRST_ROWS}{BETWEEN}{ALL_ROWS}{ALL_ROWS}")?;
-    let (status, out, err) = run(&rt, alloc, DEPLOYED)?;
-    assert!(rt; err.as_str() == "", "{err}");
-    assert!(rt; out.as_str() == want.as_str(), "{out}");
-    assert!(rt; status == 0);
-    Ok(())
+fn prints_all_rows_at_each_go(rt: HostRuntime) {
+    all_hold(&rt, first_other(&rt, rt.alloc(), &GOES));
 }
 
 /// Of three records the first has no program, and the others are rejected.
@@ -82,17 +84,24 @@ const ONE_ROW_BATCH: &str =
     "00000000000000000000003a0000000002716a618900000000000000000000000003e800\
     000000000003e8ffffffffffffffffffffffffffff0000000110000000026b027600\n";
 
+static FETCHES: [Run; 2] = [
+    (&[NO_ROWS], &[NO_ROWS_PRINTED], "", 0),
+    (
+        &[ONE_ROW],
+        &[
+            ONE_ROW_BEGUN,
+            ONE_ROW_REPORT,
+            ONE_ROW_REPORT,
+            ONE_ROW_BATCH,
+            ONE_ROW_BATCH,
+            "none\nnone\n",
+        ],
+        "",
+        0,
+    ),
+];
+
 #[test]
-fn prints_fetched_batches(rt: HostRuntime) -> Result<(), Fail> {
-    let alloc = rt.alloc();
-    let one_row = format!(in alloc;
-        "{ONE_ROW_BEGUN}{ONE_ROW_REPORT}{ONE_ROW_REPORT}{ONE_ROW_BATCH}{ONE_ROW_BATCH}none\nnone\n"
-    )?;
-    for (script, want) in [(NO_ROWS, NO_ROWS_PRINTED), (ONE_ROW, one_row.as_str())] {
-        let (status, out, err) = run(&rt, alloc, script)?;
-        assert!(rt; err.as_str() == "", "{err}");
-        assert!(rt; out.as_str() == want, "{out}");
-        assert!(rt; status == 0);
-    }
-    Ok(())
+fn prints_fetched_batches(rt: HostRuntime) {
+    all_hold(&rt, first_other(&rt, rt.alloc(), &FETCHES));
 }
