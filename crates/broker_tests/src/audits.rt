@@ -79,11 +79,23 @@ fn append_five<Id: Names + Send + Sync, C: Send, R: Threads + Wait + Sync>(
     broker: &Broker<Id, C>,
 ) -> Option<Vec<Receipt<Id>>> {
     let mut receipts = Vec::new(alloc);
-    let are_kept = keep(rt, alloc, broker, &mut receipts, 0, b"AB")
-        && keep(rt, alloc, broker, &mut receipts, 1, b"AB")
+    if keep_five(rt, alloc, broker, &mut receipts) {
+        Some(receipts)
+    } else {
+        None
+    }
+}
+
+fn keep_five<Id: Names + Send + Sync, C: Send, R: Threads + Wait + Sync>(
+    rt: &R,
+    alloc: Global,
+    broker: &Broker<Id, C>,
+    receipts: &mut Vec<Receipt<Id>>,
+) -> bool {
+    keep(rt, alloc, broker, receipts, 0, b"AB")
+        && keep(rt, alloc, broker, receipts, 1, b"AB")
         && ends(rt, alloc, broker, Until::Drained, &Open, &FIVE_ENDS)
-        && keep(rt, alloc, broker, &mut receipts, 1, b"C");
-    if are_kept { Some(receipts) } else { None }
+        && keep(rt, alloc, broker, receipts, 1, b"C")
 }
 
 /// How the workers end.

@@ -4,7 +4,7 @@ ghost use Rattle.std.specs.Prelude.{IfSome};
 ghost use Rattle.log_spec.specs.Logs.{FitsLog};
 
 use broker::{Broker, BrokerFault};
-use broker_fixtures::place_of;
+use broker_fixtures::{place_of, put};
 use catalogue::{Finder, Known};
 use log_spec::Name;
 use part_log::{LogFault, Names, PartLog, Receipt};
@@ -52,6 +52,17 @@ pub(crate) fn append<Id: Names, C, R: Wait>(
         Some(batch) => placed(broker.append(rt, alloc, input, batch)),
         None => Err(BrokerFault::Memory),
     }
+}
+
+/// Appends a record with this value, as `put` does; whether it could.
+pub(crate) fn puts<Id: Names, C, R: Wait>(
+    rt: &R,
+    alloc: Global,
+    broker: &Broker<Id, C>,
+    input: usize,
+    value: u8,
+) -> bool {
+    put(rt, alloc, broker, input, value).is_some()
 }
 
 /// Where the mark of a deployment is, and which version it is of.

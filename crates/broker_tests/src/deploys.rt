@@ -58,9 +58,9 @@ fn deploy_all<Id: Names, H: Wait + Drop, R: Wait>(
     finder: &mut Finder,
 ) -> bool {
     deploys(rt, alloc, broker, known, finder, &FIRST)
-        && load_one(rt, alloc, broker, 2).is_some()
+        && loads(rt, alloc, broker, 2)
         && deploys(rt, alloc, broker, known, finder, &SECOND)
-        && load_one(rt, alloc, broker, 3).is_some()
+        && loads(rt, alloc, broker, 3)
         && mark_at(broker, 0) == Some(1)
         && mark_at(broker, 1) == Some(2)
         && deploys(rt, alloc, broker, known, finder, &FULL)
@@ -78,6 +78,16 @@ fn load_one<Id: Names, H: Wait + Drop, R: Wait>(
         Some((version, known)) if version == want && known.version() == want => Some(known),
         _ => None,
     }
+}
+
+/// Whether another load has this version.
+fn loads<Id: Names, H: Wait + Drop, R: Wait>(
+    rt: &R,
+    alloc: Global,
+    broker: &Broker<Id, Catalogue<H>>,
+    want: u32,
+) -> bool {
+    load_one(rt, alloc, broker, want).is_some()
 }
 
 /// Whether the deployments answer this.

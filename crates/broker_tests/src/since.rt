@@ -7,7 +7,7 @@ use broker::Broker;
 use broker_fixtures::{deploy, drain};
 use catalogue::Catalogue;
 use fixtures::FORWARD;
-use out_book::Probes;
+use out_book::{Book, Probes};
 use part_log::Names;
 use std::alloc::Global;
 use std::sync::Wait;
@@ -170,6 +170,10 @@ fn since<Id: Names, C, R: Wait>(
 ) -> Option<(u64, u64)> {
     let _some = broker.outputs();
     let book = broker.book(0).lock(rt);
+    since_in(&book, input, offset)
+}
+
+fn since_in<Id: Names>(book: &Book<Id>, input: usize, offset: u64) -> Option<(u64, u64)> {
     let mut probes = Probes::new();
     let mut next = offset;
     for row in book.rows_since(input, offset, &mut probes) {

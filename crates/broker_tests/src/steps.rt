@@ -1,4 +1,5 @@
 use crate::books::{Held, hold};
+use crate::calls::puts;
 use crate::play::{Scene, play};
 use broker::{Broker, Stepped};
 use broker_fixtures::{audited, deploy, put, step};
@@ -98,7 +99,7 @@ fn steps_late<Id: Names, C, R: Wait>(
     }
     let mut note = broker.note(0, done);
     if broker.step(alloc, book, 0, &mut note) != Ok(Stepped::Nothing)
-        || put(rt, alloc, broker, 0, b'w').is_none()
+        || !puts(rt, alloc, broker, 0, b'w')
     {
         return false;
     }

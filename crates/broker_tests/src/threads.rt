@@ -147,7 +147,10 @@ fn append<Id: Names, C, R: Wait>(
     timestamp: i64,
 ) -> Result<Taken, BrokerFault> {
     match batch_of(alloc, records, timestamp) {
-        Some(batch) => taken_of(broker, &broker.append(rt, alloc, input, batch)?, timestamp),
+        Some(batch) => match broker.append(rt, alloc, input, batch) {
+            Ok(receipt) => taken_of(broker, &receipt, timestamp),
+            Err(fault) => Err(fault),
+        },
         None => Err(BrokerFault::Memory),
     }
 }

@@ -4,10 +4,10 @@ ghost use Rattle.std.specs.Prelude.{◌≡◌};
 
 use crate::beside::both;
 use crate::books::{Held, hold};
-use crate::calls::enter;
+use crate::calls::{enter, puts};
 use crate::play::{Scene, play};
 use broker::{Broker, Ended, Until};
-use broker_fixtures::{deploy, ends, put};
+use broker_fixtures::{deploy, ends};
 use catalogue::Catalogue;
 use fixtures::{FORWARD, batch_of_value};
 use part_log::{Cells, Names, PartLog};
@@ -75,7 +75,7 @@ fn append_after_rests<Id: Names, H: Wait + Drop, R: Wait + Clock>(
     let mut comes_next = deploy(rt, alloc, broker, 0, &FORWARD) == Some(0) && comes(rt, broker, 1);
     for (value, done) in [(b'A', 2), (b'B', 3)] {
         rest(rt);
-        comes_next &= put(rt, alloc, broker, 0, value).is_some() && comes(rt, broker, done);
+        comes_next &= puts(rt, alloc, broker, 0, value) && comes(rt, broker, done);
     }
     rest(rt);
     close_both(rt, alloc, broker) && comes_next

@@ -1,9 +1,10 @@
 use crate::beside::both;
 use crate::books::{Held, hold};
+use crate::calls::puts;
 use crate::gates::{Hold, Pair, Shut};
 use crate::play::{Scene, play};
 use broker::{Broker, Ended, Until};
-use broker_fixtures::{deploy, ends, put, sees};
+use broker_fixtures::{deploy, ends, sees};
 use catalogue::Catalogue;
 use fixtures::{BOTH, FORWARD};
 use part_log::Names;
@@ -29,8 +30,7 @@ fn begin<Id: Names, H: Wait + Drop, R: Wait>(
     input: usize,
     image: &[u8],
 ) -> bool {
-    deploy(rt, alloc, broker, input, image) == Some(0)
-        && put(rt, alloc, broker, input, b'A').is_some()
+    deploy(rt, alloc, broker, input, image) == Some(0) && puts(rt, alloc, broker, input, b'A')
 }
 
 #[test]
@@ -119,7 +119,7 @@ fn append_late<Id: Names, H: Wait + Drop, R: Wait>(
 ) -> bool {
     let is_held = sees(&gate.held);
     let mark = deploy(rt, alloc, broker, 0, &TURNED);
-    let is_put = put(rt, alloc, broker, 0, b'B').is_some();
+    let is_put = puts(rt, alloc, broker, 0, b'B');
     gate.let_go.store(true, Ordering::SeqCst);
     is_held && mark == Some(2) && is_put
 }
@@ -201,9 +201,9 @@ fn finish<Id: Names, H: Wait + Drop, R: Wait>(
     broker: &Broker<Id, Catalogue<H>>,
 ) -> bool {
     let is_begun = begin_slowly(rt, alloc, broker);
-    let closed = put(rt, alloc, broker, 0, b'A').is_some() && broker.close(rt, alloc, 0).is_ok();
+    let closed = puts(rt, alloc, broker, 0, b'A') && broker.close(rt, alloc, 0).is_ok();
     thread::yield_now();
-    is_begun && closed && put(rt, alloc, broker, 1, b'B').is_some()
+    is_begun && closed && puts(rt, alloc, broker, 1, b'B')
 }
 
 /// Deploys a program and, when another thread may have run, appends a record; whether it could.
@@ -214,5 +214,5 @@ fn begin_slowly<Id: Names, H: Wait + Drop, R: Wait>(
 ) -> bool {
     let mark = deploy(rt, alloc, broker, 1, &FORWARD);
     thread::yield_now();
-    mark == Some(0) && put(rt, alloc, broker, 1, b'A').is_some()
+    mark == Some(0) && puts(rt, alloc, broker, 1, b'A')
 }

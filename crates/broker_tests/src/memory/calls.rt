@@ -222,9 +222,20 @@ pub(crate) fn fill<Id: Names, H: Wait + Drop, R: Wait + Print>(
     alloc: Global,
     broker: &Broker<Id, Catalogue<H>>,
 ) -> Option<()> {
-    let known = load(rt, alloc, broker, None)?;
-    let mut finder = finder(rt, alloc, broker)?;
-    let mark = deploy(rt, alloc, broker, &mut finder, &known);
+    match (load(rt, alloc, broker, None), finder(rt, alloc, broker)) {
+        (Some(known), Some(mut finder)) => fill_by(rt, alloc, broker, &mut finder, &known),
+        _ => None,
+    }
+}
+
+fn fill_by<Id: Names, C, R: Wait + Print>(
+    rt: &R,
+    alloc: Global,
+    broker: &Broker<Id, C>,
+    finder: &mut Finder,
+    known: &Known,
+) -> Option<()> {
+    let mark = deploy(rt, alloc, broker, finder, known);
     let first = append(rt, alloc, broker, b'A');
     let second = append(rt, alloc, broker, b'B');
     if mark == Some((0, 1)) && first == Some((0, 1, 0)) && second == Some((0, 2, 2)) {

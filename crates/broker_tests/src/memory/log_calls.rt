@@ -33,9 +33,12 @@ fn program_calls<Id: Names, H: Wait + Drop, R: Wait + Print>(
     alloc: Global,
     broker: &Broker<Id, Catalogue<H>>,
 ) -> Result<(), Ending> {
-    let mut first = finder(rt, alloc, broker).ok_or(Ending::Wrong("finder"))?;
-    let mut second = finder(rt, alloc, broker).ok_or(Ending::Wrong("finder"))?;
-    calls_by(rt, alloc, broker, &mut first, &mut second)
+    match (finder(rt, alloc, broker), finder(rt, alloc, broker)) {
+        (Some(mut first), Some(mut second)) => {
+            calls_by(rt, alloc, broker, &mut first, &mut second)
+        }
+        _ => Err(Ending::Wrong("finder")),
+    }
 }
 
 fn calls_by<Id: Names, H: Wait + Drop, R: Wait + Print>(
@@ -45,9 +48,22 @@ fn calls_by<Id: Names, H: Wait + Drop, R: Wait + Print>(
     first: &mut Finder,
     second: &mut Finder,
 ) -> Result<(), Ending> {
-    let known = load(rt, alloc, broker, None).ok_or(Ending::Wrong("load"))?;
-    load_again(rt, alloc, broker, first, &known)?;
-    if deploy(rt, alloc, broker, second, &known) == Some((0, 2)) {
+    match load(rt, alloc, broker, None) {
+        Some(known) => calls_of(rt, alloc, broker, first, second, &known),
+        None => Err(Ending::Wrong("load")),
+    }
+}
+
+fn calls_of<Id: Names, H: Wait + Drop, R: Wait + Print>(
+    rt: &R,
+    alloc: Global,
+    broker: &Broker<Id, Catalogue<H>>,
+    first: &mut Finder,
+    second: &mut Finder,
+    known: &Known,
+) -> Result<(), Ending> {
+    load_again(rt, alloc, broker, first, known)?;
+    if deploy(rt, alloc, broker, second, known) == Some((0, 2)) {
         Ok(())
     } else {
         Err(Ending::Wrong("deploy"))

@@ -31,6 +31,19 @@ fn stream_of(alloc: Global, batches: usize) -> Result<Vec<u8>, AllocError> {
     Ok(bytes)
 }
 
+/// What a call answers that appends bytes by pieces of 50, and how many receipts it adds.
+fn append<Id: Names, C, R: Wait>(
+    rt: &R,
+    alloc: Global,
+    broker: &Broker<Id, C>,
+    bytes: &[u8],
+) -> (Result<u64, StreamFault>, usize) {
+    let mut reader = reader_of(bytes, STEADY);
+    let mut receipts = Vec::new(alloc);
+    let answer = broker.append_from(rt, alloc, 0, &mut reader, 50, &mut receipts);
+    (answer, receipts.len())
+}
+
 /// Appends all bytes, by pieces of 50, from the first batch that is not appended on.
 fn append_rest<Id: Names, C, R: Wait + Print>(
     rt: &R,
@@ -39,16 +52,16 @@ fn append_rest<Id: Names, C, R: Wait + Print>(
     bytes: &[u8],
 ) -> Result<(), Ending> {
     let first = items(rt, broker).ok_or(Ending::Wrong("trail"))?;
-    let rest = bytes.get(first.wrapping_mul(ONE.len())..);
-    let mut reader = reader_of(rest.ok_or(Ending::Wrong("items"))?, STEADY);
-    let mut receipts = Vec::new(alloc);
-    let answer = broker.append_from(rt, alloc, 0, &mut reader, 50, &mut receipts);
+    let Some(rest) = bytes.get(first.wrapping_mul(ONE.len())..) else {
+        return Err(Ending::Wrong("items"));
+    };
+    let (answer, count) = append(rt, alloc, broker, rest);
     let last = items(rt, broker).ok_or(Ending::Wrong("trail"))?;
-    if last != first.wrapping_add(receipts.len()) {
+    if last != first.wrapping_add(count) {
         return Err(Ending::Wrong("receipts"));
     }
     match answer {
-        Ok(count) if count == receipts.len() as u64 && last == BATCHES => Ok(()),
+        Ok(appended) if appended == count as u64 && last == BATCHES => Ok(()),
         Ok(_) => Err(Ending::Wrong("append_from")),
         Err(fault) if is_memory(fault) => {
             let _ = println!(rt; "refused append_from: {fault}");

@@ -3,8 +3,9 @@
 
 ghost use Rattle.broker.specs.Layouts.{IsNamed};
 
+use crate::calls::puts;
 use broker::{Broker, BrokerFault, Parts};
-use broker_fixtures::{Ending, deploy, drain, new_broker, put};
+use broker_fixtures::{Ending, deploy, drain, new_broker};
 use catalogue::Catalogue;
 use part_log::Names;
 use report::{ReportFault, Snapshot, gather, write};
@@ -16,7 +17,7 @@ use std::test::Fail;
 use std::thread::Threads;
 
 /// Each record goes to output 0 and is then rejected by the first byte of its value, if that is not 0.
-const FIRST_BYTE: [u8; 64] = [
+static FIRST_BYTE: [u8; 64] = [
     0xbf, 0x16, 0, 0, 0, 0, 0, 0, 0xbf, 0x27, 0, 0, 0, 0, 0, 0, 0xb7, 1, 0, 0, 0, 0, 0, 0, 0x85, 0,
     0, 0, 3, 0, 0, 0, 0xb7, 0, 0, 0, 0, 0, 0, 0, 0xa5, 7, 1, 0, 1, 0, 0, 0, 0x71, 0x60, 0, 0, 0, 0,
     0, 0, 0x95, 0, 0, 0, 0, 0, 0, 0,
@@ -54,34 +55,63 @@ fn report_all<Id: Names + Send + Sync, R: Threads + Wait + Print + Sync>(
     requires { IsNamed Id.cells Id.inputs Id.outputs parts }
 {
     let broker: Broker<Id, Catalogue<&R>> = new_broker(alloc, parts)?;
-    fill(rt, alloc, &broker).ok_or(Ending::Wrong("fill"))?;
-    let snapshot = snapshot_of(rt, alloc, &broker).ok_or(Ending::Wrong("gather"))?;
-    if is_written(rt, alloc, &snapshot) {
-        Ok(())
+    if fill(rt, alloc, &broker) {
+        report(rt, alloc, &broker)
     } else {
-        Err(Ending::Wrong("write"))
+        Err(Ending::Wrong("fill"))
     }
 }
 
-/// A mark and three records, each tried again where it was refused, and what workers make of them.
+fn report<Id: Names, C, R: Wait + Print>(
+    rt: &R,
+    alloc: Global,
+    broker: &Broker<Id, C>,
+) -> Result<(), Ending> {
+    match snapshot_of(rt, alloc, broker) {
+        Some(snapshot) if is_written(rt, alloc, &snapshot) => Ok(()),
+        Some(_) => Err(Ending::Wrong("write")),
+        None => Err(Ending::Wrong("gather")),
+    }
+}
+
+/// The values of the records.
+static VALUES: [u8; 3] = [9, 0, 7];
+
+/// Appends records with these values, each tried again where it was refused; whether it could.
+fn puts_all<Id: Names, C, R: Wait>(
+    rt: &R,
+    alloc: Global,
+    broker: &Broker<Id, C>,
+    values: &[u8],
+) -> bool {
+    for value in values {
+        if !puts(rt, alloc, broker, 0, *value) && !puts(rt, alloc, broker, 0, *value) {
+            return false;
+        }
+    }
+    true
+}
+
+/// A mark, tried again where it was refused.
+fn is_deployed<Id: Names, H: Wait + Drop, R: Wait>(
+    rt: &R,
+    alloc: Global,
+    broker: &Broker<Id, Catalogue<H>>,
+) -> bool {
+    deploy(rt, alloc, broker, 0, &FIRST_BYTE).is_some()
+        || deploy(rt, alloc, broker, 0, &FIRST_BYTE).is_some()
+}
+
+/// A mark and three records, and what workers make of them, tried again where it was refused; whether it
+/// could.
 fn fill<Id: Names + Send + Sync, R: Threads + Wait + Sync>(
     rt: &R,
     alloc: Global,
     broker: &Broker<Id, Catalogue<&R>>,
-) -> Option<()> {
-    if deploy(rt, alloc, broker, 0, &FIRST_BYTE).is_none() {
-        deploy(rt, alloc, broker, 0, &FIRST_BYTE)?;
-    }
-    for value in [9, 0, 7] {
-        if put(rt, alloc, broker, 0, value).is_none() {
-            put(rt, alloc, broker, 0, value)?;
-        }
-    }
-    if drain(rt, alloc, broker) || drain(rt, alloc, broker) {
-        Some(())
-    } else {
-        None
-    }
+) -> bool {
+    is_deployed(rt, alloc, broker)
+        && puts_all(rt, alloc, broker, &VALUES)
+        && (drain(rt, alloc, broker) || drain(rt, alloc, broker))
 }
 
 fn snapshot_of<Id: Names, C, R: Wait + Print>(

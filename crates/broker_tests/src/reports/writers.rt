@@ -1,6 +1,7 @@
+use crate::calls::puts;
 use crate::play::{Scene, play};
 use broker::Broker;
-use broker_fixtures::{deploy, drain, put};
+use broker_fixtures::{deploy, drain};
 use catalogue::Catalogue;
 use fixtures::FORWARD;
 use part_log::Names;
@@ -61,7 +62,7 @@ pub(crate) fn cut_short<Id: Names + Send + Sync, H: Wait + Drop + Send, R: Threa
     broker: &Broker<Id, Catalogue<H>>,
 ) -> bool {
     deploy(rt, alloc, broker, 0, &FORWARD) == Some(0)
-        && put(rt, alloc, broker, 0, b'v').is_some()
+        && puts(rt, alloc, broker, 0, b'v')
         && drain(rt, alloc, broker)
         && has_beginnings(rt, alloc, broker)
 }

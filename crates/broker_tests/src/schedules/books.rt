@@ -2,6 +2,7 @@
 
 use crate::schedules::rows::{Seen, is_row};
 use broker::Broker;
+use out_book::Book;
 use part_log::Names;
 use std::sync::Wait;
 
@@ -22,10 +23,14 @@ pub(crate) fn has_first<Id: Names, C, R: Wait>(
         return false;
     }
     let book = broker.book(output).lock(rt);
+    has_rows(&book, done, &ROWS[output][..done / 2])
+}
+
+fn has_rows<Id: Names>(book: &Book<Id>, done: usize, want: &[Seen]) -> bool {
     if book.inputs() == 0 || book.done(0) != done {
         return false;
     }
-    let mut rest = &ROWS[output][..done / 2];
+    let mut rest = want;
     for row in book.rows_from(0) {
         match rest.split_first() {
             Some((first, others)) if is_row(row, first) => rest = others,

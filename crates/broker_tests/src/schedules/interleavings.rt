@@ -110,7 +110,7 @@ impl<'r, Id: Names, R: Wait> Play<'r, Id, R> {
         let (rt, alloc) = (self.rt, self.alloc);
         match left {
             3 => mark(rt, alloc, &self.first, &mut self.desk, &mut self.core),
-            2 => load(alloc, &mut self.desk, &mut self.core),
+            2 => Some(load(alloc, &mut self.desk, &mut self.core)),
             _ => mark(rt, alloc, &self.second, &mut self.desk, &mut self.core),
         }
     }

@@ -100,9 +100,10 @@ pub(crate) fn put<Id: Names, R: Wait>(
     core: &mut World,
     value: u8,
 ) -> Option<bool> {
-    let got = lane.log.append(rt, alloc, batch_of_value(alloc, 1, value)?);
     let event = put_of(alloc, lane.input, value)?;
-    Some(is_same_append(&got, core.step(alloc, &event)))
+    let batch = batch_of_value(alloc, 1, value)?;
+    let want = core.step(alloc, &event);
+    Some(is_same_append(&lane.log.append(rt, alloc, batch), want))
 }
 
 /// Closes a log.
@@ -116,34 +117,71 @@ pub(crate) fn close<Id: Names, R: Wait>(
     is_same_append(&got, core.step(alloc, &Event::Close(lane.input)))
 }
 
-/// A desk with the first version, which the core loads too.
-pub(crate) fn open<R: Wait + Drop>(rt: R, alloc: Global, core: &mut World) -> Option<Desk<R>> {
-    let mut catalogue = Catalogue::new(rt, alloc).ok()?;
-    let finder = catalogue.reader(alloc).ok()?;
-    let image = Bytes::copy_from_slice(alloc, &BOTH).ok()?;
-    let (version, known) = catalogue.load(alloc, NAME, &image, Table::One).ok()?;
-    let event = load_of(alloc, NAME, &BOTH)?;
-    if core.step(alloc, &event) != Ok(Reply::Loaded(version)) {
-        return None;
-    }
-    Some(Desk {
-        catalogue,
-        finder,
-        known,
-    })
+/// Loads an image; the version, and what is known then.
+fn load_image<R: Wait + Drop>(
+    alloc: Global,
+    catalogue: &mut Catalogue<R>,
+    image: &[u8],
+) -> Option<(u32, Known)> {
+    let image = Bytes::copy_from_slice(alloc, image).ok()?;
+    catalogue.load(alloc, NAME, &image, Table::One).ok()
 }
 
-/// Loads the second version.
-pub(crate) fn load<R: Wait + Drop>(
+/// Whether the core loads an image as this version.
+fn loads(alloc: Global, core: &mut World, image: &[u8], version: u32) -> bool {
+    match load_of(alloc, NAME, image) {
+        Some(event) => core.step(alloc, &event) == Ok(Reply::Loaded(version)),
+        None => false,
+    }
+}
+
+/// What is known after a load that the core makes too.
+fn load_both<R: Wait + Drop>(
     alloc: Global,
-    desk: &mut Desk<R>,
+    catalogue: &mut Catalogue<R>,
     core: &mut World,
-) -> Option<bool> {
-    let image = Bytes::copy_from_slice(alloc, &NULLS).ok()?;
-    let (version, known) = desk.catalogue.load(alloc, NAME, &image, Table::One).ok()?;
-    desk.known = known;
-    let event = load_of(alloc, NAME, &NULLS)?;
-    Some(core.step(alloc, &event) == Ok(Reply::Loaded(version)))
+    image: &[u8],
+) -> Option<Known> {
+    match load_image(alloc, catalogue, image) {
+        Some((version, known)) if loads(alloc, core, image, version) => Some(known),
+        _ => None,
+    }
+}
+
+/// A desk with the first version, which the core loads too.
+pub(crate) fn open<R: Wait + Drop>(rt: R, alloc: Global, core: &mut World) -> Option<Desk<R>> {
+    match Catalogue::new(rt, alloc) {
+        Ok(catalogue) => open_with(alloc, catalogue, core),
+        Err(_) => None,
+    }
+}
+
+fn open_with<R: Wait + Drop>(
+    alloc: Global,
+    catalogue: Catalogue<R>,
+    core: &mut World,
+) -> Option<Desk<R>> {
+    let mut catalogue = catalogue;
+    let finder = catalogue.reader(alloc);
+    match (finder, load_both(alloc, &mut catalogue, core, &BOTH)) {
+        (Ok(finder), Some(known)) => Some(Desk {
+            catalogue,
+            finder,
+            known,
+        }),
+        _ => None,
+    }
+}
+
+/// Loads the second version; whether the core does too.
+pub(crate) fn load<R: Wait + Drop>(alloc: Global, desk: &mut Desk<R>, core: &mut World) -> bool {
+    match load_both(alloc, &mut desk.catalogue, core, &NULLS) {
+        Some(known) => {
+            desk.known = known;
+            true
+        }
+        None => false,
+    }
 }
 
 /// Marks the version that a finder finds.
@@ -261,13 +299,18 @@ pub(crate) fn restart<Id: Names>(
     books: &Pair<Id>,
     core: &mut World,
 ) -> Option<bool> {
-    lane.walk = done_everywhere(books, lane.input)?;
+    let walk = done_everywhere(books, lane.input)?;
+    let done = walk.len();
+    begin_with(lane, walk);
+    let is_restarted = core.step(alloc, &Event::Restart(lane.input)) == Ok(Reply::Restarted);
+    Some(is_restarted && pass_done(alloc, core, lane.input, done))
+}
+
+/// A worker begins after a walk, with the first output partition.
+fn begin_with<Id: Names>(lane: &mut Lane<Id>, walk: Walk<Id>) {
+    lane.walk = walk;
     lane.results = None;
     lane.output = 0;
-    if core.step(alloc, &Event::Restart(lane.input)) != Ok(Reply::Restarted) {
-        return Some(false);
-    }
-    Some(pass_done(alloc, core, lane.input, lane.walk.len()))
 }
 
 /// Whether a book has the core's rows and done number of an input partition.

@@ -4,12 +4,13 @@
 ghost use Rattle.broker.specs.Layouts.{IsNamed};
 
 use crate::beside::both;
+use crate::calls::puts;
 use crate::schedules::books::has_first;
 use crate::schedules::gates::{Meet, StopAt};
 use crate::schedules::making::NULLS;
 use crate::schedules::verdicts::all_hold;
 use broker::{Broker, Ended, Parts, Stepped, Until};
-use broker_fixtures::{deploy, ends, put, sees, step};
+use broker_fixtures::{deploy, ends, sees, step};
 use catalogue::Catalogue;
 use fixtures::BOTH;
 use part_log::Names;
@@ -42,9 +43,9 @@ fn fill<Id: Names, H: Wait + Drop, R: Wait>(
     broker: &Broker<Id, Catalogue<H>>,
 ) -> bool {
     deploy(rt, alloc, broker, 0, &BOTH) == Some(0)
-        && put(rt, alloc, broker, 0, b'A').is_some()
+        && puts(rt, alloc, broker, 0, b'A')
         && deploy(rt, alloc, broker, 0, &NULLS) == Some(2)
-        && put(rt, alloc, broker, 0, b'B').is_some()
+        && puts(rt, alloc, broker, 0, b'B')
 }
 
 /// Whether all is done in both output partitions.
