@@ -5,9 +5,10 @@ Not part of the build. From the top of the repository:
 
     tools/refuse_each.py [CRATE [WORD]]       or a path, as `out/tests`, of its built tests in place of CRATE
 
-The crate is memory_tests if none is named. `rt test` proves it and builds its tests. Then each test runs once with no request
-refused, and once for each request that it made in that run, with that one refused. With a word only the tests run whose names have
-it, as `tools/refuse_each.py report_tests refused`. A run passes where the test ends with status 0.
+`rt test` proves the crate and builds its tests. Then each test runs once with no request refused, and once for each request that
+it made in that run, with that one refused. With a word only the tests run whose names have it, as `tools/refuse_each.py
+broker_tests reports::refusals`; if no crate is named, those of broker_tests whose names begin with `memory::`. A run passes where
+the test ends with status 0.
 For each test it prints how many requests and runs there were and how many runs passed, how often each call was refused and with
 which fault (the lines `refused CALL: FAULT` that the tests print), and in full each run that did not pass. It ends with status 1
 where there is such a run. Wants a C compiler; tools/refuse_memory.c says which requests count.
@@ -71,8 +72,7 @@ def built(folder):
 def main(words):
     if len(words) > 2 or words and words[0].startswith("-"):
         sys.exit(__doc__)
-    crate = words[0] if words else "memory_tests"
-    word = words[1] if len(words) > 1 else ""
+    crate, word = {0: ["broker_tests", "memory::"], 1: [*words, ""], 2: words}[len(words)]
     program = os.path.abspath(crate) if "/" in crate else built(f"{TOP}/crates/{crate}")
     listed = subprocess.run([program, "--list"], stdout=subprocess.PIPE, text=True, check=True).stdout
     tests = [it.removesuffix(": test") for it in listed.splitlines() if it.endswith(": test") and word in it]

@@ -2,54 +2,74 @@
 
 use crate::books::Seen;
 use crate::play::{Scene, play};
-use broker::{Audit, AuditedRows, Broker, Ended, Parts, Until};
+use broker::{Audit, AuditedRows, Broker, Ended, Until};
 use broker_fixtures::{deploy, ends, is_row, put};
 use catalogue::Catalogue;
 use fixtures::BOTH;
 use part_log::{Names, Receipt};
-use std::alloc::{AllocError, Global};
-use std::process::Abort;
+use std::alloc::Global;
 use std::sync::Wait;
-use std::test::Fail;
+use std::test::*;
 use std::thread;
 use std::thread::Threads;
 use worker::Open;
 
 #[test]
-fn receipts_are_audited_in_order(rt: HostRuntime) -> Result<(), Fail> {
-    let alloc = rt.alloc();
-    play(
-        &rt,
-        alloc,
-        Parts::new(&rt, alloc, 2, 2, 8)?,
-        Scene::AuditFive,
-    )
+fn receipts_are_audited_in_order(rt: HostRuntime) {
+    play(&rt, rt.alloc(), 2, 2, 8, Scene::AuditFive);
 }
 
 /// Each audit of receipts finds the rows of its own item, in each book.
-pub(crate) fn audit_five<Id: Names + Send + Sync, R: Threads + Wait + Abort + Sync>(
+pub(crate) fn audit_five<Id: Names + Send + Sync, R: Threads + Wait + Sync>(
     rt: &R,
     alloc: Global,
     broker: &Broker<Id, Catalogue<&R>>,
-) -> Result<(), Fail> {
-    for input in 0..2 {
-        assert_eq!(rt; deploy(rt, alloc, broker, input, &BOTH), Some(0));
-    }
-    let receipts = append_five(rt, alloc, broker).ok_or("receipts")?;
-    assert!(rt; are_right(rt, alloc, broker, &receipts));
-    Ok(())
+) -> bool {
+    deploy(rt, alloc, broker, 0, &BOTH) == Some(0)
+        && deploy(rt, alloc, broker, 1, &BOTH) == Some(0)
+        && five_are_right(rt, alloc, broker)
 }
 
-/// Appends a record to an input partition, and keeps its receipt.
+fn five_are_right<Id: Names + Send + Sync, C: Send, R: Threads + Wait + Sync>(
+    rt: &R,
+    alloc: Global,
+    broker: &Broker<Id, C>,
+) -> bool {
+    match append_five(rt, alloc, broker) {
+        Some(receipts) => are_right(rt, alloc, broker, &receipts),
+        None => false,
+    }
+}
+
+/// Appends records of an input partition with these values, and keeps their receipts; whether it could.
 fn keep<Id: Names, C, R: Wait>(
     rt: &R,
     alloc: Global,
     broker: &Broker<Id, C>,
     receipts: &mut Vec<Receipt<Id>>,
     input: usize,
+    values: &[u8],
+) -> bool {
+    for value in values {
+        if !keep_one(rt, alloc, broker, receipts, input, *value) {
+            return false;
+        }
+    }
+    true
+}
+
+fn keep_one<Id: Names, C, R: Wait>(
+    rt: &R,
+    alloc: Global,
+    broker: &Broker<Id, C>,
+    receipts: &mut Vec<Receipt<Id>>,
+    input: usize,
     value: u8,
-) -> Option<()> {
-    receipts.push(put(rt, alloc, broker, input, value)?).ok()
+) -> bool {
+    match put(rt, alloc, broker, input, value) {
+        Some(receipt) => receipts.push(receipt).is_ok(),
+        None => false,
+    }
 }
 
 /// The receipts of two records of each input, which are processed, and of one that isn't.
@@ -59,16 +79,27 @@ fn append_five<Id: Names + Send + Sync, C: Send, R: Threads + Wait + Sync>(
     broker: &Broker<Id, C>,
 ) -> Option<Vec<Receipt<Id>>> {
     let mut receipts = Vec::new(alloc);
-    for (input, value) in [(0, b'A'), (0, b'B'), (1, b'A'), (1, b'B')] {
-        keep(rt, alloc, broker, &mut receipts, input, value)?;
+    if keep_five(rt, alloc, broker, &mut receipts) {
+        Some(receipts)
+    } else {
+        None
     }
-    let want = [Ended::Done(3), Ended::Done(3)];
-    if !ends(rt, alloc, broker, Until::Drained, &Open, &want) {
-        return None;
-    }
-    keep(rt, alloc, broker, &mut receipts, 1, b'C')?;
-    Some(receipts)
 }
+
+fn keep_five<Id: Names + Send + Sync, C: Send, R: Threads + Wait + Sync>(
+    rt: &R,
+    alloc: Global,
+    broker: &Broker<Id, C>,
+    receipts: &mut Vec<Receipt<Id>>,
+) -> bool {
+    keep(rt, alloc, broker, receipts, 0, b"AB")
+        && keep(rt, alloc, broker, receipts, 1, b"AB")
+        && ends(rt, alloc, broker, Until::Drained, &Open, &FIVE_ENDS)
+        && keep(rt, alloc, broker, receipts, 1, b"C")
+}
+
+/// How the workers end.
+static FIVE_ENDS: [Ended; 2] = [Ended::Done(3), Ended::Done(3)];
 
 /// Whether the five receipts have their own rows in both books.
 fn are_right<Id: Names, C, R: Wait>(
@@ -77,15 +108,26 @@ fn are_right<Id: Names, C, R: Wait>(
     broker: &Broker<Id, C>,
     receipts: &[Receipt<Id>],
 ) -> bool {
-    for output in 0..2 {
-        let (a, b) = ((0, output, b'A'), (1, output, b'B'));
-        let want = [Some(a), Some(b), Some(a), Some(b), None];
-        if !are_audited(rt, alloc, broker, output, receipts, &want) {
-            return false;
-        }
-    }
-    true
+    are_audited(rt, alloc, broker, 0, receipts, &FIRST)
+        && are_audited(rt, alloc, broker, 1, receipts, &SECOND)
 }
+
+/// What audits in each output partition find.
+static FIRST: [Option<Seen>; 5] = [
+    Some((0, 0, b'A')),
+    Some((1, 0, b'B')),
+    Some((0, 0, b'A')),
+    Some((1, 0, b'B')),
+    None,
+];
+
+static SECOND: [Option<Seen>; 5] = [
+    Some((0, 1, b'A')),
+    Some((1, 1, b'B')),
+    Some((0, 1, b'A')),
+    Some((1, 1, b'B')),
+    None,
+];
 
 /// Whether audits of these receipts in an output partition find one row each, or that the item is
 /// not done.
@@ -138,7 +180,7 @@ fn is_one(rows: AuditedRows<'_>, want: &Seen) -> bool {
 }
 
 /// The values of the records whose receipts another thread audits, in order.
-const VALUES: [u8; 6] = [b'A', b'B', b'C', b'D', b'E', b'F'];
+static VALUES: [u8; 6] = [b'A', b'B', b'C', b'D', b'E', b'F'];
 
 /// How often the auditor looks before the test fails.
 const TURNS: usize = 1_000_000;
@@ -159,11 +201,9 @@ fn append_six<Id: Names, C, R: Wait>(
     broker: &Broker<Id, C>,
 ) -> Option<Vec<Receipt<Id>>> {
     let mut receipts = Vec::new(alloc);
-    for value in &VALUES {
-        keep(rt, alloc, broker, &mut receipts, 0, *value)?;
-    }
-    broker.close(rt, alloc, 0).ok()?;
-    Some(receipts)
+    let are_kept = keep(rt, alloc, broker, &mut receipts, 0, &VALUES)
+        && broker.close(rt, alloc, 0).is_ok();
+    if are_kept { Some(receipts) } else { None }
 }
 
 /// How many of the first receipts are processed in an output partition. None where one has other rows
@@ -179,8 +219,10 @@ fn processed<Id: Names, C, R: Wait>(
         return None;
     }
     let book = broker.book(output).lock(rt);
-    let audits = broker.audit_all(alloc, receipts, &book).ok()?;
-    processed_among(audits, output)
+    match broker.audit_all(alloc, receipts, &book) {
+        Ok(audits) => processed_among(audits, output),
+        Err(_) => None,
+    }
 }
 
 /// The same of audits in an output partition.
@@ -231,42 +273,47 @@ fn act<Id: Names + Send + Sync, C: Send, R: Threads + Wait + Sync>(
 ) -> bool {
     match job {
         Job::Audit(receipts) => audit_until_done(rt, alloc, broker, receipts),
-        Job::Work => ends(rt, alloc, broker, Until::Closed, &Open, &[Ended::Done(8)]),
+        Job::Work => ends(rt, alloc, broker, Until::Closed, &Open, &SIX_ENDS),
     }
 }
 
+/// How the worker ends.
+static SIX_ENDS: [Ended; 1] = [Ended::Done(8)];
+
 #[test]
-fn receipts_are_audited_by_another_thread(rt: HostRuntime) -> Result<(), Fail> {
-    let alloc = rt.alloc();
-    play(
-        &rt,
-        alloc,
-        Parts::new(&rt, alloc, 1, 2, 8)?,
-        Scene::AuditBeside,
-    )
+fn receipts_are_audited_by_another_thread(rt: HostRuntime) {
+    play(&rt, rt.alloc(), 1, 2, 8, Scene::AuditBeside);
 }
 
 /// A thread that gets the receipts audits them in each book in turn, beside a worker.
-pub(crate) fn audit_beside<Id: Names + Send + Sync, R: Threads + Wait + Abort + Sync>(
+pub(crate) fn audit_beside<Id: Names + Send + Sync, R: Threads + Wait + Sync>(
     rt: &R,
     alloc: Global,
     broker: &Broker<Id, Catalogue<&R>>,
-) -> Result<(), Fail> {
-    assert_eq!(rt; deploy(rt, alloc, broker, 0, &BOTH), Some(0));
-    let jobs = jobs_of(rt, alloc, broker).ok_or("receipts")?;
-    assert!(rt; are_done(rt, alloc, broker, jobs)?);
-    Ok(())
+) -> bool {
+    deploy(rt, alloc, broker, 0, &BOTH) == Some(0) && six_are_right(rt, alloc, broker)
 }
 
-fn jobs_of<Id: Names, C, R: Wait>(
+fn six_are_right<Id: Names + Send + Sync, C: Send, R: Threads + Wait + Sync>(
     rt: &R,
     alloc: Global,
     broker: &Broker<Id, C>,
-) -> Option<Vec<Job<Id>>> {
+) -> bool {
+    match append_six(rt, alloc, broker) {
+        Some(receipts) => jobs_are_done(rt, alloc, broker, receipts),
+        None => false,
+    }
+}
+
+fn jobs_are_done<Id: Names + Send + Sync, C: Send, R: Threads + Wait + Sync>(
+    rt: &R,
+    alloc: Global,
+    broker: &Broker<Id, C>,
+    receipts: Vec<Receipt<Id>>,
+) -> bool {
     let mut jobs = Vec::new(alloc);
-    jobs.push(Job::Audit(append_six(rt, alloc, broker)?)).ok()?;
-    jobs.push(Job::Work).ok()?;
-    Some(jobs)
+    let has_jobs = jobs.push(Job::Audit(receipts)).is_ok() && jobs.push(Job::Work).is_ok();
+    has_jobs && are_done(rt, alloc, broker, jobs)
 }
 
 /// Whether two threads do their jobs well.
@@ -275,8 +322,10 @@ fn are_done<Id: Names + Send + Sync, C: Send, R: Threads + Wait + Sync>(
     alloc: Global,
     broker: &Broker<Id, C>,
     jobs: Vec<Job<Id>>,
-) -> Result<bool, AllocError> {
+) -> bool {
     let one = move |job: Job<Id>| -> bool { act(rt, alloc, broker, &job) };
-    let right = thread::map_vec(rt, jobs, &one)?;
-    Ok(right.as_slice() == [true, true].as_slice())
+    match thread::map_vec(rt, jobs, &one) {
+        Ok(right) => right.as_slice() == [true, true].as_slice(),
+        Err(_) => false,
+    }
 }

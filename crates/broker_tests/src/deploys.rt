@@ -1,108 +1,122 @@
+use crate::calls;
 use crate::play::{Scene, play};
-use broker::{Broker, BrokerFault, Parts};
+use broker::{Broker, BrokerFault};
 use broker_fixtures::{NAME, load};
 use catalogue::{CatFault, Catalogue, Finder, Known};
 use fixtures::FORWARD;
 use log_spec::Name;
 use part_log::{Item, LogFault, Names};
 use std::alloc::Global;
-use std::process::Abort;
 use std::sync::Wait;
-use std::test::Fail;
+use std::test::*;
 
 #[test]
-fn a_deployment_is_a_mark(rt: HostRuntime) -> Result<(), Fail> {
-    let alloc = rt.alloc();
-    play(&rt, alloc, Parts::new(&rt, alloc, 1, 1, 2)?, Scene::Deploy)
+fn a_deployment_is_a_mark(rt: HostRuntime) {
+    play(&rt, rt.alloc(), 1, 1, 2, Scene::Deploy);
 }
 
-/// Each of two deployments is a mark of the version that was loaded last.
-pub(crate) fn deploy_some<Id: Names, H: Wait + Drop, R: Wait + Abort>(
-    rt: &R,
-    alloc: Global,
-    broker: &Broker<Id, Catalogue<H>>,
-) -> Result<(), Fail> {
-    let known = load_forward(rt, alloc, broker).ok_or("a version")?;
-    assert_eq!(rt; known.version(), 1);
-    let mut finder = broker.finder(rt, alloc)?;
-    deploy_two(rt, alloc, broker, &mut finder, &known);
-    are_refused(rt, alloc, broker, &mut finder, &known, &FULL);
-    let mut lost = lost_finder(rt, alloc)?;
-    are_refused(rt, alloc, broker, &mut lost, &known, &LOST);
-    Ok(())
-}
+/// An input partition, a name, and where the mark of a deployment is and of which version, or why it is
+/// refused.
+type Row = (usize, &'static str, Result<(usize, u32), BrokerFault>);
 
-/// What is known after a load of the forwarding program; its version is the answered one.
-fn load_forward<Id: Names, H: Wait + Drop, R: Wait>(
-    rt: &R,
-    alloc: Global,
-    broker: &Broker<Id, Catalogue<H>>,
-) -> Option<Known> {
-    let (version, known) = load(rt, alloc, broker, &FORWARD)?;
-    if version == known.version() {
-        Some(known)
-    } else {
-        None
-    }
-}
+/// After the first load, and after the second.
+static FIRST: [Row; 1] = [(0, NAME, Ok((0, 1)))];
 
-/// The version of a load of the forwarding program.
-fn load_again<Id: Names, H: Wait + Drop, R: Wait>(
-    rt: &R,
-    alloc: Global,
-    broker: &Broker<Id, Catalogue<H>>,
-) -> Option<u32> {
-    let known = load_forward(rt, alloc, broker)?;
-    Some(known.version())
-}
-
-/// Two deployments with a load between them, by what was known before the first.
-fn deploy_two<Id: Names, H: Wait + Drop, R: Wait + Abort>(
-    rt: &R,
-    alloc: Global,
-    broker: &Broker<Id, Catalogue<H>>,
-    finder: &mut Finder,
-    known: &Known,
-) {
-    for (index, version, next) in [(0, 1, 2), (1, 2, 3)] {
-        let deployed = deploy(rt, alloc, broker, 0, NAME, finder, known);
-        assert_eq!(rt; deployed, Ok((index, version)));
-        assert_eq!(rt; load_again(rt, alloc, broker), Some(next));
-    }
-    for (index, version) in [(0, 1), (1, 2)] {
-        assert_eq!(rt; mark_at(broker, index), Some(version));
-    }
-}
-
-/// An input partition, a name and why its deployment is refused.
-type Refused = (usize, &'static str, BrokerFault);
+static SECOND: [Row; 1] = [(0, NAME, Ok((1, 2)))];
 
 /// Of a full log, with a finder that reads.
-const FULL: [Refused; 3] = [
-    (1, "other", BrokerFault::Partition),
-    (0, "other", BrokerFault::NoProgram),
-    (0, NAME, BrokerFault::Log(LogFault::Full)),
+static FULL: [Row; 3] = [
+    (1, "other", Err(BrokerFault::Partition)),
+    (0, "other", Err(BrokerFault::NoProgram)),
+    (0, NAME, Err(BrokerFault::Log(LogFault::Full))),
 ];
 
 /// The same with a finder of a catalogue that is gone.
-const LOST: [Refused; 3] = [
-    (1, "other", BrokerFault::Partition),
-    (0, "other", BrokerFault::Catalogue(CatFault::NoReader)),
-    (0, NAME, BrokerFault::Catalogue(CatFault::NoReader)),
+static LOST: [Row; 3] = [
+    (1, "other", Err(BrokerFault::Partition)),
+    (0, "other", Err(BrokerFault::Catalogue(CatFault::NoReader))),
+    (0, NAME, Err(BrokerFault::Catalogue(CatFault::NoReader))),
 ];
 
-/// The first refusal is answered.
-fn are_refused<Id: Names, C, R: Wait + Abort>(
+/// Each of two deployments is a mark of the version that was loaded last.
+pub(crate) fn deploy_some<Id: Names, H: Wait + Drop, R: Wait>(
+    rt: &R,
+    alloc: Global,
+    broker: &Broker<Id, Catalogue<H>>,
+) -> bool {
+    match (load_one(rt, alloc, broker, 1), broker.finder(rt, alloc)) {
+        (Some(known), Ok(mut finder)) => deploy_all(rt, alloc, broker, &known, &mut finder),
+        _ => false,
+    }
+}
+
+fn deploy_all<Id: Names, H: Wait + Drop, R: Wait>(
+    rt: &R,
+    alloc: Global,
+    broker: &Broker<Id, Catalogue<H>>,
+    known: &Known,
+    finder: &mut Finder,
+) -> bool {
+    deploys(rt, alloc, broker, known, finder, &FIRST)
+        && loads(rt, alloc, broker, 2)
+        && deploys(rt, alloc, broker, known, finder, &SECOND)
+        && loads(rt, alloc, broker, 3)
+        && mark_at(broker, 0) == Some(1)
+        && mark_at(broker, 1) == Some(2)
+        && deploys(rt, alloc, broker, known, finder, &FULL)
+        && is_lost(rt, alloc, broker, known)
+}
+
+/// What is known after a load of the forwarding program, if this is the version.
+fn load_one<Id: Names, H: Wait + Drop, R: Wait>(
+    rt: &R,
+    alloc: Global,
+    broker: &Broker<Id, Catalogue<H>>,
+    want: u32,
+) -> Option<Known> {
+    match load(rt, alloc, broker, &FORWARD) {
+        Some((version, known)) if version == want && known.version() == want => Some(known),
+        _ => None,
+    }
+}
+
+/// Whether another load has this version.
+fn loads<Id: Names, H: Wait + Drop, R: Wait>(
+    rt: &R,
+    alloc: Global,
+    broker: &Broker<Id, Catalogue<H>>,
+    want: u32,
+) -> bool {
+    load_one(rt, alloc, broker, want).is_some()
+}
+
+/// Whether the deployments answer this.
+fn deploys<Id: Names, C, R: Wait>(
     rt: &R,
     alloc: Global,
     broker: &Broker<Id, C>,
-    finder: &mut Finder,
     known: &Known,
-    rows: &[Refused],
-) {
+    finder: &mut Finder,
+    rows: &[Row],
+) -> bool {
     for (input, name, want) in rows {
-        let deployed = deploy(rt, alloc, broker, *input, name, finder, known);
-        assert_eq!(rt; deployed, Err(*want));
+        if deploy(rt, alloc, broker, *input, name, finder, known) != *want {
+            return false;
+        }
+    }
+    true
+}
+
+/// Whether the deployments with a finder of a catalogue that is gone answer what they must.
+fn is_lost<Id: Names, C, R: Wait>(
+    rt: &R,
+    alloc: Global,
+    broker: &Broker<Id, C>,
+    known: &Known,
+) -> bool {
+    match lost_finder(rt, alloc) {
+        Ok(mut finder) => deploys(rt, alloc, broker, known, &mut finder, &LOST),
+        Err(_) => false,
     }
 }
 
@@ -114,7 +128,6 @@ fn lost_finder<R: Wait>(rt: &R, alloc: Global) -> Result<Finder, CatFault> {
     catalogue.reader(alloc)
 }
 
-/// Where the mark of a deployment is, and which version it is of.
 fn deploy<Id: Names, C, R: Wait>(
     rt: &R,
     alloc: Global,
@@ -124,11 +137,10 @@ fn deploy<Id: Names, C, R: Wait>(
     finder: &mut Finder,
     known: &Known,
 ) -> Result<(usize, u32), BrokerFault> {
-    let Some(name) = Name::new(name) else {
-        return Err(BrokerFault::NoProgram);
-    };
-    let (receipt, version) = broker.deploy(rt, alloc, input, &name, finder, known)?;
-    Ok((receipt.index(), version))
+    match Name::new(name) {
+        Some(name) => calls::deploy(rt, alloc, broker, input, &name, finder, known),
+        None => Err(BrokerFault::NoProgram),
+    }
 }
 
 /// The version of a mark of the first input partition.

@@ -59,6 +59,31 @@ pub(crate) fn stamped(alloc: Global, count: usize) -> Option<Batch>
     batch_at(1000, stamped_records(alloc, count).ok()?)
 }
 
+/// How many bytes a fetch from output 0 returns, and the batch that they are. None where it returns none, or
+/// one that is not read whole.
+fn fetched<Id: Names, C, R: Wait>(
+    rt: &R,
+    alloc: Global,
+    broker: &Broker<Id, C>,
+    place: usize,
+    max: usize,
+) -> Option<(usize, Batch)> {
+    match broker.fetch(rt, 0, place, max) {
+        Ok(Some(bytes)) => read(alloc, bytes),
+        _ => None,
+    }
+}
+
+fn read(alloc: Global, bytes: Vec<u8>) -> Option<(usize, Batch)> {
+    let size = bytes.len();
+    let (batch, used) = decode(alloc, Bytes::from_vec(bytes).ok()?).ok()?;
+    if used == size {
+        Some((size, batch))
+    } else {
+        None
+    }
+}
+
 /// How many bytes a fetch from output 0 returns, and how many records a reader finds in them. None
 /// where it returns no batch, or one that is not read.
 pub(crate) fn sizes<Id: Names, C, R: Wait>(
@@ -68,10 +93,8 @@ pub(crate) fn sizes<Id: Names, C, R: Wait>(
     place: usize,
     max: usize,
 ) -> Option<(usize, usize)> {
-    let bytes = broker.fetch(rt, 0, place, max).ok()??;
-    let size = bytes.len();
-    let (batch, used) = decode(alloc, Bytes::from_vec(bytes).ok()?).ok()?;
-    if used == size && batch.base_offset.cast_unsigned() == place as u64 {
+    let (size, batch) = fetched(rt, alloc, broker, place, max)?;
+    if batch.base_offset.cast_unsigned() == place as u64 {
         Some((size, batch.records.list.len()))
     } else {
         None
@@ -87,8 +110,7 @@ pub(crate) fn stamps<Id: Names, C, R: Wait>(
     place: usize,
     max: usize,
 ) -> Option<(usize, i64, i64)> {
-    let bytes = broker.fetch(rt, 0, place, max).ok()??;
-    let (batch, _used) = decode(alloc, Bytes::from_vec(bytes).ok()?).ok()?;
+    let (_size, batch) = fetched(rt, alloc, broker, place, max)?;
     let last = batch.records.list.last()?.timestamp_delta;
     Some((batch.records.list.len(), batch.base_timestamp, last))
 }

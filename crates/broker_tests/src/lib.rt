@@ -1,11 +1,16 @@
 //! Tests of logs, the catalogue, workers, books and fetches, by the public calls of `broker` and of the crates
-//! below it.
+//! below it; in `reports` of reports, in `memory` of what calls leave where memory runs out, and in
+//! `schedules` of what threads do in many orders.
 #![tactic(auto)]
 
 #[cfg(test)]
 mod audits;
 #[cfg(test)]
+mod beside;
+#[cfg(test)]
 mod books;
+#[cfg(test)]
+mod calls;
 #[cfg(test)]
 mod deploys;
 #[cfg(test)]
@@ -21,11 +26,17 @@ mod loads;
 #[cfg(test)]
 mod logs;
 #[cfg(test)]
+mod memory;
+#[cfg(test)]
 mod names;
 #[cfg(test)]
 mod offers;
 #[cfg(test)]
 mod play;
+#[cfg(test)]
+mod reports;
+#[cfg(test)]
+mod schedules;
 #[cfg(test)]
 mod since;
 #[cfg(test)]

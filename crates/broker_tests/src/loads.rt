@@ -1,14 +1,15 @@
+use crate::beside::both;
+use crate::calls::deploy;
 use crate::play::{Scene, play};
-use broker::{Broker, Parts};
+use broker::Broker;
 use bytes::Bytes;
 use catalogue::{Catalogue, Finder, Known};
 use fixtures::FORWARD;
 use machine_spec::Table;
 use part_log::Names;
-use std::alloc::{AllocError, Global};
-use std::process::Abort;
+use std::alloc::Global;
 use std::sync::{Mutex, Wait};
-use std::test::Fail;
+use std::test::*;
 use std::thread::Threads;
 use std::{mem, thread};
 
@@ -20,61 +21,63 @@ const TURNS: usize = 100_000_000;
 type Published = Mutex<Vec<Known>>;
 
 #[test]
-fn deployments_are_never_older_than_known(rt: HostRuntime) -> Result<(), Fail> {
-    let alloc = rt.alloc();
-    play(
-        &rt,
-        alloc,
-        Parts::new(&rt, alloc, 1, 1, LOADS)?,
-        Scene::Chase,
-    )
+fn deployments_are_never_older_than_known(rt: HostRuntime) {
+    play(&rt, rt.alloc(), 1, 1, LOADS, Scene::Chase);
 }
 
 /// A thread deploys what another one loads.
-pub(crate) fn chase<Id: Names + Send + Sync, R: Threads + Wait + Abort + Sync>(
+pub(crate) fn chase<Id: Names + Send + Sync, R: Threads + Wait + Sync>(
     rt: &R,
     alloc: Global,
     broker: &Broker<Id, Catalogue<&R>>,
-) -> Result<(), Fail> {
+) -> bool {
     let published = Mutex::new(Vec::new(alloc));
-    let counts = counts_of(rt, alloc, broker, &published)?;
-    assert_eq!(rt; counts.as_slice(), [LOADS, LOADS].as_slice());
-    Ok(())
+    is_chased(rt, alloc, broker, &published)
 }
 
-/// How many loads and how many deployments were right.
-fn counts_of<Id: Names + Send + Sync, H: Wait + Drop + Send, R: Threads + Wait + Sync>(
+/// Whether all loads and all deployments were right.
+fn is_chased<Id: Names + Send + Sync, H: Wait + Drop + Send, R: Threads + Wait + Sync>(
     rt: &R,
     alloc: Global,
     broker: &Broker<Id, Catalogue<H>>,
     published: &Published,
-) -> Result<Vec<usize>, AllocError> {
-    let one = move |number: usize| -> usize {
+) -> bool {
+    let one = move |number: usize| -> bool {
         if number == 0 {
             load_all(rt, alloc, broker, published)
         } else {
-            deploy_all(rt, alloc, broker, published)
+            deploy_all(rt, alloc, broker, published) == LOADS
         }
     };
-    thread::map_indices(rt, alloc, 2, &one)
+    both(rt, alloc, &one)
 }
 
-/// Loads and hands over what is known then; how many loads had the version after the one before.
+/// Loads and hands over what is known then; whether each load had the version after the one before.
 fn load_all<Id: Names, H: Wait + Drop, R: Wait>(
     rt: &R,
     alloc: Global,
     broker: &Broker<Id, Catalogue<H>>,
     published: &Published,
-) -> usize {
-    let Ok(image) = Bytes::copy_from_slice(alloc, &FORWARD) else {
-        return 0;
-    };
+) -> bool {
+    match Bytes::copy_from_slice(alloc, &FORWARD) {
+        Ok(image) => load_each(rt, alloc, broker, &image, published),
+        Err(_) => false,
+    }
+}
+
+fn load_each<Id: Names, H: Wait + Drop, R: Wait>(
+    rt: &R,
+    alloc: Global,
+    broker: &Broker<Id, Catalogue<H>>,
+    image: &Bytes,
+    published: &Published,
+) -> bool {
     for count in 0..LOADS {
-        if load_one(rt, alloc, broker, &image, published) != Some(count.wrapping_add(1)) {
-            return count;
+        if load_one(rt, alloc, broker, image, published) != Some(count.wrapping_add(1)) {
+            return false;
         }
     }
-    LOADS
+    true
 }
 
 /// The version of a load, once it is handed over what is known then.
@@ -85,9 +88,25 @@ fn load_one<Id: Names, H: Wait + Drop, R: Wait>(
     image: &Bytes,
     published: &Published,
 ) -> Option<usize> {
-    let (version, known) = broker.load(rt, alloc, "fwd", image, Table::One).ok()?;
-    published.lock(rt).push(known).ok()?;
-    Some(version as usize)
+    match broker.load(rt, alloc, "fwd", image, Table::One) {
+        Ok((version, known)) => {
+            if hand_over(rt, published, known) {
+                Some(version as usize)
+            } else {
+                None
+            }
+        }
+        Err(_) => None,
+    }
+}
+
+fn hand_over<R: Wait>(rt: &R, published: &Published, known: Known) -> bool {
+    published.lock(rt).push(known).is_ok()
+}
+
+/// What was handed over and not taken yet.
+fn take<R: Wait>(rt: &R, alloc: Global, published: &Published) -> Vec<Known> {
+    mem::replace(&mut *published.lock(rt), Vec::new(alloc))
 }
 
 /// Deploys with all that is handed over; how many deployments were right.
@@ -97,17 +116,27 @@ fn deploy_all<Id: Names, H: Wait + Drop, R: Wait>(
     broker: &Broker<Id, Catalogue<H>>,
     published: &Published,
 ) -> usize {
-    let Ok(mut finder) = broker.finder(rt, alloc) else {
-        return 0;
-    };
+    match broker.finder(rt, alloc) {
+        Ok(mut finder) => deploy_until_done(rt, alloc, broker, &mut finder, published),
+        Err(_) => 0,
+    }
+}
+
+fn deploy_until_done<Id: Names, C, R: Wait>(
+    rt: &R,
+    alloc: Global,
+    broker: &Broker<Id, C>,
+    finder: &mut Finder,
+    published: &Published,
+) -> usize {
     let mut count = 0usize;
     let mut last = 0;
     for _ in 0..TURNS {
-        let taken = mem::replace(&mut *published.lock(rt), Vec::new(alloc));
+        let taken = take(rt, alloc, published);
         if taken.is_empty() {
             thread::yield_now();
         }
-        let Some(version) = deploy_each(rt, alloc, broker, &mut finder, &taken, last) else {
+        let Some(version) = deploy_each(rt, alloc, broker, finder, &taken, last) else {
             return 0;
         };
         last = version;
@@ -130,24 +159,12 @@ fn deploy_each<Id: Names, C, R: Wait>(
 ) -> Option<u32> {
     let mut last = first;
     for known in taken {
-        let version = deploy_one(rt, alloc, broker, finder, known)?;
-        if version < known.version() || version < last {
-            return None;
+        match deploy(rt, alloc, broker, 0, known.name(), finder, known) {
+            Ok((_index, version)) if version >= known.version() && version >= last => {
+                last = version;
+            }
+            _ => return None,
         }
-        last = version;
     }
     Some(last)
-}
-
-/// The version of a deployment.
-fn deploy_one<Id: Names, C, R: Wait>(
-    rt: &R,
-    alloc: Global,
-    broker: &Broker<Id, C>,
-    finder: &mut Finder,
-    known: &Known,
-) -> Option<u32> {
-    let deployed = broker.deploy(rt, alloc, 0, known.name(), finder, known);
-    let (_receipt, version) = deployed.ok()?;
-    Some(version)
 }

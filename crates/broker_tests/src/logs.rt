@@ -1,8 +1,9 @@
 ghost use Rattle.std.specs.Prelude.{◌≡◌};
 
+use crate::calls::{Place, append, enter, placed};
 use crate::play::{Scene, play};
-use broker::{Broker, BrokerFault, Parts};
-use broker_fixtures::{place_of, program_of};
+use broker::{Broker, BrokerFault};
+use broker_fixtures::program_of;
 use catalogue::CatFault;
 use fixtures::{FORWARD, batch_of};
 use log_spec::Name;
@@ -10,56 +11,31 @@ use out_book::BookFault;
 use part_log::{Cells, LogFault, Names, PartLog};
 use std::alloc::Global;
 use std::marker::Brand;
-use std::process::Abort;
 use std::sync::Wait;
-use std::test::Fail;
+use std::test::*;
 
-fn mark<Id: Names, R: Wait>(
-    rt: &R,
-    alloc: Global,
-    log: &PartLog<Id>,
-) -> Result<(usize, usize, u64), LogFault> {
-    let Some(program) = program_of(alloc, &FORWARD) else {
-        return Err(LogFault::Memory);
-    };
-    let Some(name) = Name::new("fwd") else {
-        return Err(LogFault::Memory);
-    };
-    Ok(place_of(&log.mark(rt, alloc, name, 1, program)?))
-}
-
-fn put<Id: Names, R: Wait>(
-    rt: &R,
-    alloc: Global,
-    log: &PartLog<Id>,
-    count: usize,
-) -> Result<(usize, usize, u64), LogFault> {
-    let Some(batch) = batch_of(alloc, count, 1000) else {
-        return Err(LogFault::Memory);
-    };
-    Ok(place_of(&log.append(rt, alloc, batch)?))
-}
-
-fn end<Id: Names, R: Wait>(
-    rt: &R,
-    alloc: Global,
-    log: &PartLog<Id>,
-) -> Result<(usize, usize, u64), LogFault> {
-    Ok(place_of(&log.close(rt, alloc)?))
+fn mark<Id: Names, R: Wait>(rt: &R, alloc: Global, log: &PartLog<Id>) -> Result<Place, LogFault> {
+    match (program_of(alloc, &FORWARD), Name::new("fwd")) {
+        (Some(program), Some(name)) => placed(log.mark(rt, alloc, name, 1, program)),
+        _ => Err(LogFault::Memory),
+    }
 }
 
 #[test]
-fn a_closed_log_takes_nothing(rt: HostRuntime) -> Result<(), Fail> {
+fn a_closed_log_takes_nothing(rt: HostRuntime) {
     let alloc = rt.alloc();
-    close_one::<Brand, _>(&rt, alloc, Cells::new(alloc, 3)?);
-    Ok(())
+    let is_right = match Cells::new(alloc, 3) {
+        Ok(cells) => close_one::<Brand, _>(&rt, alloc, cells),
+        Err(_) => false,
+    };
+    assert!(rt; is_right);
 }
 
-fn close_one<Id: Names, R: Wait + Abort>(rt: &R, alloc: Global, cells: Cells)
+fn close_one<Id: Names, R: Wait>(rt: &R, alloc: Global, cells: Cells) -> bool
     requires { cells ≡ Id.cells 0 }
 {
     let log: PartLog<Id> = PartLog::new(0, cells);
-    answer_all(rt, alloc, &log);
+    answers(rt, alloc, &log, &ENTRIES)
 }
 
 /// What is appended.
@@ -70,10 +46,7 @@ enum Entry {
     End,
 }
 
-/// Where it is: its partition, its index and the records before it.
-type Place = (usize, usize, u64);
-
-const ENTRIES: [(Entry, Result<Place, LogFault>); 5] = [
+static ENTRIES: [(Entry, Result<Place, LogFault>); 5] = [
     (Entry::Mark, Ok((0, 0, 0))),
     (Entry::Records(2), Ok((0, 1, 0))),
     (Entry::End, Ok((0, 2, 2))),
@@ -81,81 +54,76 @@ const ENTRIES: [(Entry, Result<Place, LogFault>); 5] = [
     (Entry::End, Err(LogFault::Closed)),
 ];
 
-fn answer_all<Id: Names, R: Wait + Abort>(rt: &R, alloc: Global, log: &PartLog<Id>) {
-    for (entry, want) in &ENTRIES {
-        let place = match *entry {
-            Entry::Mark => mark(rt, alloc, log),
-            Entry::Records(count) => put(rt, alloc, log, count),
-            Entry::End => end(rt, alloc, log),
-        };
-        assert_eq!(rt; place, *want);
+/// Whether a log answers this.
+fn answers<Id: Names, R: Wait>(
+    rt: &R,
+    alloc: Global,
+    log: &PartLog<Id>,
+    rows: &[(Entry, Result<Place, LogFault>)],
+) -> bool {
+    for (entry, want) in rows {
+        if answer(rt, alloc, log, *entry) != *want {
+            return false;
+        }
     }
+    true
 }
 
-fn append<Id: Names, C, R: Wait>(
+fn answer<Id: Names, R: Wait>(
     rt: &R,
     alloc: Global,
-    broker: &Broker<Id, C>,
-    input: usize,
-    count: usize,
-) -> Result<(usize, usize, u64), BrokerFault> {
-    let Some(batch) = batch_of(alloc, count, 1000) else {
-        return Err(BrokerFault::Memory);
-    };
-    Ok(place_of(&broker.append(rt, alloc, input, batch)?))
-}
-
-fn close<Id: Names, C, R: Wait>(
-    rt: &R,
-    alloc: Global,
-    broker: &Broker<Id, C>,
-    input: usize,
-) -> Result<(usize, usize, u64), BrokerFault> {
-    Ok(place_of(&broker.close(rt, alloc, input)?))
-}
-
-fn trail_len<Id: Names, C, R: Wait>(
-    rt: &R,
-    broker: &Broker<Id, C>,
-    input: usize,
-) -> Result<usize, BrokerFault> {
-    let trail = broker.trail(rt, input)?;
-    Ok(trail.len())
+    log: &PartLog<Id>,
+    entry: Entry,
+) -> Result<Place, LogFault> {
+    match entry {
+        Entry::Mark => mark(rt, alloc, log),
+        Entry::Records(count) => enter(rt, alloc, log, batch_of(alloc, count, 1000)),
+        Entry::End => placed(log.close(rt, alloc)),
+    }
 }
 
 #[test]
-fn a_full_log_takes_nothing(rt: HostRuntime) -> Result<(), Fail> {
-    let alloc = rt.alloc();
-    play(&rt, alloc, Parts::new(&rt, alloc, 1, 2, 1)?, Scene::Fill)
+fn a_full_log_takes_nothing(rt: HostRuntime) {
+    play(&rt, rt.alloc(), 1, 2, 1, Scene::Fill);
 }
 
-pub(crate) fn fill_one<Id: Names, C, R: Wait + Abort>(
+pub(crate) fn fill_one<Id: Names, C, R: Wait>(
     rt: &R,
     alloc: Global,
     broker: &Broker<Id, C>,
-) {
-    let counts = (broker.inputs(), broker.outputs(), broker.cells(0));
-    assert_eq!(rt; counts, (1, 2, 1));
-    take_one(rt, alloc, broker);
-    refuse_all(rt, alloc, broker);
+) -> bool {
+    has_counts(broker) && takes_one(rt, alloc, broker) && refuses_all(rt, alloc, broker)
+}
+
+fn has_counts<Id: Names, C>(broker: &Broker<Id, C>) -> bool {
+    broker.inputs() == 1 && broker.outputs() == 2 && broker.cells(0) == 1
 }
 
 /// A log of one cell takes one item.
-fn take_one<Id: Names, C, R: Wait + Abort>(rt: &R, alloc: Global, broker: &Broker<Id, C>) {
-    assert_eq!(rt; find(broker, 0), None);
-    assert_eq!(rt; append(rt, alloc, broker, 0, 3), Ok((0, 0, 0)));
-    assert_eq!(rt; find(broker, 0), Some(3));
+fn takes_one<Id: Names, C, R: Wait>(rt: &R, alloc: Global, broker: &Broker<Id, C>) -> bool {
+    find(broker, 0).is_none()
+        && append(rt, alloc, broker, 0, batch_of(alloc, 3, 1000)) == Ok((0, 0, 0))
+        && find(broker, 0) == Some(3)
 }
 
 /// Where the one log is full, and where there is no log.
-fn refuse_all<Id: Names, C, R: Wait + Abort>(rt: &R, alloc: Global, broker: &Broker<Id, C>) {
-    let full = BrokerFault::Log(LogFault::Full);
-    for (input, want) in [(0, full), (1, BrokerFault::Partition)] {
-        assert_eq!(rt; append(rt, alloc, broker, input, 1), Err(want));
-        assert_eq!(rt; close(rt, alloc, broker, input), Err(want));
-    }
-    assert_eq!(rt; find(broker, 0), Some(3));
-    assert_eq!(rt; trail_len(rt, broker, 1), Err(BrokerFault::Partition));
+fn refuses_all<Id: Names, C, R: Wait>(rt: &R, alloc: Global, broker: &Broker<Id, C>) -> bool {
+    refuses(rt, alloc, broker, 0, BrokerFault::Log(LogFault::Full))
+        && refuses(rt, alloc, broker, 1, BrokerFault::Partition)
+        && find(broker, 0) == Some(3)
+        && matches!(broker.trail(rt, 1), Err(BrokerFault::Partition))
+}
+
+/// Whether a log refuses a batch and its end so.
+fn refuses<Id: Names, C, R: Wait>(
+    rt: &R,
+    alloc: Global,
+    broker: &Broker<Id, C>,
+    input: usize,
+    want: BrokerFault,
+) -> bool {
+    append(rt, alloc, broker, input, batch_of(alloc, 1, 1000)) == Err(want)
+        && placed(broker.close(rt, alloc, input)) == Err(want)
 }
 
 /// How many records the first item of an input has, if it is there.
@@ -169,7 +137,7 @@ fn find<Id: Names, C>(broker: &Broker<Id, C>, input: usize) -> Option<u64> {
     Some(item.records())
 }
 
-const TEXTS: [(BrokerFault, &str); 15] = [
+static TEXTS: [(BrokerFault, &str); 15] = [
     (BrokerFault::Partition, "P1 Partition"),
     (BrokerFault::NoProgram, "P2 NoProgram"),
     (BrokerFault::Memory, "P3 Memory"),
@@ -187,11 +155,23 @@ const TEXTS: [(BrokerFault, &str); 15] = [
     (BrokerFault::Book(BookFault::Memory), "O3 Memory"),
 ];
 
-#[test]
-fn faults_have_their_texts(rt: HostRuntime) -> Result<(), Fail> {
-    for (fault, want) in &TEXTS {
-        let text = format!(in rt.alloc(); "{fault}")?;
-        assert_eq!(rt; text.as_str(), *want);
+fn has_text(alloc: Global, fault: BrokerFault, want: &str) -> bool {
+    match format!(in alloc; "{fault}") {
+        Ok(text) => text.as_str() == want,
+        Err(_) => false,
     }
-    Ok(())
+}
+
+fn have_texts(alloc: Global, rows: &[(BrokerFault, &str)]) -> bool {
+    for (fault, want) in rows {
+        if !has_text(alloc, *fault, want) {
+            return false;
+        }
+    }
+    true
+}
+
+#[test]
+fn faults_have_their_texts(rt: HostRuntime) {
+    assert!(rt; have_texts(rt.alloc(), &TEXTS));
 }

@@ -4,9 +4,8 @@ use fixtures::FORWARD;
 use log_spec::Name;
 use machine_spec::{IsaFault, Table};
 use std::alloc::Global;
-use std::process::Abort;
 use std::sync::{Arc, Wait};
-use std::test::Fail;
+use std::test::*;
 use verifier_spec::LoadFault;
 
 /// One byte, which is no image.
@@ -31,23 +30,28 @@ fn version_of<R: Wait + Drop>(
     let Ok(image) = Bytes::copy_from_slice(alloc, image) else {
         return Err(CatFault::Memory);
     };
-    let (version, known) = catalogue.load(alloc, name, &image, Table::One)?;
-    if known.version() == version {
-        Ok(version)
-    } else {
-        Ok(0)
+    match catalogue.load(alloc, name, &image, Table::One) {
+        Ok((version, known)) => Ok(if known.version() == version {
+            version
+        } else {
+            0
+        }),
+        Err(fault) => Err(fault),
     }
 }
 
-fn load_all<R: Wait + Abort>(rt: &R, alloc: Global, catalogue: &mut Catalogue<&R>, loads: &[Load]) {
-    for (name, image, want) in loads {
-        let version = version_of(alloc, catalogue, name, image);
-        assert_eq!(rt; version, *want, "{name}");
+/// Whether the loads have this version or fault.
+fn loads<R: Wait + Drop>(alloc: Global, catalogue: &mut Catalogue<R>, rows: &[Load]) -> bool {
+    for (name, image, want) in rows {
+        if version_of(alloc, catalogue, name, image) != *want {
+            return false;
+        }
     }
+    true
 }
 
 /// Loads of the first three names.
-const FEW: [Load; 11] = [
+static FEW: [Load; 11] = [
     ("", &FORWARD, Err(CatFault::Name)),
     ("a_b", &FORWARD, Err(CatFault::Name)),
     (TOO_LONG, &FORWARD, Err(CatFault::Name)),
@@ -62,7 +66,7 @@ const FEW: [Load; 11] = [
 ];
 
 /// Loads where there are 64 names.
-const FULL: [Load; 6] = [
+static FULL: [Load; 6] = [
     ("new", &FORWARD, Err(CatFault::Full)),
     ("new", &[], Err(CatFault::Full)),
     ("a_b", &[], Err(CatFault::Name)),
@@ -71,30 +75,36 @@ const FULL: [Load; 6] = [
     ("name-3", &FORWARD, Ok(3)),
 ];
 
-/// Loads the names with the numbers 3 to 63.
-fn load_names<R: Wait + Abort>(
-    rt: &R,
-    alloc: Global,
-    catalogue: &mut Catalogue<&R>,
-) -> Result<(), Fail> {
-    for number in 3..64 {
-        let name = format!(in alloc; "name-{number}")?;
-        assert_eq!(rt;
-            version_of(alloc, catalogue, name.as_str(), &FORWARD),
-            Ok(1)
-        );
+/// Whether the name with this number has version 1.
+fn loads_name<R: Wait + Drop>(alloc: Global, catalogue: &mut Catalogue<R>, number: usize) -> bool {
+    match format!(in alloc; "name-{number}") {
+        Ok(name) => version_of(alloc, catalogue, name.as_str(), &FORWARD) == Ok(1),
+        Err(_) => false,
     }
-    Ok(())
+}
+
+/// The same of the names with the numbers 3 to 63.
+fn loads_names<R: Wait + Drop>(alloc: Global, catalogue: &mut Catalogue<R>) -> bool {
+    for number in 3..64 {
+        if !loads_name(alloc, catalogue, number) {
+            return false;
+        }
+    }
+    true
+}
+
+fn loads_all<R: Wait>(rt: &R, alloc: Global) -> bool {
+    match Catalogue::new(rt, alloc) {
+        Ok(mut catalogue) => loads(alloc, &mut catalogue, &FEW)
+            && loads_names(alloc, &mut catalogue)
+            && loads(alloc, &mut catalogue, &FULL),
+        Err(_) => false,
+    }
 }
 
 #[test]
-fn loads_have_their_version_or_first_refusal(rt: HostRuntime) -> Result<(), Fail> {
-    let alloc = rt.alloc();
-    let mut catalogue = Catalogue::new(&rt, alloc)?;
-    load_all(&rt, alloc, &mut catalogue, &FEW);
-    load_names(&rt, alloc, &mut catalogue)?;
-    load_all(&rt, alloc, &mut catalogue, &FULL);
-    Ok(())
+fn loads_have_their_version_or_first_refusal(rt: HostRuntime) {
+    assert!(rt; loads_all(&rt, rt.alloc()));
 }
 
 /// The version of a name that is found.
@@ -107,9 +117,10 @@ fn find(
     let Some(name) = Name::new(name) else {
         return Ok(None);
     };
-    match finder.find(alloc, &name, known)? {
-        Some((version, _program)) => Ok(Some(version)),
-        None => Ok(None),
+    match finder.find(alloc, &name, known) {
+        Ok(Some((version, _program))) => Ok(Some(version)),
+        Ok(None) => Ok(None),
+        Err(fault) => Err(fault),
     }
 }
 
@@ -118,57 +129,84 @@ fn load<R: Wait + Drop>(alloc: Global, catalogue: &mut Catalogue<R>) -> Result<K
     let Ok(image) = Bytes::copy_from_slice(alloc, &FORWARD) else {
         return Err(CatFault::Memory);
     };
-    let (_version, known) = catalogue.load(alloc, "fwd", &image, Table::One)?;
-    Ok(known)
+    match catalogue.load(alloc, "fwd", &image, Table::One) {
+        Ok((_version, known)) => Ok(known),
+        Err(fault) => Err(fault),
+    }
 }
 
 /// A name, and the version that is found of it.
 type Found = (&'static str, Result<Option<u32>, CatFault>);
 
-fn find_all<R: Abort>(rt: &R, alloc: Global, finder: &mut Finder, known: &Known, rows: &[Found]) {
+/// After one load, after another one, and once the catalogue is gone.
+static ONE: [Found; 2] = [("fwd", Ok(Some(1))), ("other", Ok(None))];
+
+static TWO: [Found; 1] = [("fwd", Ok(Some(2)))];
+
+static GONE: [Found; 1] = [("fwd", Err(CatFault::NoReader))];
+
+/// Whether a finder finds this.
+fn finds(alloc: Global, finder: &mut Finder, known: &Known, rows: &[Found]) -> bool {
     for (name, want) in rows {
-        assert_eq!(rt; find(alloc, finder, name, known), *want, "{name}");
+        if find(alloc, finder, name, known) != *want {
+            return false;
+        }
+    }
+    true
+}
+
+/// What is known after the second of two loads, if a finder finds after each what it must by what was
+/// known after the first.
+fn load_two<R: Wait + Drop>(
+    alloc: Global,
+    catalogue: &mut Catalogue<R>,
+    finder: &mut Finder,
+) -> Option<Known> {
+    let known = load(alloc, catalogue).ok()?;
+    if !finds(alloc, finder, &known, &ONE) {
+        return None;
+    }
+    let newer = load(alloc, catalogue).ok()?;
+    if finds(alloc, finder, &known, &TWO) {
+        Some(newer)
+    } else {
+        None
     }
 }
 
-/// Two loads, and what is found after each by what was known after the first. What is known after the
-/// second.
-fn load_two<R: Wait + Abort>(
-    rt: &R,
+/// What is known last, and the catalogue is gone then.
+fn left_over<R: Wait + Drop>(
     alloc: Global,
-    catalogue: &mut Catalogue<&R>,
+    catalogue: Catalogue<R>,
     finder: &mut Finder,
-) -> Result<Known, CatFault> {
-    let known = load(alloc, catalogue)?;
-    find_all(
-        rt,
-        alloc,
-        finder,
-        &known,
-        &[("fwd", Ok(Some(1))), ("other", Ok(None))],
-    );
-    let newer = load(alloc, catalogue)?;
-    find_all(rt, alloc, finder, &known, &[("fwd", Ok(Some(2)))]);
-    Ok(newer)
+) -> Option<Known> {
+    let mut catalogue = catalogue;
+    load_two(alloc, &mut catalogue, finder)
 }
 
-/// A finder of a catalogue that is gone, and what was known last.
-fn left_over<R: Wait + Abort>(rt: &R, alloc: Global) -> Result<(Finder, Known), CatFault> {
-    let Ok(mut catalogue) = Catalogue::new(rt, alloc) else {
-        return Err(CatFault::Memory);
-    };
-    let mut finder = catalogue.reader(alloc)?;
-    let newer = load_two(rt, alloc, &mut catalogue, &mut finder)?;
-    Ok((finder, newer))
+/// Whether a finder finds what it must, and nothing in a catalogue that is gone.
+fn finds_last<R: Wait + Drop>(alloc: Global, catalogue: Catalogue<R>, finder: &mut Finder) -> bool {
+    match left_over(alloc, catalogue, finder) {
+        Some(newer) => finds(alloc, finder, &newer, &GONE),
+        None => false,
+    }
+}
+
+/// A catalogue and a finder of it.
+fn begin<R: Wait>(rt: &R, alloc: Global) -> Option<(Catalogue<&R>, Finder)> {
+    let catalogue = Catalogue::new(rt, alloc).ok()?;
+    let finder = catalogue.reader(alloc).ok()?;
+    Some((catalogue, finder))
 }
 
 #[test]
-fn finders_find_the_last_version(rt: HostRuntime) -> Result<(), Fail> {
+fn finders_find_the_last_version(rt: HostRuntime) {
     let alloc = rt.alloc();
-    let (mut finder, newer) = left_over(&rt, alloc)?;
-    let gone = [("fwd", Err(CatFault::NoReader))];
-    find_all(&rt, alloc, &mut finder, &newer, &gone);
-    Ok(())
+    let is_right = match begin(&rt, alloc) {
+        Some((catalogue, mut finder)) => finds_last(alloc, catalogue, &mut finder),
+        None => false,
+    };
+    assert!(rt; is_right);
 }
 
 /// As many finders as there are.
@@ -185,51 +223,76 @@ fn refusal<R: Wait + Drop>(alloc: Global, catalogue: &Catalogue<R>) -> Option<Ca
     catalogue.reader(alloc).err()
 }
 
-#[test]
-fn a_catalogue_has_64_readers(rt: HostRuntime) -> Result<(), Fail> {
-    let alloc = rt.alloc();
-    let catalogue = Catalogue::new(&rt, alloc)?;
-    let mut finders = all_finders(alloc, &catalogue).ok_or("finders")?;
-    assert_eq!(rt; refusal(alloc, &catalogue), Some(CatFault::NoReader));
+/// Whether there is no finder beside these, and one when one of them is gone.
+fn are_all<R: Wait + Drop>(
+    alloc: Global,
+    catalogue: &Catalogue<R>,
+    finders: &mut Vec<Finder>,
+) -> bool {
+    let is_last = refusal(alloc, catalogue) == Some(CatFault::NoReader);
     drop(finders.pop());
-    assert_eq!(rt; refusal(alloc, &catalogue), None);
-    Ok(())
+    is_last && refusal(alloc, catalogue).is_none()
 }
 
-/// The version of another load, if that is the one that is found then.
-fn replaced<R: Wait + Drop>(
+fn has_all_finders<R: Wait>(rt: &R, alloc: Global) -> Option<bool> {
+    let catalogue = Catalogue::new(rt, alloc).ok()?;
+    let mut finders = all_finders(alloc, &catalogue)?;
+    Some(are_all(alloc, &catalogue, &mut finders))
+}
+
+#[test]
+fn a_catalogue_has_64_readers(rt: HostRuntime) {
+    assert!(rt; has_all_finders(&rt, rt.alloc()) == Some(true));
+}
+
+/// Whether another load has this version, and that is the one that is found then.
+fn is_replaced<R: Wait + Drop>(
     alloc: Global,
     catalogue: &mut Catalogue<R>,
     finder: &mut Finder,
     known: &Known,
-) -> Result<Option<u32>, CatFault> {
-    let version = load(alloc, catalogue)?.version();
-    let found = find(alloc, finder, "fwd", known)?;
-    Ok(if found == Some(version) { found } else { None })
+    version: u32,
+) -> bool {
+    match load(alloc, catalogue) {
+        Ok(newer) => newer.version() == version
+            && find(alloc, finder, "fwd", known) == Ok(Some(version)),
+        Err(_) => false,
+    }
 }
 
-/// A first load, and a thousand after it; what was known after the first.
-fn replace_all<R: Wait + Abort>(
-    rt: &R,
+/// Whether the first program is given up once a thousand more were loaded, and each was found.
+fn are_replaced<R: Wait + Drop>(
     alloc: Global,
-    catalogue: &mut Catalogue<&R>,
+    catalogue: &mut Catalogue<R>,
     finder: &mut Finder,
-) -> Result<Known, CatFault> {
-    let known = load(alloc, catalogue)?;
-    find_all(rt, alloc, finder, &known, &[("fwd", Ok(Some(1)))]);
+    known: &Known,
+) -> bool {
     for version in 2..1_001 {
-        let found = replaced(alloc, catalogue, finder, &known);
-        assert_eq!(rt; found, Ok(Some(version)));
+        if !is_replaced(alloc, catalogue, finder, known, version) {
+            return false;
+        }
     }
-    Ok(known)
+    Arc::strong_count(known.program()) == 1
+}
+
+fn is_given_up<R: Wait + Drop>(
+    alloc: Global,
+    catalogue: &mut Catalogue<R>,
+    finder: &mut Finder,
+) -> bool {
+    match load(alloc, catalogue) {
+        Ok(known) => find(alloc, finder, "fwd", &known) == Ok(Some(1))
+            && are_replaced(alloc, catalogue, finder, &known),
+        Err(_) => false,
+    }
 }
 
 #[test]
-fn an_old_program_is_given_up(rt: HostRuntime) -> Result<(), Fail> {
+fn an_old_program_is_given_up(rt: HostRuntime) {
     let alloc = rt.alloc();
-    let mut catalogue = Catalogue::new(&rt, alloc)?;
-    let mut finder = catalogue.reader(alloc)?;
-    let known = replace_all(&rt, alloc, &mut catalogue, &mut finder)?;
-    assert_eq!(rt; Arc::strong_count(known.program()), 1);
-    Ok(())
+    let is_right = match begin(&rt, alloc) {
+        Some((mut catalogue, mut finder)) => is_given_up(alloc, &mut catalogue, &mut finder),
+        None => false,
+    };
+    assert!(rt; is_right);
 }

@@ -1,24 +1,27 @@
 //! Rows of a book in segments, and those from an offset on.
 
+use crate::calls::append;
 use crate::fetched::{stamped, stamps};
 use crate::play::{Scene, play};
-use broker::{Broker, Parts};
+use broker::Broker;
 use broker_fixtures::{deploy, drain};
 use catalogue::Catalogue;
 use fixtures::FORWARD;
-use out_book::Probes;
+use out_book::{Book, Probes};
 use part_log::Names;
 use std::alloc::Global;
-use std::process::Abort;
 use std::sync::Wait;
-use std::test::Fail;
+use std::test::*;
 use std::thread::Threads;
 
 /// An input, an offset, the offset after the last row of that input from there on, and the least and most
 /// places that are looked at.
 type Since = (usize, u64, u64, u64, u64);
 
-const ONE_RUN: [Since; 7] = [
+/// Of an empty book.
+static NO_RUN: [Since; 1] = [(0, 7, 7, 0, 0)];
+
+static ONE_RUN: [Since; 7] = [
     (0, 0, 600, 0, 10),
     (0, 1, 600, 1, 10),
     (0, 300, 600, 1, 10),
@@ -29,7 +32,7 @@ const ONE_RUN: [Since; 7] = [
 ];
 
 /// Once 300 rows of input 1 and 300 more of input 0 were added.
-const RUNS: [Since; 9] = [
+static RUNS: [Since; 9] = [
     (0, 0, 900, 0, 10),
     (0, 599, 900, 1, 10),
     (0, 600, 900, 1, 10),
@@ -42,7 +45,7 @@ const RUNS: [Since; 9] = [
 ];
 
 /// Once 100 rows of input 1 were added one by one: a run of 64 and one of 36.
-const SHORT_RUNS: [Since; 7] = [
+static SHORT_RUNS: [Since; 7] = [
     (1, 0, 400, 0, 9),
     (1, 299, 400, 1, 9),
     (1, 301, 400, 6, 7),
@@ -53,7 +56,7 @@ const SHORT_RUNS: [Since; 7] = [
 ];
 
 /// Once one row of input 0 was added, and then 5 of input 1 one by one: a run of 5.
-const PARTED_RUNS: [Since; 4] = [
+static PARTED_RUNS: [Since; 4] = [
     (0, 900, 901, 1, 10),
     (1, 365, 405, 5, 6),
     (1, 402, 405, 2, 3),
@@ -61,48 +64,50 @@ const PARTED_RUNS: [Since; 4] = [
 ];
 
 #[test]
-fn rows_are_found_from_an_offset_on(rt: HostRuntime) -> Result<(), Fail> {
-    let alloc = rt.alloc();
-    play(
-        &rt,
-        alloc,
-        Parts::new(&rt, alloc, 2, 1, 128)?,
-        Scene::LookUp,
-    )
+fn rows_are_found_from_an_offset_on(rt: HostRuntime) {
+    play(&rt, rt.alloc(), 2, 1, 128, Scene::LookUp);
 }
 
-pub(crate) fn look_up<
-    Id: Names + Send + Sync,
-    H: Wait + Drop + Send,
-    R: Threads + Wait + Sync + Abort,
->(rt: &R, alloc: Global, broker: &Broker<Id, Catalogue<H>>) {
-    for input in 0..2 {
-        assert_eq!(rt; deploy(rt, alloc, broker, input, &FORWARD), Some(0));
-    }
-    assert_eq!(rt; segments(rt, broker), (0, 0));
-    assert_eq!(rt; since(rt, broker, 0, 7), Some((7, 0)));
-    look_up_in_runs(rt, alloc, broker);
+pub(crate) fn look_up<Id: Names + Send + Sync, H: Wait + Drop + Send, R: Threads + Wait + Sync>(
+    rt: &R,
+    alloc: Global,
+    broker: &Broker<Id, Catalogue<H>>,
+) -> bool {
+    deploy(rt, alloc, broker, 0, &FORWARD) == Some(0)
+        && deploy(rt, alloc, broker, 1, &FORWARD) == Some(0)
+        && has_segments(rt, broker, 0, 0)
+        && are_found(rt, broker, &NO_RUN)
+        && is_one_run(rt, alloc, broker)
+        && are_runs(rt, alloc, broker)
 }
 
-/// Six hundred rows are in three segments, and twice as many in five.
-fn look_up_in_runs<Id: Names + Send + Sync, C: Send, R: Threads + Wait + Sync + Abort>(
+/// Six hundred rows are in three segments.
+fn is_one_run<Id: Names + Send + Sync, C: Send, R: Threads + Wait + Sync>(
     rt: &R,
     alloc: Global,
     broker: &Broker<Id, C>,
-) {
-    assert!(rt; add(rt, alloc, broker, 0, 600));
-    assert_eq!(rt; segments(rt, broker), (600, 3));
-    assert_eq!(rt; stamps(rt, alloc, broker, 250, 10), Some((10, 1250, 9)));
-    assert!(rt; are_found(rt, broker, &ONE_RUN));
-    for input in [1, 0] {
-        assert!(rt; add(rt, alloc, broker, input, 300));
-    }
-    assert_eq!(rt; segments(rt, broker), (1200, 5));
-    assert!(rt; are_found(rt, broker, &RUNS));
-    assert!(rt; add_each(rt, alloc, broker, 1, 100));
-    assert!(rt; are_found(rt, broker, &SHORT_RUNS));
-    assert!(rt; add(rt, alloc, broker, 0, 1) && add_each(rt, alloc, broker, 1, 5));
-    assert!(rt; are_found(rt, broker, &PARTED_RUNS));
+) -> bool {
+    add(rt, alloc, broker, 0, 600)
+        && has_segments(rt, broker, 600, 3)
+        && stamps(rt, alloc, broker, 250, 10) == Some((10, 1250, 9))
+        && are_found(rt, broker, &ONE_RUN)
+}
+
+/// Twice as many are in five.
+fn are_runs<Id: Names + Send + Sync, C: Send, R: Threads + Wait + Sync>(
+    rt: &R,
+    alloc: Global,
+    broker: &Broker<Id, C>,
+) -> bool {
+    add(rt, alloc, broker, 1, 300)
+        && add(rt, alloc, broker, 0, 300)
+        && has_segments(rt, broker, 1200, 5)
+        && are_found(rt, broker, &RUNS)
+        && add_each(rt, alloc, broker, 1, 100)
+        && are_found(rt, broker, &SHORT_RUNS)
+        && add(rt, alloc, broker, 0, 1)
+        && add_each(rt, alloc, broker, 1, 5)
+        && are_found(rt, broker, &PARTED_RUNS)
 }
 
 /// Appends a batch of `count` records to an input, whose rows are then added to output 0.
@@ -113,7 +118,7 @@ fn add<Id: Names + Send + Sync, C: Send, R: Threads + Wait + Sync>(
     input: usize,
     count: usize,
 ) -> bool {
-    append(rt, alloc, broker, input, count) && drain(rt, alloc, broker)
+    append(rt, alloc, broker, input, stamped(alloc, count)).is_ok() && drain(rt, alloc, broker)
 }
 
 /// The same with as many batches of one record.
@@ -125,25 +130,11 @@ fn add_each<Id: Names + Send + Sync, C: Send, R: Threads + Wait + Sync>(
     count: usize,
 ) -> bool {
     for _ in 0..count {
-        if !append(rt, alloc, broker, input, 1) {
+        if append(rt, alloc, broker, input, stamped(alloc, 1)).is_err() {
             return false;
         }
     }
     drain(rt, alloc, broker)
-}
-
-/// Appends a batch of `count` records to an input.
-fn append<Id: Names, C, R: Wait>(
-    rt: &R,
-    alloc: Global,
-    broker: &Broker<Id, C>,
-    input: usize,
-    count: usize,
-) -> bool {
-    match stamped(alloc, count) {
-        Some(batch) => broker.append(rt, alloc, input, batch).is_ok(),
-        None => false,
-    }
 }
 
 /// Whether each search finds what it should.
@@ -157,11 +148,16 @@ fn are_found<Id: Names, C, R: Wait>(rt: &R, broker: &Broker<Id, C>, rows: &[Sinc
     true
 }
 
-/// How many rows output 0 has, and how many segments.
-fn segments<Id: Names, C, R: Wait>(rt: &R, broker: &Broker<Id, C>) -> (usize, usize) {
+/// Whether output 0 has so many rows, in so many segments.
+fn has_segments<Id: Names, C, R: Wait>(
+    rt: &R,
+    broker: &Broker<Id, C>,
+    rows: usize,
+    segments: usize,
+) -> bool {
     let _some = broker.outputs();
     let book = broker.book(0).lock(rt);
-    (book.len(), book.segments())
+    book.len() == rows && book.segments() == segments
 }
 
 /// The offset after the last row of output 0 from an input that has this offset or a greater one, and how
@@ -174,6 +170,10 @@ fn since<Id: Names, C, R: Wait>(
 ) -> Option<(u64, u64)> {
     let _some = broker.outputs();
     let book = broker.book(0).lock(rt);
+    since_in(&book, input, offset)
+}
+
+fn since_in<Id: Names>(book: &Book<Id>, input: usize, offset: u64) -> Option<(u64, u64)> {
     let mut probes = Probes::new();
     let mut next = offset;
     for row in book.rows_since(input, offset, &mut probes) {

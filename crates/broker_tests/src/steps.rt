@@ -1,86 +1,107 @@
 use crate::books::{Held, hold};
+use crate::calls::puts;
 use crate::play::{Scene, play};
-use broker::{Broker, Parts, Stepped};
+use broker::{Broker, Stepped};
 use broker_fixtures::{audited, deploy, put, step};
 use catalogue::Catalogue;
 use fixtures::FORWARD;
 use out_book::Book;
 use part_log::{Names, Receipt};
 use std::alloc::Global;
-use std::process::Abort;
 use std::sync::Wait;
-use std::test::Fail;
+use std::test::*;
 
 #[test]
-fn a_step_adds_the_rows_of_a_program(rt: HostRuntime) -> Result<(), Fail> {
-    let alloc = rt.alloc();
-    play(&rt, alloc, Parts::new(&rt, alloc, 1, 2, 8)?, Scene::Step)
+fn a_step_adds_the_rows_of_a_program(rt: HostRuntime) {
+    play(&rt, rt.alloc(), 1, 2, 8, Scene::Step);
 }
 
 /// What the book of output 0 holds after its first steps, and after one more.
-const FIRST: [Held<'static>; 1] = [(0, 0, 2, &[(0, 0, b'v')])];
+static FIRST: [Held<'static>; 1] = [(0, 0, 2, &[(0, 0, b'v')])];
 
-const MORE: [Held<'static>; 1] = [(0, 0, 3, &[(0, 0, b'v'), (1, 0, b'w')])];
+static MORE: [Held<'static>; 1] = [(0, 0, 3, &[(0, 0, b'v'), (1, 0, b'w')])];
 
-pub(crate) fn step_two<Id: Names, H: Wait + Drop, R: Wait + Abort>(
+/// What the first steps of output 0 answer.
+static STEPS: [Stepped; 3] = [Stepped::Added(0), Stepped::Added(1), Stepped::Nothing];
+
+pub(crate) fn step_two<Id: Names, H: Wait + Drop, R: Wait>(
     rt: &R,
     alloc: Global,
     broker: &Broker<Id, Catalogue<H>>,
-) -> Result<(), Fail> {
-    assert_eq!(rt; deploy(rt, alloc, broker, 0, &FORWARD), Some(0));
-    let receipt = put(rt, alloc, broker, 0, b'v').ok_or("a receipt")?;
-    step_audited(rt, alloc, broker, &receipt);
-    assert!(rt; hold(rt, broker, &FIRST));
-    assert_eq!(rt; step_again(rt, alloc, broker, 0), Some(Stepped::Added(1)));
-    assert!(rt; hold(rt, broker, &MORE));
-    Ok(())
+) -> bool {
+    deploy(rt, alloc, broker, 0, &FORWARD) == Some(0)
+        && is_stepped(rt, alloc, broker)
+        && hold(rt, broker, &FIRST)
+        && steps_again(rt, alloc, broker, 0)
+        && hold(rt, broker, &MORE)
+}
+
+/// Appends a record and steps; whether its receipt has a row then.
+fn is_stepped<Id: Names, C, R: Wait>(rt: &R, alloc: Global, broker: &Broker<Id, C>) -> bool {
+    match put(rt, alloc, broker, 0, b'v') {
+        Some(receipt) => is_audited(rt, alloc, broker, &receipt),
+        None => false,
+    }
 }
 
 /// Steps of output 0, after which a receipt has a row there, and none in output 1.
-fn step_audited<Id: Names, C, R: Wait + Abort>(
+fn is_audited<Id: Names, C, R: Wait>(
     rt: &R,
     alloc: Global,
     broker: &Broker<Id, C>,
     receipt: &Receipt<Id>,
-) {
-    assert_eq!(rt; audited(rt, broker, 0, receipt), None);
-    for want in [Stepped::Added(0), Stepped::Added(1), Stepped::Nothing] {
-        assert_eq!(rt; step(rt, alloc, broker, 0), Some(want));
-    }
-    for (output, want) in [(0, Some(1)), (1, None)] {
-        assert_eq!(rt; audited(rt, broker, output, receipt), want);
-    }
+) -> bool {
+    audited(rt, broker, 0, receipt).is_none()
+        && answers(rt, alloc, broker, &STEPS)
+        && audited(rt, broker, 0, receipt) == Some(1)
+        && audited(rt, broker, 1, receipt).is_none()
 }
 
-/// A step that finds nothing, and with the same note another one, after a record came.
-fn step_again<Id: Names, C, R: Wait>(
+/// Whether steps of output 0 answer this.
+fn answers<Id: Names, C, R: Wait>(
+    rt: &R,
+    alloc: Global,
+    broker: &Broker<Id, C>,
+    want: &[Stepped],
+) -> bool {
+    for stepped in want {
+        if step(rt, alloc, broker, 0) != Some(*stepped) {
+            return false;
+        }
+    }
+    true
+}
+
+/// Whether a step finds nothing, and with the same note another one a record that came then.
+fn steps_again<Id: Names, C, R: Wait>(
     rt: &R,
     alloc: Global,
     broker: &Broker<Id, C>,
     output: usize,
-) -> Option<Stepped> {
+) -> bool {
     if output >= broker.outputs() {
-        return None;
+        return false;
     }
     let mut guard = broker.book(output).lock(rt);
-    step_late(rt, alloc, broker, &mut *guard)
+    steps_late(rt, alloc, broker, &mut *guard)
 }
 
-fn step_late<Id: Names, C, R: Wait>(
+fn steps_late<Id: Names, C, R: Wait>(
     rt: &R,
     alloc: Global,
     broker: &Broker<Id, C>,
     book: &mut Book<Id>,
-) -> Option<Stepped> {
+) -> bool {
     let _some = broker.inputs();
     let done = book.done(0);
     if done >= broker.cells(0) {
-        return None;
+        return false;
     }
     let mut note = broker.note(0, done);
-    if broker.step(alloc, book, 0, &mut note) != Ok(Stepped::Nothing) {
-        return None;
+    if broker.step(alloc, book, 0, &mut note) != Ok(Stepped::Nothing)
+        || !puts(rt, alloc, broker, 0, b'w')
+    {
+        return false;
     }
-    put(rt, alloc, broker, 0, b'w')?;
-    broker.step(alloc, book, 0, &mut note).ok()
+    broker.step(alloc, book, 0, &mut note) == Ok(Stepped::Added(1))
 }

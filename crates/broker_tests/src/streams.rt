@@ -1,21 +1,20 @@
 //! Batches of a stream, appended as soon as each is whole.
 
 use crate::play::{Scene, play};
-use broker::{Broker, BrokerFault, Parts, StreamFault};
+use broker::{Broker, BrokerFault, StreamFault};
 use fixtures::ONE;
 use part_log::{LogFault, Names, Receipt};
 use std::alloc::Global;
 use std::io;
 use std::io::Read;
-use std::process::Abort;
 use std::sync::Wait;
-use std::test::Fail;
+use std::test::*;
 use wire_spec::BatchFault;
 
 /// How a reader gives its bytes: this many at a time, an interruption before each read, a failure in
 /// place of the read with this number.
 #[derive(Clone, Copy, Drop)]
-struct Habit {
+pub(crate) struct Habit {
     size: usize,
     interrupted: bool,
     fails_at: usize,
@@ -29,7 +28,7 @@ const NEVER: usize = 1_000_000;
 
 /// A reader of some bytes.
 #[derive(Drop)]
-struct Pieces<'a> {
+pub(crate) struct Pieces<'a> {
     bytes: &'a [u8],
     habit: Habit,
     reads: usize,
@@ -53,13 +52,13 @@ impl<'a> Read for Pieces<'a> {
 }
 
 /// Without a fault.
-const STEADY: Habit = Habit {
+pub(crate) const STEADY: Habit = Habit {
     size: 65_536,
     interrupted: false,
     fails_at: NEVER,
 };
 
-fn reader_of(bytes: &[u8], habit: Habit) -> Pieces<'_> {
+pub(crate) fn reader_of(bytes: &[u8], habit: Habit) -> Pieces<'_> {
     Pieces {
         bytes,
         habit,
@@ -108,33 +107,41 @@ fn two_with(place: usize, byte: u8) -> [u8; 140] {
 }
 
 #[test]
-fn batches_of_any_pieces_are_appended(rt: HostRuntime) -> Result<(), Fail> {
-    let alloc = rt.alloc();
-    play(
-        &rt,
-        alloc,
-        Parts::new(&rt, alloc, 1, 1, 280)?,
-        Scene::Pieces,
-    )
+fn batches_of_any_pieces_are_appended(rt: HostRuntime) {
+    play(&rt, rt.alloc(), 1, 1, 280, Scene::Pieces);
 }
 
-pub(crate) fn append_in_pieces<Id: Names, C, R: Wait + Abort>(
+pub(crate) fn append_in_pieces<Id: Names, C, R: Wait>(
     rt: &R,
     alloc: Global,
     broker: &Broker<Id, C>,
-) {
+) -> bool {
     let bytes = two_with(70, 0);
-    for size in 1..=140usize {
-        let mut reader = reader_of(&bytes, Habit { size, ..STEADY });
-        let answer = stream(rt, alloc, broker, 2 * (size - 1), &mut reader);
-        assert_eq!(rt; answer, Some((Ok(2), 2)), "{size}");
+    for before in 0..140 {
+        if !is_appended(rt, alloc, broker, &bytes, before) {
+            return false;
+        }
     }
+    true
+}
+
+/// Whether both batches are appended by pieces of one byte more than that many, after as many such pairs.
+fn is_appended<Id: Names, C, R: Wait>(
+    rt: &R,
+    alloc: Global,
+    broker: &Broker<Id, C>,
+    bytes: &[u8],
+    before: usize,
+) -> bool {
+    let size = before.wrapping_add(1);
+    let mut reader = reader_of(bytes, Habit { size, ..STEADY });
+    let answer = stream(rt, alloc, broker, before.wrapping_mul(2), &mut reader);
+    answer == Some((Ok(2), 2))
 }
 
 #[test]
-fn batches_before_a_fault_stay(rt: HostRuntime) -> Result<(), Fail> {
-    let alloc = rt.alloc();
-    play(&rt, alloc, Parts::new(&rt, alloc, 1, 1, 8)?, Scene::Faults)
+fn batches_before_a_fault_stay(rt: HostRuntime) {
+    play(&rt, rt.alloc(), 1, 1, 8, Scene::Faults);
 }
 
 /// Two batches, whose byte at a place is another one, cut to a length; how they are read, and what is
@@ -162,7 +169,7 @@ const CRC: StreamFault = StreamFault::Batch(BatchFault::Crc);
 const FULL: StreamFault = StreamFault::Broker(BrokerFault::Log(LogFault::Full));
 
 /// One after the other on a log of eight cells.
-const CASES: [Case; 8] = [
+static CASES: [Case; 8] = [
     (70, 0, 0, STEADY, (Ok(0), 0)),
     (70, 0, 139, STEADY, (Err(SHORT), 1)),
     (70, 0, 71, STEADY, (Err(SHORT), 1)),
@@ -173,18 +180,29 @@ const CASES: [Case; 8] = [
     (70, 0, 140, STEADY, (Err(FULL), 1)),
 ];
 
-pub(crate) fn meet_faults<Id: Names, C, R: Wait + Abort>(
+pub(crate) fn meet_faults<Id: Names, C, R: Wait>(
     rt: &R,
     alloc: Global,
     broker: &Broker<Id, C>,
-) {
+) -> bool {
+    answers(rt, alloc, broker, &CASES) && reads_nothing(rt, alloc, broker)
+}
+
+/// Whether these are the answers, one after the other.
+fn answers<Id: Names, C, R: Wait>(
+    rt: &R,
+    alloc: Global,
+    broker: &Broker<Id, C>,
+    cases: &[Case],
+) -> bool {
     let mut first = 0usize;
-    for case in &CASES {
-        let answer = answer_to(rt, alloc, broker, first, case);
-        assert_eq!(rt; answer, Some(case.4), "{first}");
+    for case in cases {
+        if answer_to(rt, alloc, broker, first, case) != Some(case.4) {
+            return false;
+        }
         first = first.wrapping_add(case.4.1);
     }
-    assert!(rt; reads_nothing(rt, alloc, broker));
+    true
 }
 
 fn answer_to<Id: Names, C, R: Wait>(

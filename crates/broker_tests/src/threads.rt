@@ -1,11 +1,10 @@
 use crate::play::{Scene, play};
-use broker::{Broker, BrokerFault, Parts};
+use broker::{Broker, BrokerFault};
 use fixtures::batch_of;
-use part_log::{Item, LogFault, Names, Trail};
+use part_log::{Item, LogFault, Names, Receipt, Trail};
 use std::alloc::{AllocError, Global};
-use std::process::Abort;
 use std::sync::Wait;
-use std::test::Fail;
+use std::test::*;
 use std::thread;
 use std::thread::Threads;
 
@@ -35,32 +34,54 @@ struct Report {
 }
 
 #[test]
-fn producers_and_readers_share_logs(rt: HostRuntime) -> Result<(), Fail> {
-    let alloc = rt.alloc();
-    let parts = Parts::new(&rt, alloc, INPUTS, 1, CELLS)?;
-    play(&rt, alloc, parts, Scene::Share)
+fn producers_and_readers_share_logs(rt: HostRuntime) {
+    play(&rt, rt.alloc(), INPUTS, 1, CELLS, Scene::Share);
 }
 
 /// Each log is full, and has what the threads reported of it.
-pub(crate) fn share<Id: Names + Send + Sync, C: Send, R: Threads + Wait + Abort + Sync>(
+pub(crate) fn share<Id: Names + Send + Sync, C: Send, R: Threads + Wait + Sync>(
     rt: &R,
     alloc: Global,
     broker: &Broker<Id, C>,
-) -> Result<(), Fail> {
-    let reports = run_all(rt, alloc, broker)?;
-    let mut taken = 0usize;
-    for input in 0..INPUTS {
-        let items = items_of(rt, alloc, broker, input).ok_or("a log that can be read")?;
-        assert_eq!(rt; items.len(), CELLS);
-        let here = taken_from(&reports, input, &items).ok_or("what was reported")?;
-        taken = taken.wrapping_add(here);
+) -> bool {
+    match run_all(rt, alloc, broker) {
+        Ok(reports) => taken_in_all(rt, alloc, broker, &reports) == Some(INPUTS * CELLS),
+        Err(_) => false,
     }
-    assert_eq!(rt; taken, INPUTS * CELLS);
-    Ok(())
 }
 
-/// How many receipts the threads of an input partition got. None where one ended badly, or the log has
-/// something else than it reported.
+/// How many receipts the threads got. None where one ended badly, a log is not full, or has something
+/// else than it reported.
+fn taken_in_all<Id: Names, C, R: Wait>(
+    rt: &R,
+    alloc: Global,
+    broker: &Broker<Id, C>,
+    reports: &[Option<Report>],
+) -> Option<usize> {
+    let mut taken = 0usize;
+    for input in 0..INPUTS {
+        let here = taken_in(rt, alloc, broker, reports, input)?;
+        taken = taken.wrapping_add(here);
+    }
+    Some(taken)
+}
+
+/// The same of the threads of an input partition.
+fn taken_in<Id: Names, C, R: Wait>(
+    rt: &R,
+    alloc: Global,
+    broker: &Broker<Id, C>,
+    reports: &[Option<Report>],
+    input: usize,
+) -> Option<usize> {
+    let items = items_of(rt, alloc, broker, input)?;
+    if items.len() == CELLS {
+        taken_from(reports, input, &items)
+    } else {
+        None
+    }
+}
+
 fn taken_from(reports: &[Option<Report>], input: usize, items: &[Taken]) -> Option<usize> {
     let mut taken = 0usize;
     for report in reports {
@@ -125,35 +146,52 @@ fn append<Id: Names, C, R: Wait>(
     records: usize,
     timestamp: i64,
 ) -> Result<Taken, BrokerFault> {
-    let Some(batch) = batch_of(alloc, records, timestamp) else {
-        return Err(BrokerFault::Memory);
-    };
-    let receipt = broker.append(rt, alloc, input, batch)?;
-    if timestamp_of(broker, &receipt.with_item(), receipt.index()) != Some(timestamp) {
-        return Err(BrokerFault::NoProgram);
+    match batch_of(alloc, records, timestamp) {
+        Some(batch) => match broker.append(rt, alloc, input, batch) {
+            Ok(receipt) => taken_of(broker, &receipt, timestamp),
+            Err(fault) => Err(fault),
+        },
+        None => Err(BrokerFault::Memory),
     }
-    Ok(Taken {
-        index: receipt.index(),
-        base: receipt.base(),
-        timestamp,
-    })
 }
 
-/// The timestamp of a batch that a trail knows.
-fn timestamp_of<Id: Names, C>(
+fn taken_of<Id: Names, C>(
+    broker: &Broker<Id, C>,
+    receipt: &Receipt<Id>,
+    timestamp: i64,
+) -> Result<Taken, BrokerFault> {
+    match read(broker, &receipt.with_item(), receipt.index()) {
+        Some((stamp, _records)) if stamp == timestamp => Ok(Taken {
+            index: receipt.index(),
+            base: receipt.base(),
+            timestamp,
+        }),
+        _ => Err(BrokerFault::NoProgram),
+    }
+}
+
+/// The timestamp of a batch that a trail knows, and how many records it has.
+fn read<Id: Names, C>(
     broker: &Broker<Id, C>,
     trail: &Trail<Id>,
     index: usize,
-) -> Option<i64> {
+) -> Option<(i64, u64)> {
     let input = trail.partition();
     if input >= broker.inputs() || index >= trail.len() {
         return None;
     }
     let mut note = trail.note(index);
     match broker.read(input, index, &mut note) {
-        Some(Item::Batch(logged)) => Some(logged.batch().base_timestamp),
-        Some(_) => None,
+        Some(item) => stamp_of(item),
         None => unreachable!(),
+    }
+}
+
+fn stamp_of(item: &Item) -> Option<(i64, u64)> {
+    match item {
+        Item::Batch(logged) => Some((logged.batch().base_timestamp, item.records())),
+        Item::Mark { .. } => None,
+        Item::End => None,
     }
 }
 
@@ -192,20 +230,28 @@ fn items_of<Id: Names, C, R: Wait>(
     broker: &Broker<Id, C>,
     input: usize,
 ) -> Option<Vec<Taken>> {
-    let trail = broker.trail(rt, input).ok()?;
+    match broker.trail(rt, input) {
+        Ok(trail) => items_on(alloc, broker, &trail),
+        Err(_) => None,
+    }
+}
+
+fn items_on<Id: Names, C>(
+    alloc: Global,
+    broker: &Broker<Id, C>,
+    trail: &Trail<Id>,
+) -> Option<Vec<Taken>> {
     let mut base = 0u64;
     let mut items = Vec::new(alloc);
     for index in 0..trail.len() {
-        let mut note = trail.note(index);
-        let item = broker.read(input, index, &mut note)?;
-        let timestamp = timestamp_of(broker, &trail, index)?;
+        let (timestamp, records) = read(broker, trail, index)?;
         let one = Taken {
             index,
             base,
             timestamp,
         };
         items.push(one).ok()?;
-        base = base.wrapping_add(item.records());
+        base = base.wrapping_add(records);
     }
     Some(items)
 }
@@ -213,12 +259,20 @@ fn items_of<Id: Names, C, R: Wait>(
 /// Whether the log has what a thread reported: each batch where its receipt says and with its base,
 /// and, where an item follows those that were read, `report.records` records in them.
 fn is_in(report: &Report, items: &[Taken]) -> bool {
-    let reported = report.taken.iter().all(|taken| has(items, taken));
     let read = match items.get(report.items) {
         Some(next) => next.base == report.records,
         None => true,
     };
-    reported && read
+    read && has_all(items, &report.taken)
+}
+
+fn has_all(items: &[Taken], all: &[Taken]) -> bool {
+    for taken in all {
+        if !has(items, taken) {
+            return false;
+        }
+    }
+    true
 }
 
 fn has(items: &[Taken], taken: &Taken) -> bool {

@@ -2,19 +2,20 @@
 
 ghost use Rattle.std.specs.Prelude.{◌≡◌};
 
+use crate::beside::both;
 use crate::books::{Held, hold};
+use crate::calls::{enter, puts};
 use crate::play::{Scene, play};
-use broker::{Broker, Ended, Parts, Until};
-use broker_fixtures::{deploy, ends, put};
+use broker::{Broker, Ended, Until};
+use broker_fixtures::{deploy, ends};
 use catalogue::Catalogue;
 use fixtures::{FORWARD, batch_of_value};
 use part_log::{Cells, Names, PartLog};
-use std::alloc::{AllocError, Global};
+use std::alloc::Global;
 use std::marker::Brand;
-use std::process::Abort;
 use std::rt::Clock;
 use std::sync::Wait;
-use std::test::Fail;
+use std::test::*;
 use std::thread;
 use std::thread::Threads;
 use std::time::Duration;
@@ -29,23 +30,23 @@ fn rest<R: Clock>(rt: &R) {
 }
 
 #[test]
-fn a_worker_that_sleeps_takes_what_is_appended(rt: HostRuntime) -> Result<(), Fail> {
-    let alloc = rt.alloc();
-    play(&rt, alloc, Parts::new(&rt, alloc, 2, 1, 8)?, Scene::Wake)
+fn a_worker_that_sleeps_takes_what_is_appended(rt: HostRuntime) {
+    play(&rt, rt.alloc(), 2, 1, 8, Scene::Wake);
 }
 
 /// What the books of both input partitions hold in the end.
-const WOKEN: [Held<'static>; 2] = [(0, 0, 4, &[(0, 0, b'A'), (1, 0, b'B')]), (1, 0, 1, &[])];
+static WOKEN: [Held<'static>; 2] = [(0, 0, 4, &[(0, 0, b'A'), (1, 0, b'B')]), (1, 0, 1, &[])];
+
+/// How the workers end.
+static WOKEN_ENDS: [Ended; 2] = [Ended::Done(4), Ended::Done(1)];
 
 /// One worker gets a mark, two records and the end, each after a rest; the other gets the end alone.
-pub(crate) fn wake<Id: Names + Send + Sync, R: Threads + Wait + Abort + Clock + Sync>(
+pub(crate) fn wake<Id: Names + Send + Sync, R: Threads + Wait + Clock + Sync>(
     rt: &R,
     alloc: Global,
     broker: &Broker<Id, Catalogue<&R>>,
-) -> Result<(), Fail> {
-    assert!(rt; follow_rests(rt, alloc, broker)?);
-    assert!(rt; hold(rt, broker, &WOKEN));
-    Ok(())
+) -> bool {
+    follow_rests(rt, alloc, broker) && hold(rt, broker, &WOKEN)
 }
 
 /// Whether the workers end well, and beside them what appends.
@@ -53,17 +54,15 @@ fn follow_rests<Id: Names + Send + Sync, H: Wait + Drop + Send, R: Threads + Wai
     rt: &R,
     alloc: Global,
     broker: &Broker<Id, Catalogue<H>>,
-) -> Result<bool, AllocError> {
+) -> bool {
     let one = move |number: usize| -> bool {
         if number == 0 {
-            let want = [Ended::Done(4), Ended::Done(1)];
-            ends(rt, alloc, broker, Until::Closed, &Open, &want)
+            ends(rt, alloc, broker, Until::Closed, &Open, &WOKEN_ENDS)
         } else {
             append_after_rests(rt, alloc, broker)
         }
     };
-    let right = thread::map_indices(rt, alloc, 2, &one)?;
-    Ok(right.as_slice() == [true, true].as_slice())
+    both(rt, alloc, &one)
 }
 
 /// Appends a mark, two records and the ends; whether each item but the ends was done before the next came.
@@ -76,7 +75,7 @@ fn append_after_rests<Id: Names, H: Wait + Drop, R: Wait + Clock>(
     let mut comes_next = deploy(rt, alloc, broker, 0, &FORWARD) == Some(0) && comes(rt, broker, 1);
     for (value, done) in [(b'A', 2), (b'B', 3)] {
         rest(rt);
-        comes_next &= put(rt, alloc, broker, 0, value).is_some() && comes(rt, broker, done);
+        comes_next &= puts(rt, alloc, broker, 0, value) && comes(rt, broker, done);
     }
     rest(rt);
     close_both(rt, alloc, broker) && comes_next
@@ -106,23 +105,25 @@ fn is_done<Id: Names, C, R: Wait>(rt: &R, broker: &Broker<Id, C>, done: usize) -
 }
 
 #[test]
-fn a_note_comes_with_its_item(rt: HostRuntime) -> Result<(), Fail> {
+fn a_note_comes_with_its_item(rt: HostRuntime) {
     let alloc = rt.alloc();
-    wait_for_both::<Brand, _>(&rt, alloc, Cells::new(alloc, 2)?)
+    let is_right = match Cells::new(alloc, 2) {
+        Ok(cells) => wait_for_both::<Brand, _>(&rt, alloc, cells),
+        Err(_) => false,
+    };
+    assert!(rt; is_right);
 }
 
 /// A batch and the end are each waited for, and then there at once.
-fn wait_for_both<Id: Names + Send + Sync, R: Threads + Wait + Abort + Clock + Sync>(
+fn wait_for_both<Id: Names + Send + Sync, R: Threads + Wait + Clock + Sync>(
     rt: &R,
     alloc: Global,
     cells: Cells,
-) -> Result<(), Fail>
+) -> bool
     requires { cells ≡ Id.cells 0 }
 {
     let log: PartLog<Id> = PartLog::new(0, cells);
-    assert!(rt; are_found_late(rt, alloc, &log)?);
-    assert!(rt; are_found(rt, &log));
-    Ok(())
+    are_found_late(rt, alloc, &log) && are_found(rt, &log)
 }
 
 /// Whether both items are found, in order.
@@ -135,7 +136,7 @@ fn are_found_late<Id: Names + Send + Sync, R: Threads + Wait + Clock + Sync>(
     rt: &R,
     alloc: Global,
     log: &PartLog<Id>,
-) -> Result<bool, AllocError> {
+) -> bool {
     let one = move |number: usize| -> bool {
         if number == 0 {
             are_found(rt, log)
@@ -143,19 +144,15 @@ fn are_found_late<Id: Names + Send + Sync, R: Threads + Wait + Clock + Sync>(
             append_both(rt, alloc, log)
         }
     };
-    let right = thread::map_indices(rt, alloc, 2, &one)?;
-    Ok(right.as_slice() == [true, true].as_slice())
+    both(rt, alloc, &one)
 }
 
 /// Appends a batch of one record and the end, each after a rest; whether it could.
 fn append_both<Id: Names, R: Wait + Clock>(rt: &R, alloc: Global, log: &PartLog<Id>) -> bool {
     rest(rt);
-    let Some(batch) = batch_of_value(alloc, 1, b'A') else {
-        return false;
-    };
-    let appended = log.append(rt, alloc, batch).is_ok();
+    let is_appended = enter(rt, alloc, log, batch_of_value(alloc, 1, b'A')).is_ok();
     rest(rt);
-    log.close(rt, alloc).is_ok() && appended
+    log.close(rt, alloc).is_ok() && is_appended
 }
 
 /// Waits for the item of a cell; how many records it has. None where there is no such cell.

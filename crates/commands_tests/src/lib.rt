@@ -1,4 +1,4 @@
-//! Tests of the calls of the program, with files in memory.
+//! Tests of the calls of the program, with files in memory, and of whole scripts.
 #![tactic(auto)]
 
 #[cfg(test)]
@@ -6,13 +6,25 @@ mod batches;
 #[cfg(test)]
 mod causes;
 #[cfg(test)]
+mod examples;
+#[cfg(test)]
 mod failures;
+#[cfg(test)]
+mod goes;
+#[cfg(test)]
+mod headers;
 #[cfg(test)]
 mod images;
 #[cfg(test)]
 mod listings;
 #[cfg(test)]
+mod receipts;
+#[cfg(test)]
 mod rechecks;
+#[cfg(test)]
+mod rows;
+#[cfg(test)]
+mod runs;
 #[cfg(test)]
 mod scripts;
 #[cfg(test)]
