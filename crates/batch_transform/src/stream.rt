@@ -8,7 +8,7 @@ ghost use Rattle.batch_transform.specs.Passes.{IsStream, StartsAt, PushesBatch, 
 
 use crate::fault::Stop;
 use fates::Counts;
-use item_rows::{ItemRows, Origin, item_rows};
+use item_rows::{Blocks, ItemRows, Origin, item_rows_in};
 use log_item::{Item, LoggedBatch, Program};
 use log_spec::Row;
 use std::alloc::{AllocError, Global};
@@ -16,13 +16,14 @@ use transform::Outlet;
 use wire_spec::{Batch, MAX_RECORDS, TIMESTAMP_END};
 
 /// Batches through a program: the input partition, the offset of its next record, what became of the
-/// records, and the output partitions.
+/// records, the output partitions, and the blocks that records are run in.
 #[derive(Drop)]
 pub struct Stream {
     pub input: usize,
     pub offset: u64,
     pub counts: Counts,
     pub outlets: Vec<Outlet<Vec<u8>>>,
+    pub blocks: Blocks,
 }
 
 fn empty_outlets(alloc: Global, outputs: usize) -> Result<Vec<Outlet<Vec<u8>>>, AllocError>
@@ -44,6 +45,7 @@ pub(crate) fn start(alloc: Global, origin: &Origin) -> Result<Stream, AllocError
         offset: origin.offset,
         counts: Counts::new(alloc),
         outlets: empty_outlets(alloc, origin.outputs)?,
+        blocks: Blocks::new(alloc),
     })
 }
 
@@ -96,7 +98,7 @@ pub(crate) fn push(
         outputs: stream.outlets.len(),
     };
     let item = Item::Batch(LoggedBatch::new(batch));
-    let rows = item_rows(alloc, &origin, Some(program), &item)?;
+    let rows = item_rows_in(&mut stream.blocks, &origin, Some(program), &item)?;
     stream.counts.add_all(rows.counts())?;
     put_each(alloc, rows, &mut stream.outlets)?;
     stream.offset += item.records();

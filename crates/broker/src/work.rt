@@ -8,11 +8,28 @@ ghost use Rattle.worker.specs.Walks.{AreRowsOfLast};
 use crate::broker::Broker;
 use crate::ended::{Ended, Until};
 use crate::fault::BrokerFault;
+use item_rows::Blocks;
 use out_book::{BookFault, Room};
 use part_log::{Names, PartLog, Trail};
 use std::alloc::{AllocError, Global};
 use std::sync::Wait;
-use worker::{Delivery, Gate, Walk, process};
+use worker::{Delivery, Gate, Walk, process_in};
+
+/// What a worker keeps from item to item: blocks to run records in, and room for rows in books.
+#[derive(Drop)]
+struct Kept {
+    blocks: Blocks,
+    room: Room,
+}
+
+impl Kept {
+    fn new(alloc: Global) -> Kept {
+        Kept {
+            blocks: Blocks::new(alloc),
+            room: Room::new(alloc),
+        }
+    }
+}
 
 /// The worker of an input partition, and what it works with.
 #[derive(Drop)]
@@ -58,11 +75,11 @@ impl<'a, Id: Names, C, R: Wait, G: Gate> Worker<'a, Id, C, R, G> {
             .broker
             .trail(self.rt, self.input)
             .map_err(Ended::Fault)?;
-        let mut room = Room::new(self.alloc);
-        self.drain(log, &trail, &mut walk, &mut room)?;
+        let mut kept = Kept::new(self.alloc);
+        self.drain(log, &trail, &mut walk, &mut kept)?;
         match until {
             Until::Drained => {}
-            Until::Closed => self.follow(log, &mut walk, &mut room)?,
+            Until::Closed => self.follow(log, &mut walk, &mut kept)?,
         }
         Ok(walk.len())
     }
@@ -73,7 +90,7 @@ impl<'a, Id: Names, C, R: Wait, G: Gate> Worker<'a, Id, C, R, G> {
         log: &PartLog<Id>,
         trail: &Trail<Id>,
         walk: &mut Walk<Id>,
-        room: &mut Room,
+        kept: &mut Kept,
     ) -> Result<(), Ended>
         requires trail { trail.now.partition ≡ log.now }
         requires walk { walk.old.partition ≡ log.now }
@@ -85,13 +102,13 @@ impl<'a, Id: Names, C, R: Wait, G: Gate> Worker<'a, Id, C, R, G> {
             if !walk.next(log, &mut note) {
                 unreachable!();
             }
-            self.offer(log, walk, room)?;
+            self.offer(log, walk, kept)?;
         }
         Ok(())
     }
 
     /// Takes the items of a log as they come, up to its end or its last cell.
-    fn follow(&self, log: &PartLog<Id>, walk: &mut Walk<Id>, room: &mut Room) -> Result<(), Ended>
+    fn follow(&self, log: &PartLog<Id>, walk: &mut Walk<Id>, kept: &mut Kept) -> Result<(), Ended>
         requires walk { walk.old.partition ≡ log.now }
         requires few { log.now < 64 }
     {
@@ -100,7 +117,7 @@ impl<'a, Id: Names, C, R: Wait, G: Gate> Worker<'a, Id, C, R, G> {
                 break;
             }
             self.wait_for_next(log, walk);
-            self.offer(log, walk, room)?;
+            self.offer(log, walk, kept)?;
         }
         Ok(())
     }
@@ -119,12 +136,12 @@ impl<'a, Id: Names, C, R: Wait, G: Gate> Worker<'a, Id, C, R, G> {
     }
 
     /// Processes the walk's last item, and offers its rows to every output partition.
-    fn offer(&self, log: &PartLog<Id>, walk: &Walk<Id>, room: &mut Room) -> Result<(), Ended>
+    fn offer(&self, log: &PartLog<Id>, walk: &Walk<Id>, kept: &mut Kept) -> Result<(), Ended>
         requires walk { walk.now.partition ≡ log.now }
         requires few { log.now < 64 }
         requires item { 0 < length walk.now.items }
     {
-        let Ok(deliveries) = self.deliveries(log, walk) else {
+        let Ok(deliveries) = self.deliveries(log, walk, &mut kept.blocks) else {
             return Err(Ended::Fault(BrokerFault::Memory));
         };
         let index = walk.len() - 1;
@@ -133,7 +150,8 @@ impl<'a, Id: Names, C, R: Wait, G: Gate> Worker<'a, Id, C, R, G> {
             if !self.gate.pass(walk.partition(), index, output) {
                 return Err(Ended::Stopped(index, output));
             }
-            self.deliver(walk, delivery, room).map_err(Ended::Fault)?;
+            self.deliver(walk, delivery, &mut kept.room)
+                .map_err(Ended::Fault)?;
         }
         Ok(())
     }
@@ -143,13 +161,14 @@ impl<'a, Id: Names, C, R: Wait, G: Gate> Worker<'a, Id, C, R, G> {
         &self,
         log: &PartLog<Id>,
         walk: &Walk<Id>,
+        blocks: &mut Blocks,
     ) -> Result<Vec<Delivery<Id>>, AllocError>
         requires walk { walk.now.partition ≡ log.now }
         requires few { log.now < 64 }
         requires item { 0 < length walk.now.items }
         ensures { IfOk result (λ deliveries. (all : List (List Row)) × AreRowsOfLast Id.outputs walk.now all × AreInTurn walk.now all deliveries.items) }
     {
-        let results = process(self.alloc, walk, log, self.broker.outputs())?;
+        let results = process_in(blocks, walk, log, self.broker.outputs())?;
         results.into_deliveries(self.alloc)
     }
 

@@ -12,10 +12,10 @@ ghost use Rattle.fates.specs.Fates.{IsFate};
 ghost use Rattle.item_rows.specs.ItemRows.{IsOrigin, Adds};
 ghost use Rattle.item_rows.specs.Blocks.{places_from, program_in, CanRun, HaveRun};
 
+use crate::blocks::Blocks;
 use crate::origin::Origin;
 use crate::outcomes::{push_outcome, push_outcomes};
 use crate::records::timestamp;
-use crate::room::Room;
 use crate::rows::OutputRows;
 use fates::{Counts, Fate};
 use log_item::{BLOCK, Block, LEAST, MANY, Program};
@@ -146,7 +146,7 @@ impl<'a> BatchRun<'a> {
         program: &Program,
         first_offset: u64,
         records: &[Record],
-        room: &mut Room,
+        blocks: &mut Blocks,
         all: &mut [OutputRows],
         counts: &mut Counts,
     ) -> Result<(), AllocError>
@@ -160,11 +160,11 @@ impl<'a> BatchRun<'a> {
         while rest.len() >= LEAST {
             let count = rest.len().min(BLOCK);
             let (here, later) = rest.split_at(count);
-            let mut block = room.take_block(count)?;
+            let mut block = blocks.take(count)?;
             let places = self.run_block(program, offset, here, &mut block)?;
             let at = places.as_slice();
             push_outcomes(self.first, at, &mut block, &mut emissions, all, counts)?;
-            room.keep_block(count, block);
+            blocks.keep(count, block);
             offset += count as u64;
             rest = later;
         }
@@ -186,7 +186,7 @@ impl<'a> BatchRun<'a> {
         &self,
         offset: u64,
         records: &[Record],
-        room: &mut Room,
+        blocks: &mut Blocks,
         all: &mut [OutputRows],
         counts: &mut Counts,
     ) -> Result<(), AllocError>
@@ -194,7 +194,7 @@ impl<'a> BatchRun<'a> {
         ensures { OnOk result (HaveRun self.now offset records.now all.old all.new counts.old counts.new) }
     {
         match self.program_abreast(records.len()) {
-            Some(program) => self.push_blocks(program, offset, records, room, all, counts),
+            Some(program) => self.push_blocks(program, offset, records, blocks, all, counts),
             None => {
                 let mut emissions = no_emissions(self.alloc);
                 self.push_each(offset, records, &mut emissions, all, counts)

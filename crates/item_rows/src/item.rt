@@ -5,9 +5,9 @@ ghost use Rattle.log_spec.specs.Logs.{records_in};
 ghost use Rattle.log_item.specs.Items.{item_view};
 ghost use Rattle.item_rows.specs.ItemRows.{IsOrigin, GivesRows, AreItemRows, AreRowsFrom, Adds};
 
+use crate::blocks::Blocks;
 use crate::origin::Origin;
 use crate::records::push_records;
-use crate::room::Room;
 use crate::rows::{ItemRows, OutputRows, empty};
 use fates::Counts;
 use log_item::{Item, Program};
@@ -27,7 +27,7 @@ pub struct OneOutput {
 /// Adds the rows of an item: none of a mark or the end, and none of a batch with no mark before it.
 /// Returns the counts of its records.
 fn push_item(
-    room: &mut Room,
+    blocks: &mut Blocks,
     origin: &Origin,
     program: Option<&Program>,
     item: &Item,
@@ -39,9 +39,9 @@ fn push_item(
         × Adds first all.old all.new (GivesRows origin.now (option_map (λ p. p.now) program.entry) (item_view item.now))) }
 {
     match item {
-        Item::Mark { .. } => Ok(Counts::new(room.alloc)),
-        Item::End => Ok(Counts::new(room.alloc)),
-        Item::Batch(logged) => push_records(room, program, origin, logged.batch(), first, all),
+        Item::Mark { .. } => Ok(Counts::new(blocks.alloc)),
+        Item::End => Ok(Counts::new(blocks.alloc)),
+        Item::Batch(logged) => push_records(blocks, program, origin, logged.batch(), first, all),
     }
 }
 
@@ -61,7 +61,7 @@ fn rows_expected(program: Option<&Program>, item: &Item, count: usize) -> usize
 
 /// The rows of an item in `count` output partitions from `first` on, and the counts of its records.
 fn rows_from(
-    room: &mut Room,
+    blocks: &mut Blocks,
     origin: &Origin,
     program: Option<&Program>,
     item: &Item,
@@ -73,9 +73,9 @@ fn rows_from(
     ensures { IfOk result (λ made. AreItemCounts origin.now.input origin.now.outputs (option_map (λ p. p.now) program.entry) origin.now.offset (item_view item.now) made.counts
         × AreRowsFrom first count origin.now (option_map (λ p. p.now) program.entry) (item_view item.now) made.rows) }
 {
-    let alloc = room.alloc;
+    let alloc = blocks.alloc;
     let mut all = empty(alloc, count, rows_expected(program, item, count))?;
-    let counts = push_item(room, origin, program, item, first, all.as_mut_slice())?;
+    let counts = push_item(blocks, origin, program, item, first, all.as_mut_slice())?;
     ItemRows::new(alloc, all, counts)
 }
 
@@ -92,12 +92,12 @@ pub fn item_rows(
     ensures rows { IfOk result (λ made. AreItemRows origin.now (option_map (λ p. p.now) program.entry) (item_view item.now) made.rows) }
     ensures counts { IfOk result (λ made. AreItemCounts origin.now.input origin.now.outputs (option_map (λ p. p.now) program.entry) origin.now.offset (item_view item.now) made.counts) }
 {
-    item_rows_in(&mut Room::new(alloc), origin, program, item)
+    item_rows_in(&mut Blocks::new(alloc), origin, program, item)
 }
 
-/// The same, in room that is used again.
+/// The same, in blocks that are used again.
 pub fn item_rows_in(
-    room: &mut Room,
+    blocks: &mut Blocks,
     origin: &Origin,
     program: Option<&Program>,
     item: &Item,
@@ -106,7 +106,7 @@ pub fn item_rows_in(
     ensures rows { IfOk result (λ made. AreItemRows origin.now (option_map (λ p. p.now) program.entry) (item_view item.now) made.rows) }
     ensures counts { IfOk result (λ made. AreItemCounts origin.now.input origin.now.outputs (option_map (λ p. p.now) program.entry) origin.now.offset (item_view item.now) made.counts) }
 {
-    rows_from(room, origin, program, item, 0, origin.outputs)
+    rows_from(blocks, origin, program, item, 0, origin.outputs)
 }
 
 /// The rows of an item in one output alone, and the counts of its records. Each record is run once. It
@@ -122,7 +122,7 @@ pub fn output_rows(
     ensures rows { IfOk result (λ made. GivesRows origin.now (option_map (λ p. p.now) program.entry) (item_view item.now) output made.rows.items) }
     ensures counts { IfOk result (λ made. AreItemCounts origin.now.input origin.now.outputs (option_map (λ p. p.now) program.entry) origin.now.offset (item_view item.now) (arc_value made.counts)) }
 {
-    let mut made = rows_from(&mut Room::new(alloc), origin, program, item, output, 1)?;
+    let mut made = rows_from(&mut Blocks::new(alloc), origin, program, item, output, 1)?;
     let counts = Arc::try_clone(made.counts())?;
     Ok(OneOutput {
         rows: made.take(alloc, 0),

@@ -3,17 +3,17 @@
 #![tactic(auto)]
 
 mod batch_run;
+mod blocks;
 mod item;
 mod laws;
 mod origin;
 mod outcomes;
 mod records;
-mod room;
 mod rows;
 
+pub use crate::blocks::Blocks;
 pub use crate::item::{OneOutput, item_rows, item_rows_in, output_rows};
 pub use crate::laws::one_list_of_rows;
 pub use crate::origin::Origin;
 pub use crate::records::timestamp;
-pub use crate::room::Room;
 pub use crate::rows::ItemRows;

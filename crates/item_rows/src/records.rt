@@ -5,8 +5,8 @@ ghost use Rattle.fates.specs.Totals.{AreCountsWith};
 ghost use Rattle.item_rows.specs.ItemRows.{IsOrigin, Adds};
 
 use crate::batch_run::BatchRun;
+use crate::blocks::Blocks;
 use crate::origin::Origin;
-use crate::room::Room;
 use crate::rows::OutputRows;
 use fates::Counts;
 use log_item::Program;
@@ -26,7 +26,7 @@ pub fn timestamp(batch: &Batch, given: &Record) -> u64
 /// Runs the program in force on a batch's records, in order, and adds the rows that they give. Returns
 /// the counts of the records.
 pub(crate) fn push_records(
-    room: &mut Room,
+    blocks: &mut Blocks,
     program: Option<&Program>,
     origin: &Origin,
     batch: &Batch,
@@ -38,7 +38,7 @@ pub(crate) fn push_records(
     ensures { IfOk result (λ counts. AreCountsWith (AreRecordsFates origin.now.input origin.now.outputs (option_map (λ p. p.now) program.entry) batch.now origin.now.offset batch.now.records) counts
         × Adds first all.old all.new (λ output here. IsRecordsRows origin.now.input output origin.now.outputs (option_map (λ p. p.now) program.entry) batch.now origin.now.offset batch.now.records here)) }
 {
-    let alloc = room.alloc;
+    let alloc = blocks.alloc;
     let run = BatchRun {
         alloc,
         program,
@@ -48,6 +48,6 @@ pub(crate) fn push_records(
     };
     let records = &batch.records;
     let mut counts = Counts::new(alloc);
-    run.push_all(origin.offset, &records.list, room, all, &mut counts)?;
+    run.push_all(origin.offset, &records.list, blocks, all, &mut counts)?;
     Ok(counts)
 }

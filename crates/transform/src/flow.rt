@@ -8,7 +8,7 @@ ghost use Rattle.transform.specs.Transforms.{flow, Pushes, PutsEach, PutsOne, En
 
 use crate::outlet::{Outlet, OutletFault};
 use fates::Counts;
-use item_rows::{ItemRows, Origin, Room, item_rows_in};
+use item_rows::{Blocks, ItemRows, Origin, item_rows_in};
 use log_item::{Item, LoggedBatch, Program};
 use log_spec::Row;
 use std::alloc::{AllocError, Global};
@@ -53,7 +53,7 @@ pub struct Transform<W: Write> {
     offset: u64,
     outlets: Vec<Outlet<W>>,
     counts: Counts,
-    room: Room,
+    blocks: Blocks,
 }
 
 impl<W: Write> Model for Transform<W> {
@@ -82,7 +82,7 @@ impl<W: Write> Transform<W> {
             offset,
             outlets,
             counts: Counts::new(alloc),
-            room: Room::new(alloc),
+            blocks: Blocks::new(alloc),
         }
     }
 
@@ -140,7 +140,7 @@ impl<W: Write> Transform<W> {
             outputs: self.outlets.len(),
         };
         let item = Item::Batch(LoggedBatch::new(batch));
-        let rows = item_rows_in(&mut self.room, &origin, Some(program), &item)?;
+        let rows = item_rows_in(&mut self.blocks, &origin, Some(program), &item)?;
         count(&mut self.counts, rows.counts())?;
         put_each(self.alloc, rows, &mut self.outlets)?;
         self.offset += item.records();

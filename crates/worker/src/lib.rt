@@ -10,6 +10,6 @@ mod walk;
 
 pub use crate::delivery::Delivery;
 pub use crate::gate::{Gate, Open};
-pub use crate::processing::{process, process_for};
+pub use crate::processing::{process, process_for, process_in};
 pub use crate::results::Results;
 pub use crate::walk::Walk;

@@ -4,7 +4,7 @@ ghost use Rattle.worker.specs.Processed.{IsOfLast};
 use crate::delivery::Delivery;
 use crate::results::Results;
 use crate::walk::Walk;
-use item_rows::{Origin, item_rows, output_rows};
+use item_rows::{Blocks, Origin, item_rows_in, output_rows};
 use part_log::{Names, PartLog};
 use std::alloc::{AllocError, Global};
 
@@ -24,6 +24,24 @@ pub fn process<Id: Names>(
     requires few { outputs ≤ 64 }
     ensures { IfOk result (λ results. results.walk ≡ walk.now) }
 {
+    process_in(&mut Blocks::new(alloc), walk, log, outputs)
+}
+
+/// The same, in blocks that are used again.
+pub fn process_in<Id: Names>(
+    blocks: &mut Blocks,
+    walk: &Walk<Id>,
+    log: &PartLog<Id>,
+    outputs: usize,
+) -> Result<Results<Id>, AllocError>
+    requires partition { walk.now.partition ≡ log.now }
+    requires input { walk.now.partition < 64 }
+    requires item { 0 < length walk.now.items }
+    requires outputs { outputs ≡ Id.outputs }
+    requires some { 1 ≤ outputs }
+    requires few { outputs ≤ 64 }
+    ensures { IfOk result (λ results. results.walk ≡ walk.now) }
+{
     let _most = log.cells();
     let item = log.item(walk.trail(), walk.len() - 1);
     let origin = Origin {
@@ -31,7 +49,7 @@ pub fn process<Id: Names>(
         offset: walk.base(),
         outputs,
     };
-    let rows = item_rows(alloc, &origin, walk.program(log), item)?;
+    let rows = item_rows_in(blocks, &origin, walk.program(log), item)?;
     Ok(Results::new(walk.trail().again(), rows))
 }
 

@@ -1,10 +1,10 @@
 use log_item::{BLOCK, Block};
 use std::alloc::{AllocError, Global};
 
-/// Room to run items in: blocks for their records. What runs an item after another keeps it between them,
-/// so that they take no memory but that of their rows.
+/// Blocks that the records of items are run in. What runs an item after another keeps them between the
+/// items, so that these take no memory but that of their rows.
 #[derive(Drop)]
-pub struct Room {
+pub struct Blocks {
     pub(crate) alloc: Global,
     // Of as many records as a block has.
     whole: Option<Block>,
@@ -12,18 +12,18 @@ pub struct Room {
     last: Option<Block>,
 }
 
-impl Room {
-    /// Room that no item was run in. Its memory comes with the first items.
-    pub fn new(alloc: Global) -> Room {
-        Room {
+impl Blocks {
+    /// Blocks that no item was run in. Their memory comes with the first items.
+    pub fn new(alloc: Global) -> Blocks {
+        Blocks {
             alloc,
             whole: None,
             last: None,
         }
     }
 
-    /// A block for so many records, as one before had if that was kept.
-    pub(crate) fn take_block(&mut self, count: usize) -> Result<Block, AllocError> {
+    /// A block for so many records, the one that was kept of as many if there is one.
+    pub(crate) fn take(&mut self, count: usize) -> Result<Block, AllocError> {
         let kept = if count == BLOCK {
             self.whole.take()
         } else {
@@ -36,7 +36,7 @@ impl Room {
     }
 
     /// Keeps a block that was taken for so many records.
-    pub(crate) fn keep_block(&mut self, count: usize, block: Block) {
+    pub(crate) fn keep(&mut self, count: usize, block: Block) {
         if count == BLOCK {
             self.whole = Some(block);
         } else {
