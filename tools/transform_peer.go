@@ -1,7 +1,7 @@
 // What a user would write instead of a klog program and `klog transform`: record batches in, a native filter or router,
 // record batches out, by sarama's codec, on one core. transform_speed.py builds it, with the codec's entries exported.
 //
-// transform_peer forward|keep|route IN OUT ..
+// transform_peer forward|keep|key|value IN OUT ..
 package main
 
 import (
@@ -46,8 +46,9 @@ func (o *output) write(from *sarama.RecordBatch, records []*sarama.Record) {
 	o.next += int64(len(records))
 }
 
-// routed is what examples/c/route_by_hash.c does: FNV-1a of the first 16 bytes of the key.
-func routed(key []byte) int {
+// byKey is what examples/c/route_by_hash.c does: FNV-1a, in 64 bits, of the first 16 bytes of the key.
+func byKey(r *sarama.Record) int {
+	key := r.Key
 	hash := uint64(0xcbf29ce484222325)
 	if len(key) > 16 {
 		key = key[:16]
@@ -56,6 +57,19 @@ func routed(key []byte) int {
 		hash = (hash ^ uint64(c)) * 0x100000001b3
 	}
 	return int((hash ^ hash>>32) % 4)
+}
+
+// byValue is what examples/c/route_by_value.c does: FNV-1a, in 32 bits, of the first 8 bytes of the value.
+func byValue(r *sarama.Record) int {
+	value := r.Value
+	hash := uint32(0x811c9dc5)
+	if len(value) > 8 {
+		value = value[:8]
+	}
+	for _, c := range value {
+		hash = (hash ^ uint32(c)) * 0x01000193
+	}
+	return int(hash % 4)
 }
 
 // kept has the records whose value begins with 'A', as examples/c/filter_first_byte.c.
@@ -97,6 +111,10 @@ func main() {
 		check(err)
 		outs = append(outs, &output{bufio.NewWriterSize(file, 65536), 0})
 	}
+	routed := byKey
+	if os.Args[1] == "value" {
+		routed = byValue
+	}
 	for batch := next(in); batch != nil; batch = next(in) {
 		if os.Args[1] == "forward" {
 			outs[0].write(batch, batch.Records)
@@ -108,7 +126,7 @@ func main() {
 		}
 		var parts [4][]*sarama.Record
 		for _, r := range batch.Records {
-			q := routed(r.Key)
+			q := routed(r)
 			parts[q] = append(parts[q], r)
 		}
 		for q, records := range parts {

@@ -87,8 +87,10 @@ def main():
         rows = {"cat": ["cat", segment],
                 "klog transform, 1 output": [klog, "transform", f"{programs}/forward.bin", segment, outs[0]],
                 "Go, 1 output": [peer, "forward", segment, outs[0]],
-                "klog transform, 4 outputs": [klog, "transform", f"{programs}/c/route_by_hash.bin", segment, *outs],
-                "Go, 4 outputs": [peer, "route", segment, *outs]}
+                "klog transform, 4 outputs by the value": [klog, "transform", f"{programs}/c/route_by_value.bin", segment, *outs],
+                "Go, 4 outputs by the value": [peer, "value", segment, *outs],
+                "klog transform, 4 outputs by the key": [klog, "transform", f"{programs}/c/route_by_hash.bin", segment, *outs],
+                "Go, 4 outputs by the key": [peer, "key", segment, *outs]}
         times, found = {name: [] for name in rows}, {}
         for _ in range(rounds):
             for name, words in rows.items():
@@ -99,7 +101,7 @@ def main():
             processor, seconds, kilobytes = min(t[0] for t in turns), min(t[1] for t in turns), max(t[2] for t in turns)
             print(f"{name}: {processor:.2f} s of processor, {seconds:.2f} s, {count / processor / 1e6:.2f} million records/s, "
                   f"{kilobytes} kB, batches and records {found[name]}", flush=True)
-        for outputs in ("1 output", "4 outputs"):
+        for outputs in ("1 output", "4 outputs by the value", "4 outputs by the key"):
             ours, theirs = f"klog transform, {outputs}", f"Go, {outputs}"
             ratio = min(t[0] for t in times[theirs]) / min(t[0] for t in times[ours])
             if [row[1] for row in found[ours]] != [row[1] for row in found[theirs]]:
