@@ -17,7 +17,12 @@ LEFT_OUT = re.compile(r"(_tests|fixtures)$|^(bench_.*|soak|embedding|compare_run
 NUMERAL = re.compile(r"(?<![\w.])[0-9][0-9_]*(?![\w.])")
 
 # numerals that equal a limit by chance: file, number, what the number is
-CHANCE = {("bpf_machine/proofs/Loads.antt", 65536): "2^16, by which the upper two of four bytes count"}
+CHANCE = {
+    ("bpf_machine/proofs/Loads.antt", 65536): "2^16, by which the upper two of four bytes count",
+    ("commands/proofs/ListLaws.antt", 65536): "the bytes of a buffered reader",
+    ("row_batch/src/records.rt", 4096): "how near to its end a batch is nearly full",
+    ("varint/src/writing.rt", 16384): "2^14, the numbers of two groups of seven bits",
+}
 
 
 def limits():
