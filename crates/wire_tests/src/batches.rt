@@ -149,7 +149,7 @@ const LARGEST: &[u8] = &[
 ];
 
 /// Whether the batch fits and is written as these bytes.
-fn is_written_as(alloc: Global, batch: &Batch, bytes: &[u8]) -> bool {
+pub(crate) fn is_written_as(alloc: Global, batch: &Batch, bytes: &[u8]) -> bool {
     if !fits(batch) {
         return false;
     }

@@ -1,4 +1,5 @@
-//! Tests of the wire crates by their public calls: published values, refusals, texts.
+//! Tests of the wire crates by their public calls: published values, refusals, texts; batches that are damaged
+//! and memory that is refused.
 #![tactic(auto)]
 
 #[cfg(test)]
@@ -6,9 +7,13 @@ mod batches;
 #[cfg(test)]
 mod checksums;
 #[cfg(test)]
+mod damage;
+#[cfg(test)]
 mod feeds;
 #[cfg(test)]
 mod records;
+#[cfg(test)]
+mod refused;
 #[cfg(test)]
 mod values;
 #[cfg(test)]

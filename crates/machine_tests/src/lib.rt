@@ -1,0 +1,30 @@
+//! Tests of programs on the interpreter and on the plain machine, by public calls: arithmetic, images, runs;
+//! in `helpers` calls of helpers, and in `damage` images that are damaged and memory that is refused.
+#![tactic(auto)]
+
+#[cfg(test)]
+mod abreast;
+#[cfg(test)]
+mod changes;
+#[cfg(test)]
+mod damage;
+#[cfg(test)]
+mod helpers;
+#[cfg(test)]
+mod image_faults;
+#[cfg(test)]
+mod images;
+#[cfg(test)]
+mod operations;
+#[cfg(test)]
+mod outcomes;
+#[cfg(test)]
+mod parts;
+#[cfg(test)]
+mod plain_machine;
+#[cfg(test)]
+mod runs;
+#[cfg(test)]
+mod slots;
+#[cfg(test)]
+mod verdicts;

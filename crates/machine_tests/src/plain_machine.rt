@@ -1,0 +1,7 @@
+//! Tests of the plain machine by its public call.
+
+mod calls;
+mod ends;
+mod runs;
+mod trap_order;
+mod traps;
