@@ -1,10 +1,11 @@
 //! Measures how fast `batch` reads and writes batches, and reads them of a stream in pieces, and how fast
 //! `row_batch` writes rows. Given how many times to do so in a turn, it takes ten turns with each batch and
-//! prints the bytes and records a second of the best. Given `cuts` and a number, it cuts a stream of
-//! 1,000 batches at random places so often, and prints how often other batches came out; given nothing, it
-//! prints nothing.
+//! prints the bytes and records a second of the best. Given `crc32c` and a number, it measures checksums so.
+//! Given `cuts` and a number, it cuts a stream of 1,000 batches at random places so often, and prints how
+//! often other batches came out; given nothing, it prints nothing.
 #![tactic(auto)]
 
+mod checksums;
 mod cuts;
 mod rows;
 
@@ -16,6 +17,7 @@ use bytes::Bytes;
 use kafka_record::{Header, Record};
 use std::alloc::{AllocError, Global};
 use std::io::ErrorKind;
+use std::marker::Model;
 use std::num::nearest_u64_to_f64;
 use std::rt::Clock;
 use std::time::{Duration, Instant};
@@ -36,37 +38,36 @@ struct Shape {
     headers: usize,
 }
 
-const SMALL: Shape = Shape {
-    name: "10,000 of 64 bytes",
-    records: 10_000,
-    key: Some(8),
-    value: 64,
-    headers: 0,
-};
-
-const LARGE: Shape = Shape {
-    name: "15 of 65,536 bytes",
-    records: 15,
-    key: None,
-    value: 65_536,
-    headers: 0,
-};
-
-const LONGEST: Shape = Shape {
-    name: "3 of 1,048,576 bytes",
-    records: 3,
-    key: None,
-    value: 1_048_576,
-    headers: 0,
-};
-
-const HEADED: Shape = Shape {
-    name: "1,000 of 4 headers",
-    records: 1_000,
-    key: Some(8),
-    value: 64,
-    headers: 4,
-};
+static SHAPES: [Shape; 4] = [
+    Shape {
+        name: "10,000 of 64 bytes",
+        records: 10_000,
+        key: Some(8),
+        value: 64,
+        headers: 0,
+    },
+    Shape {
+        name: "15 of 65,536 bytes",
+        records: 15,
+        key: None,
+        value: 65_536,
+        headers: 0,
+    },
+    Shape {
+        name: "3 of 1,048,576 bytes",
+        records: 3,
+        key: None,
+        value: 1_048_576,
+        headers: 0,
+    },
+    Shape {
+        name: "1,000 of 4 headers",
+        records: 1_000,
+        key: Some(8),
+        value: 64,
+        headers: 4,
+    },
+];
 
 const TINY: Shape = Shape {
     name: "a few of 16 bytes",
@@ -216,71 +217,63 @@ fn rows_turn(alloc: Global, rows: &Rows, times: u32) -> io::Result<u64> {
     Ok(sum)
 }
 
-/// The shortest turn of reading, and the sum of all.
-fn shortest_read<R: Clock>(
+/// What is done in a turn.
+#[derive(Clone, Copy, Drop)]
+enum Work {
+    Decode,
+    Feed,
+    Encode,
+    Rows,
+}
+
+static WORKS: [(&str, Work); 4] = [
+    ("  decode", Work::Decode),
+    ("  feed", Work::Feed),
+    ("  encode", Work::Encode),
+    ("  rows", Work::Rows),
+];
+
+/// A batch that can be written, its bytes, and its records as rows.
+#[derive(Drop)]
+struct Given {
+    batch: Batch,
+    bytes: Bytes,
+    rows: Rows,
+}
+
+impl Model for Given {
+    ghost use Rattle.wire_spec.specs.declared.record.Batch.{Batch};
+    ghost use Rattle.wire_spec.specs.BatchSpelling.{BatchFits};
+
+    ghost Value = { Batch };
+
+    ghost view = { λ g. g.batch };
+
+    ghost invariant = { λ g. BatchFits g.batch };
+}
+
+fn turn(alloc: Global, given: &Given, work: Work, times: u32) -> io::Result<u64> {
+    match work {
+        Work::Decode => read_turn(alloc, &given.bytes, times),
+        Work::Feed => feed_turn(alloc, given.bytes.as_slice(), times),
+        Work::Encode => write_turn(alloc, &given.batch, times),
+        Work::Rows => rows_turn(alloc, &given.rows, times),
+    }
+}
+
+/// The shortest turn, and the sum of all.
+fn shortest<R: Clock>(
     rt: &R,
     alloc: Global,
-    bytes: &Bytes,
+    given: &Given,
+    work: Work,
     times: u32,
 ) -> io::Result<(Duration, u64)> {
     let mut shortest = Duration::MAX;
     let mut sum: u64 = 0;
     for _ in 0..TURNS {
         let start = Instant::now(rt)?;
-        sum = sum.wrapping_add(read_turn(alloc, bytes, times)?);
-        shortest = shortest.min(start.elapsed(rt)?);
-    }
-    Ok((shortest, sum))
-}
-
-/// The shortest turn of reading from a stream, and the sum of all.
-fn shortest_feed<R: Clock>(
-    rt: &R,
-    alloc: Global,
-    bytes: &Bytes,
-    times: u32,
-) -> io::Result<(Duration, u64)> {
-    let mut shortest = Duration::MAX;
-    let mut sum: u64 = 0;
-    for _ in 0..TURNS {
-        let start = Instant::now(rt)?;
-        sum = sum.wrapping_add(feed_turn(alloc, bytes, times)?);
-        shortest = shortest.min(start.elapsed(rt)?);
-    }
-    Ok((shortest, sum))
-}
-
-/// The shortest turn of writing, and the sum of all.
-fn shortest_write<R: Clock>(
-    rt: &R,
-    alloc: Global,
-    batch: &Batch,
-    times: u32,
-) -> io::Result<(Duration, u64)>
-    requires { BatchFits batch.now }
-{
-    let mut shortest = Duration::MAX;
-    let mut sum: u64 = 0;
-    for _ in 0..TURNS {
-        let start = Instant::now(rt)?;
-        sum = sum.wrapping_add(write_turn(alloc, batch, times)?);
-        shortest = shortest.min(start.elapsed(rt)?);
-    }
-    Ok((shortest, sum))
-}
-
-/// The shortest turn of writing rows, and the sum of all.
-fn shortest_rows<R: Clock>(
-    rt: &R,
-    alloc: Global,
-    rows: &Rows,
-    times: u32,
-) -> io::Result<(Duration, u64)> {
-    let mut shortest = Duration::MAX;
-    let mut sum: u64 = 0;
-    for _ in 0..TURNS {
-        let start = Instant::now(rt)?;
-        sum = sum.wrapping_add(rows_turn(alloc, rows, times)?);
+        sum = sum.wrapping_add(turn(alloc, given, work, times)?);
         shortest = shortest.min(start.elapsed(rt)?);
     }
     Ok((shortest, sum))
@@ -313,29 +306,43 @@ fn show<R: Print>(
     )
 }
 
-fn compare<R: Print + Clock>(rt: &R, alloc: Global, shape: &Shape, times: u32) -> io::Result<()> {
+fn given_of(alloc: Global, shape: &Shape) -> io::Result<Given> {
     let batch = batch_of(alloc, shape)?;
     if !fits(&batch) {
         return Err(ErrorKind::InvalidData.into());
     }
     let bytes = Bytes::from_vec(encode(alloc, &batch)?)?;
-    println!(rt; "{}, {} bytes in all", shape.name, bytes.len())?;
-    let (took, sum) = shortest_read(rt, alloc, &bytes, times)?;
-    show(rt, "  decode", took, times, bytes.len(), shape.records, sum)?;
-    let (took, sum) = shortest_feed(rt, alloc, &bytes, times)?;
-    show(rt, "  feed", took, times, bytes.len(), shape.records, sum)?;
-    let (took, sum) = shortest_write(rt, alloc, &batch, times)?;
-    show(rt, "  encode", took, times, bytes.len(), shape.records, sum)?;
     let rows = read_rows(alloc, &bytes)?;
-    let (took, sum) = shortest_rows(rt, alloc, &rows, times)?;
-    show(rt, "  rows", took, times, bytes.len(), shape.records, sum)
+    Ok(Given { batch, bytes, rows })
+}
+
+/// Prints the best turn of each work with a batch.
+fn show_all<R: Print + Clock>(
+    rt: &R,
+    alloc: Global,
+    given: &Given,
+    shape: &Shape,
+    times: u32,
+) -> io::Result<()> {
+    let bytes = given.bytes.len();
+    println!(rt; "{}, {bytes} bytes in all", shape.name)?;
+    for (name, work) in &WORKS {
+        let (took, sum) = shortest(rt, alloc, given, *work, times)?;
+        show(rt, name, took, times, bytes, shape.records, sum)?;
+    }
+    Ok(())
+}
+
+fn compare<R: Print + Clock>(rt: &R, alloc: Global, shape: &Shape, times: u32) -> io::Result<()> {
+    let given = given_of(alloc, shape)?;
+    show_all(rt, alloc, &given, shape, times)
 }
 
 fn compare_all<R: Print + Clock>(rt: &R, alloc: Global, times: u32) -> io::Result<()> {
-    compare(rt, alloc, &SMALL, times)?;
-    compare(rt, alloc, &LARGE, times)?;
-    compare(rt, alloc, &LONGEST, times)?;
-    compare(rt, alloc, &HEADED, times)
+    for shape in &SHAPES {
+        compare(rt, alloc, shape, times)?;
+    }
+    Ok(())
 }
 
 /// The bytes of a batch of so many records.
@@ -359,9 +366,15 @@ fn cut_all<R: Print>(rt: &R, alloc: Global, times: u32) -> io::Result<()> {
 
 fn main(rt: HostRuntime) -> io::Result<()> {
     let mut words = env::args(&rt)?.skip(1);
-    match (words.next(), words.next()) {
-        (Some(_), Some(times)) => cut_all(&rt, rt.alloc(), times.parse::<u32>().unwrap_or(100)),
-        (Some(times), None) => compare_all(&rt, rt.alloc(), times.parse::<u32>().unwrap_or(20)),
-        (None, _) => Ok(()),
+    let Some(word) = words.next() else {
+        return Ok(());
+    };
+    let Some(times) = words.next() else {
+        return compare_all(&rt, rt.alloc(), word.parse::<u32>().unwrap_or(20));
+    };
+    if word.as_str() == "crc32c" {
+        checksums::compare(&rt, rt.alloc(), times.parse::<u32>().unwrap_or(1_000))
+    } else {
+        cut_all(&rt, rt.alloc(), times.parse::<u32>().unwrap_or(100))
     }
 }

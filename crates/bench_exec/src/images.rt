@@ -5,6 +5,7 @@ use crate::{Fitting, keyless, records_of, time};
 use bytes::Bytes;
 use exec::Record;
 use machine_spec::Table;
+use notes::Verified;
 use std::alloc::Global;
 use std::io;
 use std::rt::Clock;
@@ -56,21 +57,26 @@ fn time_both<R: Print + Clock>(
     given: &[Record],
     rounds: u32,
 ) -> io::Result<()> {
-    let Ok(program) = annotate::load(alloc, image, Table::Two) else {
-        return println!(rt; "not a program");
-    };
+    match annotate::load(alloc, image, Table::Two) {
+        Ok(program) => time_program(rt, alloc, &program, records, given, rounds),
+        Err(_) => println!(rt; "not a program"),
+    }
+}
+
+fn time_program<R: Print + Clock>(
+    rt: &R,
+    alloc: Global,
+    program: &Verified,
+    records: &[Fitting],
+    given: &[Record],
+    rounds: u32,
+) -> io::Result<()> {
+    let one = records.get(..1).unwrap_or(records);
+    let more = rounds.saturating_mul(1024);
     for _ in 0..4 {
-        let one = records.get(..1).unwrap_or(records);
-        time(
-            rt,
-            alloc,
-            "one record",
-            &program,
-            one,
-            rounds.saturating_mul(1024),
-        )?;
-        time(rt, alloc, "1,024 records", &program, records, rounds)?;
-        time_abreast(rt, alloc, &program, records, given, rounds)?;
+        time(rt, alloc, "one record", program, one, more)?;
+        time(rt, alloc, "1,024 records", program, records, rounds)?;
+        time_abreast(rt, alloc, program, records, given, rounds)?;
     }
     Ok(())
 }

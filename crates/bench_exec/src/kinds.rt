@@ -13,7 +13,7 @@ pub struct Kind {
 }
 
 /// One instruction on a record, and long programs of one instruction.
-pub const PLAIN: [Kind; 4] = [
+pub static PLAIN: [Kind; 4] = [
     Kind {
         name: "short",
         head: "mov64 r0, 0\njlt64 r2, 1, +1\n",
@@ -45,7 +45,7 @@ pub const PLAIN: [Kind; 4] = [
 ];
 
 /// Long programs of arithmetic.
-pub const ARITHMETIC: [Kind; 6] = [
+pub static ARITHMETIC: [Kind; 6] = [
     Kind {
         name: "arithmetic of 32 bits",
         head: "mov64 r0, 7\nmov64 r6, 123456789\n",
@@ -91,7 +91,7 @@ pub const ARITHMETIC: [Kind; 6] = [
 ];
 
 /// Long programs of loads and stores, of jumps, of wide numbers and of calls.
-pub const OTHERS: [Kind; 8] = [
+pub static OTHERS: [Kind; 8] = [
     Kind {
         name: "stack",
         head: "mov64 r6, -77\n",

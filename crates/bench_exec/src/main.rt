@@ -1,11 +1,17 @@
 //! Times the interpreter. The first argument is how many rounds of records are run; with none the
 //! program does nothing. The others are names of images' files: it times each of these programs on one
 //! record and on 1,024. With none it times programs of one kind of instruction each.
+//!
+//! `load random COUNT SEED` makes programs and prints in how many `load` and `notes::check` differ.
+//! `load time BRANCHES ROUNDS` loads a program of BRANCHES branches ROUNDS times. `load keep BRANCHES
+//! COUNT` does the same, for 0 branches in a straight line, and keeps all that is loaded until the end:
+//! the process's memory then says what a program takes.
 #![tactic(auto)]
 
 mod abreast;
 mod images;
 mod kinds;
+mod loads;
 
 use crate::images::time_image;
 use crate::kinds::{ARITHMETIC, Kind, OTHERS, PLAIN};
@@ -167,26 +173,27 @@ fn time_program<R: Print + Clock>(
     alloc: Global,
     name: &str,
     program: &Verified,
+    records: &[Fitting],
     rounds: u32,
 ) -> io::Result<()> {
-    let made = values(alloc).and_then(|values| records_of(alloc, values));
-    let Some(records) = made else {
-        return Ok(());
-    };
     for turn in 1..=4 {
-        time(
-            rt,
-            alloc,
-            name,
-            program,
-            &records,
-            rounds.saturating_mul(turn),
-        )?;
+        let rounds = rounds.saturating_mul(turn);
+        time(rt, alloc, name, program, records, rounds)?;
     }
     Ok(())
 }
 
-/// Makes the programs and times them.
+/// Makes a program and times it.
+fn time_kind<R: Print + Clock>(rt: &R, alloc: Global, kind: &Kind, rounds: u32) -> io::Result<()> {
+    let Some(program) = program_of(alloc, kind) else {
+        return println!(rt; "{}: not a program", kind.name);
+    };
+    match values(alloc).and_then(|values| records_of(alloc, values)) {
+        Some(records) => time_program(rt, alloc, kind.name, &program, &records, rounds),
+        None => Ok(()),
+    }
+}
+
 fn time_kinds<R: Print + Clock>(
     rt: &R,
     alloc: Global,
@@ -194,13 +201,7 @@ fn time_kinds<R: Print + Clock>(
     rounds: u32,
 ) -> io::Result<()> {
     for kind in kinds {
-        match program_of(alloc, kind) {
-            Some(program) => {
-                let rounds = rounds.saturating_mul(kind.runs);
-                time_program(rt, alloc, kind.name, &program, rounds)?;
-            }
-            None => println!(rt; "{}: not a program", kind.name)?,
-        }
+        time_kind(rt, alloc, kind, rounds.saturating_mul(kind.runs))?;
     }
     Ok(())
 }
@@ -217,18 +218,28 @@ fn time_file(rt: &HostRuntime, name: &str, rounds: u32) -> io::Result<()> {
     time_image(rt, rt.alloc(), &fs::read(rt, name)?, rounds)
 }
 
-fn main(rt: HostRuntime) -> io::Result<()> {
-    let mut arguments = env::args(&rt)?.skip(1);
-    let Some(rounds) = arguments.next() else {
-        return Ok(());
-    };
-    let rounds: u32 = rounds.as_str().parse().unwrap_or(1);
-    let Some(first) = arguments.next() else {
-        return time_all(&rt, rt.alloc(), rounds);
-    };
-    time_file(&rt, first.as_str(), rounds)?;
-    for name in arguments {
-        time_file(&rt, name.as_str(), rounds)?;
+fn time_words(rt: &HostRuntime, word: &str, others: &[String]) -> io::Result<()> {
+    if word == "load" {
+        return loads::measure(rt, others);
+    }
+    let rounds: u32 = word.parse().unwrap_or(1);
+    if others.is_empty() {
+        return time_all(rt, rt.alloc(), rounds);
+    }
+    for name in others {
+        time_file(rt, name.as_str(), rounds)?;
     }
     Ok(())
+}
+
+fn main(rt: HostRuntime) -> io::Result<()> {
+    let mut words = env::args(&rt)?.skip(1);
+    let Some(word) = words.next() else {
+        return Ok(());
+    };
+    let mut others = Vec::new(rt.alloc());
+    for other in words {
+        others.push(other)?;
+    }
+    time_words(&rt, word.as_str(), &others)
 }

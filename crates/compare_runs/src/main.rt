@@ -58,9 +58,12 @@ fn outcome_of(
     if !is_within_limits(record) || !is_place(&PLACE) {
         return Ok(None);
     }
-    match load(alloc, image, table) {
-        Ok(verified) => Ok(Some(run(alloc, &verified, record, &PLACE)?)),
-        Err(_) => Ok(None),
+    let Ok(verified) = load(alloc, image, table) else {
+        return Ok(None);
+    };
+    match run(alloc, &verified, record, &PLACE) {
+        Ok(outcome) => Ok(Some(outcome)),
+        Err(refused) => Err(refused),
     }
 }
 
@@ -83,13 +86,25 @@ impl Counts {
     ) -> Result<(), AllocError> {
         let (end, count) = trace(alloc, image, record, &PLACE, table)?;
         if let Some(outcome) = outcome_of(alloc, image, record, table)? {
-            self.accepted = self.accepted.saturating_add(1);
-            self.instructions = self.instructions.saturating_add(count);
-            if !is_same(&end, &outcome) {
-                self.different = self.different.saturating_add(1);
-            }
+            self.add(count, is_same(&end, &outcome));
         }
         Ok(())
+    }
+
+    /// Counts a run.
+    fn add(&mut self, instructions: u64, is_same: bool) {
+        self.accepted = self.accepted.saturating_add(1);
+        self.instructions = self.instructions.saturating_add(instructions);
+        if !is_same {
+            self.different = self.different.saturating_add(1);
+        }
+    }
+
+    /// Runs a random program on a random record both ways.
+    fn compare_any(&mut self, alloc: Global, random: &mut Random) -> Result<(), AllocError> {
+        let image = random.program(alloc)?;
+        let record = random.record(alloc)?;
+        self.compare(alloc, &image, &record, random.table())
     }
 }
 
@@ -98,10 +113,7 @@ fn compared(alloc: Global, programs: u64, seed: u64) -> Result<Counts, AllocErro
     let mut random = Random::new(seed);
     let mut counts = Counts::new();
     for _ in 0..programs {
-        let image = random.program(alloc)?;
-        let record = random.record(alloc)?;
-        let table = random.table();
-        counts.compare(alloc, &image, &record, table)?;
+        counts.compare_any(alloc, &mut random)?;
     }
     Ok(counts)
 }

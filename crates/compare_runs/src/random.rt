@@ -17,28 +17,28 @@ pub(crate) struct Random {
     state: u64,
 }
 
-const OPERATIONS: [u8; 12] = [
+static OPERATIONS: [u8; 12] = [
     0x00, 0x10, 0x20, 0x30, 0x40, 0x50, 0x60, 0x70, 0x90, 0xa0, 0xb0, 0xc0,
 ];
 
-const TESTS: [u8; 11] = [
+static TESTS: [u8; 11] = [
     0x10, 0x20, 0x30, 0x40, 0x50, 0x60, 0x70, 0xa0, 0xb0, 0xc0, 0xd0,
 ];
 
 /// Operations and moves that a loop over records does.
-const EVEN: [u8; 9] = [0x00, 0x10, 0x20, 0x40, 0x50, 0x60, 0x70, 0xa0, 0xb0];
+static EVEN: [u8; 9] = [0x00, 0x10, 0x20, 0x40, 0x50, 0x60, 0x70, 0xa0, 0xb0];
 
 /// Tests that a loop over records does.
-const EVEN_TESTS: [u8; 6] = [0x10, 0x20, 0x30, 0x50, 0xa0, 0xb0];
+static EVEN_TESTS: [u8; 6] = [0x10, 0x20, 0x30, 0x50, 0xa0, 0xb0];
 
 /// The helpers that are called.
-const HELPERS: [u8; 6] = [3, 6, 7, 8, 9, 10];
+static HELPERS: [u8; 6] = [3, 6, 7, 8, 9, 10];
 
 /// The registers that hold numbers from the beginning on.
-const NUMBERS: [u8; 5] = [0, 6, 7, 8, 9];
+static NUMBERS: [u8; 5] = [0, 6, 7, 8, 9];
 
 /// Loads with the number of bytes that each reads.
-const LOADS: [(u8, u8); 7] = [
+static LOADS: [(u8, u8); 7] = [
     (0x71, 1),
     (0x69, 2),
     (0x61, 4),
@@ -49,7 +49,7 @@ const LOADS: [(u8, u8); 7] = [
 ];
 
 /// The opcodes of a store of an immediate, of a register, and of a load of as many bytes.
-const STORES: [(u8, u8, u8); 4] = [
+static STORES: [(u8, u8, u8); 4] = [
     (0x72, 0x73, 0x71),
     (0x6a, 0x6b, 0x89),
     (0x62, 0x63, 0x81),
@@ -57,7 +57,7 @@ const STORES: [(u8, u8, u8); 4] = [
 ];
 
 /// Numbers at which signs and widths change.
-const EDGES: [u64; 8] = [
+static EDGES: [u64; 8] = [
     0,
     1,
     0x7f,
@@ -82,6 +82,19 @@ fn slot(opcode: u8, dst: u8, src: u8, offset: i16, imm: i32) -> [u8; 8] {
         imm[2],
         imm[3],
     ]
+}
+
+/// Appends a slot to an image.
+fn put(image: &mut Vec<u8>, fields: [u8; 8]) -> Result<(), AllocError> {
+    image.extend_from_slice(&fields)?;
+    Ok(())
+}
+
+/// Appends a jump and what it jumps over.
+fn put_jump(image: &mut Vec<u8>, jump: [u8; 8], piece: &[u8]) -> Result<(), AllocError> {
+    image.extend_from_slice(&jump)?;
+    image.extend_from_slice(piece)?;
+    Ok(())
 }
 
 impl Random {
@@ -135,9 +148,8 @@ impl Random {
         let number = self.edge();
         let low = ((number & 0xffff_ffff) as u32).cast_signed();
         let high = ((number >> 32) as u32).cast_signed();
-        image.extend_from_slice(&slot(0x18, dst, 0, 0, low))?;
-        image.extend_from_slice(&slot(0, 0, 0, 0, high))?;
-        Ok(())
+        put(image, slot(0x18, dst, 0, 0, low))?;
+        put(image, slot(0, 0, 0, 0, high))
     }
 
     fn push_operation(&mut self, image: &mut Vec<u8>) -> Result<(), AllocError> {
@@ -151,10 +163,10 @@ impl Random {
         let dst = self.register();
         if self.below(2) == 0 {
             let imm = self.immediate();
-            image.extend_from_slice(&slot(code | class, dst, 0, signed, imm))?;
+            put(image, slot(code | class, dst, 0, signed, imm))?;
         } else {
             let src = self.register();
-            image.extend_from_slice(&slot(code | class | 8, dst, src, signed, 0))?;
+            put(image, slot(code | class | 8, dst, src, signed, 0))?;
         }
         Ok(())
     }
@@ -177,8 +189,7 @@ impl Random {
             3 => slot(0xbf, dst, src, i16::from(bits), 0),
             _ => slot(0xbc, dst, src, i16::from(bits % 32), 0),
         };
-        image.extend_from_slice(&fields)?;
-        Ok(())
+        put(image, fields)
     }
 
     /// A load from the value or the key, behind a test of its length.
@@ -189,10 +200,9 @@ impl Random {
         let offset = self.below(12) as i16;
         let slack = self.below(2) as i32;
         let least = i32::from(offset) + i32::from(size) + slack;
-        image.extend_from_slice(&slot(0xa5, length, 0, 1, least))?;
+        put(image, slot(0xa5, length, 0, 1, least))?;
         let dst = self.register();
-        image.extend_from_slice(&slot(opcode, dst, address, offset, 0))?;
-        Ok(())
+        put(image, slot(opcode, dst, address, offset, 0))
     }
 
     /// A store to the stack and a load of what it wrote.
@@ -205,14 +215,13 @@ impl Random {
         let offset = -8 - self.below(24) as i16;
         if self.below(2) == 0 {
             let imm = self.immediate();
-            image.extend_from_slice(&slot(store, 10, 0, offset, imm))?;
+            put(image, slot(store, 10, 0, offset, imm))?;
         } else {
             let src = self.register();
-            image.extend_from_slice(&slot(store_register, 10, src, offset, 0))?;
+            put(image, slot(store_register, 10, src, offset, 0))?;
         }
         let dst = self.register();
-        image.extend_from_slice(&slot(load, dst, 10, offset, 0))?;
-        Ok(())
+        put(image, slot(load, dst, 10, offset, 0))
     }
 
     /// A piece without a jump over another.
@@ -245,9 +254,7 @@ impl Random {
             2 | 3 => slot(test | class, dst, 0, slots, imm),
             _ => slot(test | class | 8, dst, src, slots, 0),
         };
-        image.extend_from_slice(&jump)?;
-        image.extend_from_slice(&piece)?;
-        Ok(())
+        put_jump(image, jump, &piece)
     }
 
     /// A byte of the value, behind a test of the length, and a jump on it over a piece. Where the value
@@ -260,19 +267,16 @@ impl Random {
         let dst = self.register();
         let test = self.byte_of(&TESTS);
         let imm = self.below(257) as i32;
-        image.extend_from_slice(&slot(0xa5, 2, 0, 1, i32::from(offset) + 1))?;
-        image.extend_from_slice(&slot(0x71, dst, 1, offset, 0))?;
-        image.extend_from_slice(&slot(test | 5, dst, 0, slots, imm))?;
-        image.extend_from_slice(&piece)?;
-        Ok(())
+        put(image, slot(0xa5, 2, 0, 1, i32::from(offset) + 1))?;
+        put(image, slot(0x71, dst, 1, offset, 0))?;
+        put_jump(image, slot(test | 5, dst, 0, slots, imm), &piece)
     }
 
     /// A call with an output in r1.
     fn push_call(&mut self, image: &mut Vec<u8>, number: i32) -> Result<(), AllocError> {
         let out = self.below(3) as i32;
-        image.extend_from_slice(&slot(0xb7, 1, 0, 0, out))?;
-        image.extend_from_slice(&slot(0x85, 0, 0, 0, number))?;
-        Ok(())
+        put(image, slot(0xb7, 1, 0, 0, out))?;
+        put(image, slot(0x85, 0, 0, 0, number))
     }
 
     /// The address in r2 of eight bytes of the stack, of which half or all are stored here, and a
@@ -283,25 +287,24 @@ impl Random {
             .get(2 + self.below(2) as usize)
             .copied()
             .unwrap_or((0x7a, 0x7b, 0x79));
-        image.extend_from_slice(&slot(store, 10, 0, -8, imm))?;
-        image.extend_from_slice(&slot(0xbf, 2, 10, 0, 0))?;
-        image.extend_from_slice(&slot(0x07, 2, 0, 0, -8))?;
+        put(image, slot(store, 10, 0, -8, imm))?;
+        put(image, slot(0xbf, 2, 10, 0, 0))?;
+        put(image, slot(0x07, 2, 0, 0, -8))?;
         let length = self.below(9) as i32;
-        image.extend_from_slice(&slot(0xb7, 3, 0, 0, length))?;
-        Ok(())
+        put(image, slot(0xb7, 3, 0, 0, length))
     }
 
     /// The key by its address in r4 and its length in r5, or a part of it, or more than there is.
     fn push_key(&mut self, image: &mut Vec<u8>) -> Result<(), AllocError> {
-        image.extend_from_slice(&slot(0xbf, 5, 4, 0, 0))?;
-        image.extend_from_slice(&slot(0xbf, 4, 3, 0, 0))?;
+        put(image, slot(0xbf, 5, 4, 0, 0))?;
+        put(image, slot(0xbf, 4, 3, 0, 0))?;
         self.push_part(image, 4, 5)
     }
 
     /// The value by its address in r2 and its length in r3, or a part of it, or more than there is.
     fn push_value(&mut self, image: &mut Vec<u8>) -> Result<(), AllocError> {
-        image.extend_from_slice(&slot(0xbf, 3, 2, 0, 0))?;
-        image.extend_from_slice(&slot(0xbf, 2, 1, 0, 0))?;
+        put(image, slot(0xbf, 3, 2, 0, 0))?;
+        put(image, slot(0xbf, 2, 1, 0, 0))?;
         self.push_part(image, 2, 3)
     }
 
@@ -310,9 +313,9 @@ impl Random {
         match self.below(6) {
             0 => {
                 let length = self.below(4) as i32;
-                image.extend_from_slice(&slot(0xb7, count, 0, 0, length))?;
+                put(image, slot(0xb7, count, 0, 0, length))?;
             }
-            1 => image.extend_from_slice(&slot(0x07, address, 0, 0, 1))?,
+            1 => put(image, slot(0x07, address, 0, 0, 1))?,
             _ => {}
         }
         Ok(())
@@ -344,8 +347,7 @@ impl Random {
             1 => slot(0xb7, 2, 0, 0, self.immediate()),
             _ => slot(0xb7, 2, 0, 0, self.below(20) as i32),
         };
-        image.extend_from_slice(&place)?;
-        Ok(())
+        put(image, place)
     }
 
     /// The address of a place of the stack.
@@ -355,9 +357,8 @@ impl Random {
         register: u8,
         offset: i16,
     ) -> Result<(), AllocError> {
-        image.extend_from_slice(&slot(0xbf, register, 10, 0, 0))?;
-        image.extend_from_slice(&slot(0x07, register, 0, 0, i32::from(offset)))?;
-        Ok(())
+        put(image, slot(0xbf, register, 10, 0, 0))?;
+        put(image, slot(0x07, register, 0, 0, i32::from(offset)))
     }
 
     /// A copy of a part of the value or the key to the stack, a load of some of its bytes, and perhaps
@@ -367,16 +368,16 @@ impl Random {
         let length = self.below(11) as i32;
         self.push_address(image, 1, offset)?;
         self.push_place(image)?;
-        image.extend_from_slice(&slot(0xb7, 3, 0, 0, length))?;
+        put(image, slot(0xb7, 3, 0, 0, length))?;
         let number = 1 + self.below(2) as i32;
-        image.extend_from_slice(&slot(0x85, 0, 0, 0, number))?;
+        put(image, slot(0x85, 0, 0, 0, number))?;
         let place = self.below(LOADS.len() as u64) as usize;
         let (opcode, _) = LOADS.get(place).copied().unwrap_or((0x71, 1));
         let dst = self.register();
-        image.extend_from_slice(&slot(opcode, dst, 10, offset, 0))?;
+        put(image, slot(opcode, dst, 10, offset, 0))?;
         if self.below(2) == 0 {
             self.push_address(image, 2, offset)?;
-            image.extend_from_slice(&slot(0xb7, 3, 0, 0, length))?;
+            put(image, slot(0xb7, 3, 0, 0, length))?;
             self.push_call(image, 4)?;
         }
         Ok(())
@@ -400,17 +401,17 @@ impl Random {
         let offset = -(length as i16) - self.below(4) as i16;
         self.push_address(image, 1, offset)?;
         self.push_place(image)?;
-        image.extend_from_slice(&slot(0xb7, 3, 0, 0, length as i32))?;
+        put(image, slot(0xb7, 3, 0, 0, length as i32))?;
         let number = 11 + self.below(2) as i32;
-        image.extend_from_slice(&slot(0x85, 0, 0, 0, number))?;
+        put(image, slot(0x85, 0, 0, 0, number))?;
         if self.below(2) == 0 {
             let dst = self.register();
             let place = offset + self.below(length + 1) as i16;
-            image.extend_from_slice(&slot(0x71, dst, 10, place, 0))?;
+            put(image, slot(0x71, dst, 10, place, 0))?;
         }
         if self.below(2) == 0 {
             self.push_address(image, 2, offset)?;
-            image.extend_from_slice(&slot(0xb7, 3, 0, 0, length as i32))?;
+            put(image, slot(0xb7, 3, 0, 0, length as i32))?;
             self.push_call(image, 4)?;
         }
         Ok(())
@@ -429,32 +430,20 @@ impl Random {
             _ => {}
         }
         match self.below(4) {
-            0 => image.extend_from_slice(&slot(0xb7, 0, 0, 0, 0))?,
+            0 => put(image, slot(0xb7, 0, 0, 0, 0))?,
             1 => {}
             _ => {
                 let src = self.register();
-                image.extend_from_slice(&slot(0xbf, 0, src, 0, 0))?;
+                put(image, slot(0xbf, 0, src, 0, 0))?;
             }
         }
-        image.extend_from_slice(&slot(0x95, 0, 0, 0, 0))?;
-        Ok(())
+        put(image, slot(0x95, 0, 0, 0, 0))
     }
 
     /// The image of a program. One of sixteen has a byte changed, and need not decode.
     pub(crate) fn program(&mut self, alloc: Global) -> Result<Vec<u8>, AllocError> {
         let mut image = Vec::new(alloc);
-        for register in NUMBERS {
-            self.push_wide(&mut image, register)?;
-        }
-        let pieces = 1 + self.below(24);
-        for _ in 0..pieces {
-            match self.below(9) {
-                0..=2 => self.push_jump(alloc, &mut image)?,
-                3 => self.push_byte_jump(alloc, &mut image)?,
-                _ => self.push_piece(&mut image)?,
-            }
-        }
-        self.push_end(&mut image)?;
+        self.push_program(alloc, &mut image)?;
         if self.below(16) == 0 {
             let place = self.below(image.len() as u64) as usize;
             let byte = (self.number() & 0xff) as u8;
@@ -463,6 +452,21 @@ impl Random {
             }
         }
         Ok(image)
+    }
+
+    fn push_program(&mut self, alloc: Global, image: &mut Vec<u8>) -> Result<(), AllocError> {
+        for register in &NUMBERS {
+            self.push_wide(image, *register)?;
+        }
+        let pieces = 1 + self.below(24);
+        for _ in 0..pieces {
+            match self.below(9) {
+                0..=2 => self.push_jump(alloc, image)?,
+                3 => self.push_byte_jump(alloc, image)?,
+                _ => self.push_piece(image)?,
+            }
+        }
+        self.push_end(image)
     }
 
     /// An operation or a move of 64 bits that needs no quotient, or a byte of the value behind a test of
@@ -476,11 +480,11 @@ impl Random {
         match self.below(8) {
             0 => {
                 let least = i32::from(offset) + 1;
-                image.extend_from_slice(&slot(0xa5, 2, 0, 1, least))?;
-                image.extend_from_slice(&slot(0x71, dst, 1, offset, 0))?;
+                put(image, slot(0xa5, 2, 0, 1, least))?;
+                put(image, slot(0x71, dst, 1, offset, 0))?;
             }
-            1..=4 => image.extend_from_slice(&slot(code | 7, dst, 0, 0, imm))?,
-            _ => image.extend_from_slice(&slot(code | 15, dst, src, 0, 0))?,
+            1..=4 => put(image, slot(code | 7, dst, 0, 0, imm))?,
+            _ => put(image, slot(code | 15, dst, src, 0, 0))?,
         }
         Ok(())
     }
@@ -501,34 +505,36 @@ impl Random {
         } else {
             slot(test | 13, dst, src, slots, 0)
         };
-        image.extend_from_slice(&jump)?;
-        image.extend_from_slice(&pieces)?;
-        Ok(())
+        put_jump(image, jump, &pieces)
     }
 
     /// The image of a program most of whose instructions are operations, moves and jumps of 64 bits and
     /// loads of a byte. At times it ends early, and about one piece of thirty is any.
     pub(crate) fn even_program(&mut self, alloc: Global) -> Result<Vec<u8>, AllocError> {
         let mut image = Vec::new(alloc);
-        for register in NUMBERS {
+        self.push_even_program(alloc, &mut image)?;
+        Ok(image)
+    }
+
+    fn push_even_program(&mut self, alloc: Global, image: &mut Vec<u8>) -> Result<(), AllocError> {
+        for register in &NUMBERS {
             let imm = self.immediate();
-            image.extend_from_slice(&slot(0xb7, register, 0, 0, imm))?;
+            put(image, slot(0xb7, *register, 0, 0, imm))?;
         }
         let pieces = 20 + self.below(80);
         for _ in 0..pieces {
             match self.below(30) {
-                0 => self.push_piece(&mut image)?,
+                0 => self.push_piece(image)?,
                 1 => {
                     let dst = self.register();
-                    image.extend_from_slice(&slot(0x25, dst, 0, 1, 255))?;
-                    image.extend_from_slice(&slot(0x95, 0, 0, 0, 0))?;
+                    put(image, slot(0x25, dst, 0, 1, 255))?;
+                    put(image, slot(0x95, 0, 0, 0, 0))?;
                 }
-                2..=8 => self.push_even_jump(alloc, &mut image)?,
-                _ => self.push_even(&mut image)?,
+                2..=8 => self.push_even_jump(alloc, image)?,
+                _ => self.push_even(image)?,
             }
         }
-        self.push_end(&mut image)?;
-        Ok(image)
+        self.push_end(image)
     }
 
     /// How many records a program is run on: 1 to 1,000, and mostly fewer than 300.

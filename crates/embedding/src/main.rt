@@ -18,50 +18,72 @@ use std::thread::Threads;
 use std::{env, fs, io};
 use worker::Open;
 
-/// What came of the batches: how many were appended, how many items the worker processed, and the
-/// first rows of the output as a record batch, if there are any.
-#[derive(Drop)]
-struct Transformed {
-    batches: u64,
-    items: usize,
-    rows: Option<Vec<u8>>,
-}
-
-/// Runs a transform over the record batches that a reader gives. `Id` names the parts.
+/// Makes a broker of its parts, which `Id` names, and runs a transform over the record batches that a
+/// reader gives. Returns how many were appended, how many items the worker processed, and how many bytes
+/// the first rows of the output are as a record batch.
 fn transform<Id: Names + Send + Sync, R: Threads + Wait + Sync, B: Read>(
     rt: &R,
     alloc: Global,
     parts: Parts<Catalogue<&R>>,
     image: &Bytes,
     reader: &mut B,
-) -> Result<Transformed, StreamFault>
+) -> Result<(u64, usize, usize), StreamFault>
     requires { IsNamed Id.cells Id.inputs Id.outputs parts }
 {
     let made: Result<Broker<Id, Catalogue<&R>>, AllocError> = Broker::new(alloc, parts);
     let Ok(broker) = made else {
         return Err(StreamFault::Broker(BrokerFault::Memory));
     };
+    process(rt, alloc, &broker, image, reader)
+}
 
-    let (_version, known) = broker.load(rt, alloc, "transform", image, Table::One)?;
-    let mut finder = broker.finder(rt, alloc)?;
-    broker.deploy(rt, alloc, 0, known.name(), &mut finder, &known)?;
-
+/// Gives a new broker the transform and the batches, runs its worker to the end of the log, and fetches.
+fn process<Id: Names + Send + Sync, R: Threads + Wait + Sync, B: Read>(
+    rt: &R,
+    alloc: Global,
+    broker: &Broker<Id, Catalogue<&R>>,
+    image: &Bytes,
+    reader: &mut B,
+) -> Result<(u64, usize, usize), StreamFault> {
+    deploy(rt, alloc, broker, image)?;
     let mut receipts = Vec::new(alloc);
     let batches = broker.append_from(rt, alloc, 0, reader, 65_536, &mut receipts)?;
     broker.close(rt, alloc, 0)?;
+    let items = match broker.start(rt, alloc, Until::Closed, &Open)?.first() {
+        Some(Ended::Done(items)) => *items,
+        _ => 0,
+    };
+    let bytes = broker.fetch(rt, 0, 0, 10_000)?.map_or(0, |rows| rows.len());
+    Ok((batches, items, bytes))
+}
 
-    let mut items = 0;
-    for ended in broker.start(rt, alloc, Until::Closed, &Open)? {
-        if let Ended::Done(done) = ended {
-            items = done;
-        }
+/// Loads a transform and marks it in the log of input 0.
+fn deploy<Id: Names, H: Wait + Drop, R: Wait>(
+    rt: &R,
+    alloc: Global,
+    broker: &Broker<Id, Catalogue<H>>,
+    image: &Bytes,
+) -> Result<(), BrokerFault> {
+    let (_version, known) = broker.load(rt, alloc, "transform", image, Table::One)?;
+    let mut finder = broker.finder(rt, alloc)?;
+    broker.deploy(rt, alloc, 0, known.name(), &mut finder, &known)?;
+    Ok(())
+}
+
+/// Runs a transform over the batches of a reader, and prints what came of it.
+fn run<R: Threads + Wait + Print + Sync, B: Read>(
+    rt: &R,
+    alloc: Global,
+    image: &Bytes,
+    reader: &mut B,
+) -> io::Result<()> {
+    let parts = Parts::new(rt, alloc, 1, 1, 1_024)?;
+    match transform::<Brand, R, B>(rt, alloc, parts, image, reader) {
+        Ok((batches, items, bytes)) => println!(rt;
+            "{batches} batches, {items} items, {bytes} bytes fetched"
+        ),
+        Err(fault) => println!(rt; "{fault}"),
     }
-    let rows = broker.fetch(rt, 0, 0, 10_000)?;
-    Ok(Transformed {
-        batches,
-        items,
-        rows,
-    })
 }
 
 fn main(rt: HostRuntime) -> io::Result<()> {
@@ -71,18 +93,5 @@ fn main(rt: HostRuntime) -> io::Result<()> {
     };
     let image = Bytes::from_vec(fs::read(&rt, image.as_str())?)?;
     let mut reader = fs::open(&rt, batches.as_str())?;
-    let parts = Parts::new(&rt, rt.alloc(), 1, 1, 1_024)?;
-    match transform::<Brand, HostRuntime, _>(&rt, rt.alloc(), parts, &image, &mut reader) {
-        Ok(
-            Transformed {
-                batches,
-                items,
-                rows,
-            },
-        ) => {
-            let fetched = rows.map_or(0, |bytes| bytes.len());
-            println!(rt; "{batches} batches, {items} items, {fetched} bytes fetched")
-        }
-        Err(fault) => println!(rt; "{fault}"),
-    }
+    run(&rt, rt.alloc(), &image, &mut reader)
 }

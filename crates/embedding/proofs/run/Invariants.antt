@@ -1,5 +1,5 @@
 use Rattle.std.proofs.Common.{[], get_or, length}
-use Rattle.embedding.proofs.main.Given as goal
+use Rattle.embedding.proofs.run.Given as goal
 
 -- the names of the cells that were just made
 abbrev pub ghosts-transform : goal.ghosts-transform

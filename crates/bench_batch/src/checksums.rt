@@ -1,20 +1,18 @@
-//! Measures the two functions of `crc32c` side by side on 64 KiB. Given how many times to sum the
-//! bytes in a turn, it takes ten turns with each and prints the bytes a second of the best; given
-//! nothing, it prints nothing.
-#![tactic(auto)]
+//! The two functions of `crc32c` side by side, on 64 KiB.
 
 ghost use Rattle.std.specs.Prelude.{◌<◌, length};
 
 use crc32c::{sum, sum_by_bytes};
-use std::rt::Runtime;
+use std::alloc::Global;
+use std::io;
+use std::rt::Clock;
 use std::time::{Duration, Instant};
-use std::{env, io};
 
 const LEN: usize = 65_536;
 
 const TURNS: u32 = 10;
 
-// Sums the bytes `times` times. Each time changes a byte, so that no sum can replace another.
+/// Sums the bytes `times` times. Each time changes a byte, so that no sum can replace another.
 fn turn<F: Fn(&[u8]) -> u32 + Drop>(bytes: &mut [u8], times: u32, checksum: F) -> u32
     requires filled { 0 < length bytes.old }
     requires callable { F.IsAlwaysCallable checksum }
@@ -27,12 +25,8 @@ fn turn<F: Fn(&[u8]) -> u32 + Drop>(bytes: &mut [u8], times: u32, checksum: F) -
     mixed
 }
 
-// The shortest turn with each function, and what the sums came to, which shows that all were made.
-fn shortest<R: Runtime>(
-    rt: &R,
-    bytes: &mut [u8],
-    times: u32,
-) -> io::Result<(Duration, Duration, u32)>
+/// The shortest turn with each function, and what the sums came to, which shows that all were made.
+fn shortest<R: Clock>(rt: &R, bytes: &mut [u8], times: u32) -> io::Result<(Duration, Duration, u32)>
     requires { 0 < length bytes.old }
 {
     let mut tables = Duration::MAX;
@@ -49,8 +43,9 @@ fn shortest<R: Runtime>(
     Ok((tables, one, mixed))
 }
 
-fn compare<R: Runtime>(rt: &R, times: u32) -> io::Result<()> {
-    let mut bytes = vec![in rt.alloc(); 0x5a; LEN]?;
+/// Prints the bytes a second of the best turn of each.
+pub(crate) fn compare<R: Print + Clock>(rt: &R, alloc: Global, times: u32) -> io::Result<()> {
+    let mut bytes = vec![in alloc; 0x5a; LEN]?;
     let (tables, one, mixed) = shortest(rt, &mut bytes, times)?;
     let megabytes = f64::from(times) * 0.065_536;
     println!(rt;
@@ -62,11 +57,4 @@ fn compare<R: Runtime>(rt: &R, times: u32) -> io::Result<()> {
         "ratio         {:6.1}   (sums {mixed:08x})",
         one.as_secs_f64() / tables.as_secs_f64()
     )
-}
-
-fn main(rt: HostRuntime) -> io::Result<()> {
-    match env::args(&rt)?.nth(1) {
-        Some(times) => compare(&rt, times.parse::<u32>().unwrap_or(1_000)),
-        None => Ok(()),
-    }
 }

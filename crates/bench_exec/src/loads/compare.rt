@@ -5,8 +5,8 @@ ghost use Rattle.std.specs.Prelude.{◌≡◌, ◌<◌, ◌≤◌, length, None}
 ghost use Rattle.machine_spec.specs.declared.limits.TheConstants.{MAX_SLOTS};
 ghost use Rattle.verifier_spec.specs.Checks.{failed_check};
 
-use crate::programs::random_image;
-use crate::random::Random;
+use crate::loads::programs::random_image;
+use crate::loads::random::Random;
 use abstract_regs::State;
 use annotate::{LoadFault, joined_states, load};
 use bpf_isa::{Code, Placed, decode};

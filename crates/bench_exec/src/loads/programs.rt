@@ -2,7 +2,7 @@
 
 ghost use Rattle.std.specs.Prelude.{◌<◌, ◌≤◌};
 
-use crate::random::Random;
+use crate::loads::random::Random;
 use std::alloc::Global;
 
 const ZERO: [u8; 8] = [0xb7, 0, 0, 0, 0, 0, 0, 0]; // mov64 r0, 0

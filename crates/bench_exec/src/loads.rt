@@ -1,11 +1,4 @@
 //! Holds `load` against `notes::check` on random programs with branches, and times it on long ones.
-//! With no argument it does nothing.
-//!
-//! `random COUNT SEED` makes programs and prints in how many the two differ. `time BRANCHES ROUNDS`
-//! loads a program of BRANCHES branches ROUNDS times. `keep BRANCHES COUNT` does the same, for 0
-//! branches in a straight line, and keeps all that is loaded until the end: the process's memory
-//! then says what a program takes.
-#![tactic(auto)]
 
 mod compare;
 mod keeping;
@@ -13,11 +6,11 @@ mod programs;
 mod random;
 mod timing;
 
-use crate::compare::Tally;
-use crate::random::Random;
+use crate::loads::compare::Tally;
+use crate::loads::random::Random;
 use std::alloc::Global;
+use std::io;
 use std::rt::Clock;
-use std::{env, io};
 
 fn print_tally<R: Print>(rt: &R, count: u32, tally: &Tally) -> io::Result<()> {
     let (accepted, refused, widened) = (tally.accepted, tally.refused, tally.widened);
@@ -53,26 +46,16 @@ fn print_kept<R: Print>(rt: &R, alloc: Global, branches: u32, count: u32) -> io:
     println!(rt; "{programs} programs of {instructions} instructions, {states} states kept of each")
 }
 
-fn main(rt: HostRuntime) -> io::Result<()> {
-    let alloc = rt.alloc();
-    let mut arguments = env::args(&rt)?;
-    let _ = arguments.next();
-    let Some(mode) = arguments.next() else {
-        return Ok(());
-    };
-    let Some(first) = arguments.next() else {
-        return Ok(());
-    };
-    let Some(second) = arguments.next() else {
+/// Does what the words say; nothing where there are fewer than three.
+pub(crate) fn measure(rt: &HostRuntime, words: &[String]) -> io::Result<()> {
+    let (Some(mode), Some(first), Some(second)) = (words.get(0), words.get(1), words.get(2)) else {
         return Ok(());
     };
     let first: u32 = first.as_str().parse().unwrap_or(1);
     let second: u32 = second.as_str().parse().unwrap_or(1);
-    if mode.as_str() == "time" {
-        time_all(&rt, alloc, first, second)
-    } else if mode.as_str() == "keep" {
-        print_kept(&rt, alloc, first, second)
-    } else {
-        compare_all(&rt, alloc, first, u64::from(second))
+    match mode.as_str() {
+        "time" => time_all(rt, rt.alloc(), first, second),
+        "keep" => print_kept(rt, rt.alloc(), first, second),
+        _ => compare_all(rt, rt.alloc(), first, u64::from(second)),
     }
 }

@@ -1,6 +1,7 @@
-use crate::programs::{branching, straight};
+use crate::loads::programs::{branching, straight};
 use annotate::load;
 use machine_spec::Table;
+use notes::Verified;
 use std::alloc::Global;
 
 /// What is kept of loaded programs: how many there are, and of how many instructions and states
@@ -22,13 +23,22 @@ fn image_of(alloc: Global, branches: u32) -> Option<Vec<u8>> {
     }
 }
 
+/// Whether a program is loaded, and kept with the others.
+fn keep(alloc: Global, image: &[u8], programs: &mut Vec<Verified>) -> bool {
+    match load(alloc, image, Table::One) {
+        Ok(program) => programs.push(program).is_ok(),
+        Err(_) => false,
+    }
+}
+
 /// Loads a program `count` times and keeps all that is loaded until the last.
 pub(crate) fn keep_all(alloc: Global, branches: u32, count: u32) -> Option<KeptState> {
     let image = image_of(alloc, branches)?;
     let mut programs = Vec::new(alloc);
     for _ in 0..count {
-        let program = load(alloc, &image, Table::One).ok()?;
-        programs.push(program).ok()?;
+        if !keep(alloc, &image, &mut programs) {
+            return None;
+        }
     }
     let first = programs.first()?;
     Some(KeptState {
