@@ -1,5 +1,6 @@
 //! Tests of programs on the interpreter and on the plain machine, by public calls: arithmetic, images, runs;
-//! in `helpers` calls of helpers, and in `damage` images that are damaged and memory that is refused.
+//! in `helpers` calls of helpers, in `plain_machine` the plain machine alone, and in `damage` images that are
+//! damaged and memory that is refused.
 #![tactic(auto)]
 
 #[cfg(test)]
