@@ -1,7 +1,7 @@
 //! Audits of receipts.
 
 use crate::books::Seen;
-use crate::play::{Scene, play};
+use crate::play::{Beside, Scene, play};
 use broker::{Audit, AuditedRows, Broker, Ended, Until};
 use broker_fixtures::{deploy, ends, is_row, put};
 use catalogue::Catalogue;
@@ -16,14 +16,14 @@ use worker::Open;
 
 #[test]
 fn receipts_are_audited_in_order(rt: HostRuntime) {
-    play(&rt, rt.alloc(), 2, 2, 8, Scene::AuditFive);
+    play(&rt, rt.alloc(), 2, 2, 8, Scene::Beside(Beside::AuditFive));
 }
 
 /// Each audit of receipts finds the rows of its own item, in each book.
-pub(crate) fn audit_five<Id: Names + Send + Sync, R: Threads + Wait + Sync>(
+pub(crate) fn audit_five<Id: Names + Send + Sync, H: Wait + Drop + Send, R: Threads + Wait + Sync>(
     rt: &R,
     alloc: Global,
-    broker: &Broker<Id, Catalogue<&R>>,
+    broker: &Broker<Id, Catalogue<H>>,
 ) -> bool {
     deploy(rt, alloc, broker, 0, &BOTH) == Some(0)
         && deploy(rt, alloc, broker, 1, &BOTH) == Some(0)
@@ -282,15 +282,15 @@ static SIX_ENDS: [Ended; 1] = [Ended::Done(8)];
 
 #[test]
 fn receipts_are_audited_by_another_thread(rt: HostRuntime) {
-    play(&rt, rt.alloc(), 1, 2, 8, Scene::AuditBeside);
+    play(&rt, rt.alloc(), 1, 2, 8, Scene::Beside(Beside::AuditBeside));
 }
 
 /// A thread that gets the receipts audits them in each book in turn, beside a worker.
-pub(crate) fn audit_beside<Id: Names + Send + Sync, R: Threads + Wait + Sync>(
-    rt: &R,
-    alloc: Global,
-    broker: &Broker<Id, Catalogue<&R>>,
-) -> bool {
+pub(crate) fn audit_beside<
+    Id: Names + Send + Sync,
+    H: Wait + Drop + Send,
+    R: Threads + Wait + Sync,
+>(rt: &R, alloc: Global, broker: &Broker<Id, Catalogue<H>>) -> bool {
     deploy(rt, alloc, broker, 0, &BOTH) == Some(0) && six_are_right(rt, alloc, broker)
 }
 

@@ -1,5 +1,5 @@
 use crate::calls;
-use crate::play::{Scene, play};
+use crate::play::{Alone, Scene, play};
 use broker::{Broker, BrokerFault};
 use broker_fixtures::{NAME, load};
 use catalogue::{CatFault, Catalogue, Finder, Known};
@@ -12,7 +12,7 @@ use std::test::*;
 
 #[test]
 fn a_deployment_is_a_mark(rt: HostRuntime) {
-    play(&rt, rt.alloc(), 1, 1, 2, Scene::Deploy);
+    play(&rt, rt.alloc(), 1, 1, 2, Scene::Alone(Alone::Deploy));
 }
 
 /// An input partition, a name, and where the mark of a deployment is and of which version, or why it is

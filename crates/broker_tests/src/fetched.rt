@@ -6,41 +6,66 @@ ghost use Rattle.log_spec.specs.Logs.{FitsLog};
 use batch::decode;
 use broker::Broker;
 use bytes::Bytes;
-use fixtures::{batch_at, batch_of_copies, record_of};
+use fixtures::{batch_at, batch_of, batch_of_copies, record_of};
 use part_log::Names;
 use std::alloc::{AllocError, Global};
 use std::sync::Wait;
 use wire_spec::{Batch, Record, Records};
 
-/// The key `k` and the value `v`, `timestamp_delta` milliseconds later than the batch's base
-/// timestamp.
-fn short_record(alloc: Global, timestamp_delta: i64) -> Result<Record, AllocError> {
-    let key = Bytes::copy_from_slice(alloc, b"k")?;
-    let value = Bytes::copy_from_slice(alloc, b"v")?;
-    Ok(record_of(alloc, timestamp_delta, Some(key), Some(value)))
+/// Adds the key `k` and the value `v`, `timestamp_delta` milliseconds later than the batch's base
+/// timestamp; whether it could.
+fn is_added(alloc: Global, list: &mut Vec<Record>, timestamp_delta: i64) -> bool {
+    match (
+        Bytes::copy_from_slice(alloc, b"k"),
+        Bytes::copy_from_slice(alloc, b"v"),
+    ) {
+        (Ok(key), Ok(value)) => {
+            let record = record_of(alloc, timestamp_delta, Some(key), Some(value));
+            list.push(record).is_ok()
+        }
+        _ => false,
+    }
 }
 
-fn two_records(alloc: Global) -> Result<Records, AllocError> {
+fn two_records(alloc: Global) -> Option<Records> {
     let mut list = Vec::new(alloc);
-    list.push(short_record(alloc, 0)?)?;
-    list.push(short_record(alloc, -100)?)?;
-    Ok(Records { list })
+    if is_added(alloc, &mut list, 0) && is_added(alloc, &mut list, -100) {
+        Some(Records { list })
+    } else {
+        None
+    }
 }
 
 /// Two records with the timestamps 1000 and 900. None where memory ran out.
 pub(crate) fn two_stamped(alloc: Global) -> Option<Batch>
     ensures { IfSome result (λ batch. FitsLog batch) }
 {
-    batch_at(1000, two_records(alloc).ok()?)
+    match two_records(alloc) {
+        Some(records) => batch_at(1000, records),
+        None => None,
+    }
 }
 
-/// One record with no key and a value of `bytes` bytes. None where it is too long or memory ran
-/// out.
-pub(crate) fn one_long(alloc: Global, bytes: usize) -> Option<Batch>
+/// Records with no key and a value of this many bytes. None where they are too long or memory ran out.
+fn batch_of_long(alloc: Global, count: usize, bytes: usize) -> Option<Batch>
     ensures { IfSome result (λ batch. FitsLog batch) }
 {
-    let value = vec![in alloc; 0x76; bytes].ok()?;
-    batch_of_copies(alloc, 1000, 1, None, Some(value.as_slice()))
+    let Ok(value) = vec![in alloc; 0x76; bytes] else {
+        return None;
+    };
+    batch_of_copies(alloc, 1000, count, None, Some(value.as_slice()))
+}
+
+/// A batch of records with values of this many bytes, or with none. None where it is too long or memory
+/// ran out.
+pub(crate) fn batch_with(alloc: Global, count: usize, bytes: usize) -> Option<Batch>
+    ensures { IfSome result (λ batch. FitsLog batch) }
+{
+    if bytes == 0 {
+        batch_of(alloc, count, 1000)
+    } else {
+        batch_of_long(alloc, count, bytes)
+    }
 }
 
 fn stamped_records(alloc: Global, count: usize) -> Result<Records, AllocError> {
@@ -56,31 +81,52 @@ fn stamped_records(alloc: Global, count: usize) -> Result<Records, AllocError> {
 pub(crate) fn stamped(alloc: Global, count: usize) -> Option<Batch>
     ensures { IfSome result (λ batch. FitsLog batch) }
 {
-    batch_at(1000, stamped_records(alloc, count).ok()?)
+    match stamped_records(alloc, count) {
+        Ok(records) => batch_at(1000, records),
+        Err(_) => None,
+    }
 }
 
-/// How many bytes a fetch from output 0 returns, and the batch that they are. None where it returns none, or
-/// one that is not read whole.
+/// The batch that all of these bytes are.
+fn read(alloc: Global, bytes: Vec<u8>) -> Option<Batch> {
+    let size = bytes.len();
+    match Bytes::from_vec(bytes) {
+        Ok(bytes) => match decode(alloc, bytes) {
+            Ok((batch, used)) if used == size => Some(batch),
+            _ => None,
+        },
+        Err(_) => None,
+    }
+}
+
+/// The bytes that a fetch from output 0 returns. None where it returns none.
 fn fetched<Id: Names, C, R: Wait>(
     rt: &R,
-    alloc: Global,
     broker: &Broker<Id, C>,
     place: usize,
     max: usize,
-) -> Option<(usize, Batch)> {
+) -> Option<Vec<u8>> {
     match broker.fetch(rt, 0, place, max) {
-        Ok(Some(bytes)) => read(alloc, bytes),
+        Ok(bytes) => bytes,
+        Err(_) => None,
+    }
+}
+
+/// How many records these bytes have, if they are one batch with this base offset.
+fn records_at(alloc: Global, bytes: Vec<u8>, place: usize) -> Option<usize> {
+    match read(alloc, bytes) {
+        Some(batch) if batch.base_offset.cast_unsigned() == place as u64 => {
+            Some(batch.records.list.len())
+        }
         _ => None,
     }
 }
 
-fn read(alloc: Global, bytes: Vec<u8>) -> Option<(usize, Batch)> {
+fn size_at(alloc: Global, bytes: Vec<u8>, place: usize) -> Option<(usize, usize)> {
     let size = bytes.len();
-    let (batch, used) = decode(alloc, Bytes::from_vec(bytes).ok()?).ok()?;
-    if used == size {
-        Some((size, batch))
-    } else {
-        None
+    match records_at(alloc, bytes, place) {
+        Some(records) => Some((size, records)),
+        None => None,
     }
 }
 
@@ -93,11 +139,24 @@ pub(crate) fn sizes<Id: Names, C, R: Wait>(
     place: usize,
     max: usize,
 ) -> Option<(usize, usize)> {
-    let (size, batch) = fetched(rt, alloc, broker, place, max)?;
-    if batch.base_offset.cast_unsigned() == place as u64 {
-        Some((size, batch.records.list.len()))
-    } else {
-        None
+    match fetched(rt, broker, place, max) {
+        Some(bytes) => size_at(alloc, bytes, place),
+        None => None,
+    }
+}
+
+fn stamps_in(batch: &Batch) -> Option<(usize, i64, i64)> {
+    let records = &batch.records.list;
+    match records.last() {
+        Some(last) => Some((records.len(), batch.base_timestamp, last.timestamp_delta)),
+        None => None,
+    }
+}
+
+fn stamps_of(alloc: Global, bytes: Vec<u8>) -> Option<(usize, i64, i64)> {
+    match read(alloc, bytes) {
+        Some(batch) => stamps_in(&batch),
+        None => None,
     }
 }
 
@@ -110,7 +169,8 @@ pub(crate) fn stamps<Id: Names, C, R: Wait>(
     place: usize,
     max: usize,
 ) -> Option<(usize, i64, i64)> {
-    let (_size, batch) = fetched(rt, alloc, broker, place, max)?;
-    let last = batch.records.list.last()?.timestamp_delta;
-    Some((batch.records.list.len(), batch.base_timestamp, last))
+    match fetched(rt, broker, place, max) {
+        Some(bytes) => stamps_of(alloc, bytes),
+        None => None,
+    }
 }

@@ -1,19 +1,15 @@
-ghost use Rattle.std.specs.Prelude.{IfSome};
-ghost use Rattle.log_spec.specs.Logs.{FitsLog};
-
 use crate::calls::append;
-use crate::fetched::{one_long, sizes, two_stamped};
-use crate::play::{Scene, play};
+use crate::fetched::{batch_with, sizes, two_stamped};
+use crate::play::{Drained, Scene, play};
 use broker::{Broker, BrokerFault, Ended, Until};
 use broker_fixtures::{deploy, ends};
 use catalogue::Catalogue;
-use fixtures::{FORWARD, batch_of};
+use fixtures::FORWARD;
 use part_log::Names;
 use std::alloc::Global;
 use std::sync::Wait;
 use std::test::*;
 use std::thread::Threads;
-use wire_spec::Batch;
 use worker::Open;
 
 /// The batch of two rows with the key `k`, the value `v` and the timestamps 1000 and 900, spelled by
@@ -27,7 +23,7 @@ static TWO: [u8; 80] = [
 
 #[test]
 fn rows_are_fetched_as_a_batch(rt: HostRuntime) {
-    play(&rt, rt.alloc(), 1, 2, 8, Scene::FetchTwo);
+    play(&rt, rt.alloc(), 1, 2, 8, Scene::Drained(Drained::FetchTwo));
 }
 
 /// An output partition, a place and a number of rows, and whether the batch of both rows is fetched, or none,
@@ -110,7 +106,14 @@ fn have_sizes<Id: Names, C, R: Wait>(
 
 #[test]
 fn a_batch_takes_as_many_rows_as_it_may(rt: HostRuntime) {
-    play(&rt, rt.alloc(), 1, 1, 32, Scene::FetchMany);
+    play(
+        &rt,
+        rt.alloc(),
+        1,
+        1,
+        32,
+        Scene::Drained(Drained::FetchMany),
+    );
 }
 
 /// How often a batch is appended, and how many records it has; or of one record, the bytes of its value.
@@ -177,15 +180,4 @@ fn append_times<Id: Names, C, R: Wait>(
         }
     }
     true
-}
-
-/// A batch of records without values, or of one with a value of this many bytes.
-fn batch_with(alloc: Global, count: usize, bytes: usize) -> Option<Batch>
-    ensures { IfSome result (λ batch. FitsLog batch) }
-{
-    if bytes == 0 {
-        batch_of(alloc, count, 1000)
-    } else {
-        one_long(alloc, bytes)
-    }
 }

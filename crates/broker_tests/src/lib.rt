@@ -1,6 +1,7 @@
-//! Tests of logs, the catalogue, workers, books and fetches, by the public calls of `broker` and of the crates
-//! below it; in `reports` of reports, in `memory` of what calls leave where memory runs out, and in
-//! `schedules` of what threads do in many orders.
+//! Tests of records through programs by public calls. Most are of a broker: logs, the catalogue, workers, books
+//! and fetches; in `reports` of reports, in `memory` of what calls leave where memory runs out, and in
+//! `schedules` of what threads do in many orders. Those of `worlds` are of the core, and those of `transforms`
+//! of batches without a broker.
 #![tactic(auto)]
 
 #[cfg(test)]
@@ -30,6 +31,8 @@ mod memory;
 #[cfg(test)]
 mod names;
 #[cfg(test)]
+mod narrow;
+#[cfg(test)]
 mod offers;
 #[cfg(test)]
 mod play;
@@ -46,6 +49,12 @@ mod streams;
 #[cfg(test)]
 mod threads;
 #[cfg(test)]
+mod transforms;
+#[cfg(test)]
+mod verdicts;
+#[cfg(test)]
 mod waits;
 #[cfg(test)]
 mod workers;
+#[cfg(test)]
+mod worlds;

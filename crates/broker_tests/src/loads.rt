@@ -1,6 +1,6 @@
 use crate::beside::both;
 use crate::calls::deploy;
-use crate::play::{Scene, play};
+use crate::play::{Beside, Scene, play};
 use broker::Broker;
 use bytes::Bytes;
 use catalogue::{Catalogue, Finder, Known};
@@ -22,14 +22,14 @@ type Published = Mutex<Vec<Known>>;
 
 #[test]
 fn deployments_are_never_older_than_known(rt: HostRuntime) {
-    play(&rt, rt.alloc(), 1, 1, LOADS, Scene::Chase);
+    play(&rt, rt.alloc(), 1, 1, LOADS, Scene::Beside(Beside::Chase));
 }
 
 /// A thread deploys what another one loads.
-pub(crate) fn chase<Id: Names + Send + Sync, R: Threads + Wait + Sync>(
+pub(crate) fn chase<Id: Names + Send + Sync, H: Wait + Drop + Send, R: Threads + Wait + Sync>(
     rt: &R,
     alloc: Global,
-    broker: &Broker<Id, Catalogue<&R>>,
+    broker: &Broker<Id, Catalogue<H>>,
 ) -> bool {
     let published = Mutex::new(Vec::new(alloc));
     is_chased(rt, alloc, broker, &published)

@@ -1,7 +1,7 @@
 ghost use Rattle.std.specs.Prelude.{◌≡◌};
 
 use crate::calls::{Place, append, enter, placed};
-use crate::play::{Scene, play};
+use crate::play::{Alone, Scene, play};
 use broker::{Broker, BrokerFault};
 use broker_fixtures::program_of;
 use catalogue::CatFault;
@@ -84,7 +84,7 @@ fn answer<Id: Names, R: Wait>(
 
 #[test]
 fn a_full_log_takes_nothing(rt: HostRuntime) {
-    play(&rt, rt.alloc(), 1, 2, 1, Scene::Fill);
+    play(&rt, rt.alloc(), 1, 2, 1, Scene::Alone(Alone::Fill));
 }
 
 pub(crate) fn fill_one<Id: Names, C, R: Wait>(

@@ -155,6 +155,22 @@ fn finds(alloc: Global, finder: &mut Finder, known: &Known, rows: &[Found]) -> b
     true
 }
 
+/// What is known after another load, if a finder finds before and after it what it must.
+fn load_newer<R: Wait + Drop>(
+    alloc: Global,
+    catalogue: &mut Catalogue<R>,
+    finder: &mut Finder,
+    known: &Known,
+) -> Option<Known> {
+    if !finds(alloc, finder, known, &ONE) {
+        return None;
+    }
+    match load(alloc, catalogue) {
+        Ok(newer) if finds(alloc, finder, known, &TWO) => Some(newer),
+        _ => None,
+    }
+}
+
 /// What is known after the second of two loads, if a finder finds after each what it must by what was
 /// known after the first.
 fn load_two<R: Wait + Drop>(
@@ -162,15 +178,9 @@ fn load_two<R: Wait + Drop>(
     catalogue: &mut Catalogue<R>,
     finder: &mut Finder,
 ) -> Option<Known> {
-    let known = load(alloc, catalogue).ok()?;
-    if !finds(alloc, finder, &known, &ONE) {
-        return None;
-    }
-    let newer = load(alloc, catalogue).ok()?;
-    if finds(alloc, finder, &known, &TWO) {
-        Some(newer)
-    } else {
-        None
+    match load(alloc, catalogue) {
+        Ok(known) => load_newer(alloc, catalogue, finder, &known),
+        Err(_) => None,
     }
 }
 
@@ -192,11 +202,22 @@ fn finds_last<R: Wait + Drop>(alloc: Global, catalogue: Catalogue<R>, finder: &m
     }
 }
 
+fn with_finder<R: Wait + Drop>(
+    alloc: Global,
+    catalogue: Catalogue<R>,
+) -> Option<(Catalogue<R>, Finder)> {
+    match catalogue.reader(alloc) {
+        Ok(finder) => Some((catalogue, finder)),
+        Err(_) => None,
+    }
+}
+
 /// A catalogue and a finder of it.
 fn begin<R: Wait>(rt: &R, alloc: Global) -> Option<(Catalogue<&R>, Finder)> {
-    let catalogue = Catalogue::new(rt, alloc).ok()?;
-    let finder = catalogue.reader(alloc).ok()?;
-    Some((catalogue, finder))
+    match Catalogue::new(rt, alloc) {
+        Ok(catalogue) => with_finder(alloc, catalogue),
+        Err(_) => None,
+    }
 }
 
 #[test]
@@ -209,11 +230,25 @@ fn finders_find_the_last_version(rt: HostRuntime) {
     assert!(rt; is_right);
 }
 
+/// Adds a finder; whether it could.
+fn is_added<R: Wait + Drop>(
+    alloc: Global,
+    catalogue: &Catalogue<R>,
+    finders: &mut Vec<Finder>,
+) -> bool {
+    match catalogue.reader(alloc) {
+        Ok(finder) => finders.push(finder).is_ok(),
+        Err(_) => false,
+    }
+}
+
 /// As many finders as there are.
 fn all_finders<R: Wait + Drop>(alloc: Global, catalogue: &Catalogue<R>) -> Option<Vec<Finder>> {
     let mut finders = Vec::new(alloc);
     for _ in 0..64 {
-        finders.push(catalogue.reader(alloc).ok()?).ok()?;
+        if !is_added(alloc, catalogue, &mut finders) {
+            return None;
+        }
     }
     Some(finders)
 }
@@ -234,15 +269,23 @@ fn are_all<R: Wait + Drop>(
     is_last && refusal(alloc, catalogue).is_none()
 }
 
-fn has_all_finders<R: Wait>(rt: &R, alloc: Global) -> Option<bool> {
-    let catalogue = Catalogue::new(rt, alloc).ok()?;
-    let mut finders = all_finders(alloc, &catalogue)?;
-    Some(are_all(alloc, &catalogue, &mut finders))
+fn has_finders<R: Wait + Drop>(alloc: Global, catalogue: &Catalogue<R>) -> bool {
+    match all_finders(alloc, catalogue) {
+        Some(mut finders) => are_all(alloc, catalogue, &mut finders),
+        None => false,
+    }
+}
+
+fn has_all_finders<R: Wait>(rt: &R, alloc: Global) -> bool {
+    match Catalogue::new(rt, alloc) {
+        Ok(catalogue) => has_finders(alloc, &catalogue),
+        Err(_) => false,
+    }
 }
 
 #[test]
 fn a_catalogue_has_64_readers(rt: HostRuntime) {
-    assert!(rt; has_all_finders(&rt, rt.alloc()) == Some(true));
+    assert!(rt; has_all_finders(&rt, rt.alloc()));
 }
 
 /// Whether another load has this version, and that is the one that is found then.

@@ -9,7 +9,7 @@ use std::alloc::Global;
 use std::marker::Brand;
 use std::sync::Wait;
 use std::test::*;
-use worker::Walk;
+use worker::{Delivery, Walk};
 
 #[test]
 fn a_book_takes_items_in_order(rt: HostRuntime) {
@@ -80,6 +80,21 @@ fn answers<Id: Names>(
     true
 }
 
+fn answer_at<Id: Names>(
+    alloc: Global,
+    log: &PartLog<Id>,
+    walk: &Walk<Id>,
+    how: How,
+    book: &mut Book<Id>,
+) -> Option<Result<Delivered, BookFault>>
+    requires { Id.outputs ≡ 1 }
+{
+    match how {
+        How::Offered => offer(alloc, log, walk, book),
+        How::ByValue => hand_over(alloc, log, walk, book),
+    }
+}
+
 fn answer<Id: Names>(
     alloc: Global,
     log: &PartLog<Id>,
@@ -89,10 +104,9 @@ fn answer<Id: Names>(
 ) -> Option<Result<Delivered, BookFault>>
     requires { Id.outputs ≡ 1 }
 {
-    let walk = walk_to(log, item)?;
-    match how {
-        How::Offered => offer(alloc, log, &walk, book),
-        How::ByValue => hand_over(alloc, log, &walk, book),
+    match walk_to(log, item) {
+        Some(walk) => answer_at(alloc, log, &walk, how, book),
+        None => None,
     }
 }
 
@@ -109,6 +123,21 @@ fn walk_to<Id: Names>(log: &PartLog<Id>, item: usize) -> Option<Walk<Id>> {
     Some(walk)
 }
 
+/// Gives a book its own of these deliveries.
+fn receive<Id: Names>(
+    alloc: Global,
+    walk: &Walk<Id>,
+    deliveries: Vec<Delivery<Id>>,
+    book: &mut Book<Id>,
+) -> Option<Result<Delivered, BookFault>> {
+    for delivery in deliveries {
+        if delivery.output() == book.output() {
+            return Some(book.receive(walk, delivery, &mut Room::new(alloc)));
+        }
+    }
+    None
+}
+
 /// Gives a book the rows of the item at a walk's position by value.
 fn hand_over<Id: Names>(
     alloc: Global,
@@ -119,13 +148,10 @@ fn hand_over<Id: Names>(
     requires { Id.outputs ≡ 1 }
 {
     let results = results_of(alloc, walk, log, 1)?;
-    let deliveries = results.into_deliveries(alloc).ok()?;
-    for delivery in deliveries {
-        if delivery.output() == book.output() {
-            return Some(book.receive(walk, delivery, &mut Room::new(alloc)));
-        }
+    match results.into_deliveries(alloc) {
+        Ok(deliveries) => receive(alloc, walk, deliveries, book),
+        Err(_) => None,
     }
-    None
 }
 
 /// Offers the item at a walk's position to a book.

@@ -28,64 +28,115 @@ use std::rt::Clock;
 use std::sync::Wait;
 use std::thread::Threads;
 
-/// What is done with a broker.
+/// What one thread does with a broker.
 #[derive(Clone, Copy)]
-pub(crate) enum Scene {
+pub(crate) enum Alone {
+    Deploy,
+    Faults,
+    Fill,
+    Pieces,
+    Step,
+    StepApart,
+}
+
+/// What workers do with a broker, and what is fetched or reported then.
+#[derive(Clone, Copy)]
+pub(crate) enum Drained {
+    CutShort,
+    DeployLate,
+    FetchMany,
+    FetchTwo,
+    FillTwo,
+    KeepOne,
+    LookUp,
+    RejectSome,
+}
+
+/// What workers or other threads do with a broker beside each other.
+#[derive(Clone, Copy)]
+pub(crate) enum Beside {
     AuditBeside,
     AuditFive,
     Chase,
-    CutShort,
-    Deploy,
-    DeployLate,
-    Faults,
-    FetchMany,
-    FetchTwo,
-    Fill,
-    FillTwo,
     Follow,
-    KeepOne,
     Late,
-    LookUp,
     Pair,
-    Pieces,
-    RejectSome,
     Share,
-    Step,
-    StepApart,
     Stopped,
+}
+
+/// What is done with a broker.
+#[derive(Clone, Copy)]
+pub(crate) enum Scene {
+    Alone(Alone),
+    Drained(Drained),
+    Beside(Beside),
     Wake,
 }
 
-/// Whether a scene comes out as it must.
-fn act<Id: Names + Send + Sync, R: Threads + Wait + Clock + Sync>(
+fn act_alone<Id: Names, H: Wait + Drop, R: Wait>(
     rt: &R,
     alloc: Global,
-    broker: &Broker<Id, Catalogue<&R>>,
+    broker: &Broker<Id, Catalogue<H>>,
+    scene: Alone,
+) -> bool {
+    match scene {
+        Alone::Deploy => deploy_some(rt, alloc, broker),
+        Alone::Faults => meet_faults(rt, alloc, broker),
+        Alone::Fill => fill_one(rt, alloc, broker),
+        Alone::Pieces => append_in_pieces(rt, alloc, broker),
+        Alone::Step => step_two(rt, alloc, broker),
+        Alone::StepApart => step_apart(rt, alloc, broker),
+    }
+}
+
+fn act_drained<Id: Names + Send + Sync, H: Wait + Drop + Send, R: Threads + Wait + Sync>(
+    rt: &R,
+    alloc: Global,
+    broker: &Broker<Id, Catalogue<H>>,
+    scene: Drained,
+) -> bool {
+    match scene {
+        Drained::CutShort => cut_short(rt, alloc, broker),
+        Drained::DeployLate => deploy_late(rt, alloc, broker),
+        Drained::FetchMany => fetch_many(rt, alloc, broker),
+        Drained::FetchTwo => fetch_two(rt, alloc, broker),
+        Drained::FillTwo => fill_two(rt, alloc, broker),
+        Drained::KeepOne => keep_one(rt, alloc, broker),
+        Drained::LookUp => look_up(rt, alloc, broker),
+        Drained::RejectSome => reject_some(rt, alloc, broker),
+    }
+}
+
+fn act_beside<Id: Names + Send + Sync, H: Wait + Drop + Send, R: Threads + Wait + Sync>(
+    rt: &R,
+    alloc: Global,
+    broker: &Broker<Id, Catalogue<H>>,
+    scene: Beside,
+) -> bool {
+    match scene {
+        Beside::AuditBeside => audit_beside(rt, alloc, broker),
+        Beside::AuditFive => audit_five(rt, alloc, broker),
+        Beside::Chase => chase(rt, alloc, broker),
+        Beside::Follow => follow(rt, alloc, broker),
+        Beside::Late => late(rt, alloc, broker),
+        Beside::Pair => pair(rt, alloc, broker),
+        Beside::Share => share(rt, alloc, broker),
+        Beside::Stopped => stopped(rt, alloc, broker),
+    }
+}
+
+/// Whether a scene comes out as it must.
+fn act<Id: Names + Send + Sync, H: Wait + Drop + Send, R: Threads + Wait + Clock + Sync>(
+    rt: &R,
+    alloc: Global,
+    broker: &Broker<Id, Catalogue<H>>,
     scene: Scene,
 ) -> bool {
     match scene {
-        Scene::AuditBeside => audit_beside(rt, alloc, broker),
-        Scene::AuditFive => audit_five(rt, alloc, broker),
-        Scene::Chase => chase(rt, alloc, broker),
-        Scene::CutShort => cut_short(rt, alloc, broker),
-        Scene::Deploy => deploy_some(rt, alloc, broker),
-        Scene::DeployLate => deploy_late(rt, alloc, broker),
-        Scene::Faults => meet_faults(rt, alloc, broker),
-        Scene::FetchMany => fetch_many(rt, alloc, broker),
-        Scene::FetchTwo => fetch_two(rt, alloc, broker),
-        Scene::Fill => fill_one(rt, alloc, broker),
-        Scene::FillTwo => fill_two(rt, alloc, broker),
-        Scene::Follow => follow(rt, alloc, broker),
-        Scene::KeepOne => keep_one(rt, alloc, broker),
-        Scene::Late => late(rt, alloc, broker),
-        Scene::LookUp => look_up(rt, alloc, broker),
-        Scene::Pair => pair(rt, alloc, broker),
-        Scene::Pieces => append_in_pieces(rt, alloc, broker),
-        Scene::RejectSome => reject_some(rt, alloc, broker),
-        Scene::Share => share(rt, alloc, broker),
-        Scene::Step => step_two(rt, alloc, broker),
-        Scene::StepApart => step_apart(rt, alloc, broker),
-        Scene::Stopped => stopped(rt, alloc, broker),
+        Scene::Alone(scene) => act_alone(rt, alloc, broker, scene),
+        Scene::Drained(scene) => act_drained(rt, alloc, broker, scene),
+        Scene::Beside(scene) => act_beside(rt, alloc, broker, scene),
         Scene::Wake => wake(rt, alloc, broker),
     }
 }

@@ -3,10 +3,10 @@
 
 mod books;
 mod core_lists;
+mod desk;
 mod gates;
 mod interleavings;
-mod making;
+pub(crate) mod making;
 mod play;
 mod rows;
 mod threads;
-mod verdicts;

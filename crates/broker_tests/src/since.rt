@@ -2,7 +2,7 @@
 
 use crate::calls::append;
 use crate::fetched::{stamped, stamps};
-use crate::play::{Scene, play};
+use crate::play::{Drained, Scene, play};
 use broker::Broker;
 use broker_fixtures::{deploy, drain};
 use catalogue::Catalogue;
@@ -65,7 +65,7 @@ static PARTED_RUNS: [Since; 4] = [
 
 #[test]
 fn rows_are_found_from_an_offset_on(rt: HostRuntime) {
-    play(&rt, rt.alloc(), 2, 1, 128, Scene::LookUp);
+    play(&rt, rt.alloc(), 2, 1, 128, Scene::Drained(Drained::LookUp));
 }
 
 pub(crate) fn look_up<Id: Names + Send + Sync, H: Wait + Drop + Send, R: Threads + Wait + Sync>(

@@ -1,19 +1,22 @@
+ghost use Rattle.std.specs.Prelude.{◌≡◌, true};
+ghost use Rattle.out_book.specs.Books.{done_of};
+
 use crate::books::{Held, hold};
 use crate::calls::puts;
-use crate::play::{Scene, play};
+use crate::play::{Alone, Scene, play};
 use broker::{Broker, Stepped};
 use broker_fixtures::{audited, deploy, put, step};
 use catalogue::Catalogue;
 use fixtures::FORWARD;
 use out_book::Book;
-use part_log::{Names, Receipt};
+use part_log::{Names, Note, Receipt};
 use std::alloc::Global;
 use std::sync::Wait;
 use std::test::*;
 
 #[test]
 fn a_step_adds_the_rows_of_a_program(rt: HostRuntime) {
-    play(&rt, rt.alloc(), 1, 2, 8, Scene::Step);
+    play(&rt, rt.alloc(), 1, 2, 8, Scene::Alone(Alone::Step));
 }
 
 /// What the book of output 0 holds after its first steps, and after one more.
@@ -98,10 +101,38 @@ fn steps_late<Id: Names, C, R: Wait>(
         return false;
     }
     let mut note = broker.note(0, done);
-    if broker.step(alloc, book, 0, &mut note) != Ok(Stepped::Nothing)
-        || !puts(rt, alloc, broker, 0, b'w')
-    {
-        return false;
+    finds_nothing(alloc, broker, book, &mut note)
+        && puts(rt, alloc, broker, 0, b'w')
+        && adds_one(alloc, broker, book, &mut note)
+}
+
+/// Whether a step finds nothing. The book and the note are then as they were.
+fn finds_nothing<Id: Names, C>(
+    alloc: Global,
+    broker: &Broker<Id, C>,
+    book: &mut Book<Id>,
+    note: &mut Note<Id>,
+) -> bool
+    requires partition { note.old.partition ≡ 0 }
+    requires index { note.old.index ≡ done_of book.old.logs 0 }
+    ensures book { result ≡ true → book.new ≡ book.old }
+    ensures note { result ≡ true → note.new ≡ note.old }
+{
+    match broker.step(alloc, book, 0, note) {
+        Ok(Stepped::Nothing) => true,
+        _ => false,
     }
-    broker.step(alloc, book, 0, &mut note) == Ok(Stepped::Added(1))
+}
+
+/// Whether a step adds a row.
+fn adds_one<Id: Names, C>(
+    alloc: Global,
+    broker: &Broker<Id, C>,
+    book: &mut Book<Id>,
+    note: &mut Note<Id>,
+) -> bool
+    requires partition { note.old.partition ≡ 0 }
+    requires index { note.old.index ≡ done_of book.old.logs 0 }
+{
+    broker.step(alloc, book, 0, note) == Ok(Stepped::Added(1))
 }

@@ -1,6 +1,6 @@
 //! Batches of a stream, appended as soon as each is whole.
 
-use crate::play::{Scene, play};
+use crate::play::{Alone, Scene, play};
 use broker::{Broker, BrokerFault, StreamFault};
 use fixtures::ONE;
 use part_log::{LogFault, Names, Receipt};
@@ -108,7 +108,7 @@ fn two_with(place: usize, byte: u8) -> [u8; 140] {
 
 #[test]
 fn batches_of_any_pieces_are_appended(rt: HostRuntime) {
-    play(&rt, rt.alloc(), 1, 1, 280, Scene::Pieces);
+    play(&rt, rt.alloc(), 1, 1, 280, Scene::Alone(Alone::Pieces));
 }
 
 pub(crate) fn append_in_pieces<Id: Names, C, R: Wait>(
@@ -141,7 +141,7 @@ fn is_appended<Id: Names, C, R: Wait>(
 
 #[test]
 fn batches_before_a_fault_stay(rt: HostRuntime) {
-    play(&rt, rt.alloc(), 1, 1, 8, Scene::Faults);
+    play(&rt, rt.alloc(), 1, 1, 8, Scene::Alone(Alone::Faults));
 }
 
 /// Two batches, whose byte at a place is another one, cut to a length; how they are read, and what is

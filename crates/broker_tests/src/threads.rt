@@ -1,4 +1,4 @@
-use crate::play::{Scene, play};
+use crate::play::{Beside, Scene, play};
 use broker::{Broker, BrokerFault};
 use fixtures::batch_of;
 use part_log::{Item, LogFault, Names, Receipt, Trail};
@@ -35,7 +35,14 @@ struct Report {
 
 #[test]
 fn producers_and_readers_share_logs(rt: HostRuntime) {
-    play(&rt, rt.alloc(), INPUTS, 1, CELLS, Scene::Share);
+    play(
+        &rt,
+        rt.alloc(),
+        INPUTS,
+        1,
+        CELLS,
+        Scene::Beside(Beside::Share),
+    );
 }
 
 /// Each log is full, and has what the threads reported of it.
@@ -74,11 +81,9 @@ fn taken_in<Id: Names, C, R: Wait>(
     reports: &[Option<Report>],
     input: usize,
 ) -> Option<usize> {
-    let items = items_of(rt, alloc, broker, input)?;
-    if items.len() == CELLS {
-        taken_from(reports, input, &items)
-    } else {
-        None
+    match items_of(rt, alloc, broker, input) {
+        Some(items) if items.len() == CELLS => taken_from(reports, input, &items),
+        _ => None,
     }
 }
 
@@ -124,7 +129,11 @@ fn produce<Id: Names, C, R: Wait>(
     for turn in 0..CELLS {
         let timestamp = first.wrapping_add(turn as i64);
         match append(rt, alloc, broker, input, turn % 3 + 1, timestamp) {
-            Ok(one) => taken.push(one).ok()?,
+            Ok(one) => {
+                let Ok(()) = taken.push(one) else {
+                    return None;
+                };
+            }
             Err(BrokerFault::Log(LogFault::Full)) => break,
             Err(_) => return None,
         }
@@ -244,13 +253,17 @@ fn items_on<Id: Names, C>(
     let mut base = 0u64;
     let mut items = Vec::new(alloc);
     for index in 0..trail.len() {
-        let (timestamp, records) = read(broker, trail, index)?;
+        let Some((timestamp, records)) = read(broker, trail, index) else {
+            return None;
+        };
         let one = Taken {
             index,
             base,
             timestamp,
         };
-        items.push(one).ok()?;
+        let Ok(()) = items.push(one) else {
+            return None;
+        };
         base = base.wrapping_add(records);
     }
     Some(items)

@@ -41,11 +41,11 @@ static WOKEN: [Held<'static>; 2] = [(0, 0, 4, &[(0, 0, b'A'), (1, 0, b'B')]), (1
 static WOKEN_ENDS: [Ended; 2] = [Ended::Done(4), Ended::Done(1)];
 
 /// One worker gets a mark, two records and the end, each after a rest; the other gets the end alone.
-pub(crate) fn wake<Id: Names + Send + Sync, R: Threads + Wait + Clock + Sync>(
-    rt: &R,
-    alloc: Global,
-    broker: &Broker<Id, Catalogue<&R>>,
-) -> bool {
+pub(crate) fn wake<
+    Id: Names + Send + Sync,
+    H: Wait + Drop + Send,
+    R: Threads + Wait + Clock + Sync,
+>(rt: &R, alloc: Global, broker: &Broker<Id, Catalogue<H>>) -> bool {
     follow_rests(rt, alloc, broker) && hold(rt, broker, &WOKEN)
 }
 

@@ -2,7 +2,7 @@ use crate::beside::both;
 use crate::books::{Held, hold};
 use crate::calls::puts;
 use crate::gates::{Hold, Pair, Shut};
-use crate::play::{Scene, play};
+use crate::play::{Beside, Scene, play};
 use broker::{Broker, Ended, Until};
 use broker_fixtures::{deploy, ends, sees};
 use catalogue::Catalogue;
@@ -35,7 +35,7 @@ fn begin<Id: Names, H: Wait + Drop, R: Wait>(
 
 #[test]
 fn workers_run_side_by_side(rt: HostRuntime) {
-    play(&rt, rt.alloc(), 2, 1, 2, Scene::Pair);
+    play(&rt, rt.alloc(), 2, 1, 2, Scene::Beside(Beside::Pair));
 }
 
 static PAIRED_ENDS: [Ended; 2] = [Ended::Done(2), Ended::Done(2)];
@@ -62,7 +62,7 @@ pub(crate) fn pair<Id: Names + Send + Sync, H: Wait + Drop + Send, R: Threads + 
 
 #[test]
 fn a_record_runs_by_the_mark_before_it(rt: HostRuntime) {
-    play(&rt, rt.alloc(), 1, 2, 8, Scene::Late);
+    play(&rt, rt.alloc(), 1, 2, 8, Scene::Beside(Beside::Late));
 }
 
 /// What the books hold after the first worker, of its output, and after the second.
@@ -80,10 +80,10 @@ static LATE_ENDS: [Ended; 1] = [Ended::Done(4)];
 
 /// A program is deployed and a record appended while the worker is held before the record before
 /// them. The worker ends after what was there when it began; the next one takes the rest.
-pub(crate) fn late<Id: Names + Send + Sync, R: Threads + Wait + Sync>(
+pub(crate) fn late<Id: Names + Send + Sync, H: Wait + Drop + Send, R: Threads + Wait + Sync>(
     rt: &R,
     alloc: Global,
-    broker: &Broker<Id, Catalogue<&R>>,
+    broker: &Broker<Id, Catalogue<H>>,
 ) -> bool {
     let gate = Hold::new();
     begin(rt, alloc, broker, 0, &BOTH)
@@ -126,7 +126,7 @@ fn append_late<Id: Names, H: Wait + Drop, R: Wait>(
 
 #[test]
 fn a_stopped_worker_goes_on(rt: HostRuntime) {
-    play(&rt, rt.alloc(), 1, 2, 2, Scene::Stopped);
+    play(&rt, rt.alloc(), 1, 2, 2, Scene::Beside(Beside::Stopped));
 }
 
 /// What the books hold after a worker that is stopped, and after the next one.
@@ -158,7 +158,7 @@ pub(crate) fn stopped<Id: Names + Send + Sync, H: Wait + Drop + Send, R: Threads
 
 #[test]
 fn workers_follow_logs_to_their_end(rt: HostRuntime) {
-    play(&rt, rt.alloc(), 2, 1, 3, Scene::Follow);
+    play(&rt, rt.alloc(), 2, 1, 3, Scene::Beside(Beside::Follow));
 }
 
 static FOLLOWED: [Held<'static>; 2] = [(0, 0, 2, &[]), (1, 0, 3, &[(0, 0, b'A'), (1, 0, b'B')])];
@@ -168,10 +168,10 @@ static BOTH_DONE: [Ended; 2] = [Ended::Done(2), Ended::Done(3)];
 
 /// One log is closed and the other filled while the workers wait for items. Workers that begin then
 /// end at once.
-pub(crate) fn follow<Id: Names + Send + Sync, R: Threads + Wait + Sync>(
+pub(crate) fn follow<Id: Names + Send + Sync, H: Wait + Drop + Send, R: Threads + Wait + Sync>(
     rt: &R,
     alloc: Global,
-    broker: &Broker<Id, Catalogue<&R>>,
+    broker: &Broker<Id, Catalogue<H>>,
 ) -> bool {
     is_followed(rt, alloc, broker)
         && hold(rt, broker, &FOLLOWED)

@@ -146,11 +146,19 @@ fn keeps_the_batches_before_a_faulty_one(rt: HostRuntime) {
     all_hold(&rt, first_other_line(&rt, rt.alloc(), &LINES));
 }
 
+/// Adds bytes at the end; whether it could.
+fn adds(all: &mut Vec<u8>, bytes: &[u8]) -> bool {
+    all.extend_from_slice(bytes).is_ok()
+}
+
 /// Two batches and the first `cut` bytes of a third.
 fn cut_batches(alloc: Global, cut: usize) -> Option<Vec<u8>> {
-    let mut bytes = Vec::from_slice(alloc, &BATCHES).ok()?;
-    bytes.extend_from_slice(BATCHES.get(..cut)?).ok()?;
-    Some(bytes)
+    let mut bytes = Vec::new(alloc);
+    if cut <= BATCHES.len() && adds(&mut bytes, &BATCHES) && adds(&mut bytes, &BATCHES[..cut]) {
+        Some(bytes)
+    } else {
+        None
+    }
 }
 
 /// The lines of two batches, of one record and of four.
@@ -222,7 +230,9 @@ fn appends_the_batches_before_the_end_of_a_file(rt: HostRuntime) {
 fn long_bytes(alloc: Global, pairs: u32) -> Option<Vec<u8>> {
     let mut bytes = Vec::new(alloc);
     for _ in 0..pairs {
-        bytes.extend_from_slice(&BATCHES).ok()?;
+        if !adds(&mut bytes, &BATCHES) {
+            return None;
+        }
     }
     Some(bytes)
 }
@@ -233,11 +243,12 @@ fn long_lines(alloc: Global, pairs: u32) -> Option<String> {
     for pair in 0..pairs {
         let (first, base) = (pair.wrapping_mul(2), pair.wrapping_mul(5));
         let (second, next) = (first.wrapping_add(1), base.wrapping_add(1));
-        write!(
+        let Ok(()) = write!(
             lines,
             "append 0 index {first} base {base}\nappend 0 index {second} base {next}\n"
-        )
-        .ok()?;
+        ) else {
+            return None;
+        };
     }
     Some(lines)
 }

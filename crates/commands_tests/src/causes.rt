@@ -1,8 +1,7 @@
 //! Why a file that is listed ends with no batch.
 
-use crate::shelf::{BATCHES, Shelf, called_with, file_answers, shelf_of};
+use crate::shelf::{BATCHES, Shelf, called_with, empty_shelf, file_answers, puts, puts_all};
 use crate::verdicts::all_hold;
-use commands::Files;
 use std::alloc::Global;
 use std::sync::Wait;
 use std::test::*;
@@ -131,14 +130,22 @@ fn put_at(bytes: &mut [u8], at: usize, new: &[u8]) {
     }
 }
 
+/// Adds bytes at the end; whether it could.
+fn adds(all: &mut Vec<u8>, bytes: &[u8]) -> bool {
+    all.extend_from_slice(bytes).is_ok()
+}
+
 /// `PLAIN`, and after it a damaged one.
 fn damaged(alloc: Global, damage: &Damage) -> Option<Vec<u8>> {
     let mut last = PLAIN;
     put_at(&mut last, damage.0, damage.1);
     put_at(&mut last, 17, &damage.2);
-    let mut all = Vec::from_slice(alloc, &PLAIN).ok()?;
-    all.extend_from_slice(&last).ok()?;
-    Some(all)
+    let mut all = Vec::new(alloc);
+    if adds(&mut all, &PLAIN) && adds(&mut all, &last) {
+        Some(all)
+    } else {
+        None
+    }
 }
 
 /// Whether a file of these bytes is listed up to its second batch, with this cause.
@@ -187,39 +194,63 @@ const LONG: [u8; 101] = [
     6, 6, 2, 0x6b, 0x82, 0x80, 0x80, 1,
 ];
 
+/// Adds a number of bytes that are alike at the end; whether it could.
+fn adds_alike(alloc: Global, all: &mut Vec<u8>, byte: u8, count: usize) -> bool {
+    match vec![in alloc; byte; count] {
+        Ok(others) => adds(all, &others),
+        Err(_) => false,
+    }
+}
+
 /// Bytes, a number of others that are alike, and a zero.
 fn padded(alloc: Global, bytes: &[u8], byte: u8, count: usize) -> Option<Vec<u8>> {
-    let others = vec![in alloc; byte; count].ok()?;
-    let mut all = Vec::from_slice(alloc, bytes).ok()?;
-    all.extend_from_slice(&others).ok()?;
-    all.push(0).ok()?;
-    Some(all)
-}
-
-/// Puts a file on a shelf.
-fn put_file(files: &mut Shelf, name: &str, bytes: Option<Vec<u8>>) -> Option<()> {
-    files.write(name, &bytes?).ok()
-}
-
-/// Puts the beginning of a file on a shelf.
-fn put_cut(files: &mut Shelf, row: &(&str, &[u8], usize)) -> Option<()> {
-    files.write(row.0, row.1.get(..row.2)?).ok()
-}
-
-fn put_all_cut(files: &mut Shelf, rows: &[(&str, &[u8], usize)]) -> Option<()> {
-    for row in rows {
-        put_cut(files, row)?;
+    let mut all = Vec::new(alloc);
+    if adds(&mut all, bytes) && adds_alike(alloc, &mut all, byte, count) && adds(&mut all, &[0]) {
+        Some(all)
+    } else {
+        None
     }
-    Some(())
+}
+
+/// Puts a file on a shelf; whether it could.
+fn puts_file(files: &mut Shelf, name: &str, bytes: Option<Vec<u8>>) -> bool {
+    match bytes {
+        Some(bytes) => puts(files, name, &bytes),
+        None => false,
+    }
+}
+
+/// Puts the beginning of a file on a shelf; whether it could.
+fn puts_cut(files: &mut Shelf, row: &(&str, &[u8], usize)) -> bool {
+    match row.1.get(..row.2) {
+        Some(begin) => puts(files, row.0, begin),
+        None => false,
+    }
+}
+
+fn puts_all_cut(files: &mut Shelf, rows: &[(&str, &[u8], usize)]) -> bool {
+    for row in rows {
+        if !puts_cut(files, row) {
+            return false;
+        }
+    }
+    true
+}
+
+fn puts_bad(alloc: Global, files: &mut Shelf) -> bool {
+    puts_file(files, "long", padded(alloc, &LONG, b'x', 1_048_577))
+        && puts_file(files, "zeros", padded(alloc, &PLAIN, 0, 199))
+        && puts_all_cut(files, &CUT)
 }
 
 /// Files that end badly: a batch whose fourth record is too long, one with 200 zeros after it, and others.
 fn bad_files(alloc: Global) -> Option<Shelf> {
-    let mut files = shelf_of(alloc, &BAD)?;
-    put_file(&mut files, "long", padded(alloc, &LONG, b'x', 1_048_577))?;
-    put_file(&mut files, "zeros", padded(alloc, &PLAIN, 0, 199))?;
-    put_all_cut(&mut files, &CUT)?;
-    Some(files)
+    let mut files = empty_shelf(alloc);
+    if puts_all(&mut files, &BAD) && puts_bad(alloc, &mut files) {
+        Some(files)
+    } else {
+        None
+    }
 }
 
 static BAD: [(&str, &[u8]); 2] = [("magic1", &MAGIC_1), ("magic0", &MAGIC_0)];

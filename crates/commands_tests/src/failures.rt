@@ -30,11 +30,14 @@ impl Read for Breaking {
 }
 
 fn reader_of(alloc: Global, bytes: &[u8], fails: usize) -> io::Result<Breaking> {
-    Ok(Breaking {
-        bytes: Cursor::new(Vec::from_slice(alloc, bytes)?),
-        calls: 0,
-        fails,
-    })
+    match input_of(alloc, bytes) {
+        Some(bytes) => Ok(Breaking {
+            bytes,
+            calls: 0,
+            fails,
+        }),
+        None => Err(io::Error::from(io::ErrorKind::OutOfMemory)),
+    }
 }
 
 /// Files of two batches, an image and a list of images, each of whose readers fails at that call.
@@ -121,10 +124,13 @@ fn called<R: Threads + Wait + Sync>(
     fails: usize,
     room: usize,
 ) -> Option<Called> {
-    let words = words_of(alloc, words)?;
-    let mut stdin = input_of(alloc, script.as_bytes())?;
     let mut files = Torn { alloc, fails };
-    Some(bytes_of(rt, &mut files, &words, &mut stdin, room))
+    match (words_of(alloc, words), input_of(alloc, script.as_bytes())) {
+        (Some(words), Some(mut stdin)) => {
+            Some(bytes_of(rt, &mut files, &words, &mut stdin, room))
+        }
+        _ => None,
+    }
 }
 
 /// Whether this is what a call answers.

@@ -85,25 +85,31 @@ fn printed<R: Threads + Wait + Sync>(
     words: &[&str],
     script: &str,
 ) -> Option<String> {
-    let (status, out, err) = called(rt, alloc, words, script)?;
-    if status == 0 && err.is_empty() {
-        String::from_utf8(out).ok()
-    } else {
-        None
+    match called(rt, alloc, words, script) {
+        Some((0, out, err)) if err.is_empty() => String::from_utf8(out).ok(),
+        _ => None,
+    }
+}
+
+/// What a script prints that has these lines after a deployment.
+fn printed_of<R: Threads + Wait + Sync>(rt: &R, alloc: Global, lines: &str) -> Option<String> {
+    match format!(in alloc; "{BEGIN}deploy 0 fwd\n{lines}go\n") {
+        Ok(script) => printed(rt, alloc, &["run", "stdin"], script.as_str()),
+        Err(_) => None,
     }
 }
 
 /// What a script prints that appends the batches of a file.
 fn printed_of_file<R: Threads + Wait + Sync>(rt: &R, alloc: Global) -> Option<String> {
-    let script = format!(in alloc; "{BEGIN}deploy 0 fwd\nappend 0 batches.bin\ngo\n").ok()?;
-    printed(rt, alloc, &["run", "stdin"], script.as_str())
+    printed_of(rt, alloc, "append 0 batches.bin\n")
 }
 
 /// What a script prints that appends the records of the file.
 fn printed_of_records<R: Threads + Wait + Sync>(rt: &R, alloc: Global) -> Option<String> {
-    let records = printed(rt, alloc, &["records", "batches.bin"], "")?;
-    let script = format!(in alloc; "{BEGIN}deploy 0 fwd\n{records}go\n").ok()?;
-    printed(rt, alloc, &["run", "stdin"], script.as_str())
+    match printed(rt, alloc, &["records", "batches.bin"], "") {
+        Some(records) => printed_of(rt, alloc, records.as_str()),
+        None => None,
+    }
 }
 
 /// Whether two texts have the same rows, of the last record too.

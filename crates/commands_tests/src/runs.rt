@@ -17,7 +17,9 @@ pub(crate) type Run = (
 pub(crate) fn joined(alloc: Global, pieces: &[&str]) -> Option<String> {
     let mut text = String::new(alloc);
     for piece in pieces {
-        text.push_str(piece).ok()?;
+        let Ok(()) = text.push_str(piece) else {
+            return None;
+        };
     }
     Some(text)
 }

@@ -236,9 +236,12 @@ static LIMITS: [Limit; 4] = [
 
 /// A script that puts a record with a key and a value of so many bytes.
 fn put_script(alloc: Global, key: usize, value: usize) -> Option<String> {
-    let key = bytes_word(alloc, key)?;
-    let value = bytes_word(alloc, value)?;
-    format!(in alloc; "partitions 1 1 8\nput 0 0 {key} {value}\n").ok()
+    match (bytes_word(alloc, key), bytes_word(alloc, value)) {
+        (Some(key), Some(value)) => {
+            format!(in alloc; "partitions 1 1 8\nput 0 0 {key} {value}\n").ok()
+        }
+        _ => None,
+    }
 }
 
 fn is_limited<R: Threads + Wait + Sync>(rt: &R, alloc: Global, row: &Limit) -> bool {

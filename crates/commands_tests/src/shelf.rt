@@ -64,28 +64,15 @@ impl Files for Shelf {
     fn open(&mut self, name: &str) -> io::Result<Opened> {
         match self.files.get(name) {
             None => Err(io::Error::from(io::ErrorKind::NotFound)),
-            Some(bytes) => Ok(Opened {
-                bytes: Cursor::new(bytes.clone()?),
-                has_end: !name.starts_with("endless"),
-                most: if name.starts_with("slow") {
-                    1
-                } else {
-                    usize::MAX
-                },
-            }),
+            Some(bytes) => open_file(self.alloc, name, bytes.as_slice()),
         }
     }
 
     fn create(&mut self, name: &str) -> io::Result<Created> {
-        self.write(name, &[])?;
-        Ok(Created {
-            bytes: Vec::new(self.alloc),
-            room: if name.starts_with("narrow") {
-                100
-            } else {
-                usize::MAX
-            },
-        })
+        match self.write(name, &[]) {
+            Ok(()) => Ok(create_file(self.alloc, name)),
+            Err(error) => Err(error),
+        }
     }
 
     fn close(&mut self, name: &str, writer: Created) -> io::Result<()> {
@@ -96,12 +83,58 @@ impl Files for Shelf {
         if name == "locked" {
             return Err(io::Error::from(io::ErrorKind::PermissionDenied));
         }
-        let name = String::from_str(self.alloc, name)?;
-        let bytes = Vec::from_slice(self.alloc, content)?;
-        match self.files.insert(name, bytes) {
-            Ok(_) => Ok(()),
-            Err(_) => Err(io::Error::from(io::ErrorKind::OutOfMemory)),
+        if is_put(self.alloc, &mut self.files, name, content) {
+            Ok(())
+        } else {
+            Err(io::Error::from(io::ErrorKind::OutOfMemory))
         }
+    }
+}
+
+/// Puts a file in place; whether there was memory for it.
+fn is_put(
+    alloc: Global,
+    files: &mut BTreeMap<String, Vec<u8>>,
+    name: &str,
+    content: &[u8],
+) -> bool {
+    match (
+        String::from_str(alloc, name),
+        Vec::from_slice(alloc, content),
+    ) {
+        (Ok(name), Ok(bytes)) => files.insert(name, bytes).is_ok(),
+        _ => false,
+    }
+}
+
+/// A file to read, by its name.
+fn open_file(alloc: Global, name: &str, bytes: &[u8]) -> io::Result<Opened> {
+    let has_end = !name.starts_with("endless");
+    let most = if name.starts_with("slow") {
+        1
+    } else {
+        usize::MAX
+    };
+    match input_of(alloc, bytes) {
+        Some(bytes) => Ok(Opened {
+            bytes,
+            has_end,
+            most,
+        }),
+        None => Err(io::Error::from(io::ErrorKind::OutOfMemory)),
+    }
+}
+
+/// A file to write, by its name.
+fn create_file(alloc: Global, name: &str) -> Created {
+    let room = if name.starts_with("narrow") {
+        100
+    } else {
+        usize::MAX
+    };
+    Created {
+        bytes: Vec::new(alloc),
+        room,
     }
 }
 
@@ -113,33 +146,55 @@ pub(crate) fn empty_shelf(alloc: Global) -> Shelf {
     }
 }
 
-/// Puts files on a shelf; none where one can't be written.
-fn put_all(shelf: &mut Shelf, files: &[(&str, &[u8])]) -> Option<()> {
+/// Puts a file on a shelf; whether it could.
+pub(crate) fn puts(shelf: &mut Shelf, name: &str, content: &[u8]) -> bool {
+    shelf.write(name, content).is_ok()
+}
+
+/// Puts files on a shelf; whether it could.
+pub(crate) fn puts_all(shelf: &mut Shelf, files: &[(&str, &[u8])]) -> bool {
     for (name, content) in files {
-        shelf.write(name, content).ok()?;
+        if !puts(shelf, name, content) {
+            return false;
+        }
     }
-    Some(())
+    true
 }
 
 /// These files.
 pub(crate) fn shelf_of(alloc: Global, files: &[(&str, &[u8])]) -> Option<Shelf> {
     let mut shelf = empty_shelf(alloc);
-    put_all(&mut shelf, files)?;
-    Some(shelf)
+    if puts_all(&mut shelf, files) {
+        Some(shelf)
+    } else {
+        None
+    }
+}
+
+fn is_added(alloc: Global, all: &mut Vec<String>, word: &str) -> bool {
+    match String::from_str(alloc, word) {
+        Ok(word) => all.push(word).is_ok(),
+        Err(_) => false,
+    }
 }
 
 /// The words of a call.
 pub(crate) fn words_of(alloc: Global, words: &[&str]) -> Option<Vec<String>> {
     let mut all = Vec::new(alloc);
     for word in words {
-        all.push(String::from_str(alloc, word).ok()?).ok()?;
+        if !is_added(alloc, &mut all, word) {
+            return None;
+        }
     }
     Some(all)
 }
 
 /// Bytes to read.
 pub(crate) fn input_of(alloc: Global, bytes: &[u8]) -> Option<Cursor<Vec<u8>>> {
-    Some(Cursor::new(Vec::from_slice(alloc, bytes).ok()?))
+    match Vec::from_slice(alloc, bytes) {
+        Ok(bytes) => Some(Cursor::new(bytes)),
+        Err(_) => None,
+    }
 }
 
 /// What a call answers: its status, and what it writes to standard output and error.
@@ -166,9 +221,10 @@ pub(crate) fn called_with<R: Threads + Wait + Sync>(
     input: &[u8],
 ) -> Option<Called> {
     let alloc = files.alloc;
-    let all = words_of(alloc, words)?;
-    let mut stdin = input_of(alloc, input)?;
-    Some(bytes_of(rt, alloc, files, &all, &mut stdin))
+    match (words_of(alloc, words), input_of(alloc, input)) {
+        (Some(words), Some(mut stdin)) => Some(bytes_of(rt, alloc, files, &words, &mut stdin)),
+        _ => None,
+    }
 }
 
 /// The same with a script as a file and as standard input, and some other files.
@@ -178,17 +234,31 @@ pub(crate) fn called<R: Threads + Wait + Sync>(
     words: &[&str],
     script: &str,
 ) -> Option<Called> {
-    let mut files = shelf_of(
-        alloc,
-        &[
-            ("forward.bin", &FORWARD),
-            ("script", script.as_bytes()),
-            ("bad", b"go\xff"),
-            ("batches.bin", &BATCHES),
-        ],
-    )?;
-    called_with(rt, &mut files, words, script.as_bytes())
+    match shelf_of(alloc, &FILES) {
+        Some(mut files) => called_by(rt, &mut files, words, script),
+        None => None,
+    }
 }
+
+fn called_by<R: Threads + Wait + Sync>(
+    rt: &R,
+    files: &mut Shelf,
+    words: &[&str],
+    script: &str,
+) -> Option<Called> {
+    if puts(files, "script", script.as_bytes()) {
+        called_with(rt, files, words, script.as_bytes())
+    } else {
+        None
+    }
+}
+
+/// The files that are there beside a script.
+static FILES: [(&str, &[u8]); 3] = [
+    ("forward.bin", &FORWARD),
+    ("bad", b"go\xff"),
+    ("batches.bin", &BATCHES),
+];
 
 /// What a call is to answer: its status, and what it writes to standard output and error.
 pub(crate) type Answer<'a> = (u8, &'a str, &'a str);

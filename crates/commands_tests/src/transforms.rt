@@ -1,8 +1,7 @@
 //! Calls that run a program on the batches of a file.
 
-use crate::shelf::{BATCHES, FORWARD, Shelf, answers, shelf_of};
+use crate::shelf::{BATCHES, FORWARD, Shelf, answers, empty_shelf, puts, puts_all};
 use crate::verdicts::all_hold;
-use commands::Files;
 use std::alloc::Global;
 use std::sync::Wait;
 use std::test::*;
@@ -17,9 +16,12 @@ static FILES: [(&str, &[u8]); 4] = [
 ];
 
 fn shelf(alloc: Global) -> Option<Shelf> {
-    let mut files = shelf_of(alloc, &FILES)?;
-    files.write("cut.bin", BATCHES.get(..262)?).ok()?;
-    Some(files)
+    let mut files = empty_shelf(alloc);
+    if puts_all(&mut files, &FILES) && puts(&mut files, "cut.bin", &BATCHES[..262]) {
+        Some(files)
+    } else {
+        None
+    }
 }
 
 /// How many bytes a file has; 0 where it is not there.

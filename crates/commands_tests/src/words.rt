@@ -129,9 +129,15 @@ fn full_call<R: Threads + Wait + Sync>(
 /// The same of a script of `BEGIN`.
 fn full_script<R: Threads + Wait + Sync>(rt: &R, alloc: Global) -> Option<(u8, Vec<u8>)> {
     let mut files = empty_shelf(alloc);
-    let words = words_of(alloc, &["run", "stdin"])?;
-    let mut stdin = input_of(alloc, BEGIN.as_bytes())?;
-    Some(full_call(rt, alloc, &mut files, &words, &mut stdin))
+    match (
+        words_of(alloc, &["run", "stdin"]),
+        input_of(alloc, BEGIN.as_bytes()),
+    ) {
+        (Some(words), Some(mut stdin)) => {
+            Some(full_call(rt, alloc, &mut files, &words, &mut stdin))
+        }
+        _ => None,
+    }
 }
 
 fn is_full<R: Threads + Wait + Sync>(rt: &R, alloc: Global) -> bool {

@@ -1,11 +1,13 @@
+use crate::images::{is_text, regions_in};
+use crate::states::{first_kinds, no_bytes};
 use crate::verdicts::all_hold;
 use abstract_regs::State;
-use bpf_isa::{Code, decode};
+use bpf_isa::decode;
 use machine_spec::{Region, Table};
 use notes::{Verified, check};
-use std::alloc::{AllocError, Global};
+use std::alloc::Global;
 use std::test::*;
-use verifier_spec::{Abs, StackSet};
+use verifier_spec::{Abs, LoadFault, VerifyFault};
 
 // mov64 r0, 0; exit
 const ZERO: [u8; 16] = [0xb7, 0, 0, 0, 0, 0, 0, 0, 0x95, 0, 0, 0, 0, 0, 0, 0];
@@ -31,21 +33,9 @@ enum Claim {
 
 /// The state of the start with r0 and the value's least length changed.
 fn with(r0: Abs, value_min: u32) -> Option<State> {
-    let registers = [
-        r0,
-        Abs::Addr(Region::Value, 0, 0),
-        Abs::Len(Region::Value),
-        Abs::Addr(Region::Key, 0, 0),
-        Abs::Len(Region::Key),
-        Abs::Num(0, 3),
-        Abs::None,
-        Abs::None,
-        Abs::None,
-        Abs::None,
-        Abs::Addr(Region::Stack, 512, 512),
-    ];
-    let set = StackSet { words: [0; 8] };
-    State::new(registers, 0, 4096, value_min, 1_048_576, set)
+    let mut kinds = first_kinds();
+    kinds[0] = r0;
+    State::new(kinds, 0, 4096, value_min, 1_048_576, no_bytes())
 }
 
 /// The state after a call at the start, with r0.
@@ -63,8 +53,7 @@ fn called(r0: Abs) -> Option<State> {
         Abs::None,
         Abs::Addr(Region::Stack, 512, 512),
     ];
-    let set = StackSet { words: [0; 8] };
-    State::new(registers, 0, 4096, 0, 1_048_576, set)
+    State::new(registers, 0, 4096, 0, 1_048_576, no_bytes())
 }
 
 fn state_of(claim: Claim) -> Option<State> {
@@ -84,31 +73,46 @@ fn states_of(alloc: Global, claims: &[Claim]) -> Option<Vec<Option<State>>> {
     Some(states)
 }
 
-/// The program of an image and these claims under table one.
-fn program_of(alloc: Global, image: &[u8], claims: &[Claim]) -> Option<Verified> {
-    let code = decode(alloc, image).ok()?;
-    let states = states_of(alloc, claims)?;
-    check(alloc, code, Table::One, states).ok()
+/// What the check under a helper table answers of an image and these claims. None where the image has no code
+/// or memory ran out.
+fn checked(
+    alloc: Global,
+    table: Table,
+    image: &[u8],
+    claims: &[Claim],
+) -> Option<Result<Verified, VerifyFault>> {
+    match (decode(alloc, image), states_of(alloc, claims)) {
+        (Ok(code), Some(states)) => Some(check(alloc, code, table, states)),
+        _ => None,
+    }
 }
 
-/// How many instructions the program of an image and these claims has and how many states it keeps.
-fn counts_of(alloc: Global, image: &[u8], claims: &[Claim]) -> Option<(usize, usize)> {
-    let verified = program_of(alloc, image, claims)?;
-    Some((verified.code().len(), verified.kept()))
+fn has_counts(verified: &Verified, want: (usize, usize)) -> bool {
+    (verified.code().len(), verified.kept()) == want
 }
 
-/// The regions of an instruction of that program.
-fn regions_of(
+/// Whether the program of an image and these claims has so many instructions, keeps so many states, and has
+/// the regions of these instructions.
+fn is_program(verified: &Verified, want: (usize, usize), rows: &[(usize, Option<Region>)]) -> bool {
+    for (k, region) in rows {
+        if regions_in(verified, *k) != Some((want.0, *region, None)) {
+            return false;
+        }
+    }
+    has_counts(verified, want)
+}
+
+/// The same of the program of an image and these claims under table one.
+fn accepts(
     alloc: Global,
     image: &[u8],
     claims: &[Claim],
-    k: usize,
-) -> Option<(Option<Region>, Option<Region>)> {
-    let verified = program_of(alloc, image, claims)?;
-    if k < verified.code().len() {
-        Some(verified.regions(k))
-    } else {
-        None
+    want: (usize, usize),
+    rows: &[(usize, Option<Region>)],
+) -> bool {
+    match checked(alloc, Table::One, image, claims) {
+        Some(Ok(verified)) => is_program(&verified, want, rows),
+        _ => false,
     }
 }
 
@@ -117,9 +121,7 @@ static CONSTANT: [Claim; 2] = [Claim::Entry, Claim::With(0, 0)];
 
 #[test]
 fn accepts_a_constant(rt: HostRuntime) {
-    let alloc = rt.alloc();
-    assert!(rt; counts_of(alloc, &ZERO, &CONSTANT) == Some((2, 0)));
-    assert!(rt; regions_of(alloc, &ZERO, &CONSTANT, 0) == Some((None, None)));
+    assert!(rt; accepts(rt.alloc(), &ZERO, &CONSTANT, (2, 0), &[(0, None)]));
 }
 
 /// Of `FIRST_BYTE`.
@@ -130,13 +132,12 @@ static GUARDED: [Claim; 4] = [
     Claim::With(255, 0),
 ];
 
+/// The first region of the jump and of the load.
+static LOADED: [(usize, Option<Region>); 2] = [(1, None), (2, Some(Region::Value))];
+
 #[test]
 fn accepts_a_guarded_load(rt: HostRuntime) {
-    let alloc = rt.alloc();
-    assert!(rt; counts_of(alloc, &FIRST_BYTE, &GUARDED) == Some((4, 1)));
-    assert!(rt; regions_of(alloc, &FIRST_BYTE, &GUARDED, 1) == Some((None, None)));
-    let load = regions_of(alloc, &FIRST_BYTE, &GUARDED, 2);
-    assert!(rt; load == Some((Some(Region::Value), None)));
+    assert!(rt; accepts(rt.alloc(), &FIRST_BYTE, &GUARDED, (4, 1), &LOADED));
 }
 
 const MOVE: [u8; 8] = [0xb7, 0, 0, 0, 0, 0, 0, 0];
@@ -149,32 +150,38 @@ const BACK: [u8; 8] = [0xa5, 2, 0xff, 0xff, 1, 0, 0, 0];
 
 const EXIT: [u8; 8] = [0x95, 0, 0, 0, 0, 0, 0, 0];
 
-/// What the check under a helper table answers of code and a list of states.
-fn answer(
+/// How many instructions the check accepts.
+fn accepted(
     alloc: Global,
-    code: Code,
     table: Table,
-    states: Vec<Option<State>>,
-) -> Result<String, AllocError> {
-    match check(alloc, code, table, states) {
-        Ok(verified) => {
-            let count = verified.code().len();
-            format!(in alloc; "accepted {count}")
-        }
-        Err(fault) => format!(in alloc; "{fault}"),
+    image: &[u8],
+    claims: &[Claim],
+) -> Option<Result<usize, LoadFault>> {
+    match checked(alloc, table, image, claims) {
+        Some(Ok(verified)) => Some(Ok(verified.code().len())),
+        Some(Err(fault)) => Some(Err(LoadFault::Verify(fault))),
+        None => None,
     }
 }
 
-/// The same of an image in parts and of claims.
-fn reported(alloc: Global, table: Table, forms: &[&[u8]], claims: &[Claim]) -> Option<String> {
-    let code = decode(alloc, &image_of(alloc, forms)?).ok()?;
-    answer(alloc, code, table, states_of(alloc, claims)?).ok()
+/// Whether the check of an image answers this.
+fn answers(alloc: Global, table: Table, image: &[u8], claims: &[Claim], want: &str) -> bool {
+    match accepted(alloc, table, image, claims) {
+        Some(answer) => is_text(alloc, "accepted", answer, want),
+        None => false,
+    }
+}
+
+fn is_added(image: &mut Vec<u8>, form: &[u8]) -> bool {
+    image.extend_from_slice(form).is_ok()
 }
 
 fn image_of(alloc: Global, forms: &[&[u8]]) -> Option<Vec<u8>> {
     let mut image = Vec::new(alloc);
     for form in forms {
-        image.extend_from_slice(form).ok()?;
+        if !is_added(&mut image, form) {
+            return None;
+        }
     }
     Some(image)
 }
@@ -183,8 +190,8 @@ fn image_of(alloc: Global, forms: &[&[u8]]) -> Option<Vec<u8>> {
 type Row = (&'static [&'static [u8]], &'static [Claim], &'static str);
 
 fn is_reported(alloc: Global, table: Table, row: &Row) -> bool {
-    match reported(alloc, table, row.0, row.1) {
-        Some(text) => text.as_str() == row.2,
+    match image_of(alloc, row.0) {
+        Some(image) => answers(alloc, table, &image, row.1, row.2),
         None => false,
     }
 }

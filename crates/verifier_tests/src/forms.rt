@@ -1,52 +1,82 @@
 //! Instructions as the interpreter takes them.
 
-use crate::images::{EXIT, ZERO, image_of};
+use crate::images::{EXIT, ZERO, image_of, seen_in};
 use crate::verdicts::all_hold;
 use annotate::load;
 use machine_spec::{Distance, Instruction, Source, Table, Test, Width};
+use notes::Verified;
 use predecode::{Decoded, Rare, paired, predecode};
 use std::alloc::Global;
 use std::test::*;
 
 /// jlt64 r2, 1, +1 over ld8 r0, [r1+0].
-const GUARDED: [u64; 4] = [ZERO, 0xa502_0100_0100_0000, 0x7110_0000_0000_0000, EXIT];
+static GUARDED: [u64; 4] = [ZERO, 0xa502_0100_0100_0000, 0x7110_0000_0000_0000, EXIT];
 
-/// Whether these are the forms of `GUARDED`.
-fn are_guarded(forms: &[Decoded]) -> bool {
+fn is_zero(form: &Decoded) -> bool {
     matches!(
-        forms,
-        [
-            Decoded::Set {
-                dst: 0,
-                constant: 0
-            },
-            Decoded::IfLessNumber {
-                dst: 2,
-                constant: 1,
-                slots: 1,
-                target: 3
-            },
-            Decoded::LoadValueByte {
-                dst: 0,
-                base: 1,
-                offset: 0
-            },
-            Decoded::Exit,
-        ]
+        form,
+        Decoded::Set {
+            dst: 0,
+            constant: 0
+        }
     )
 }
 
-/// Whether the program is predecoded so, and needs a stack.
-fn predecoded(alloc: Global) -> Option<(bool, bool)> {
-    let image = image_of(alloc, &GUARDED).ok()?;
-    let verified = load(alloc, &image, Table::One).ok()?;
-    Some((are_guarded(verified.decoded()), verified.needs_stack()))
+fn is_guard(form: &Decoded) -> bool {
+    matches!(
+        form,
+        Decoded::IfLessNumber {
+            dst: 2,
+            constant: 1,
+            slots: 1,
+            target: 3
+        }
+    )
+}
+
+fn is_first_byte(form: &Decoded) -> bool {
+    matches!(
+        form,
+        Decoded::LoadValueByte {
+            dst: 0,
+            base: 1,
+            offset: 0
+        }
+    )
+}
+
+/// Whether these are the forms of `GUARDED`.
+fn are_guarded(forms: &[Decoded]) -> bool {
+    match forms {
+        [zero, guard, first, exit] => {
+            is_zero(zero)
+                && is_guard(guard)
+                && is_first_byte(first)
+                && matches!(exit, Decoded::Exit)
+        }
+        _ => false,
+    }
+}
+
+/// Whether the program is predecoded so, and needs no stack.
+fn is_predecoded(verified: &Verified) -> bool {
+    are_guarded(verified.decoded()) && !verified.needs_stack()
+}
+
+fn are_predecoded(alloc: Global, slots: &[u64]) -> bool {
+    match image_of(alloc, slots) {
+        Ok(image) => match load(alloc, &image, Table::One) {
+            Ok(verified) => is_predecoded(&verified),
+            Err(_) => false,
+        },
+        Err(_) => false,
+    }
 }
 
 /// A load from the value has its region, and the jump over it the number of the exit.
 #[test]
 fn a_program_is_predecoded(rt: HostRuntime) {
-    assert!(rt; predecoded(rt.alloc()) == Some((true, false)));
+    assert!(rt; are_predecoded(rt.alloc(), &GUARDED));
 }
 
 /// A store, a call of helper 1 or 2, and a call of helper 4 or 5 with bytes of the stack, also with
@@ -119,16 +149,18 @@ static STACKS: [(&[u64], bool); 10] = [
     ),
 ];
 
-fn needs_stack(alloc: Global, slots: &[u64]) -> Option<bool> {
-    let image = image_of(alloc, slots).ok()?;
-    let verified = load(alloc, &image, Table::Two).ok()?;
-    Some(verified.needs_stack())
+/// Whether a program is loaded, and needs a stack or not.
+fn needs_stack(alloc: Global, slots: &[u64], want: bool) -> bool {
+    match seen_in(alloc, Table::Two, slots) {
+        Some((_, _, needs, _)) => needs == want,
+        None => false,
+    }
 }
 
 /// The number of the first row that is not as it says.
 fn first_wrong(alloc: Global, rows: &[(&[u64], bool)]) -> Option<usize> {
     for (k, row) in rows.iter().enumerate() {
-        if needs_stack(alloc, row.0) != Some(row.1) {
+        if !needs_stack(alloc, row.0, row.1) {
             return Some(k);
         }
     }

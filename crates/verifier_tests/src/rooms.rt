@@ -3,6 +3,7 @@
 use crate::images::{EXIT, ZERO, first_wrong, known_of, regions_of};
 use crate::verdicts::all_hold;
 use machine_spec::{Region, Table};
+use std::alloc::Global;
 use std::test::*;
 use verifier_spec::Abs;
 
@@ -225,14 +226,17 @@ static SET_BY_A_PART: [(&[u64], &str); 2] = [
 /// Eight bytes of the value, to the last ones of the stack.
 const PART: [u64; 6] = [END, BELOW, FROM_START, EIGHT, LOAD_VALUE, EXIT];
 
-/// What is known after a part is loaded to one place: r0 is 0 or 1, four bytes of 4 to 8 are set. The only
-/// bytes that the call takes by address are the stack's.
+/// Whether r0 is 0 or 1 after the call, r1 is not known, and the only bytes that the call takes by address are
+/// the stack's.
+fn is_answered(alloc: Global) -> bool {
+    regions_of(alloc, Table::One, &PART, 4) == Some((6, Some(Region::Stack), None))
+        && known_of(alloc, Table::One, &PART, 5, 0) == Some(Abs::Num(0, 1))
+        && known_of(alloc, Table::One, &PART, 5, 1) == Some(Abs::None)
+}
+
+/// What is known after a part is loaded to one place: four bytes of 4 to 8 are set.
 #[test]
 fn after_a_part_is_copied(rt: HostRuntime) {
-    let alloc = rt.alloc();
-    all_hold(&rt, first_wrong(alloc, Table::One, &SET_BY_A_PART));
-    let regions = regions_of(alloc, Table::One, &PART, 4);
-    assert!(rt; regions == Some((6, Some(Region::Stack), None)));
-    assert!(rt; known_of(alloc, Table::One, &PART, 5, 0) == Some(Abs::Num(0, 1)));
-    assert!(rt; known_of(alloc, Table::One, &PART, 5, 1) == Some(Abs::None));
+    all_hold(&rt, first_wrong(rt.alloc(), Table::One, &SET_BY_A_PART));
+    assert!(rt; is_answered(rt.alloc()));
 }

@@ -1,13 +1,14 @@
 //! Programs by the states of some instructions: what is kept, what follows, and what is refused.
 
+use crate::images::{is_text, joined, regions, seen};
 use crate::verdicts::all_hold;
 use abstract_regs::State;
-use annotate::{joined_states, load};
 use bpf_isa::{Code, decode};
 use machine_spec::{Region, Table};
-use notes::{check_sparse, claim_at};
-use std::alloc::{AllocError, Global};
+use notes::check_sparse;
+use std::alloc::Global;
 use std::test::*;
+use verifier_spec::LoadFault;
 
 /// r0 = 0 and EXIT.
 const ZERO: [u8; 16] = [0xb7, 0, 0, 0, 0, 0, 0, 0, 0x95, 0, 0, 0, 0, 0, 0, 0];
@@ -33,34 +34,30 @@ const OUTSIDE: [u8; 32] = [
 /// call 10 and EXIT.
 const HEADER_COUNT: [u8; 16] = [0x85, 0, 0, 0, 10, 0, 0, 0, 0x95, 0, 0, 0, 0, 0, 0, 0];
 
-/// The joined state of an instruction. None where it is not reached or memory ran out.
-fn joined(alloc: Global, image: &[u8], k: usize) -> Option<State> {
-    let code = decode(alloc, image).ok()?;
-    let states = joined_states(alloc, &code, Table::One).ok()?;
-    Some(*claim_at(&states, k)?)
-}
-
-/// What the check under a helper table answers of code and states with numbers.
-fn answer(
+/// How many states the check under a helper table keeps of code and states with numbers.
+fn kept_of(
     alloc: Global,
     code: Code,
     table: Table,
     pairs: Vec<(usize, State)>,
-) -> Result<String, AllocError> {
+) -> Result<usize, LoadFault> {
     match check_sparse(alloc, code, table, pairs) {
-        Ok(verified) => {
-            let count = verified.kept();
-            format!(in alloc; "kept {count}")
-        }
-        Err(fault) => format!(in alloc; "{fault}"),
+        Ok(verified) => Ok(verified.kept()),
+        Err(fault) => Err(LoadFault::Verify(fault)),
     }
 }
 
-/// The same of an image.
-fn reported(alloc: Global, table: Table, image: &[u8], pairs: &[(usize, State)]) -> Option<String> {
-    let code = decode(alloc, image).ok()?;
-    let pairs = Vec::from_slice(alloc, pairs).ok()?;
-    answer(alloc, code, table, pairs).ok()
+/// The same of an image. None where it has no code or memory ran out.
+fn kept_by(
+    alloc: Global,
+    table: Table,
+    image: &[u8],
+    pairs: Vec<(usize, State)>,
+) -> Option<Result<usize, LoadFault>> {
+    match decode(alloc, image) {
+        Ok(code) => Some(kept_of(alloc, code, table, pairs)),
+        Err(_) => None,
+    }
 }
 
 /// Whether the check of an image and states with numbers answers this.
@@ -68,43 +65,42 @@ fn reports(
     alloc: Global,
     table: Table,
     image: &[u8],
-    pairs: &[(usize, State)],
+    pairs: Vec<(usize, State)>,
     want: &str,
 ) -> bool {
-    match reported(alloc, table, image, pairs) {
-        Some(got) => got.as_str() == want,
+    match kept_by(alloc, table, image, pairs) {
+        Some(answer) => is_text(alloc, "kept", answer, want),
         None => false,
     }
 }
 
-/// How many states a load of an image keeps.
-fn kept(alloc: Global, image: &[u8]) -> Option<usize> {
-    let verified = load(alloc, image, Table::One).ok()?;
-    Some(verified.kept())
+/// Whether a load of an image keeps so many states.
+fn keeps(alloc: Global, image: &[u8], want: usize) -> bool {
+    match seen(alloc, Table::One, image) {
+        Some((_, kept, _, _)) => kept == want,
+        None => false,
+    }
 }
 
-/// The first region of the third instruction of four.
-fn third_region(alloc: Global, image: &[u8]) -> Option<Option<Region>> {
-    let verified = load(alloc, image, Table::One).ok()?;
-    if verified.code().len() == 4 {
-        Some(verified.regions(2).0)
-    } else {
-        None
-    }
+fn keep_targets(alloc: Global) -> bool {
+    keeps(alloc, &ZERO, 0) && keeps(alloc, &FIRST_BYTE, 1) && keeps(alloc, &UNREACHED, 1)
 }
 
 #[test]
 fn loads_keep_the_states_of_jump_targets(rt: HostRuntime) {
-    assert!(rt; kept(rt.alloc(), &ZERO) == Some(0));
-    assert!(rt; kept(rt.alloc(), &FIRST_BYTE) == Some(1));
-    assert!(rt; kept(rt.alloc(), &UNREACHED) == Some(1));
+    assert!(rt; keep_targets(rt.alloc()));
+}
+
+/// Whether the third of four instructions has a region or none.
+fn have_third_regions(alloc: Global) -> bool {
+    regions(alloc, Table::One, &FIRST_BYTE, 2) == Some((4, Some(Region::Value), None))
+        && regions(alloc, Table::One, &UNREACHED, 2) == Some((4, None, None))
 }
 
 /// An instruction that no jump and no other instruction leads to has no region.
 #[test]
 fn unreached_has_no_region(rt: HostRuntime) {
-    assert!(rt; third_region(rt.alloc(), &FIRST_BYTE) == Some(Some(Region::Value)));
-    assert!(rt; third_region(rt.alloc(), &UNREACHED) == Some(None));
+    assert!(rt; have_third_regions(rt.alloc()));
 }
 
 /// Numbers, each with the joined state of an instruction, or with that of the start where there is none;
@@ -114,7 +110,7 @@ type Row = (&'static [(usize, Option<usize>)], &'static str);
 /// The state of the start, or the joined state of an instruction.
 fn state_of(alloc: Global, image: &[u8], which: Option<usize>) -> Option<State> {
     match which {
-        Some(k) => joined(alloc, image, k),
+        Some(k) => joined(alloc, Table::One, image, k),
         None => Some(State::entry()),
     }
 }
@@ -127,35 +123,44 @@ fn pairs_of(
 ) -> Option<Vec<(usize, State)>> {
     let mut pairs = Vec::new(alloc);
     for (number, which) in given {
-        pairs.push((*number, state_of(alloc, image, *which)?)).ok()?;
+        let state = state_of(alloc, image, *which)?;
+        let Ok(()) = pairs.push((*number, state)) else {
+            return None;
+        };
     }
     Some(pairs)
 }
 
-fn is_answered(alloc: Global, image: &[u8], row: &Row) -> bool {
+fn is_answered(alloc: Global, table: Table, image: &[u8], row: &Row) -> bool {
     match pairs_of(alloc, image, row.0) {
-        Some(pairs) => reports(alloc, Table::One, image, &pairs, row.1),
+        Some(pairs) => reports(alloc, table, image, pairs, row.1),
         None => false,
     }
 }
 
-/// The number of the first row of which a check under table one answers something else.
-fn first_wrong(alloc: Global, image: &[u8], rows: &[Row]) -> Option<usize> {
+/// The number of the first row of which a check under a helper table answers something else.
+fn first_wrong(alloc: Global, table: Table, image: &[u8], rows: &[Row]) -> Option<usize> {
     for (k, row) in rows.iter().enumerate() {
-        if !is_answered(alloc, image, row) {
+        if !is_answered(alloc, table, image, row) {
             return Some(k);
         }
     }
     None
 }
 
+/// No state is given, and none is kept.
+static NONE: [Row; 1] = [(&[], "kept 0")];
+
 /// Of `FIRST_BYTE`.
 static TARGETS: [Row; 2] = [(&[(3, Some(3))], "kept 1"), (&[], "V15 Notes at 1")];
 
 #[test]
 fn states_follow_from_those_of_jump_targets(rt: HostRuntime) {
-    all_hold(&rt, first_wrong(rt.alloc(), &FIRST_BYTE, &TARGETS));
-    assert!(rt; reports(rt.alloc(), Table::One, &ZERO, &[], "kept 0"));
+    all_hold(
+        &rt,
+        first_wrong(rt.alloc(), Table::One, &FIRST_BYTE, &TARGETS),
+    );
+    all_hold(&rt, first_wrong(rt.alloc(), Table::One, &ZERO, &NONE));
 }
 
 /// Of `OUTSIDE`.
@@ -167,7 +172,7 @@ static REFUSED: [Row; 2] = [
 /// Nothing follows on an instruction that fails a check: no state covers the first jump's edge.
 #[test]
 fn nothing_follows_on_a_refused_instruction(rt: HostRuntime) {
-    all_hold(&rt, first_wrong(rt.alloc(), &OUTSIDE, &REFUSED));
+    all_hold(&rt, first_wrong(rt.alloc(), Table::One, &OUTSIDE, &REFUSED));
 }
 
 /// Of `ZERO`.
@@ -180,7 +185,7 @@ static ANYWHERE: [Row; 3] = [
 /// States elsewhere are taken where they are given, and not kept.
 #[test]
 fn states_are_taken_anywhere(rt: HostRuntime) {
-    all_hold(&rt, first_wrong(rt.alloc(), &ZERO, &ANYWHERE));
+    all_hold(&rt, first_wrong(rt.alloc(), Table::One, &ZERO, &ANYWHERE));
 }
 
 /// Of `ZERO`.
@@ -193,13 +198,18 @@ static NUMBERS: [Row; 3] = [
 /// The numbers rise and are those of instructions.
 #[test]
 fn numbers_rise(rt: HostRuntime) {
-    all_hold(&rt, first_wrong(rt.alloc(), &ZERO, &NUMBERS));
+    all_hold(&rt, first_wrong(rt.alloc(), Table::One, &ZERO, &NUMBERS));
 }
+
+static NO_HELPER: [Row; 1] = [(&[], "V11 Helper at 0")];
 
 /// The states follow under the table that the check is given.
 #[test]
 fn states_follow_under_a_table(rt: HostRuntime) {
     let alloc = rt.alloc();
-    assert!(rt; reports(alloc, Table::Two, &HEADER_COUNT, &[], "kept 0"));
-    assert!(rt; reports(alloc, Table::One, &HEADER_COUNT, &[], "V11 Helper at 0"));
+    all_hold(&rt, first_wrong(alloc, Table::Two, &HEADER_COUNT, &NONE));
+    all_hold(
+        &rt,
+        first_wrong(alloc, Table::One, &HEADER_COUNT, &NO_HELPER),
+    );
 }

@@ -6,7 +6,7 @@ use machine_spec::{Instruction, Region, Table};
 use std::test::*;
 
 /// The kinds at the start of a run.
-fn first_kinds() -> [Abs; 11] {
+pub(crate) fn first_kinds() -> [Abs; 11] {
     [
         Abs::None,
         Abs::Addr(Region::Value, 0, 0),
@@ -22,7 +22,7 @@ fn first_kinds() -> [Abs; 11] {
     ]
 }
 
-fn no_bytes() -> StackSet {
+pub(crate) fn no_bytes() -> StackSet {
     StackSet { words: [0; 8] }
 }
 

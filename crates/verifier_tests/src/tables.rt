@@ -1,9 +1,8 @@
 //! Which helpers a program may call under each helper table, and what is known after a call of those
 //! that read headers.
 
-use crate::images::{EXIT, ZERO, first_wrong, have_answer, image_of, known_of, regions_of};
+use crate::images::{EXIT, ZERO, first_wrong, have_answer, known_of, regions_of, seen_in};
 use crate::verdicts::all_hold;
-use annotate::load;
 use machine_spec::{Region, Table};
 use std::alloc::Global;
 use std::test::*;
@@ -194,11 +193,12 @@ fn answers(rt: HostRuntime) {
     assert!(rt; is_answered(rt.alloc(), &FIRST_VALUE, 5, 4098));
 }
 
-/// The helper table of a program that is loaded under table two.
-fn table_of(alloc: Global, slots: &[u64]) -> Option<Table> {
-    let image = image_of(alloc, slots).ok()?;
-    let verified = load(alloc, &image, Table::Two).ok()?;
-    Some(verified.table())
+/// Whether a program that is loaded under table two has that table.
+fn has_table(alloc: Global, slots: &[u64]) -> bool {
+    match seen_in(alloc, Table::Two, slots) {
+        Some((_, _, _, table)) => table == Table::Two,
+        None => false,
+    }
 }
 
 /// The program has table two, and the only bytes that its call takes by address are the stack's.
@@ -206,5 +206,5 @@ fn table_of(alloc: Global, slots: &[u64]) -> Option<Table> {
 fn regions_of_a_header(rt: HostRuntime) {
     let regions = regions_of(rt.alloc(), Table::Two, &FIRST_VALUE, 4);
     assert!(rt; regions == Some((6, Some(Region::Stack), None)));
-    assert!(rt; table_of(rt.alloc(), &FIRST_VALUE) == Some(Table::Two));
+    assert!(rt; has_table(rt.alloc(), &FIRST_VALUE));
 }

@@ -44,12 +44,11 @@ fn load_once<Id: Names, H: Wait + Drop, R: Wait>(
     broker: &Broker<Id, Catalogue<H>>,
     image: &Bytes,
 ) -> Result<Option<Known>, BrokerFault> {
-    let (version, known) = broker.load(rt, alloc, NAME, image, Table::One)?;
-    Ok(if known.version() == version {
-        Some(known)
-    } else {
-        None
-    })
+    match broker.load(rt, alloc, NAME, image, Table::One) {
+        Ok((version, known)) if known.version() == version => Ok(Some(known)),
+        Ok(_) => Ok(None),
+        Err(fault) => Err(fault),
+    }
 }
 
 /// What is known after a load, or after the one that follows a refused one.
@@ -57,11 +56,11 @@ fn load_twice<Id: Names, H: Wait + Drop, R: Wait + Print>(
     rt: &R,
     alloc: Global,
     broker: &Broker<Id, Catalogue<H>>,
+    image: &Bytes,
     before: Option<&Known>,
 ) -> Option<Known> {
-    let image = image(alloc)?;
     for _ in 0..2 {
-        match load_once(rt, alloc, broker, &image) {
+        match load_once(rt, alloc, broker, image) {
             Ok(known) => return known,
             Err(fault) => {
                 say(rt, "load", fault);
@@ -85,11 +84,12 @@ pub(crate) fn load<Id: Names, H: Wait + Drop, R: Wait + Print>(
         None => 1,
         Some(known) => known.version().wrapping_add(1),
     };
-    let known = load_twice(rt, alloc, broker, before)?;
-    if known.version() == want {
-        Some(known)
-    } else {
-        None
+    let Some(image) = image(alloc) else {
+        return None;
+    };
+    match load_twice(rt, alloc, broker, &image, before) {
+        Some(known) if known.version() == want => Some(known),
+        _ => None,
     }
 }
 
@@ -110,9 +110,10 @@ fn is_newest<Id: Names, H: Wait + Drop, R: Wait>(
 }
 
 fn find_once(alloc: Global, finder: &mut Finder, known: &Known) -> Result<Option<u32>, CatFault> {
-    match finder.find(alloc, known.name(), known)? {
-        Some((version, _program)) => Ok(Some(version)),
-        None => Ok(None),
+    match finder.find(alloc, known.name(), known) {
+        Ok(Some((version, _program))) => Ok(Some(version)),
+        Ok(None) => Ok(None),
+        Err(fault) => Err(fault),
     }
 }
 
@@ -137,8 +138,10 @@ pub(crate) fn find<R: Print>(
 
 /// How many items the log has.
 pub(crate) fn items<Id: Names, C, R: Wait>(rt: &R, broker: &Broker<Id, C>) -> Option<usize> {
-    let trail = broker.trail(rt, 0).ok()?;
-    Some(trail.len())
+    match broker.trail(rt, 0) {
+        Ok(trail) => Some(trail.len()),
+        Err(_) => None,
+    }
 }
 
 fn is_among(faults: &[BrokerFault], fault: BrokerFault) -> bool {
@@ -191,7 +194,7 @@ pub(crate) fn append<Id: Names, C, R: Wait + Print>(
 ) -> Option<Place> {
     let before = items(rt, broker)?;
     for _ in 0..2 {
-        match calls::append(rt, alloc, broker, 0, Some(batch(alloc, value)?)) {
+        match calls::append(rt, alloc, broker, 0, batch(alloc, value)) {
             Ok(place) => return Some(place),
             Err(fault) if is_refused(rt, broker, "append", fault, &[L4], before) => {}
             Err(_) => return None,
@@ -221,10 +224,10 @@ pub(crate) fn fill<Id: Names, H: Wait + Drop, R: Wait + Print>(
     rt: &R,
     alloc: Global,
     broker: &Broker<Id, Catalogue<H>>,
-) -> Option<()> {
+) -> bool {
     match (load(rt, alloc, broker, None), finder(rt, alloc, broker)) {
         (Some(known), Some(mut finder)) => fill_by(rt, alloc, broker, &mut finder, &known),
-        _ => None,
+        _ => false,
     }
 }
 
@@ -234,13 +237,8 @@ fn fill_by<Id: Names, C, R: Wait + Print>(
     broker: &Broker<Id, C>,
     finder: &mut Finder,
     known: &Known,
-) -> Option<()> {
-    let mark = deploy(rt, alloc, broker, finder, known);
-    let first = append(rt, alloc, broker, b'A');
-    let second = append(rt, alloc, broker, b'B');
-    if mark == Some((0, 1)) && first == Some((0, 1, 0)) && second == Some((0, 2, 2)) {
-        Some(())
-    } else {
-        None
-    }
+) -> bool {
+    deploy(rt, alloc, broker, finder, known) == Some((0, 1))
+        && append(rt, alloc, broker, b'A') == Some((0, 1, 0))
+        && append(rt, alloc, broker, b'B') == Some((0, 2, 2))
 }

@@ -51,8 +51,11 @@ fn deliver_all<Id: Names, R: Wait + Print>(
     let Ok(mut book) = Book::new(alloc, 1, 0) else {
         return Err(Ending::NotMade);
     };
-    fill_log(rt, alloc, &log).ok_or(Ending::Wrong("log"))?;
-    deliver_each(rt, alloc, &log, &mut book)
+    if fill_log(rt, alloc, &log) {
+        deliver_each(rt, alloc, &log, &mut book)
+    } else {
+        Err(Ending::Wrong("log"))
+    }
 }
 
 fn deliver_each<Id: Names, R: Wait + Print>(
@@ -68,7 +71,7 @@ fn deliver_each<Id: Names, R: Wait + Print>(
         if !advance(log, &mut walk) {
             return Err(Ending::Wrong("next"));
         }
-        if deliver_next(rt, alloc, log, &walk, book)? != Delivered::Added(want) {
+        if deliver_next(rt, alloc, log, &walk, book) != Some(Delivered::Added(want)) {
             return Err(Ending::Wrong("deliver"));
         }
     }
@@ -82,25 +85,28 @@ fn deliver_each<Id: Names, R: Wait + Print>(
     }
 }
 
-/// Processes the item at a walk's position and delivers its rows.
+/// Processes the item at a walk's position and delivers its rows. None where one of the two is wrong.
 fn deliver_next<Id: Names, R: Print>(
     rt: &R,
     alloc: Global,
     log: &PartLog<Id>,
     walk: &Walk<Id>,
     book: &mut Book<Id>,
-) -> Result<Delivered, Ending>
+) -> Option<Delivered>
     requires { Id.outputs ≡ 2 }
 {
-    let results = processed(rt, alloc, log, walk).ok_or(Ending::Wrong("process"))?;
-    deliver(rt, book, walk, &results).ok_or(Ending::Wrong("deliver"))
+    match processed(rt, alloc, log, walk) {
+        Some(results) => deliver(rt, book, walk, &results),
+        None => None,
+    }
 }
 
 /// How many bytes the batch of all rows of a book has.
 fn fetch_once<Id: Names>(book: &Book<Id>) -> Result<Option<usize>, BookFault> {
-    match book.fetch(0, 10)? {
-        Some(bytes) => Ok(Some(bytes.len())),
-        None => Ok(None),
+    match book.fetch(0, 10) {
+        Ok(Some(bytes)) => Ok(Some(bytes.len())),
+        Ok(None) => Ok(None),
+        Err(fault) => Err(fault),
     }
 }
 
@@ -121,15 +127,10 @@ fn fetched<Id: Names, R: Print>(rt: &R, book: &Book<Id>) -> Option<usize> {
 }
 
 /// A mark and the batches `A` and `B`, each in its place.
-fn fill_log<Id: Names, R: Wait + Print>(rt: &R, alloc: Global, log: &PartLog<Id>) -> Option<()> {
-    let mark = mark(rt, alloc, log);
-    let first = append(rt, alloc, log, b'A');
-    let second = append(rt, alloc, log, b'B');
-    if mark == Some((0, 0, 0)) && first == Some((0, 1, 0)) && second == Some((0, 2, 2)) {
-        Some(())
-    } else {
-        None
-    }
+fn fill_log<Id: Names, R: Wait + Print>(rt: &R, alloc: Global, log: &PartLog<Id>) -> bool {
+    mark(rt, alloc, log) == Some((0, 0, 0))
+        && append(rt, alloc, log, b'A') == Some((0, 1, 0))
+        && append(rt, alloc, log, b'B') == Some((0, 2, 2))
 }
 
 fn program(alloc: Global, image: &[u8]) -> Option<Arc<Program>> {
@@ -158,9 +159,10 @@ fn mark_once<Id: Names, R: Wait>(
     alloc: Global,
     log: &PartLog<Id>,
 ) -> Option<Result<Place, LogFault>> {
-    let program = program(alloc, &BOTH)?;
-    let name = Name::new(NAME)?;
-    Some(placed(log.mark(rt, alloc, name, 1, program)))
+    match (program(alloc, &BOTH), Name::new(NAME)) {
+        (Some(program), Some(name)) => Some(placed(log.mark(rt, alloc, name, 1, program))),
+        _ => None,
+    }
 }
 
 fn mark<Id: Names, R: Wait + Print>(rt: &R, alloc: Global, log: &PartLog<Id>) -> Option<Place> {
@@ -176,8 +178,10 @@ fn mark<Id: Names, R: Wait + Print>(rt: &R, alloc: Global, log: &PartLog<Id>) ->
 
 /// How many items a log has.
 fn items<Id: Names, R: Wait>(rt: &R, log: &PartLog<Id>) -> Option<usize> {
-    let trail = log.trail(rt).ok()?;
-    Some(trail.len())
+    match log.trail(rt) {
+        Ok(trail) => Some(trail.len()),
+        Err(_) => None,
+    }
 }
 
 fn append<Id: Names, R: Wait + Print>(
@@ -188,7 +192,7 @@ fn append<Id: Names, R: Wait + Print>(
 ) -> Option<Place> {
     let before = items(rt, log)?;
     for _ in 0..2 {
-        match enter(rt, alloc, log, Some(batch(alloc, value)?)) {
+        match enter(rt, alloc, log, batch(alloc, value)) {
             Ok(place) => return Some(place),
             Err(fault) if is_refused(rt, log, "append", fault, before) => {}
             Err(_) => return None,

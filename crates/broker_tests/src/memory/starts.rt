@@ -19,7 +19,9 @@ pub(crate) fn start_all<
     H: Wait + Drop + Send,
     R: Threads + Wait + Print + Sync,
 >(rt: &R, alloc: Global, broker: &Broker<Id, Catalogue<H>>) -> Result<(), Ending> {
-    fill(rt, alloc, broker).ok_or(Ending::Wrong("fill"))?;
+    if !fill(rt, alloc, broker) {
+        return Err(Ending::Wrong("fill"));
+    }
     if start(rt, alloc, broker) != Some(Ended::Done(3)) {
         return Err(Ending::Wrong("start"));
     }
@@ -45,25 +47,39 @@ enum Left {
     DoneItems,
 }
 
-/// What was refused, and how it is called.
-fn refusal<R: Print>(rt: &R, started: &Result<Vec<Ended>, BrokerFault>) -> Option<Left> {
-    let (call, fault, left) = match started {
-        Err(fault) => ("start", *fault, Left::Nothing),
-        Ok(ended) => match only(ended)? {
-            Ended::NoThread => {
-                let _ = println!(rt; "refused start: NoThread");
-                return Some(Left::Nothing);
-            }
-            Ended::Fault(fault) => ("start, its worker", fault, Left::DoneItems),
-            _ => return None,
-        },
-    };
+/// Begins a start; how its one worker ended, where there is just one.
+fn begin<Id: Names + Send + Sync, C: Send, R: Threads + Wait + Sync>(
+    rt: &R,
+    alloc: Global,
+    broker: &Broker<Id, C>,
+) -> Result<Option<Ended>, BrokerFault> {
+    match broker.start(rt, alloc, Until::Drained, &Open) {
+        Ok(ended) => Ok(only(&ended)),
+        Err(fault) => Err(fault),
+    }
+}
+
+/// What a start or its worker that was refused may leave. None where it was not refused memory.
+fn left_by<R: Print>(rt: &R, call: &str, fault: BrokerFault, left: Left) -> Option<Left> {
     say(rt, call, fault);
     let is_book = fault == BrokerFault::Book(BookFault::Memory) && left == Left::DoneItems;
     if fault == BrokerFault::Memory || is_book {
         Some(left)
     } else {
         None
+    }
+}
+
+/// The same of a start that did not end well.
+fn refusal<R: Print>(rt: &R, started: Result<Option<Ended>, BrokerFault>) -> Option<Left> {
+    match started {
+        Err(fault) => left_by(rt, "start", fault, Left::Nothing),
+        Ok(Some(Ended::Fault(fault))) => left_by(rt, "start, its worker", fault, Left::DoneItems),
+        Ok(Some(Ended::NoThread)) => {
+            let _ = println!(rt; "refused start: NoThread");
+            Some(Left::Nothing)
+        }
+        Ok(_) => None,
     }
 }
 
@@ -81,14 +97,24 @@ fn start<Id: Names + Send + Sync, C: Send, R: Threads + Wait + Print + Sync>(
     alloc: Global,
     broker: &Broker<Id, C>,
 ) -> Option<Ended> {
-    let first = broker.start(rt, alloc, Until::Drained, &Open);
-    if let Ok(ended) = &first {
-        if let Some(Ended::Done(items)) = only(ended) {
-            return Some(Ended::Done(items));
-        }
+    let first = begin(rt, alloc, broker);
+    if let Ok(Some(Ended::Done(items))) = first {
+        return Some(Ended::Done(items));
     }
-    if !have(rt, broker, refusal(rt, &first)?) {
-        return None;
+    match refusal(rt, first) {
+        Some(left) if have(rt, broker, left) => again(rt, alloc, broker),
+        _ => None,
     }
-    only(&broker.start(rt, alloc, Until::Drained, &Open).ok()?)
+}
+
+/// How the one worker of a second start ended.
+fn again<Id: Names + Send + Sync, C: Send, R: Threads + Wait + Sync>(
+    rt: &R,
+    alloc: Global,
+    broker: &Broker<Id, C>,
+) -> Option<Ended> {
+    match begin(rt, alloc, broker) {
+        Ok(ended) => ended,
+        Err(_) => None,
+    }
 }

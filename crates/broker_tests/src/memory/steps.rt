@@ -26,7 +26,9 @@ pub(crate) fn step_all<Id: Names, H: Wait + Drop, R: Wait + Print>(
     alloc: Global,
     broker: &Broker<Id, Catalogue<H>>,
 ) -> Result<(), Ending> {
-    fill(rt, alloc, broker).ok_or(Ending::Wrong("fill"))?;
+    if !fill(rt, alloc, broker) {
+        return Err(Ending::Wrong("fill"));
+    }
     for want in &STEPS {
         if step(rt, alloc, broker, 1) != Some(*want) {
             return Err(Ending::Wrong("step"));

@@ -1,4 +1,4 @@
-use crate::play::{Scene, play};
+use crate::play::{Drained, Scene, play};
 use crate::reports::calls::{Given, puts, reports};
 use broker::Broker;
 use broker_fixtures::{deploy, drain};
@@ -27,7 +27,7 @@ static FIRST_BYTE: [u8; 32] = [
 
 #[test]
 fn a_kept_record_has_a_row(rt: HostRuntime) {
-    play(&rt, rt.alloc(), 1, 2, 8, Scene::KeepOne);
+    play(&rt, rt.alloc(), 1, 2, 8, Scene::Drained(Drained::KeepOne));
 }
 
 const KEPT: &str = "row 0 0 0 0 1000 6b 76 0\n\
@@ -53,7 +53,14 @@ pub(crate) fn keep_one<Id: Names + Send + Sync, H: Wait + Drop + Send, R: Thread
 
 #[test]
 fn a_record_before_the_first_mark_has_no_program(rt: HostRuntime) {
-    play(&rt, rt.alloc(), 1, 1, 8, Scene::DeployLate);
+    play(
+        &rt,
+        rt.alloc(),
+        1,
+        1,
+        8,
+        Scene::Drained(Drained::DeployLate),
+    );
 }
 
 const LATE: &str = "out 0 in 0 done 5 rows 0\n\
@@ -80,7 +87,14 @@ pub(crate) fn deploy_late<Id: Names + Send + Sync, H: Wait + Drop + Send, R: Thr
 
 #[test]
 fn codes_are_listed_in_rising_order(rt: HostRuntime) {
-    play(&rt, rt.alloc(), 2, 1, 8, Scene::RejectSome);
+    play(
+        &rt,
+        rt.alloc(),
+        2,
+        1,
+        8,
+        Scene::Drained(Drained::RejectSome),
+    );
 }
 
 const REJECTED: &str = "out 0 in 0 done 2 rows 0\n\

@@ -1,11 +1,11 @@
-use crate::play::{Scene, play};
+use crate::play::{Alone, Drained, Scene, play};
 use crate::reports::calls::{Given, puts, reports};
 use broker::Broker;
 use broker_fixtures::{deploy, drain, step};
 use catalogue::Catalogue;
 use fixtures::{BOTH, FORWARD};
 use part_log::Names;
-use report::gather;
+use report::{Snapshot, gather};
 use std::alloc::Global;
 use std::sync::Wait;
 use std::test::*;
@@ -13,7 +13,7 @@ use std::thread::Threads;
 
 #[test]
 fn lines_are_in_the_order_of_partitions(rt: HostRuntime) {
-    play(&rt, rt.alloc(), 2, 2, 4, Scene::FillTwo);
+    play(&rt, rt.alloc(), 2, 2, 4, Scene::Drained(Drained::FillTwo));
 }
 
 const FILLED: &str = "row 0 0 0 0 1000 6b 41 0\n\
@@ -46,7 +46,7 @@ pub(crate) fn fill_two<Id: Names + Send + Sync, H: Wait + Drop + Send, R: Thread
 
 #[test]
 fn items_that_are_done_everywhere_are_counted(rt: HostRuntime) {
-    play(&rt, rt.alloc(), 1, 2, 8, Scene::StepApart);
+    play(&rt, rt.alloc(), 1, 2, 8, Scene::Alone(Alone::StepApart));
 }
 
 const EMPTY: &str = "out 0 in 0 done 0 rows 0\n\
@@ -104,7 +104,13 @@ fn parts_of<Id: Names, C, R: Wait>(
     alloc: Global,
     broker: &Broker<Id, C>,
 ) -> Option<(usize, usize, usize, u64)> {
-    let snapshot = gather(rt, alloc, broker).ok()?;
+    match gather(rt, alloc, broker) {
+        Ok(snapshot) => parts_in(&snapshot),
+        Err(_) => None,
+    }
+}
+
+fn parts_in<Id: Names>(snapshot: &Snapshot<Id>) -> Option<(usize, usize, usize, u64)> {
     if snapshot.outputs() == 0 || snapshot.inputs() == 0 {
         return None;
     }

@@ -1,5 +1,6 @@
 use crate::calls::puts;
-use crate::play::{Scene, play};
+use crate::narrow::Narrow;
+use crate::play::{Drained, Scene, play};
 use broker::Broker;
 use broker_fixtures::{deploy, drain};
 use catalogue::Catalogue;
@@ -8,38 +9,13 @@ use part_log::Names;
 use report::{ReportFault, Snapshot, gather, write};
 use std::alloc::Global;
 use std::io;
-use std::io::Write;
 use std::sync::Wait;
 use std::test::*;
 use std::thread::Threads;
 
-/// Takes `room` bytes and then fails.
-#[derive(Drop)]
-struct Narrow {
-    taken: Vec<u8>,
-    room: usize,
-    kind: io::ErrorKind,
-}
-
-impl Write for Narrow {
-    fn write(&mut self, bytes: &[u8]) -> io::Result<usize> {
-        if self.room == 0 {
-            return Err(io::Error::from(self.kind));
-        }
-        let count = bytes.len().min(self.room);
-        self.taken.extend_from_slice(&bytes[..count])?;
-        self.room -= count;
-        Ok(count)
-    }
-
-    fn flush(&mut self) -> io::Result<()> {
-        Ok(())
-    }
-}
-
 #[test]
 fn a_writer_that_fails_has_a_beginning(rt: HostRuntime) {
-    play(&rt, rt.alloc(), 1, 1, 4, Scene::CutShort);
+    play(&rt, rt.alloc(), 1, 1, 4, Scene::Drained(Drained::CutShort));
 }
 
 const TEXT: &[u8] = b"row 0 0 0 0 1000 6b 76 0\n\
@@ -89,7 +65,9 @@ fn has_beginning<Id: Names>(alloc: Global, snapshot: &Snapshot<Id>, row: &Room) 
     let mut out = Narrow {
         taken: Vec::new(alloc),
         room,
+        step: usize::MAX,
         kind,
+        is_interrupted: false,
     };
     let written = write(alloc, snapshot, &mut out);
     written == want && TEXT.get(..len) == Some(out.taken.as_slice())

@@ -3,11 +3,12 @@
 ghost use Rattle.std.specs.Prelude.{IfSome};
 ghost use Rattle.log_spec.specs.Worlds.{FitsEvent};
 
-use crate::schedules::making::{NULLS, load_of, put_of};
+use crate::schedules::making::{NULLS, load_of, mark_of, put_of};
 use crate::schedules::rows::{Seen, is_row};
-use crate::schedules::verdicts::all_hold;
+use crate::verdicts::all_hold;
 use fixtures::BOTH;
-use log_spec::{Event, Name, Refusal, Reply, Row};
+use log_spec::{Event, Refusal, Reply, Row};
+use machine_spec::Table;
 use std::alloc::{AllocError, Global};
 use std::test::*;
 use world::World;
@@ -156,8 +157,8 @@ fn event_of(alloc: Global, act: Act, value: u8) -> Option<Event>
 {
     match act {
         Act::Put => put_of(alloc, 0, value),
-        Act::MarkBoth => Some(Event::Mark(0, Name::new("p1")?, 1)),
-        Act::MarkNulls => Some(Event::Mark(0, Name::new("p2")?, 1)),
+        Act::MarkBoth => mark_of(0, "p1", 1),
+        Act::MarkNulls => mark_of(0, "p2", 1),
         Act::DeliverFirst => Some(Event::Deliver(0, 0)),
         Act::DeliverSecond => Some(Event::Deliver(0, 1)),
         Act::Restart => Some(Event::Restart(0)),
@@ -165,16 +166,29 @@ fn event_of(alloc: Global, act: Act, value: u8) -> Option<Event>
 }
 
 /// Loads an image; whether the core took it.
-fn load(alloc: Global, world: &mut World, name: &str, image: &[u8]) -> Option<bool> {
-    let event = load_of(alloc, name, image)?;
-    Some(world.step(alloc, &event) == Ok(Reply::Loaded(1)))
+fn load(alloc: Global, world: &mut World, name: &str, image: &[u8]) -> bool {
+    match load_of(alloc, name, image, Table::One) {
+        Some(event) => world.step(alloc, &event) == Ok(Reply::Loaded(1)),
+        None => false,
+    }
 }
 
 /// Does the same to both; whether the answers are the same.
-fn step(alloc: Global, world: &mut World, plain: &mut Plain, act: Act, value: u8) -> Option<bool> {
-    let event = event_of(alloc, act, value)?;
-    let got = world.step(alloc, &event);
-    Some(plain.step(act, value).ok()? == got)
+fn step(alloc: Global, world: &mut World, plain: &mut Plain, act: Act, value: u8) -> bool {
+    match event_of(alloc, act, value) {
+        Some(event) => is_same_answer(plain.step(act, value), world.step(alloc, &event)),
+        None => false,
+    }
+}
+
+fn is_same_answer(
+    want: Result<Result<Reply, Refusal>, AllocError>,
+    got: Result<Reply, Refusal>,
+) -> bool {
+    match want {
+        Ok(want) => want == got,
+        Err(_) => false,
+    }
 }
 
 /// The rows of the first items in an output partition.
@@ -205,18 +219,23 @@ fn are_rows(got: &[Row], want: &[Seen]) -> bool {
     rest.is_empty()
 }
 
-/// Whether an output partition is the same in both.
-fn is_same(alloc: Global, world: &World, plain: &Plain, output: usize) -> Option<bool> {
+/// Whether a pair of partitions has these rows, with this done number and this place.
+fn is_output(world: &World, output: usize, rows: &[Seen], want: Output) -> bool {
     if world.inputs() == 0 || output >= world.outputs(0) {
-        return None;
+        return false;
     }
+    are_rows(world.rows(0, output), rows)
+        && world.done(0, output) == want.done
+        && world.at(0, output) == want.at
+}
+
+/// Whether an output partition is the same in both.
+fn is_same(alloc: Global, world: &World, plain: &Plain, output: usize) -> bool {
     let want = plain.output(output);
-    let rows = rows_of(alloc, &plain.items, want.done, output).ok()?;
-    Some(
-        are_rows(world.rows(0, output), &rows)
-            && world.done(0, output) == want.done
-            && world.at(0, output) == want.at,
-    )
+    match rows_of(alloc, &plain.items, want.done, output) {
+        Ok(rows) => is_output(world, output, &rows, want),
+        Err(_) => false,
+    }
 }
 
 /// The act that a digit of a number to the base 6 is.
@@ -238,45 +257,41 @@ static PLACES: [(usize, u8); 6] = [
 ];
 
 /// Does the acts that the digits of a number are; whether all answers are the same.
-fn all_are_same(
-    alloc: Global,
-    world: &mut World,
-    plain: &mut Plain,
-    number: usize,
-) -> Option<bool> {
+fn all_are_same(alloc: Global, world: &mut World, plain: &mut Plain, number: usize) -> bool {
     for (place, value) in &PLACES {
-        if !step(alloc, world, plain, act_at(number, *place), *value)? {
-            return Some(false);
+        if !step(alloc, world, plain, act_at(number, *place), *value) {
+            return false;
         }
     }
-    Some(true)
+    true
 }
 
 /// Loads both programs; whether the core took them.
-fn load_both(alloc: Global, world: &mut World) -> Option<bool> {
-    Some(load(alloc, world, "p1", &BOTH)? && load(alloc, world, "p2", &NULLS)?)
+fn load_both(alloc: Global, world: &mut World) -> bool {
+    load(alloc, world, "p1", &BOTH) && load(alloc, world, "p2", &NULLS)
 }
 
-/// Whether both output partitions are the same in both.
-fn both_are_same(alloc: Global, world: &World, plain: &Plain) -> Option<bool> {
-    Some(is_same(alloc, world, plain, 0)? && is_same(alloc, world, plain, 1)?)
-}
-
-/// Does the acts of a number to a new core and to a plain list; whether all answers and in the end the
-/// rows are the same.
-fn is_right(alloc: Global, number: usize) -> Option<bool> {
-    let mut world = World::new(alloc, 1, 2, CELLS).ok()?;
+/// Does the acts of a number to both; whether all answers and in the end the rows are the same.
+fn are_same(alloc: Global, world: &mut World, number: usize) -> bool {
     let mut plain = Plain::new(alloc);
-    if !load_both(alloc, &mut world)? || !all_are_same(alloc, &mut world, &mut plain, number)? {
-        return Some(false);
+    load_both(alloc, world)
+        && all_are_same(alloc, world, &mut plain, number)
+        && is_same(alloc, world, &plain, 0)
+        && is_same(alloc, world, &plain, 1)
+}
+
+/// The same with a new core.
+fn is_right(alloc: Global, number: usize) -> bool {
+    match World::new(alloc, 1, 2, CELLS) {
+        Ok(mut world) => are_same(alloc, &mut world, number),
+        Err(_) => false,
     }
-    both_are_same(alloc, &world, &plain)
 }
 
 /// The first of so many lists that is not right.
 fn first_wrong(alloc: Global, lists: usize) -> Option<usize> {
     for number in 0..lists {
-        if is_right(alloc, number.wrapping_mul(43)) != Some(true) {
+        if !is_right(alloc, number.wrapping_mul(43)) {
             return Some(number);
         }
     }

@@ -15,9 +15,8 @@
 
 ghost use Rattle.std.specs.Prelude.{◌≡◌, ◌≤◌};
 
-use crate::schedules::play::{
-    CELLS, Desk, Lane, Pair, are_core, close, is_done, load, mark, offer, open, put, restart,
-};
+use crate::schedules::desk::{Desk, load, mark, open};
+use crate::schedules::play::{CELLS, Lane, Pair, are_core, close, is_done, offer, put, restart};
 use part_log::{Cells, Names};
 use std::alloc::Global;
 use std::env;
@@ -106,27 +105,27 @@ struct Play<'r, Id: Names, R: Wait> {
 
 impl<'r, Id: Names, R: Wait> Play<'r, Id, R> {
     /// The deployer's step, of which it has so many left.
-    fn deploy(&mut self, left: u64) -> Option<bool> {
+    fn deploy(&mut self, left: u64) -> bool {
         let (rt, alloc) = (self.rt, self.alloc);
         match left {
             3 => mark(rt, alloc, &self.first, &mut self.desk, &mut self.core),
-            2 => Some(load(alloc, &mut self.desk, &mut self.core)),
+            2 => load(alloc, &mut self.desk, &mut self.core),
             _ => mark(rt, alloc, &self.second, &mut self.desk, &mut self.core),
         }
     }
 
     /// The second producer's step.
-    fn fill(&mut self, left: u64) -> Option<bool> {
+    fn fill(&mut self, left: u64) -> bool {
         let (rt, alloc) = (self.rt, self.alloc);
         match left {
-            1 => Some(close(rt, alloc, &self.second, &mut self.core)),
+            1 => close(rt, alloc, &self.second, &mut self.core),
             3 => put(rt, alloc, &self.second, &mut self.core, b'a'),
             _ => put(rt, alloc, &self.second, &mut self.core, b'b'),
         }
     }
 
     /// The first producer's step.
-    fn append(&mut self, left: u64) -> Option<bool> {
+    fn append(&mut self, left: u64) -> bool {
         let value = match left {
             3 => b'A',
             2 => b'B',
@@ -136,7 +135,7 @@ impl<'r, Id: Names, R: Wait> Play<'r, Id, R> {
     }
 
     /// A step of the first log's worker.
-    fn work_first(&mut self, left: u64) -> Option<bool>
+    fn work_first(&mut self, left: u64) -> bool
         requires { Id.outputs ≡ 2 }
     {
         if left == 2 {
@@ -147,7 +146,7 @@ impl<'r, Id: Names, R: Wait> Play<'r, Id, R> {
     }
 
     /// A step of the second log's worker.
-    fn work_second(&mut self, left: u64) -> Option<bool>
+    fn work_second(&mut self, left: u64) -> bool
         requires { Id.outputs ≡ 2 }
     {
         if left == 2 {
@@ -162,36 +161,44 @@ impl<'r, Id: Names, R: Wait> Play<'r, Id, R> {
         }
     }
 
-    /// An actor's step; whether the answers and then the books are the core's.
-    fn step(&mut self, actor: Actor, left: u64) -> Option<bool>
+    /// An actor's step; whether the answers are the core's.
+    fn act(&mut self, actor: Actor, left: u64) -> bool
         requires { Id.outputs ≡ 2 }
     {
-        let is_same = match actor {
-            Actor::FirstProducer => self.append(left)?,
-            Actor::SecondProducer => self.fill(left)?,
-            Actor::Deployer => self.deploy(left)?,
-            Actor::FirstWorker => self.work_first(left)?,
-            Actor::SecondWorker => self.work_second(left)?,
-        };
-        Some(is_same && are_core(&self.books, &self.core))
+        match actor {
+            Actor::FirstProducer => self.append(left),
+            Actor::SecondProducer => self.fill(left),
+            Actor::Deployer => self.deploy(left),
+            Actor::FirstWorker => self.work_first(left),
+            Actor::SecondWorker => self.work_second(left),
+        }
+    }
+
+    /// An actor's step; whether the answers and then the books are the core's.
+    fn step(&mut self, actor: Actor, left: u64) -> bool
+        requires { Id.outputs ≡ 2 }
+    {
+        self.act(actor, left) && are_core(&self.books, &self.core)
     }
 
     /// Takes the steps of an interleaving.
-    fn take(&mut self, left: &mut Left) -> Option<bool>
+    fn take(&mut self, left: &mut Left) -> bool
         requires { Id.outputs ≡ 2 }
     {
         for _ in 0..15 {
-            let (actor, steps) = left.next()?;
-            if !self.step(actor, steps)? {
-                return Some(false);
+            let Some((actor, steps)) = left.next() else {
+                return false;
+            };
+            if !self.step(actor, steps) {
+                return false;
             }
         }
-        Some(true)
+        true
     }
 
     /// Marks the first version in the second log, takes the steps of an interleaving and then what is
     /// left.
-    fn run(&mut self, number: u64) -> Option<bool>
+    fn run(&mut self, number: u64) -> bool
         requires { Id.outputs ≡ 2 }
     {
         let mut left = Left {
@@ -199,22 +206,24 @@ impl<'r, Id: Names, R: Wait> Play<'r, Id, R> {
             ways: ALL,
             number,
         };
-        Some(self.deploy(1)? && self.take(&mut left)? && self.drain()?)
+        self.deploy(1) && self.take(&mut left) && self.drain() && self.are_done()
     }
 
     /// Both workers take what is left.
-    fn drain(&mut self) -> Option<bool>
+    fn drain(&mut self) -> bool
         requires { Id.outputs ≡ 2 }
     {
         for _ in 0..2 * CELLS {
-            let first = self.step(Actor::FirstWorker, 1)?;
-            let second = self.step(Actor::SecondWorker, 1)?;
-            if !first || !second {
-                return Some(false);
+            if !self.step(Actor::FirstWorker, 1) || !self.step(Actor::SecondWorker, 1) {
+                return false;
             }
         }
-        let first = is_done(self.rt, &self.first, &self.books);
-        Some(first && is_done(self.rt, &self.second, &self.books))
+        true
+    }
+
+    /// Whether all items of both logs are done.
+    fn are_done(&self) -> bool {
+        is_done(self.rt, &self.first, &self.books) && is_done(self.rt, &self.second, &self.books)
     }
 }
 
@@ -225,13 +234,15 @@ fn played<Id: Names, R: Wait>(
     cells: (Cells, Cells),
     begun: (World, Desk<&R>),
     number: u64,
-) -> Option<bool>
+) -> bool
     requires first { cells.0 ≡ Id.cells 0 }
     requires second { cells.1 ≡ Id.cells 1 }
     requires inputs { Id.inputs ≡ 2 }
     requires outputs { Id.outputs ≡ 2 }
 {
-    let books = Pair::new(alloc)?;
+    let Some(books) = Pair::new(alloc) else {
+        return false;
+    };
     let (first, second) = cells;
     let (core, desk) = begun;
     let mut play: Play<Id, R> = Play {
@@ -248,30 +259,38 @@ fn played<Id: Names, R: Wait>(
 
 /// The core and the desk, with the first version.
 fn begin<R: Wait>(rt: &R, alloc: Global) -> Option<(World, Desk<&R>)> {
-    let mut core = World::new(alloc, 2, 2, CELLS).ok()?;
-    let desk = open(rt, alloc, &mut core)?;
-    Some((core, desk))
+    let Ok(mut core) = World::new(alloc, 2, 2, CELLS) else {
+        return None;
+    };
+    match open(rt, alloc, &mut core) {
+        Some(desk) => Some((core, desk)),
+        None => None,
+    }
 }
 
 /// The cells of both logs.
 fn cells_of(alloc: Global) -> Option<(Cells, Cells)> {
-    let first = Cells::new(alloc, CELLS).ok()?;
-    let second = Cells::new(alloc, CELLS).ok()?;
-    Some((first, second))
+    match (Cells::new(alloc, CELLS), Cells::new(alloc, CELLS)) {
+        (Ok(first), Ok(second)) => Some((first, second)),
+        _ => None,
+    }
 }
 
 /// Takes the interleaving of a number.
-fn is_right<R: Wait>(rt: &R, alloc: Global, number: u64) -> Option<bool> {
-    let cells = cells_of(alloc)?;
-    let begun = begin(rt, alloc)?;
-    played::<Brand, R>(rt, alloc, cells, begun, number.wrapping_mul(SPREAD) % ALL)
+fn is_right<R: Wait>(rt: &R, alloc: Global, number: u64) -> bool {
+    match (cells_of(alloc), begin(rt, alloc)) {
+        (Some(cells), Some(begun)) => {
+            played::<Brand, R>(rt, alloc, cells, begun, number.wrapping_mul(SPREAD) % ALL)
+        }
+        _ => false,
+    }
 }
 
 /// The first of so many numbers whose interleaving is not right.
 fn first_wrong<R: Wait>(rt: &R, alloc: Global, first: u64, count: u64) -> Option<u64> {
     for turn in 0..count {
         let number = first.wrapping_add(turn);
-        if is_right(rt, alloc, number) != Some(true) {
+        if !is_right(rt, alloc, number) {
             return Some(number);
         }
     }

@@ -1,17 +1,15 @@
-//! A log with its worker for each of two input partitions, the books of two output partitions and the
-//! catalogue, and beside them the core: each call here does one step of both, and says whether the
-//! answers are the same. None is that memory ran out.
+//! A log with its worker for each of two input partitions and the books of two output partitions, and
+//! beside them the core: each call here and in `desk` does one step of both, and says whether the answers
+//! are the same. They are not where memory ran out.
 
 ghost use Rattle.std.specs.Prelude.{◌≡◌};
+ghost use Rattle.log_spec.specs.Worlds.{FitsEvent};
 
-use crate::schedules::making::{NULLS, load_of, put_of};
+use crate::schedules::making::put_of;
 use crate::schedules::rows::has;
 use broker_fixtures::{advance, results_of};
-use bytes::Bytes;
-use catalogue::{Catalogue, Finder, Known};
-use fixtures::{BOTH, batch_of_value};
-use log_spec::{Event, Name, Refusal, Reply};
-use machine_spec::Table;
+use fixtures::batch_of_value;
+use log_spec::{Event, Refusal, Reply};
 use out_book::{Book, BookFault, Delivered};
 use part_log::{Cells, LogFault, Names, PartLog, Receipt};
 use std::alloc::Global;
@@ -22,15 +20,12 @@ use world::World;
 /// How many cells each log has.
 pub(crate) const CELLS: usize = 4;
 
-/// The name that programs are loaded under.
-const NAME: &str = "p";
-
 /// An input partition's log, and its worker: a walk, and the results of the walk's last item until each
 /// output partition was offered them.
 #[derive(Drop)]
 pub(crate) struct Lane<Id: Names> {
-    input: usize,
-    log: PartLog<Id>,
+    pub(crate) input: usize,
+    pub(crate) log: PartLog<Id>,
     walk: Walk<Id>,
     results: Option<Results<Id>>,
     output: usize,
@@ -62,23 +57,15 @@ impl<Id: Names> Pair<Id> {
         requires inputs { Id.inputs ≡ 2 }
         requires outputs { Id.outputs ≡ 2 }
     {
-        Some(Pair {
-            first: Book::new(alloc, 2, 0).ok()?,
-            second: Book::new(alloc, 2, 1).ok()?,
-        })
+        match (Book::new(alloc, 2, 0), Book::new(alloc, 2, 1)) {
+            (Ok(first), Ok(second)) => Some(Pair { first, second }),
+            _ => None,
+        }
     }
 }
 
-/// The catalogue, a finder of it, and the version that was loaded last.
-#[derive(Drop)]
-pub(crate) struct Desk<R: Wait + Drop> {
-    catalogue: Catalogue<R>,
-    finder: Finder,
-    known: Known,
-}
-
 /// Whether a log answers what the core does.
-fn is_same_append<Id: Names>(
+pub(crate) fn is_same_append<Id: Names>(
     got: &Result<Receipt<Id>, LogFault>,
     want: Result<Reply, Refusal>,
 ) -> bool {
@@ -99,11 +86,24 @@ pub(crate) fn put<Id: Names, R: Wait>(
     lane: &Lane<Id>,
     core: &mut World,
     value: u8,
-) -> Option<bool> {
-    let event = put_of(alloc, lane.input, value)?;
-    let batch = batch_of_value(alloc, 1, value)?;
-    let want = core.step(alloc, &event);
-    Some(is_same_append(&lane.log.append(rt, alloc, batch), want))
+) -> bool {
+    match (
+        put_of(alloc, lane.input, value),
+        batch_of_value(alloc, 1, value),
+    ) {
+        (Some(event), Some(batch)) => {
+            let want = asked(alloc, core, event);
+            is_same_append(&lane.log.append(rt, alloc, batch), want)
+        }
+        _ => false,
+    }
+}
+
+/// What the core answers.
+pub(crate) fn asked(alloc: Global, core: &mut World, event: Event) -> Result<Reply, Refusal>
+    requires { FitsEvent event }
+{
+    core.step(alloc, &event)
 }
 
 /// Closes a log.
@@ -114,92 +114,24 @@ pub(crate) fn close<Id: Names, R: Wait>(
     core: &mut World,
 ) -> bool {
     let got = lane.log.close(rt, alloc);
-    is_same_append(&got, core.step(alloc, &Event::Close(lane.input)))
+    is_same_append(&got, asked(alloc, core, Event::Close(lane.input)))
 }
 
-/// Loads an image; the version, and what is known then.
-fn load_image<R: Wait + Drop>(
-    alloc: Global,
-    catalogue: &mut Catalogue<R>,
-    image: &[u8],
-) -> Option<(u32, Known)> {
-    let image = Bytes::copy_from_slice(alloc, image).ok()?;
-    catalogue.load(alloc, NAME, &image, Table::One).ok()
-}
-
-/// Whether the core loads an image as this version.
-fn loads(alloc: Global, core: &mut World, image: &[u8], version: u32) -> bool {
-    match load_of(alloc, NAME, image) {
-        Some(event) => core.step(alloc, &event) == Ok(Reply::Loaded(version)),
-        None => false,
-    }
-}
-
-/// What is known after a load that the core makes too.
-fn load_both<R: Wait + Drop>(
-    alloc: Global,
-    catalogue: &mut Catalogue<R>,
-    core: &mut World,
-    image: &[u8],
-) -> Option<Known> {
-    match load_image(alloc, catalogue, image) {
-        Some((version, known)) if loads(alloc, core, image, version) => Some(known),
-        _ => None,
-    }
-}
-
-/// A desk with the first version, which the core loads too.
-pub(crate) fn open<R: Wait + Drop>(rt: R, alloc: Global, core: &mut World) -> Option<Desk<R>> {
-    match Catalogue::new(rt, alloc) {
-        Ok(catalogue) => open_with(alloc, catalogue, core),
-        Err(_) => None,
-    }
-}
-
-fn open_with<R: Wait + Drop>(
-    alloc: Global,
-    catalogue: Catalogue<R>,
-    core: &mut World,
-) -> Option<Desk<R>> {
-    let mut catalogue = catalogue;
-    let finder = catalogue.reader(alloc);
-    match (finder, load_both(alloc, &mut catalogue, core, &BOTH)) {
-        (Ok(finder), Some(known)) => Some(Desk {
-            catalogue,
-            finder,
-            known,
-        }),
-        _ => None,
-    }
-}
-
-/// Loads the second version; whether the core does too.
-pub(crate) fn load<R: Wait + Drop>(alloc: Global, desk: &mut Desk<R>, core: &mut World) -> bool {
-    match load_both(alloc, &mut desk.catalogue, core, &NULLS) {
-        Some(known) => {
-            desk.known = known;
+/// Processes the item at a walk's position; whether it could.
+fn is_processed<Id: Names>(alloc: Global, lane: &mut Lane<Id>) -> bool
+    requires { Id.outputs ≡ 2 }
+{
+    match results_of(alloc, &lane.walk, &lane.log, 2) {
+        Some(results) => {
+            lane.results = Some(results);
             true
         }
         None => false,
     }
 }
 
-/// Marks the version that a finder finds.
-pub(crate) fn mark<Id: Names, R: Wait + Drop, W: Wait>(
-    rt: &W,
-    alloc: Global,
-    lane: &Lane<Id>,
-    desk: &mut Desk<R>,
-    core: &mut World,
-) -> Option<bool> {
-    let name = Name::new(NAME)?;
-    let (version, program) = desk.finder.find(alloc, &name, &desk.known).ok()??;
-    let got = lane.log.mark(rt, alloc, name.again(), version, program);
-    let event = Event::Mark(lane.input, name, version);
-    Some(is_same_append(&got, core.step(alloc, &event)))
-}
-
 /// Whether there is something to offer: what is left of an item, or the next one, which is processed.
+/// None where memory ran out.
 fn has_next<Id: Names>(alloc: Global, lane: &mut Lane<Id>) -> Option<bool>
     requires { Id.outputs ≡ 2 }
 {
@@ -209,9 +141,11 @@ fn has_next<Id: Names>(alloc: Global, lane: &mut Lane<Id>) -> Option<bool>
     if !advance(&lane.log, &mut lane.walk) {
         return Some(false);
     }
-    let results = results_of(alloc, &lane.walk, &lane.log, 2)?;
-    lane.results = Some(results);
-    Some(true)
+    if is_processed(alloc, lane) {
+        Some(true)
+    } else {
+        None
+    }
 }
 
 /// Whether a book answers what the core does.
@@ -246,23 +180,37 @@ fn pass_turn<Id: Names>(lane: &mut Lane<Id>) {
     }
 }
 
+/// Offers what there is to offer.
+fn offer_there<Id: Names>(
+    lane: &mut Lane<Id>,
+    books: &mut Pair<Id>,
+    want: Result<Reply, Refusal>,
+) -> bool {
+    match deliver(lane, books) {
+        Some(got) => {
+            pass_turn(lane);
+            is_same_delivery(got, want)
+        }
+        None => false,
+    }
+}
+
 /// The worker's next offer. Where its log has no item yet, the core refuses it.
 pub(crate) fn offer<Id: Names>(
     alloc: Global,
     lane: &mut Lane<Id>,
     books: &mut Pair<Id>,
     core: &mut World,
-) -> Option<bool>
+) -> bool
     requires { Id.outputs ≡ 2 }
 {
-    let is_there = has_next(alloc, lane)?;
-    let want = core.step(alloc, &Event::Deliver(lane.input, lane.output));
-    if !is_there {
-        return Some(want == Err(Refusal::NoItem));
+    let has_next = has_next(alloc, lane);
+    let want = asked(alloc, core, Event::Deliver(lane.input, lane.output));
+    match has_next {
+        Some(true) => offer_there(lane, books, want),
+        Some(false) => want == Err(Refusal::NoItem),
+        None => false,
     }
-    let got = deliver(lane, books)?;
-    pass_turn(lane);
-    Some(is_same_delivery(got, want))
 }
 
 /// A walk over the items of an input partition that are done in both output partitions.
@@ -279,16 +227,25 @@ fn done_everywhere<Id: Names>(books: &Pair<Id>, input: usize) -> Option<Walk<Id>
     }
 }
 
+/// The core's worker passes an item in an output partition.
+fn passes(alloc: Global, core: &mut World, input: usize, output: usize) -> bool {
+    asked(alloc, core, Event::Deliver(input, output)) == Ok(Reply::Already)
+}
+
 /// The core's worker passes items that are done in both output partitions.
 fn pass_done(alloc: Global, core: &mut World, input: usize, items: usize) -> bool {
     for _ in 0..items {
-        let first = core.step(alloc, &Event::Deliver(input, 0));
-        let second = core.step(alloc, &Event::Deliver(input, 1));
-        if first != Ok(Reply::Already) || second != Ok(Reply::Already) {
+        if !passes(alloc, core, input, 0) || !passes(alloc, core, input, 1) {
             return false;
         }
     }
     true
+}
+
+/// The core's worker begins again and passes those items.
+fn restart_core(alloc: Global, core: &mut World, input: usize, items: usize) -> bool {
+    asked(alloc, core, Event::Restart(input)) == Ok(Reply::Restarted)
+        && pass_done(alloc, core, input, items)
 }
 
 /// The worker ends where it is, and another one begins after the items that are done in both output
@@ -298,12 +255,15 @@ pub(crate) fn restart<Id: Names>(
     lane: &mut Lane<Id>,
     books: &Pair<Id>,
     core: &mut World,
-) -> Option<bool> {
-    let walk = done_everywhere(books, lane.input)?;
-    let done = walk.len();
-    begin_with(lane, walk);
-    let is_restarted = core.step(alloc, &Event::Restart(lane.input)) == Ok(Reply::Restarted);
-    Some(is_restarted && pass_done(alloc, core, lane.input, done))
+) -> bool {
+    match done_everywhere(books, lane.input) {
+        Some(walk) => {
+            let done = walk.len();
+            begin_with(lane, walk);
+            restart_core(alloc, core, lane.input, done)
+        }
+        None => false,
+    }
 }
 
 /// A worker begins after a walk, with the first output partition.

@@ -8,7 +8,7 @@ use crate::calls::puts;
 use crate::schedules::books::has_first;
 use crate::schedules::gates::{Meet, StopAt};
 use crate::schedules::making::NULLS;
-use crate::schedules::verdicts::all_hold;
+use crate::verdicts::all_hold;
 use broker::{Broker, Ended, Parts, Stepped, Until};
 use broker_fixtures::{deploy, ends, sees, step};
 use catalogue::Catalogue;

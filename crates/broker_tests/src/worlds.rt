@@ -1,14 +1,15 @@
-ghost use Rattle.std.specs.Prelude.{IfOk, IfSome};
-ghost use Rattle.log_spec.specs.Worlds.{FitsEvent};
-ghost use Rattle.log_spec.specs.Logs.{FitsLog};
+//! Tests of the core: what it answers to events, and what its books hold then.
 
-use bytes::Bytes;
-use fixtures::{FORWARD, batch_at, copied, raw_name_of};
+mod acts;
+
+use crate::schedules::making::{load_of, mark_of};
+use crate::worlds::acts::{Act, event_of, put_of};
+use fixtures::FORWARD;
 use machine_spec::Table;
 use std::alloc::{AllocError, Global};
+use std::process::Abort;
 use std::test::*;
-use wire_spec::{Batch, Header, Headers, Record, Records};
-use world::{Event, Name, Refusal, Reply, Row, World, run};
+use world::{Event, Refusal, Reply, Row, World, run};
 
 /// mov64 r1, 0; call 3; mov64 r1, 1; call 3; exit: to output 0 and then to output 1.
 const FIRST: &[u8] = &[
@@ -34,101 +35,50 @@ const BY_HEADER: &[u8] = &[
     0, 3, 0, 0, 0, 0xb7, 0, 0, 0, 0, 0, 0, 0, 0x95, 0, 0, 0, 0, 0, 0, 0,
 ];
 
-/// An event in short. A `Put` is of as many records as its text has bytes, each with the key `k`
-/// and one of the bytes as its value. In a `PutWith` each has a header `h` too, with this value.
-#[derive(Clone, Copy)]
-enum Act {
-    Load(&'static str, &'static [u8], Table),
-    Mark(usize, &'static str, u32),
-    Put(usize, &'static str),
-    PutWith(usize, &'static str, Option<&'static [u8]>),
-    Close(usize),
-    Deliver(usize, usize),
-    Restart(usize),
+fn reply_text(alloc: Global, reply: Reply) -> Result<String, AllocError> {
+    format!(in alloc; "{reply:?}")
 }
 
-/// No header, or one with the key `h` and this value, which may be null.
-fn headers_of(alloc: Global, header: Option<Option<&[u8]>>) -> Result<Headers, AllocError> {
-    let mut list = Vec::new(alloc);
-    if let Some(value) = header {
-        list.push(Header {
-            key: Bytes::copy_from_slice(alloc, b"h")?,
-            value: copied(alloc, value)?,
-        })?;
-    }
-    Ok(Headers { list })
-}
-
-fn record_of(
-    alloc: Global,
-    value: u8,
-    header: Option<Option<&[u8]>>,
-) -> Result<Record, AllocError> {
-    Ok(Record {
-        timestamp_delta: 0,
-        key: Some(Bytes::copy_from_slice(alloc, b"k")?),
-        value: Some(Bytes::copy_from_slice(alloc, &[value])?),
-        headers: headers_of(alloc, header)?,
-    })
-}
-
-fn records_of(
-    alloc: Global,
-    values: &str,
-    header: Option<Option<&[u8]>>,
-) -> Result<Records, AllocError> {
-    let mut list = Vec::new(alloc);
-    for value in values.as_bytes() {
-        list.push(record_of(alloc, *value, header)?)?;
-    }
-    Ok(Records { list })
-}
-
-/// A batch at 1000 milliseconds; none where it doesn't fit or memory ran out.
-fn batch_of(alloc: Global, values: &str, header: Option<Option<&[u8]>>) -> Option<Batch>
-    ensures { IfSome result (λ batch. FitsLog batch) }
-{
-    batch_at(1000, records_of(alloc, values, header).ok()?)
-}
-
-fn event_of(alloc: Global, act: Act) -> Option<Event>
-    ensures { IfSome result (λ event. FitsEvent event) }
-{
-    match act {
-        Act::Load(name, image, table) => {
-            let image = Bytes::copy_from_slice(alloc, image).ok()?;
-            Some(Event::Load(raw_name_of(alloc, name).ok()?, image, table))
-        }
-        Act::Mark(input, name, version) => Some(Event::Mark(input, Name::new(name)?, version)),
-        Act::Put(input, values) => Some(Event::Batch(input, batch_of(alloc, values, None)?)),
-        Act::PutWith(input, values, header) => {
-            Some(Event::Batch(input, batch_of(alloc, values, Some(header))?))
-        }
-        Act::Close(input) => Some(Event::Close(input)),
-        Act::Deliver(input, output) => Some(Event::Deliver(input, output)),
-        Act::Restart(input) => Some(Event::Restart(input)),
-    }
+fn refusal_text(alloc: Global, refusal: Refusal) -> Result<String, AllocError> {
+    format!(in alloc; "{refusal}")
 }
 
 /// What a world answers, as a text.
 fn answer_text(alloc: Global, answer: Result<Reply, Refusal>) -> Result<String, AllocError> {
     match answer {
-        Ok(reply) => format!(in alloc; "{reply:?}"),
-        Err(refusal) => format!(in alloc; "{refusal}"),
+        Ok(reply) => reply_text(alloc, reply),
+        Err(refusal) => refusal_text(alloc, refusal),
     }
 }
 
 /// What a world answers to an event. None where memory ran out.
-fn answer(alloc: Global, world: &mut World, act: Act) -> Option<String> {
-    let event = event_of(alloc, act)?;
-    answer_text(alloc, world.step(alloc, &event)).ok()
+fn answer(alloc: Global, world: &mut World, act: Act) -> Option<Result<Reply, Refusal>> {
+    match event_of(alloc, act) {
+        Some(event) => Some(world.step(alloc, &event)),
+        None => None,
+    }
+}
+
+/// Whether a world answers this to an event.
+fn answers(alloc: Global, world: &mut World, row: &Answered) -> bool {
+    match answer(alloc, world, row.0) {
+        Some(answer) => is_text(answer_text(alloc, answer), row.1),
+        None => false,
+    }
+}
+
+fn letter(bytes: &[u8]) -> char {
+    match bytes {
+        [byte, ..] => char::from(*byte),
+        [] => '.',
+    }
 }
 
 /// The one byte of a row's value.
 fn letter_of(row: &Row) -> char {
     match &row.value {
+        Some(value) => letter(value.as_slice()),
         None => '-',
-        Some(value) => value.as_slice().first().map_or('.', |byte| *byte as char),
     }
 }
 
@@ -147,23 +97,28 @@ fn rows_text(alloc: Global, rows: &[Row]) -> Result<String, AllocError> {
     Ok(text)
 }
 
-/// The rows of a pair of partitions, with its done number and its place. None where there is no such pair
-/// or memory ran out.
-fn book_text(alloc: Global, world: &World, input: usize, output: usize) -> Option<String> {
-    if input >= world.inputs() || output >= world.outputs(input) {
-        return None;
-    }
-    let rows = rows_text(alloc, world.rows(input, output)).ok()?;
-    let done = world.done(input, output);
-    let at = world.at(input, output);
-    format!(in alloc; "{rows}done {done} at {at}").ok()
+/// The rows of a pair of partitions, with its done number and its place.
+fn book_text(alloc: Global, rows: &[Row], done: usize, at: usize) -> Result<String, AllocError> {
+    let rows = rows_text(alloc, rows)?;
+    format!(in alloc; "{rows}done {done} at {at}")
 }
 
-fn is_text(text: Option<String>, want: &str) -> bool {
+fn is_text(text: Result<String, AllocError>, want: &str) -> bool {
     match text {
-        Some(text) => text.as_str() == want,
-        None => false,
+        Ok(text) => text.as_str() == want,
+        Err(_) => false,
     }
+}
+
+/// Whether a pair of partitions is there and has this text.
+fn is_book(alloc: Global, world: &World, book: &Book) -> bool {
+    let (input, output, want) = *book;
+    if input >= world.inputs() || output >= world.outputs(input) {
+        return false;
+    }
+    let rows = world.rows(input, output);
+    let (done, at) = (world.done(input, output), world.at(input, output));
+    is_text(book_text(alloc, rows, done, at), want)
 }
 
 /// What is done, and what is answered.
@@ -175,7 +130,7 @@ type Book = (usize, usize, &'static str);
 /// Does what each row says; the number of the first one with another answer.
 fn first_other_answer(alloc: Global, world: &mut World, rows: &[Answered]) -> Option<usize> {
     for (k, row) in rows.iter().enumerate() {
-        if !is_text(answer(alloc, world, row.0), row.1) {
+        if !answers(alloc, world, row) {
             return Some(k);
         }
     }
@@ -185,7 +140,7 @@ fn first_other_answer(alloc: Global, world: &mut World, rows: &[Answered]) -> Op
 /// The number of the first pair of partitions with another text.
 fn first_other_book(alloc: Global, world: &World, rows: &[Book]) -> Option<usize> {
     for (k, row) in rows.iter().enumerate() {
-        if !is_text(book_text(alloc, world, row.0, row.1), row.2) {
+        if !is_book(alloc, world, row) {
             return Some(k);
         }
     }
@@ -209,6 +164,18 @@ fn first_wrong(
     }
 }
 
+/// All answers and all books are as they should be.
+fn all_right(
+    rt: &impl Abort,
+    alloc: Global,
+    world: Option<World>,
+    rows: &[Answered],
+    books: &[Book],
+) {
+    let wrong = first_wrong(alloc, world, rows, books);
+    assert!(rt; wrong == (None, None), "row and book {wrong:?}");
+}
+
 static DELIVERED_ONCE: [Answered; 10] = [
     (Act::Load("fwd", &FORWARD, Table::One), "Loaded(1)"),
     (Act::Mark(0, "fwd", 1), "Appended(0, 0)"),
@@ -227,8 +194,7 @@ static ONE_ITEM_BOOKS: [Book; 2] = [(0, 0, "0 0 0 1000 A, done 2 at 1"), (0, 1, 
 #[test]
 fn an_item_is_delivered_once_to_each_output(rt: HostRuntime) {
     let world = World::new(rt.alloc(), 1, 2, 4).ok();
-    let wrong = first_wrong(rt.alloc(), world, &DELIVERED_ONCE, &ONE_ITEM_BOOKS);
-    assert!(rt; wrong == (None, None), "row and book {wrong:?}");
+    all_right(&rt, rt.alloc(), world, &DELIVERED_ONCE, &ONE_ITEM_BOOKS);
 }
 
 static BETWEEN_MARKS: [Answered; 21] = [
@@ -268,8 +234,7 @@ static MARKED_BOOKS: [Book; 3] = [
 #[test]
 fn each_record_goes_by_the_mark_before_it(rt: HostRuntime) {
     let world = World::new(rt.alloc(), 2, 2, 8).ok();
-    let wrong = first_wrong(rt.alloc(), world, &BETWEEN_MARKS, &MARKED_BOOKS);
-    assert!(rt; wrong == (None, None), "row and book {wrong:?}");
+    all_right(&rt, rt.alloc(), world, &BETWEEN_MARKS, &MARKED_BOOKS);
 }
 
 static BY_TABLES: [Answered; 27] = [
@@ -314,8 +279,7 @@ static TABLE_BOOKS: [Book; 3] = [
 #[test]
 fn each_record_goes_by_its_programs_table(rt: HostRuntime) {
     let world = World::new(rt.alloc(), 1, 3, 8).ok();
-    let wrong = first_wrong(rt.alloc(), world, &BY_TABLES, &TABLE_BOOKS);
-    assert!(rt; wrong == (None, None), "row and book {wrong:?}");
+    all_right(&rt, rt.alloc(), world, &BY_TABLES, &TABLE_BOOKS);
 }
 
 const LONGEST: &str = "abcdefghijklmnopqrstuvwxyz-01234";
@@ -361,27 +325,26 @@ static REFUSED: [Answered; 33] = [
 #[test]
 fn refusals_come_in_their_order(rt: HostRuntime) {
     let world = World::new(rt.alloc(), 64, 64, 2).ok();
-    let wrong = first_wrong(rt.alloc(), world, &REFUSED, &[]);
-    assert!(rt; wrong == (None, None), "row and book {wrong:?}");
+    all_right(&rt, rt.alloc(), world, &REFUSED, &[]);
 }
 
 /// A run of a mark that is refused, a load, the mark again, a record and two deliveries.
 fn run_of_six(alloc: Global) -> Option<World> {
-    let events = [
-        event_of(alloc, Act::Mark(0, "fwd", 1))?,
-        event_of(alloc, Act::Load("fwd", &FORWARD, Table::One))?,
-        event_of(alloc, Act::Mark(0, "fwd", 1))?,
-        event_of(alloc, Act::Put(0, "A"))?,
-        Event::Deliver(0, 0),
-        Event::Deliver(0, 0),
-    ];
-    run(alloc, 1, 1, 4, &events).ok()
+    let early = mark_of(0, "fwd", 1);
+    let load = load_of(alloc, "fwd", &FORWARD, Table::One);
+    let mark = mark_of(0, "fwd", 1);
+    match (early, load, mark, put_of(alloc, 0, "A", None)) {
+        (Some(early), Some(load), Some(mark), Some(put)) => {
+            let (first, second) = (Event::Deliver(0, 0), Event::Deliver(0, 0));
+            run(alloc, 1, 1, 4, &[early, load, mark, put, first, second]).ok()
+        }
+        _ => None,
+    }
 }
 
 static SIX: [Book; 1] = [(0, 0, "0 0 0 1000 A, done 2 at 2")];
 
 #[test]
 fn a_run_goes_on_after_a_refused_event(rt: HostRuntime) {
-    let wrong = first_wrong(rt.alloc(), run_of_six(rt.alloc()), &[], &SIX);
-    assert!(rt; wrong == (None, None));
+    all_right(&rt, rt.alloc(), run_of_six(rt.alloc()), &[], &SIX);
 }

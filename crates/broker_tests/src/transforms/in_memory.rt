@@ -1,0 +1,173 @@
+use crate::transforms::making::{Given, TWO, bytes_of, damaged};
+use crate::verdicts::all_hold;
+use batch_transform::{BatchPlace, OutputBatches, Stop, Transformed, transform_batches};
+use broker_fixtures::program_of;
+use fixtures::FORWARD;
+use item_rows::Origin;
+use log_item::Program;
+use std::alloc::Global;
+use std::test::*;
+use wire_spec::{BatchFault, TIMESTAMP_END};
+
+/// ldxb r0, [r1] after a test for one byte of the value; exit: the first byte is the reject code.
+static REJECT: [u8; 40] = [
+    0xb7, 0, 0, 0, 0, 0, 0, 0, // mov64 r0, 0
+    0x25, 2, 1, 0, 0, 0, 0, 0, // jgt r2, 0, +1
+    0x95, 0, 0, 0, 0, 0, 0, 0, // exit
+    0x71, 0x10, 0, 0, 0, 0, 0, 0, // ldxb r0, [r1]
+    0x95, 0, 0, 0, 0, 0, 0, 0, // exit
+];
+
+/// What a program makes of batches for two outputs.
+fn made(
+    alloc: Global,
+    program: &Program,
+    offset: u64,
+    bytes: &[u8],
+    place: &mut BatchPlace,
+) -> Result<Transformed, Stop> {
+    if offset > TIMESTAMP_END {
+        return Err(Stop::Memory);
+    }
+    let origin = Origin {
+        input: 7,
+        offset,
+        outputs: 2,
+    };
+    transform_batches(alloc, program, &origin, bytes, place)
+}
+
+/// Damage: how many bytes of two batches are left, and which is changed; the first offset; why the transform
+/// stops, if it does; how many batches and bytes are before, or are read in all.
+type Damage = (usize, usize, u64, Option<Stop>, usize, usize);
+
+static DAMAGES: [Damage; 7] = [
+    (0, 999, 5, None, 0, 0),
+    (157, 999, 5, None, 2, 157),
+    (82, 999, 5, None, 1, 82),
+    (81, 999, 5, Some(Stop::Batch(BatchFault::Short)), 0, 0),
+    (156, 999, 5, Some(Stop::Batch(BatchFault::Short)), 1, 82),
+    (157, 70, 5, Some(Stop::Batch(BatchFault::Crc)), 0, 0),
+    (157, 150, 5, Some(Stop::Batch(BatchFault::Crc)), 1, 82),
+];
+
+/// Whether a transform of these bytes ends as it should.
+fn is_end(alloc: Global, program: &Program, bytes: &[u8], damage: &Damage) -> bool {
+    let (_, _, offset, stop, batch, byte) = *damage;
+    let mut place = BatchPlace {
+        batch: 99,
+        byte: 99,
+    };
+    match made(alloc, program, offset, bytes, &mut place) {
+        Err(why) => Some(why) == stop && place == BatchPlace { batch, byte },
+        Ok(found) => stop.is_none() && found.batches == batch && bytes.len() == byte,
+    }
+}
+
+fn ends_so(alloc: Global, program: &Program, damage: &Damage) -> bool {
+    match damaged(alloc, damage.0, damage.1) {
+        Some(bytes) => is_end(alloc, program, &bytes, damage),
+        None => false,
+    }
+}
+
+/// The number of the first row of which that is not so; 0 where there is no program of the image.
+fn first_other_end(alloc: Global, image: &[u8], rows: &[Damage]) -> Option<usize> {
+    let Some(program) = program_of(alloc, image) else {
+        return Some(0);
+    };
+    for (k, row) in rows.iter().enumerate() {
+        if !ends_so(alloc, &program, row) {
+            return Some(k);
+        }
+    }
+    None
+}
+
+#[test]
+fn stops_at_the_first_fault(rt: HostRuntime) {
+    all_hold(&rt, first_other_end(rt.alloc(), &FORWARD, &DAMAGES));
+}
+
+static ENDINGS: [Damage; 2] = [
+    (157, 999, TIMESTAMP_END - 10_002, Some(Stop::Full), 1, 82),
+    (157, 999, TIMESTAMP_END - 10_003, None, 2, 157),
+];
+
+#[test]
+fn stops_where_offsets_end(rt: HostRuntime) {
+    all_hold(&rt, first_other_end(rt.alloc(), &FORWARD, &ENDINGS));
+}
+
+/// Of an output the number of rows, of batches and of bytes.
+type Size = (u64, usize, usize);
+
+fn size_of(output: &OutputBatches) -> Size {
+    (output.rows, output.batches, output.bytes.len())
+}
+
+/// Whether the outputs have these sizes.
+fn have_sizes(outputs: &[OutputBatches], want: &[Size]) -> bool {
+    let mut rest = want;
+    for output in outputs {
+        match rest.split_first() {
+            Some((first, others)) if size_of(output) == *first => rest = others,
+            _ => return false,
+        }
+    }
+    rest.is_empty()
+}
+
+/// The sizes of the outputs, how many records are read and how many are kept, and how many each code rejected.
+type Made<'a> = (&'a [Size], (u64, u64), &'a [(u64, u64)]);
+
+fn is_made(found: &Transformed, want: &Made<'_>) -> bool {
+    let counts = (found.counts.records(), found.counts.kept());
+    have_sizes(&found.outputs, want.0) && counts == want.1 && found.rejects.as_slice() == want.2
+}
+
+/// Whether a program makes this of bytes.
+fn makes(alloc: Global, program: &Program, bytes: &[u8], want: &Made<'_>) -> bool {
+    let mut place = BatchPlace { batch: 0, byte: 0 };
+    match made(alloc, program, 0, bytes, &mut place) {
+        Ok(found) => is_made(&found, want),
+        Err(_) => false,
+    }
+}
+
+/// Whether the program of an image makes this of batches.
+fn are_made(alloc: Global, image: &[u8], batches: &[Given], want: &Made<'_>) -> bool {
+    match (program_of(alloc, image), bytes_of(alloc, batches)) {
+        (Some(program), Some(bytes)) => makes(alloc, &program, &bytes, want),
+        _ => false,
+    }
+}
+
+/// A header and 5 records of 7 bytes.
+static FIVE: Made<'static> = (&[(5, 1, 96), (0, 0, 0)], (5, 5), &[]);
+
+#[test]
+fn rows_of_two_batches_are_in_one(rt: HostRuntime) {
+    assert!(rt; are_made(rt.alloc(), &FORWARD, &TWO, &FIVE));
+}
+
+static MANY: [Given; 2] = [(10_000, None), (1, None)];
+
+/// 64 records of 7 bytes, 8,128 of 8 and 1,808 of 9 after a header, and one of 7 after another.
+static MANY_MADE: Made<'static> = (&[(10_001, 2, 81_873), (0, 0, 0)], (10_001, 10_001), &[]);
+
+#[test]
+fn rows_past_a_batch_are_in_the_next(rt: HostRuntime) {
+    assert!(rt; are_made(rt.alloc(), &FORWARD, &MANY, &MANY_MADE));
+}
+
+/// Batches of two, three and one values: the bytes 9, 3 and 0.
+static VALUES: [Given; 3] = [(2, Some(9)), (3, Some(3)), (1, Some(0))];
+
+/// All records but one are rejected.
+static VALUES_MADE: Made<'static> = (&[(0, 0, 0), (0, 0, 0)], (6, 1), &[(3, 3), (9, 2)]);
+
+#[test]
+fn counts_rejects_by_rising_code(rt: HostRuntime) {
+    assert!(rt; are_made(rt.alloc(), &REJECT, &VALUES, &VALUES_MADE));
+}

@@ -1,0 +1,169 @@
+//! Streams and batches of the tests, and what is seen of an output.
+
+use crate::fetched::batch_with;
+use crate::narrow::Narrow;
+use batch::{Feed, encode};
+use fixtures::{batch_of, batch_of_value};
+use log_item::Program;
+use std::alloc::{AllocError, Global};
+use std::io;
+use transform::{Outlet, Transform};
+use wire_spec::{Batch, TIMESTAMP_END};
+
+/// How many bytes a writer takes, and how many at once.
+pub(crate) type Room = (usize, usize);
+
+/// As many as there are.
+pub(crate) const WIDE: Room = (usize::MAX, usize::MAX);
+
+fn outlet_of(alloc: Global, room: Room) -> Outlet<Narrow> {
+    let writer = Narrow {
+        taken: Vec::new(alloc),
+        room: room.0,
+        step: room.1,
+        kind: io::ErrorKind::StorageFull,
+        is_interrupted: false,
+    };
+    Outlet::new(alloc, writer)
+}
+
+fn outlets_of(
+    alloc: Global,
+    outputs: usize,
+    room: Room,
+) -> Result<Vec<Outlet<Narrow>>, AllocError> {
+    let mut outlets = Vec::new(alloc);
+    for _ in 0..outputs {
+        outlets.push(outlet_of(alloc, room))?;
+    }
+    Ok(outlets)
+}
+
+/// A stream from an offset of an input partition into so many output partitions. None where there is no
+/// such stream or memory ran out.
+pub(crate) fn stream_of(
+    alloc: Global,
+    input: usize,
+    offset: u64,
+    outputs: usize,
+    room: Room,
+) -> Option<Transform<Narrow>> {
+    let Ok(outlets) = outlets_of(alloc, outputs, room) else {
+        return None;
+    };
+    if input >= 64 || offset > TIMESTAMP_END || outlets.is_empty() || outlets.len() > 64 {
+        return None;
+    }
+    Some(Transform::new(alloc, input, offset, outlets))
+}
+
+/// Whether a batch with this count of records and bytes of a value is taken.
+pub(crate) fn is_pushed(
+    alloc: Global,
+    program: &Program,
+    stream: &mut Transform<Narrow>,
+    count: usize,
+    bytes: usize,
+) -> bool {
+    match batch_with(alloc, count, bytes) {
+        Some(batch) => stream.push(program, batch).is_ok(),
+        None => false,
+    }
+}
+
+fn seen_of(batch: &Batch) -> (i64, usize) {
+    (batch.base_offset, batch.records.list.len())
+}
+
+/// The base offset and the number of records of the next batch.
+fn next(feed: &mut Feed) -> Option<(i64, usize)> {
+    match feed.next() {
+        Ok(Some(batch)) => Some(seen_of(&batch)),
+        _ => None,
+    }
+}
+
+fn is_read(feed: &mut Feed) -> bool {
+    matches!(feed.next(), Ok(None))
+}
+
+fn gives(feed: &mut Feed, want: &[(i64, usize)]) -> bool {
+    for batch in want {
+        if next(feed) != Some(*batch) {
+            return false;
+        }
+    }
+    is_read(feed)
+}
+
+/// Whether the bytes are batches with these base offsets and numbers of records.
+fn are_batches(alloc: Global, bytes: &[u8], want: &[(i64, usize)]) -> bool {
+    let mut feed = Feed::new(alloc);
+    feed.feed(bytes).is_ok() && gives(&mut feed, want)
+}
+
+/// Whether an output has these batches.
+pub(crate) fn has(
+    alloc: Global,
+    stream: &Transform<Narrow>,
+    output: usize,
+    want: &[(i64, usize)],
+) -> bool {
+    if output >= stream.outputs() {
+        return false;
+    }
+    are_batches(alloc, stream.outlet(output).writer().taken.as_slice(), want)
+}
+
+/// Writes a batch at the end; whether it could.
+fn is_written(alloc: Global, bytes: &mut Vec<u8>, batch: &Batch) -> bool {
+    if !batch::fits(batch) {
+        return false;
+    }
+    match encode(alloc, batch) {
+        Ok(written) => bytes.extend_from_slice(&written).is_ok(),
+        Err(_) => false,
+    }
+}
+
+/// A number of records, and the byte that is the value of each with the key `k`, or neither.
+pub(crate) type Given = (usize, Option<u8>);
+
+fn batch_given(alloc: Global, given: Given) -> Option<Batch> {
+    match given.1 {
+        Some(value) => batch_of_value(alloc, given.0, value),
+        None => batch_of(alloc, given.0, 1000),
+    }
+}
+
+/// Writes such a batch at the end; whether it could.
+fn is_put(alloc: Global, bytes: &mut Vec<u8>, given: Given) -> bool {
+    match batch_given(alloc, given) {
+        Some(batch) => is_written(alloc, bytes, &batch),
+        None => false,
+    }
+}
+
+/// The bytes of such batches. None where one doesn't fit or memory ran out.
+pub(crate) fn bytes_of(alloc: Global, rows: &[Given]) -> Option<Vec<u8>> {
+    let mut bytes = Vec::new(alloc);
+    for given in rows {
+        if !is_put(alloc, &mut bytes, *given) {
+            return None;
+        }
+    }
+    Some(bytes)
+}
+
+/// Two batches of 3 and 2 records without key and value: 82 and 75 bytes.
+pub(crate) static TWO: [Given; 2] = [(3, None), (2, None)];
+
+/// The first `len` bytes of the two batches, one of them changed.
+pub(crate) fn damaged(alloc: Global, len: usize, place: usize) -> Option<Vec<u8>> {
+    let mut bytes = bytes_of(alloc, &TWO)?;
+    bytes.truncate(len);
+    if place < bytes.len() {
+        bytes[place] ^= 1;
+    }
+    Some(bytes)
+}
