@@ -1,8 +1,8 @@
 use Rattle.std.proofs.Common.{◌≡◌, false, take, sym, ◌∙◌}
 use Rattle.std.specs.Prelude.{string_eq}
 use Rattle.std.specs.List.{list_any}
-use Rattle.commands.proofs.CallLaws.{one_distinct}
-use Rattle.commands.proofs.words.has_twice.Goals as goal
+use Rattle.command_line.proofs.CallLaws.{one_distinct}
+use Rattle.command_line.proofs.transforms.has_twice.Goals as goal
 
 pub loop-index-preserved : goal.loop-index-preserved
 loop-index-preserved c =

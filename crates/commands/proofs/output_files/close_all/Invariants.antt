@@ -1,7 +1,7 @@
 use Rattle.std.proofs.Common.{◌≡◌, ◌≤◌, ◌+◌, length}
-use Rattle.commands.specs.Calls.{names_of, AreDistinct}
+use Rattle.command_line.specs.Calls.{names_of, AreDistinct}
 use Rattle.commands.specs.FileTransforms.{HaveWritten}
-use Rattle.commands.proofs.transforming.close_all.Given as goal
+use Rattle.commands.proofs.output_files.close_all.Given as goal
 
 abbrev pub invariant-loop-outlet : goal.invariant-loop-outlet
 invariant-loop-outlet g l =

@@ -3,8 +3,8 @@ use Rattle.std.specs.Prelude.{◌≢◌, ℕ, ◌+◌, ◌<◌, ◌≤◌, List,
 use Rattle.std.specs.declared.string.String.{String}
 use Rattle.log_spec.specs.declared.limits.TheConstants.{MAX_PARTITIONS}
 use Rattle.script.specs.Words.{word_at}
-use Rattle.commands.specs.declared.words.Call.{Call}
-use Rattle.commands.specs.declared.words.Call.TheVariants as call
+use Rattle.command_line.specs.declared.call.Call.{Call}
+use Rattle.command_line.specs.declared.call.Call.TheVariants as call
 
 -- the names that the words of a call are
 abbrev pub names_of : {A : Type 0} → List (String A) → List (List ℕ)
@@ -23,10 +23,7 @@ pub record AreFiles {A : Type 0} (words : List (String A)) : Type 0 where
 -- what is known of an accepted call: the words of a transform are its files
 abbrev pub IsAccepted : Call → Type 0
 IsAccepted (call.Transform table words) = AreFiles words.now
-IsAccepted (call.Assemble text image) = ⊤
-IsAccepted (call.Check image table) = ⊤
-IsAccepted (call.Disassemble image) = ⊤
-IsAccepted (call.Explain image table extent) = ⊤
+IsAccepted (call.Image asked) = ⊤
 IsAccepted (call.List listing file) = ⊤
 IsAccepted (call.Recheck list) = ⊤
 IsAccepted (call.Run script) = ⊤

@@ -9,7 +9,7 @@ use Rattle.std.proofs.lemmas.List.{get_or-take, get_or-map, length-take}
 use Rattle.std.proofs.lemmas.List.Folds.{list_any_at}
 use Rattle.std.proofs.lemmas.Slice.Eq.{bytes_eq-Decides}
 use Rattle.script.specs.Words.{word_at}
-use Rattle.commands.specs.Calls.{names_of}
+use Rattle.command_line.specs.Calls.{names_of}
 
 -- none of the first names is the same as an earlier one
 abbrev pub AreDistinctTo : List (List ℕ) → ℕ → Type 0
