@@ -23,9 +23,9 @@ use Rattle.transform.specs.Streams.{TransformsAll}
 use Rattle.transform.specs.Transforms.{Flow, flow, output_at, AreRows, AreRowsOfALog, AreFlowRows, FillsAll, FillsSome}
 use Rattle.transform.specs.Transforms.{StopsFilling, Finished, Broken}
 use Rattle.script.specs.Words.{word_at}
-use Rattle.commands.specs.declared.transforming.Halt.{Halt}
-use Rattle.commands.specs.declared.transforming.Halt.TheVariants as halt
-use Rattle.commands.specs.Calls.{names_of, AreDistinct}
+use Rattle.commands.specs.declared.halts.Halt.{Halt}
+use Rattle.commands.specs.declared.halts.Halt.TheVariants as halt
+use Rattle.command_line.specs.Calls.{names_of, AreDistinct}
 use Rattle.commands.specs.FileTransforms.{HasRows, IsFresh, HasWritten, HaveWritten, StreamsAs}
 use Rattle.commands.specs.FileTransforms.{TransformsAs, CallTransforms, IsUnloaded, status_of, status_of_halt}
 use Rattle.commands.specs.Images.{first_bytes}
@@ -261,6 +261,14 @@ wrote_files program bytes names count fresh outs reader start result now files i
     subst (λ (n : ℕ). StreamsAs program bytes n (status_of result) (λ output. files (word_at names (output + 2)))) many
     (streamed program bytes fresh result now (λ output. files (word_at names (output + 2))) is.law is.new known
     (λ q lt. held_now q (omega (arith, lt, long)) (omega (arith, lt, many, of_names))))
+
+-- the status of a stream whose files were ended, or 3
+pub ended_as : {Held : Type 0} (program : Program) (bytes : List ℕ) (count status ended : ℕ)
+    (files : ℕ → Option (List ℕ)) → (status ≡ 3) ⊎ ((status ≡ ended) × Held) →
+    (Held → StreamsAs program bytes count ended files) → StreamsAs program bytes count status files
+ended_as program bytes count status ended files (inl three) streams = inl three
+ended_as program bytes count status ended files (inr (same, held)) streams =
+    subst (λ (s : ℕ). StreamsAs program bytes count s files) (sym same) (streams held)
 
 -- ---- The call
 

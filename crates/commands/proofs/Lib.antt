@@ -1,6 +1,5 @@
 pub mod AppendLaws
 pub mod BatchLaws
-pub mod CallLaws
 pub mod FileLaws
 pub mod Loaded
 pub mod Marks

@@ -22,9 +22,9 @@ use Rattle.transform.specs.Outlets as outlets
 use Rattle.transform.specs.Streams.{is_broken}
 use Rattle.transform.specs.Transforms.{log_of, output_at}
 use Rattle.script.specs.Words.{word_at}
-use Rattle.commands.specs.declared.transforming.Halt.{Halt}
-use Rattle.commands.specs.declared.transforming.Halt.TheVariants as halt
-use Rattle.commands.specs.Calls.{AreDistinct}
+use Rattle.commands.specs.declared.halts.Halt.{Halt}
+use Rattle.commands.specs.declared.halts.Halt.TheVariants as halt
+use Rattle.command_line.specs.Calls.{AreDistinct}
 use Rattle.commands.specs.Images.{first_bytes}
 use Rattle.commands.specs.Listings.{source_of}
 

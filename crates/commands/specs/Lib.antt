@@ -1,5 +1,4 @@
 pub mod Appends
-pub mod Calls
 pub mod Explanations
 pub mod FileTransforms
 pub mod Images

@@ -23,8 +23,8 @@ use crate::run::run_script;
 use crate::telling::{
     DONE, REFUSED, print_text, tell, tell_memory, tell_refused, tell_text, tell_unread, tell_usage,
 };
-use crate::words::{Call, Misuse, call_of};
 use bpf_asm::{AsmFault, assemble};
+use command_line::{Call, ImageCall, Misuse, call_of};
 use explain::{Explanation, Extent, explain_image};
 use machine_spec::{IsaFault, Table};
 use std::alloc::Global;
@@ -248,6 +248,26 @@ fn assemble_file<F: Files, E: Write>(
     }
 }
 
+/// Does what is asked of an image, and answers the status.
+fn image_command<F: Files, O: Write, E: Write>(
+    alloc: Global,
+    files: &mut F,
+    stdout: &mut O,
+    stderr: &mut E,
+    call: ImageCall<'_>,
+) -> u8
+    ensures { result ≤ 3 }
+{
+    match call {
+        ImageCall::Assemble(text, image) => assemble_file(alloc, files, stderr, text, image),
+        ImageCall::Check(image, table) => check_file(alloc, files, stdout, stderr, image, table),
+        ImageCall::Disassemble(image) => disassemble_file(alloc, files, stdout, stderr, image),
+        ImageCall::Explain(image, table, extent) => {
+            explain_file(alloc, files, stdout, stderr, image, table, extent)
+        }
+    }
+}
+
 /// Does what the words after the program's name ask for, and answers the status: 0 it is done, 1 an
 /// image, a text or a line of the script is refused, 2 the words are no call, 3 a file can't be read or
 /// written, a worker has no thread or memory ran out. All but what was asked for goes to standard
@@ -264,12 +284,7 @@ pub fn command<R: Threads + Wait + Sync, F: Files, I: Read, O: Write, E: Write>(
     ensures { result ≤ 3 }
 {
     match call_of(alloc, words) {
-        Ok(Call::Assemble(text, image)) => assemble_file(alloc, files, stderr, text, image),
-        Ok(Call::Check(image, table)) => check_file(alloc, files, stdout, stderr, image, table),
-        Ok(Call::Disassemble(image)) => disassemble_file(alloc, files, stdout, stderr, image),
-        Ok(Call::Explain(image, table, extent)) => {
-            explain_file(alloc, files, stdout, stderr, image, table, extent)
-        }
+        Ok(Call::Image(asked)) => image_command(alloc, files, stdout, stderr, asked),
         Ok(Call::List(listing, file)) => {
             list(alloc, listing, files, stdin, stdout, stderr, file)
         }

@@ -1,7 +1,7 @@
 //! A transform whose files have different names.
 
 ghost use Rattle.std.specs.Prelude.{◌≡◌, ◌≤◌, true};
-ghost use Rattle.commands.specs.Calls.{names_of, AreFiles};
+ghost use Rattle.command_line.specs.Calls.{names_of, AreFiles};
 ghost use Rattle.commands.specs.FileTransforms.{CallWrites};
 
 use crate::files::Files;

@@ -5,8 +5,8 @@ ghost use Rattle.std.specs.Io.KnownBytes.{Keeps};
 ghost use Rattle.commands.specs.Listings.{ListsAs, source_of, status_of, status_of_listed};
 
 use crate::files::Files;
-use crate::reading::{Unread, cause_of};
-use crate::telling::{DONE, FAILED, REFUSED, file_text, tell_memory, tell_text};
+use crate::reading::cause_of;
+use crate::telling::{DONE, FAILED, REFUSED, file_text, tell_memory, tell_text, tell_unread};
 use batch_text::{ListFault, Listing, Refusal, cause_text, list_all};
 use std::alloc::{AllocError, Global};
 use std::io::{BufReader, Read, Write};
@@ -24,6 +24,13 @@ fn refusal_text(alloc: Global, refusal: &Refusal) -> Result<String, AllocError> 
     format!(in alloc; "batch {batches} at byte {position}: {fault}: {cause}\n")
 }
 
+/// Says that standard output can't be written, and answers the status.
+fn tell_unwritten<E: Write>(alloc: Global, stderr: &mut E) -> u8
+    ensures { result ≡ 3 }
+{
+    tell_text(stderr, file_text(alloc, "stdout"), FAILED)
+}
+
 /// Says why no further batch of a file is listed, and answers the status.
 fn tell_fault<E: Write>(alloc: Global, stderr: &mut E, name: &str, fault: &ListFault) -> u8
     ensures small { result ≤ 3 }
@@ -32,30 +39,35 @@ fn tell_fault<E: Write>(alloc: Global, stderr: &mut E, name: &str, fault: &ListF
     match fault {
         ListFault::Batch(refusal) => tell_text(stderr, refusal_text(alloc, refusal), REFUSED),
         ListFault::Read => tell_text(stderr, file_text(alloc, name), FAILED),
-        ListFault::Write => tell_text(stderr, file_text(alloc, "stdout"), FAILED),
+        ListFault::Write => tell_unwritten(alloc, stderr),
         ListFault::Memory => tell_memory(stderr),
     }
+}
+
+/// Whether what was printed has left.
+fn is_flushed<O: Write>(stdout: &mut O) -> bool
+    ensures { Keeps (O.contents stdout.old) (O.contents stdout.new) }
+{
+    stdout.flush().is_ok()
 }
 
 /// Flushes standard output, says why a listing ended early, if it did, and answers the status.
 fn finish<O: Write, E: Write>(
     alloc: Global,
-    listed: Result<(), ListFault>,
+    listed: &Result<(), ListFault>,
     stdout: &mut O,
     stderr: &mut E,
     name: &str,
 ) -> u8
     ensures small { result ≤ 3 }
     ensures kept { Keeps (O.contents stdout.old) (O.contents stdout.new) }
-    ensures told { (result ≡ status_of_listed listed) ⊎ (result ≡ 3) }
+    ensures told { (result ≡ status_of_listed listed.now) ⊎ (result ≡ 3) }
 {
-    let flushed = stdout.flush();
-    if let Err(fault) = &listed {
-        return tell_fault(alloc, stderr, name, fault);
-    }
-    match flushed {
-        Ok(()) => DONE,
-        Err(_) => tell_fault(alloc, stderr, name, &ListFault::Write),
+    let is_flushed = is_flushed(stdout);
+    match listed {
+        Err(fault) => tell_fault(alloc, stderr, name, fault),
+        Ok(()) if is_flushed => DONE,
+        Ok(()) => tell_unwritten(alloc, stderr),
     }
 }
 
@@ -72,7 +84,7 @@ fn list_buffered<R: Read, O: Write, E: Write>(
     ensures listed { ListsAs listing (R.remaining reader.old) result (O.contents stdout.old) (O.contents stdout.new) }
 {
     let listed = list_all(alloc, listing, reader, stdout);
-    finish(alloc, listed, stdout, stderr, name)
+    finish(alloc, &listed, stdout, stderr, name)
 }
 
 /// Lists the batches of a reader, and answers the status.
@@ -93,6 +105,24 @@ fn list_reader<R: Read + Drop, O: Write, E: Write>(
     }
 }
 
+/// Lists the batches of a named file, and answers the status.
+fn list_file<F: Files, O: Write, E: Write>(
+    alloc: Global,
+    listing: Listing,
+    files: &mut F,
+    stdout: &mut O,
+    stderr: &mut E,
+    name: &str,
+) -> u8
+    ensures small { result ≤ 3 }
+    ensures listed { ListsAs listing (F.bytes files.old name.now) result (O.contents stdout.old) (O.contents stdout.new) }
+{
+    match files.open(name) {
+        Ok(reader) => list_reader(alloc, listing, reader, stdout, stderr, name),
+        Err(error) => tell_unread(alloc, stderr, name, cause_of(&error)),
+    }
+}
+
 /// Lists the batches, or the records, of a file; the name `stdin` is standard input. Answers the status: 0
 /// all are listed, 1 the bytes that follow begin with no batch, 3 a file, standard output or memory failed.
 pub fn list<F: Files, I: Read, O: Write, E: Write>(
@@ -108,13 +138,8 @@ pub fn list<F: Files, I: Read, O: Write, E: Write>(
     ensures listed { ListsAs listing (source_of name.now (I.remaining stdin.old) (F.bytes files.old name.now)) result (O.contents stdout.old) (O.contents stdout.new) }
 {
     if name == "stdin" {
-        return list_reader(alloc, listing, stdin, stdout, stderr, name);
-    }
-    match files.open(name) {
-        Ok(reader) => list_reader(alloc, listing, reader, stdout, stderr, name),
-        Err(error) => match cause_of(&error) {
-            Unread::File => tell_text(stderr, file_text(alloc, name), FAILED),
-            Unread::Memory => tell_memory(stderr),
-        },
+        list_reader(alloc, listing, stdin, stdout, stderr, name)
+    } else {
+        list_file(alloc, listing, files, stdout, stderr, name)
     }
 }

@@ -62,16 +62,34 @@ fn parts_of<R: Wait>(
 }
 
 /// The partitions that a command makes which is a script's first.
-fn made_by<R: Wait>(rt: &R, alloc: Global, command: Command) -> Result<Parts<Catalogue<&R>>, Stop>
-    requires { is_in_range command ≡ true }
-    ensures { IfOk result (λ parts. Begins (Some command) parts) }
+fn made_by<'a, R: Wait>(
+    rt: &'a R,
+    alloc: Global,
+    command: &Command,
+) -> Result<Parts<Catalogue<&'a R>>, Stop>
+    requires { is_in_range command.now ≡ true }
+    ensures { IfOk result (λ parts. Begins (Some command.now) parts) }
 {
     match command {
         Command::Partitions(inputs, outputs, cells) => {
-            let parts = parts_of(rt, alloc, inputs, outputs, cells)?;
+            let parts = parts_of(rt, alloc, *inputs, *outputs, *cells)?;
             Ok(parts)
         }
         _ => Err(Stop::Line(ScriptFault::Order)),
+    }
+}
+
+/// The same of a command that may be out of its range.
+fn begin_by<'a, R: Wait>(
+    rt: &'a R,
+    alloc: Global,
+    command: &Command,
+) -> Result<Parts<Catalogue<&'a R>>, Stop>
+    ensures { IfOk result (λ parts. Begins (Some command.now) parts) }
+{
+    match first_fault(command, false, false) {
+        Some(fault) => Err(Stop::Line(fault)),
+        None => made_by(rt, alloc, command),
     }
 }
 
@@ -80,13 +98,11 @@ fn made_by<R: Wait>(rt: &R, alloc: Global, command: Command) -> Result<Parts<Cat
 fn begin<'a, R: Wait>(rt: &'a R, alloc: Global, line: &str) -> Result<Parts<Catalogue<&'a R>>, Stop>
     ensures { IfOk result (λ parts. Begins (command_of line.now) parts) }
 {
-    let Some(command) = parse(alloc, line)? else {
-        return Err(Stop::Line(ScriptFault::Syntax));
-    };
-    if let Some(fault) = first_fault(&command, false, false) {
-        return Err(Stop::Line(fault));
+    match parse(alloc, line) {
+        Ok(Some(command)) => begin_by(rt, alloc, &command),
+        Ok(None) => Err(Stop::Line(ScriptFault::Syntax)),
+        Err(_) => Err(Stop::Memory),
     }
-    made_by(rt, alloc, command)
 }
 
 /// A script, and how many of its lines are done.

@@ -1,6 +1,6 @@
 //! The commands of a script after its first, one after the other.
 
-ghost use Rattle.std.specs.Prelude.{◌≡◌, ◌<◌, ◌≤◌, length, true, OnOk, IfOk, IfErr, option_map};
+ghost use Rattle.std.specs.Prelude.{◌≡◌, ◌<◌, ◌≤◌, ℕ, List, length, true, OnOk, IfOk, IfErr, option_map};
 ghost use Rattle.script.specs.Commands.{command_of};
 ghost use Rattle.script.specs.Faults.{text_size, is_in_range};
 ghost use Rattle.broker.specs.Layouts.{IsNamed};
@@ -15,7 +15,7 @@ use crate::appending::{add, append_source, make_room, print_appended};
 use crate::batches::batch_of;
 use crate::files::Files;
 use crate::image::read_image;
-use crate::printing::{print, print_line};
+use crate::printing::print_line;
 use crate::stop::{Stop, end_of_all, stop_of_unread};
 use broker::{Broker, BrokerFault, Parts, Until};
 use bytes::Bytes;
@@ -117,23 +117,38 @@ impl<'a, Id: Names + Send + Sync, R: Threads + Wait + Sync> Session<'a, Id, R> {
         }
     }
 
-    /// Loads an image under a name, as a program of a helper table, and prints its version.
-    #[tactic(auto, using(crate::proofs::Loaded::loads, crate::proofs::Written::same_text))]
+    /// Loads an image under a name, as a program of a helper table, and prints its version; answers what
+    /// is known of the name then.
     fn load<O: Write>(
-        &mut self,
+        &self,
         stdout: &mut O,
-        name: RawName,
-        image: Bytes,
+        name: &RawName,
+        image: &Bytes,
         table: Table,
-    ) -> Result<(), Stop>
-        ensures { OnOk result (Loads name image table (O.contents stdout.old) (O.contents stdout.new)) }
+    ) -> Result<Known, Stop>
+        ensures { IfOk result (λ _. Loads name.now image.now table (O.contents stdout.old) (O.contents stdout.new)) }
     {
         let text = name.text.as_str();
-        let (version, known) = self.broker.load(self.rt, self.alloc, text, &image, table)?;
-        let line = load_text(self.alloc, text, version)?;
-        print(stdout, line.as_str())?;
-        self.keep(name, known)?;
-        Ok(())
+        let (version, known) = self.broker.load(self.rt, self.alloc, text, image, table)?;
+        print_line(stdout, load_text(self.alloc, text, version))?;
+        Ok(known)
+    }
+
+    /// Loads the image that a command names.
+    fn load_source<F: Files, O: Write>(
+        &mut self,
+        files: &mut F,
+        stdout: &mut O,
+        name: RawName,
+        source: Source,
+        table: Table,
+    ) -> Result<(), Stop>
+        ensures { OnOk result ((image : List ℕ) × IsImageIn (F.bytes files.old) source image
+            × Loads name image table (O.contents stdout.old) (O.contents stdout.new)) }
+    {
+        let image = self.image(files, source)?;
+        let known = self.load(stdout, &name, &image, table)?;
+        self.keep(name, known)
     }
 
     /// Keeps what is known of a name.
@@ -280,16 +295,14 @@ impl<'a, Id: Names + Send + Sync, R: Threads + Wait + Sync> Session<'a, Id, R> {
     }
 
     /// Prints the rows of an output partition from a place on as one record batch, or `none`.
-    #[tactic(auto, using(crate::proofs::Loaded::fetches, crate::proofs::Written::same_text))]
+    #[tactic(auto, using(crate::proofs::Loaded::fetches, crate::proofs::Written::line_printed))]
     fn fetch<O: Write>(&self, stdout: &mut O, output: u64, place: u64, max: u64) -> Result<(), Stop>
         ensures { OnOk result (Fetches Id.cells self.now Id.outputs output place max (O.contents stdout.old) (O.contents stdout.new)) }
     {
         let found = self
             .broker
             .fetch(self.rt, output as usize, place as usize, max as usize)?;
-        let line = fetch_text(self.alloc, &found)?;
-        print(stdout, line.as_str())?;
-        Ok(())
+        print_line(stdout, fetch_text(self.alloc, &found))
     }
 
     /// Runs the programs on every item that the logs have, then prints the report.
@@ -340,8 +353,7 @@ impl<'a, Id: Names + Send + Sync, R: Threads + Wait + Sync> Session<'a, Id, R> {
         match command {
             Command::Partitions(..) => Err(Stop::Line(ScriptFault::Order)),
             Command::Load(name, source, table) => {
-                let image = self.image(files, source)?;
-                self.load(stdout, name, image, table)
+                self.load_source(files, stdout, name, source, table)
             }
             Command::Deploy(input, name) => self.deploy(stdout, input, name, receipts),
             Command::Put(input, timestamp, key, value) => {

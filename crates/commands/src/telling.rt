@@ -11,6 +11,7 @@ use crate::reading::Unread;
 use crate::run::Ended;
 use crate::stop::{Stop, status_of, unwritten};
 use std::alloc::{AllocError, Global};
+use std::fmt::Display;
 use std::io;
 use std::io::Write;
 
@@ -27,7 +28,7 @@ const USAGE: u8 = 2;
 pub(crate) const FAILED: u8 = 3;
 
 /// What is reported where memory ran out.
-const MEMORY: &str = "memory\n";
+pub(crate) const MEMORY: &str = "memory\n";
 
 /// What is reported where there is no thread for a worker.
 const THREAD: &str = "thread\n";
@@ -82,13 +83,17 @@ pub(crate) fn tell_text<E: Write>(
     }
 }
 
+/// A line, and why it is refused.
+fn line_text<D: Display>(alloc: Global, line: u64, fault: &D) -> Result<String, AllocError> {
+    format!(in alloc; "line {line}: {fault}\n")
+}
+
 /// What the end of a script says on standard error.
 fn end_text(alloc: Global, ended: &Ended) -> Result<String, AllocError> {
-    let line = ended.line;
     match &ended.stop {
-        Stop::Line(fault) => format!(in alloc; "line {line}: {fault}\n"),
-        Stop::Broker(fault) => format!(in alloc; "line {line}: {fault}\n"),
-        Stop::Batch(fault) => format!(in alloc; "line {line}: {fault}\n"),
+        Stop::Line(fault) => line_text(alloc, ended.line, fault),
+        Stop::Broker(fault) => line_text(alloc, ended.line, fault),
+        Stop::Batch(fault) => line_text(alloc, ended.line, fault),
         Stop::File(file) => file_text(alloc, file.text.as_str()),
         Stop::Output => file_text(alloc, "stdout"),
         Stop::Thread => String::from_str(alloc, THREAD),

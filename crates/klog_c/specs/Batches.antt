@@ -9,13 +9,14 @@ use Rattle.batch_transform.specs.declared.{fault.Stop.Stop, fault.BatchPlace.Bat
 use Rattle.batch_transform.specs.declared.{ending.OutputBatches.OutputBatches}
 use Rattle.batch_transform.specs.Transformed.{IsTransformed, EndsAt, StopsAt}
 use Rattle.klog_c.specs.Numbers.{stop_number, stop_record}
-use Rattle.klog_c.specs.declared.faults.TheConstants.{MEMORY, KIND, RANGE}
+use Rattle.klog_c.specs.declared.faults.TheConstants.{MEMORY, KIND}
+use Rattle.c_outcomes.specs.declared.numbers.TheConstants.{RANGE}
 use Rattle.klog_c.specs.declared.object.Object.{Object}
 use Rattle.klog_c.specs.declared.object.Object.TheVariants as object
 use Rattle.klog_c.specs.declared.{transforming.Source.Source, transforming.Stopped.Stopped}
 use Rattle.klog_c.specs.declared.{outputs.Counted.Counted, outputs.Reject.Reject, outputs.OutputTold.OutputTold}
 use Rattle.klog_c.specs.Calls.{takes_kind}
-use Rattle.klog_c.specs.Outcomes.{Copies}
+use Rattle.c_outcomes.specs.Outcomes.{Copies}
 
 abbrev pub batches_in : Option Object → Option Transformed
 batches_in (Some (object.Program program)) = None

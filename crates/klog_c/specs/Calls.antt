@@ -15,7 +15,8 @@ use Rattle.log_item.specs.Programs.{ProgramIs}
 use Rattle.klog_c.specs.Numbers.{fault_number, fault_place}
 use Rattle.klog_c.specs.RecordParts.{part_of, is_part_fitting}
 use Rattle.klog_c.specs.Headers.{header_of, header_fault}
-use Rattle.klog_c.specs.declared.faults.TheConstants.{MEMORY, KIND, RANGE, LENGTH}
+use Rattle.klog_c.specs.declared.faults.TheConstants.{MEMORY, KIND, LENGTH}
+use Rattle.c_outcomes.specs.declared.numbers.TheConstants.{RANGE}
 use Rattle.klog_c.specs.declared.object.Object.{Object}
 use Rattle.klog_c.specs.declared.object.Object.TheVariants as object
 use Rattle.klog_c.specs.declared.running.Asked.{Asked}

@@ -8,9 +8,10 @@ use Rattle.explain.specs.declared.{explanation.Explanation.Explanation, explanat
 use Rattle.explain.specs.declared.way.Extent.TheVariants as extent
 use Rattle.explain.specs.Explanations.{ExplainsAs}
 use Rattle.explain.specs.ImageFaults.{image_fault_text}
-use Rattle.klog_c.specs.declared.faults.TheConstants.{MEMORY, KIND, RANGE}
+use Rattle.klog_c.specs.declared.faults.TheConstants.{MEMORY, KIND}
+use Rattle.c_outcomes.specs.declared.numbers.TheConstants.{RANGE}
 use Rattle.klog_c.specs.declared.object.Object.{Object}
-use Rattle.klog_c.specs.Outcomes.{Copies}
+use Rattle.c_outcomes.specs.Outcomes.{Copies}
 use Rattle.klog_c.specs.Calls.{text_in}
 
 -- the listed lines are the whole text where the program is accepted; else they begin it, and its refusal follows

@@ -5,7 +5,8 @@ use Rattle.std.specs.{List.AllByRecursion, Str.is_utf8}
 use Rattle.wire_spec.specs.declared.record.Header.{Header}
 use Rattle.wire_spec.specs.declared.limits.TheConstants.{MAX_HEADERS, MAX_HEADER_KEY, MAX_HEADER_VALUE}
 use Rattle.wire_spec.specs.RecordSpelling.{HeaderFits}
-use Rattle.klog_c.specs.declared.faults.TheConstants.{MEMORY, RANGE, LENGTH, TEXT}
+use Rattle.klog_c.specs.declared.faults.TheConstants.{MEMORY, LENGTH, TEXT}
+use Rattle.c_outcomes.specs.declared.numbers.TheConstants.{RANGE}
 use Rattle.klog_c.specs.RecordParts.{part_of, is_part_fitting}
 
 -- headers that a record may have

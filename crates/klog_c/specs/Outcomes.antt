@@ -1,21 +1,11 @@
--- What an outcome tells C.
-use Rattle.std.specs.Prelude.{◌≡◌, ℕ, zero, suc, ◌+◌, ◌≤◌, List, [], ◌++◌}
-use Rattle.std.specs.Prelude.{length, drop, slice_get, is_none, if◌then◌else◌}
-use Rattle.std.specs.Prelude.{Option, Some, None, unwrap_or}
+-- What an outcome in a handle tells C.
+use Rattle.std.specs.Prelude.{◌≡◌, ℕ, List, length, slice_get, Option, Some, None}
 use Rattle.wire_spec.specs.declared.record.Header.{Header}
 use Rattle.machine_spec.specs.declared.{outcome.Outcome.Outcome, outcome.Emission.Emission}
-use Rattle.machine_spec.specs.declared.outcome.Outcome.TheVariants.{Kept, Rejected}
-use Rattle.klog_c.specs.declared.faults.TheConstants.{KIND, RANGE, ROOM}
-use Rattle.klog_c.specs.declared.{emissions.Emitted.Emitted, emitted_headers.HeaderTold.HeaderTold}
-
--- the reject code, 0 where the record is kept
-abbrev pub code_of : Outcome → ℕ
-code_of (Kept emissions) = 0
-code_of (Rejected code) = code
-
-abbrev pub emissions_of : Outcome → List Emission
-emissions_of (Kept emissions) = emissions
-emissions_of (Rejected code) = []
+use Rattle.c_outcomes.specs.Outcomes.{code_of, emissions_of, TellsEmission, CopiesPart, header_at}
+use Rattle.c_outcomes.specs.Outcomes.{TellsOneHeader, CopiesOneHeader}
+use Rattle.c_outcomes.specs.declared.{emissions.Emitted.Emitted, headers.HeaderTold.HeaderTold}
+use Rattle.klog_c.specs.declared.faults.TheConstants.{KIND}
 
 abbrev pub Tells : Option Outcome → ℕ → ℕ → ℕ → Type 0
 Tells None code count number = number ≡ KIND
@@ -25,44 +15,9 @@ Tells (Some outcome) code count number =
 abbrev pub emission_at : Outcome → ℕ → Option Emission
 emission_at outcome number = slice_get (emissions_of outcome) number
 
--- the bytes of a part; null has none
-abbrev pub bytes_of : Option (List ℕ) → List ℕ
-bytes_of part = unwrap_or part []
-
-abbrev pub length_of : Option (List ℕ) → ℕ
-length_of part = length (bytes_of part)
-
--- 1 for a null key plus 2 for a null value
-abbrev pub nulls_of : Option (List ℕ) → Option (List ℕ) → ℕ
-nulls_of key value = (if is_none key then 1 else 0) + (if is_none value then 2 else 0)
-
-abbrev pub description_of : Emission → Emitted
-description_of emission = record {
-  output = emission.out;
-  key_length = length_of emission.key;
-  value_length = length_of emission.value;
-  nulls = nulls_of emission.key emission.value;
-  header_count = length emission.headers;
-}
-
--- what is told of an emission of an outcome, by its number; RANGE where there is none
-abbrev pub TellsEmission : Option Emission → Emitted → ℕ → Type 0
-TellsEmission None told number = number ≡ RANGE
-TellsEmission (Some emission) told number = (number ≡ 0) × (told ≡ description_of emission)
-
 abbrev pub TellsAt : Option Outcome → ℕ → Emitted → ℕ → Type 0
 TellsAt None at told number = number ≡ KIND
 TellsAt (Some outcome) at told number = TellsEmission (emission_at outcome at) told number
-
--- bytes at the front of a buffer, and the rest of it as it was; or none of it changed, where it is too short
-abbrev pub Copies : List ℕ → List ℕ → List ℕ → ℕ → Type 0
-Copies bytes before after zero = after ≡ bytes ++ drop (length bytes) before
-Copies bytes before after (suc number) =
-    (after ≡ before) × (suc number ≡ ROOM) × (suc (length before) ≤ length bytes)
-
-abbrev pub CopiesPart : (Emission → Option (List ℕ)) → Option Emission → List ℕ → List ℕ → ℕ → Type 0
-CopiesPart part None before after number = (after ≡ before) × (number ≡ RANGE)
-CopiesPart part (Some emission) before after number = Copies (bytes_of (part emission)) before after number
 
 -- a part of an emission, by its number; a null part has no bytes
 abbrev pub CopiesAt :
@@ -72,30 +27,9 @@ CopiesAt part (Some outcome) at before after number = CopiesPart part (emission_
 
 -- ---- headers of an emission
 
--- a header of an emission by its number, if there are both
-abbrev pub header_at : Option Emission → ℕ → Option Header
-header_at None at = None
-header_at (Some emission) at = slice_get emission.headers at
-
-abbrev pub header_told : Header → HeaderTold
-header_told header = record {
-  key_length = length header.key;
-  value_length = length_of header.value;
-  nulls = if is_none header.value then 2 else 0;
-}
-
--- what is told of a header; RANGE where there is none
-abbrev pub TellsOneHeader : Option Header → HeaderTold → ℕ → Type 0
-TellsOneHeader None told number = number ≡ RANGE
-TellsOneHeader (Some header) told number = (number ≡ 0) × (told ≡ header_told header)
-
 abbrev pub TellsHeader : Option Outcome → ℕ → ℕ → HeaderTold → ℕ → Type 0
 TellsHeader None at header told number = number ≡ KIND
 TellsHeader (Some outcome) at header told number = TellsOneHeader (header_at (emission_at outcome at) header) told number
-
-abbrev pub CopiesOneHeader : (Header → List ℕ) → Option Header → List ℕ → List ℕ → ℕ → Type 0
-CopiesOneHeader part None before after number = (after ≡ before) × (number ≡ RANGE)
-CopiesOneHeader part (Some header) before after number = Copies (part header) before after number
 
 -- a part of a header of an emission, by their numbers; a null value has no bytes
 abbrev pub CopiesHeader :

@@ -1,7 +1,7 @@
 -- The texts of faults. A text is the list of its bytes.
 use Rattle.std.specs.Prelude.{◌≡◌, ℕ, ◌⊎◌, ◌==◌, ◌&&◌, nat_le, if◌then◌else◌, List, [], ◌++◌, length, codes, decimal}
 use Rattle.klog_c.specs.declared.faults.TheConstants.{MEMORY}
-use Rattle.klog_c.specs.Outcomes.{Copies}
+use Rattle.c_outcomes.specs.Outcomes.{Copies}
 
 abbrev pub batch_fault_name : ℕ → List ℕ
 batch_fault_name n =

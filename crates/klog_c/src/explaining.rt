@@ -6,12 +6,12 @@ ghost use Rattle.machine_spec.specs.Image.{program_of};
 ghost use Rattle.klog_c.specs.Calls.{text_in, program_with};
 ghost use Rattle.klog_c.specs.Explained as definitions;
 
-use crate::emissions::copy;
 use crate::faults::{KIND, MEMORY, RANGE};
 use crate::filling::fill;
 use crate::handle::Handle;
 use crate::object::Object;
 use crate::working::table_with_number;
+use c_outcomes::copy;
 use explain::{Explanation, Extent, Refusal, explain_image, image_fault_text};
 use machine_spec::{IsaFault, Table};
 use std::alloc::{AllocError, Global};

@@ -4,12 +4,10 @@ ghost use Rattle.std.specs.Prelude.{◌≡◌};
 ghost use Rattle.klog_c.specs.Numbers as definitions;
 
 use batch_transform::Stop;
+pub(crate) use c_outcomes::{OK, RANGE};
 use machine_spec::IsaFault;
 use verifier_spec::{Check, LoadFault, VerifyFault};
 use wire_spec::BatchFault;
-
-/// The call did its work.
-pub(crate) const OK: u32 = 0;
 
 /// Memory ran out.
 pub(crate) const MEMORY: u32 = 1;
@@ -17,14 +15,8 @@ pub(crate) const MEMORY: u32 = 1;
 /// A handle is of nothing, or of another kind than the call needs.
 pub(crate) const KIND: u32 = 2;
 
-/// A number is out of its range.
-pub(crate) const RANGE: u32 = 3;
-
 /// A key or a value is longer than a record's may be.
 pub(crate) const LENGTH: u32 = 4;
-
-/// A buffer is too short.
-pub(crate) const ROOM: u32 = 5;
 
 /// The offsets of records are used up.
 pub(crate) const FULL: u32 = 7;

@@ -3,10 +3,10 @@
 ghost use Rattle.std.specs.Prelude.{◌≡◌, Some, slice_get};
 ghost use Rattle.klog_c.specs.Batches as definitions;
 
-use crate::emissions::copy;
 use crate::faults::{KIND, OK, RANGE};
 use crate::object::Object;
 use batch_transform::{OutputBatches, Transformed};
+use c_outcomes::copy;
 
 /// How many batches a program was given, and what became of their records.
 #[repr(C)]

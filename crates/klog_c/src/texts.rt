@@ -3,8 +3,8 @@
 ghost use Rattle.std.specs.Prelude.{◌≡◌, IfOk, string_bytes};
 ghost use Rattle.klog_c.specs.Texts as definitions;
 
-use crate::emissions::copy;
 use crate::faults::MEMORY;
+use c_outcomes::copy;
 use std::alloc::{AllocError, Global};
 
 fn batch_fault_name(number: u32) -> &'static str

@@ -1,5 +1,5 @@
 use Rattle.std.proofs.Common.{◌≡◌}
-use Rattle.commands.specs.Calls.{names_of}
+use Rattle.command_line.specs.Calls.{names_of}
 use Rattle.commands.specs.FileTransforms.{status_of_halt}
 use Rattle.commands.proofs.FileLaws.{told_as}
 use Rattle.commands.proofs.transforming.transform.Goals as goal

@@ -1,0 +1,13 @@
+use Rattle.std.proofs.Common.{List, ℕ, subst, inl, inr}
+use Rattle.transform.specs.Outlets.{Outflow}
+use Rattle.command_line.specs.Calls.{names_of}
+use Rattle.commands.specs.FileTransforms.{HaveWritten}
+use Rattle.commands.proofs.transforming.finish.Goals as goal
+
+pub returns : goal.returns
+returns g c = inr (
+  c.halted.ensures,
+  λ distinct. subst
+      (λ (outs : List Outflow). HaveWritten (names_of c.args.words.now) outs (g.F.Files.bytes c.close_all.new.files))
+      c.into_outlets.ensures (c.in_ok-close_all.ensures.held distinct),
+)

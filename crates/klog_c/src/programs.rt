@@ -1,0 +1,94 @@
+//! Exports on programs: loads, texts of faults, explanations.
+
+ghost use Rattle.std.specs.Prelude.{◌≡◌};
+ghost use Rattle.klog_c.specs.Calls.{Loads, Shares, program_with, text_in};
+ghost use Rattle.klog_c.specs.Explained.{Explained, CopiesText};
+ghost use Rattle.klog_c.specs.Texts.{Writes, fault_text};
+
+use crate::explaining::{copy_text, explain_into};
+use crate::faults::KIND;
+use crate::handle::Handle;
+use crate::texts::write_fault;
+use crate::working::{load_into, share_into};
+use std::alloc::Global;
+
+/// Loads the program of an image and a helper table, 1 or 2, into a handle that holds nothing or a
+/// program. A fault leaves the handle as it was; of a refusal `place` is then the slot or the
+/// instruction.
+#[unsafe(no_mangle)]
+pub extern "C" fn klog_c_load(
+    alloc: Global,
+    image: &[u8],
+    table: u32,
+    program: &mut Handle,
+    place: &mut usize,
+) -> u32
+    ensures { Loads (program_with image.now table) program.old.place.object program.new.place.object place.new result }
+{
+    load_into(alloc, image, table, program, place)
+}
+
+/// Writes the text of a fault at the front of a buffer, and its length, also where the buffer is too
+/// short. `place` is what the call that failed gave for it.
+#[unsafe(no_mangle)]
+pub extern "C" fn klog_c_fault_text(
+    alloc: Global,
+    fault: u32,
+    place: usize,
+    buffer: &mut [u8],
+    length: &mut usize,
+) -> u32
+    ensures { Writes (fault_text fault place) buffer.old buffer.new length.old length.new result }
+{
+    write_fault(alloc, fault, place, buffer, length)
+}
+
+/// Gives another owner of a loaded program to a handle that holds nothing or a program, for another
+/// thread. A fault leaves the handle as it was.
+#[unsafe(no_mangle)]
+pub extern "C" fn klog_c_share(alloc: Global, program: &mut Handle, other: &mut Handle) -> u32
+    ensures program { program.new.place.object ≡ program.old.place.object }
+    ensures other { Shares program.old.place.object other.old.place.object other.new.place.object result }
+{
+    let Some(object) = program.take(alloc) else {
+        return KIND;
+    };
+    let number = share_into(alloc, &object, other);
+    program.put(alloc, object);
+    number
+}
+
+/// Explains why the verifier accepts or refuses the program of an image and a helper table, 1 or 2,
+/// into a handle that holds nothing or a text: the instructions, or those alone that lead to the
+/// refused one, each with what is known before it.
+#[unsafe(no_mangle)]
+pub extern "C" fn klog_c_explain(
+    alloc: Global,
+    image: &[u8],
+    table: u32,
+    is_refused_alone: bool,
+    text: &mut Handle,
+) -> u32
+    ensures { Explained (program_with image.now table) is_refused_alone text.old.place.object text.new.place.object result }
+{
+    explain_into(alloc, image, table, is_refused_alone, text)
+}
+
+/// Copies a text to the front of a buffer, and tells its length, also where the buffer is too short.
+#[unsafe(no_mangle)]
+pub extern "C" fn klog_c_text(
+    alloc: Global,
+    text: &mut Handle,
+    buffer: &mut [u8],
+    length: &mut usize,
+) -> u32
+    ensures text { text.new.place.object ≡ text.old.place.object }
+    ensures copied { CopiesText (text_in text.old.place.object) buffer.old buffer.new length.new result }
+{
+    let Some(object) = text.take(alloc) else {
+        return KIND;
+    };
+    let number = copy_text(&object, buffer, length);
+    text.put(alloc, object);
+    number
+}
