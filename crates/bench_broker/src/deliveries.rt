@@ -51,8 +51,12 @@ fn receive_next<Id: Names, R: Wait + Clock>(
     if !advance(log, walk) {
         return None;
     }
-    let delivery = delivery_of(alloc, log, walk)?;
-    room.prepare(delivery.len()).ok()?;
+    let Some(delivery) = delivery_of(alloc, log, walk) else {
+        return None;
+    };
+    if room.prepare(delivery.len()).is_err() {
+        return None;
+    }
     let mut book = shared.lock(rt);
     receive(rt, walk, delivery, &mut *book, room)
 }
@@ -66,7 +70,9 @@ fn receive<Id: Names, R: Clock>(
     book: &mut Book<Id>,
     room: &mut Room,
 ) -> Option<(f64, usize)> {
-    let start = Instant::now(rt).ok()?;
+    let Ok(start) = Instant::now(rt) else {
+        return None;
+    };
     let rows = added(walk, delivery, book, room)?;
     let took = start.elapsed(rt).ok()?.as_secs_f64();
     Some((took, rows))
@@ -119,12 +125,29 @@ pub(crate) fn fill<Id: Names, R: Wait>(
     log: &PartLog<Id>,
     items: usize,
 ) -> Option<()> {
-    let program = program_of(alloc, &FORWARD)?;
-    log.mark(rt, alloc, Name::new(NAME)?, 1, program).ok()?;
+    if !mark(rt, alloc, log) {
+        return None;
+    }
     for _ in 0..items {
-        log.append(rt, alloc, batch_of(alloc, RECORDS)?).ok()?;
+        if !append(rt, alloc, log) {
+            return None;
+        }
     }
     Some(())
+}
+
+fn mark<Id: Names, R: Wait>(rt: &R, alloc: Global, log: &PartLog<Id>) -> bool {
+    match (Name::new(NAME), program_of(alloc, &FORWARD)) {
+        (Some(name), Some(program)) => log.mark(rt, alloc, name, 1, program).is_ok(),
+        _ => false,
+    }
+}
+
+fn append<Id: Names, R: Wait>(rt: &R, alloc: Global, log: &PartLog<Id>) -> bool {
+    match batch_of(alloc, RECORDS) {
+        Some(batch) => log.append(rt, alloc, batch).is_ok(),
+        None => false,
+    }
 }
 
 /// How long a book was locked for one of the last `timed` items of a log, in nanoseconds, after `items`
@@ -141,12 +164,27 @@ pub(crate) fn held<Id: Names, R: Wait + Clock>(
 {
     let mut walk = Walk::new(log.partition());
     let mut room = Room::new(alloc);
-    let (_, none) = receive_next(rt, alloc, log, &mut walk, shared, &mut room)?;
+    held_by(rt, alloc, log, &mut walk, shared, &mut room, items, timed)
+}
+
+fn held_by<Id: Names, R: Wait + Clock>(
+    rt: &R,
+    alloc: Global,
+    log: &PartLog<Id>,
+    walk: &mut Walk<Id>,
+    shared: &Mutex<Book<Id>>,
+    room: &mut Room,
+    items: usize,
+    timed: usize,
+) -> Option<f64>
+    requires { Id.outputs ≡ 1 }
+{
+    let (_, none) = receive_next(rt, alloc, log, walk, shared, room)?;
     if none != 0 {
         return None;
     }
-    receive_all(rt, alloc, log, &mut walk, shared, &mut room, items)?;
-    let took = receive_all(rt, alloc, log, &mut walk, shared, &mut room, timed)?;
+    receive_all(rt, alloc, log, walk, shared, room, items)?;
+    let took = receive_all(rt, alloc, log, walk, shared, room, timed)?;
     Some(took * 1_000_000_000.0 / nearest_u64_to_f64(timed as u64))
 }
 
@@ -162,10 +200,14 @@ fn after<Id: Names, R: Wait + Clock>(
     requires inputs { Id.inputs ≡ 1 }
     requires outputs { Id.outputs ≡ 1 }
 {
+    let Ok(book) = Book::new(alloc, 1, 0) else {
+        return None;
+    };
     let log: PartLog<Id> = PartLog::new(0, cells);
-    fill(rt, alloc, &log, items.wrapping_add(DELIVERIES))?;
-    let book = Mutex::new(Book::new(alloc, 1, 0).ok()?);
-    held(rt, alloc, &log, &book, items, DELIVERIES)
+    if fill(rt, alloc, &log, items.wrapping_add(DELIVERIES)).is_none() {
+        return None;
+    }
+    held(rt, alloc, &log, &Mutex::new(book), items, DELIVERIES)
 }
 
 /// The least that a delivery of 100 rows took in some turns, in nanoseconds, after this number of items.

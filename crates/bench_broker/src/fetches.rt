@@ -1,10 +1,10 @@
 //! How fast a broker's rows are fetched as batches.
 
-ghost use Rattle.broker.specs.Layouts.{IsNamed};
+ghost use Rattle.wire_spec.specs.BatchSpelling.{BatchFits};
 
-use crate::shortest::{Times, shortest_copy, shortest_encode, shortest_fetch};
-use batch::decode;
-use broker::{Broker, Ended, Parts, Until};
+use crate::brokers::{Figures, Subject, best};
+use batch::{Batch, decode, encode};
+use broker::{Broker, Ended, Until};
 use broker_fixtures::{deploy, ends};
 use bytes::Bytes;
 use catalogue::Catalogue;
@@ -12,64 +12,40 @@ use fixtures::{FORWARD, batch_of_copies};
 use part_log::Names;
 use std::alloc::Global;
 use std::io;
-use std::io::ErrorKind;
-use std::marker::Brand;
+use std::marker::Model;
 use std::num::nearest_u64_to_f64;
 use std::rt::Clock;
 use std::sync::Wait;
 use std::thread::Threads;
-use std::time::Duration;
+use std::time::{CpuClock, Instant};
 use worker::Open;
 
-/// What the rows are like: how many one batch takes, and the bytes of a value.
+const TURNS: u32 = 10;
+
+/// What is done in a turn: rows from a place on are fetched, bytes are copied, or a batch is written.
 #[derive(Clone, Copy, Drop)]
-struct Shape {
-    name: &'static str,
-    rows: usize,
-    value: usize,
+enum Work {
+    Fetch(usize),
+    Copy,
+    Encode,
 }
 
-const SMALL: Shape = Shape {
-    name: "10,000 rows of 64 bytes",
-    rows: 10_000,
-    value: 64,
-};
-
-const LARGE: Shape = Shape {
-    name: "15 rows of 65,536 bytes",
-    rows: 15,
-    value: 65_536,
-};
-
-/// Prints what a turn took that gave so many bytes each time.
-fn show<R: Print>(
-    rt: &R,
-    name: &str,
-    took: Duration,
-    turn: &Times,
-    bytes: usize,
-) -> io::Result<()> {
-    let micros = took.as_secs_f64() * 1_000_000.0;
-    let each = micros / f64::from(turn.times);
-    println!(rt;
-        "{name}: {:6.0} MB/s  {:8.3} million rows/s",
-        nearest_u64_to_f64(bytes as u64) / each,
-        nearest_u64_to_f64(turn.rows as u64) / each
-    )
+/// The bytes of a batch, and the batch, which can be written.
+#[derive(Drop)]
+struct Given {
+    bytes: Bytes,
+    batch: Batch,
 }
 
-/// Appends eight batches of this shape. None where memory ran out.
-fn append_all<Id: Names, C, R: Wait>(
-    rt: &R,
-    alloc: Global,
-    broker: &Broker<Id, C>,
-    shape: &Shape,
-) -> Option<()> {
-    let value = vec![in alloc; b'v'; shape.value].ok()?;
-    for _ in 0..8 {
-        append(rt, alloc, broker, shape.rows, value.as_slice())?;
-    }
-    Some(())
+impl Model for Given {
+    ghost use Rattle.wire_spec.specs.declared.record.Batch.{Batch};
+    ghost use Rattle.wire_spec.specs.BatchSpelling.{BatchFits};
+
+    ghost Value = { Batch };
+
+    ghost view = { λ g. g.batch };
+
+    ghost invariant = { λ g. BatchFits g.batch };
 }
 
 /// Appends a batch of records with this value.
@@ -79,106 +55,196 @@ fn append<Id: Names, C, R: Wait>(
     broker: &Broker<Id, C>,
     rows: usize,
     value: &[u8],
-) -> Option<()> {
-    let key = Some(b"kkkkkkkk".as_slice());
-    let batch = batch_of_copies(alloc, 1_700_000_000_000, rows, key, Some(value))?;
-    let appended = broker.append(rt, alloc, 0, batch);
-    if appended.is_ok() { Some(()) } else { None }
-}
-
-/// Gives output 0 the rows of eight batches of this shape. None where memory ran out.
-fn fill<Id: Names + Send + Sync, H: Wait + Drop + Send, R: Threads + Wait + Sync>(
-    rt: &R,
-    alloc: Global,
-    broker: &Broker<Id, Catalogue<H>>,
-    shape: &Shape,
-) -> Option<()> {
-    deploy(rt, alloc, broker, 0, &FORWARD)?;
-    append_all(rt, alloc, broker, shape)?;
-    if ends(rt, alloc, broker, Until::Drained, &Open, &[Ended::Done(9)]) {
-        Some(())
-    } else {
-        None
+) -> bool {
+    match batch_of_copies(
+        alloc,
+        1_700_000_000_000,
+        rows,
+        Some(b"kkkkkkkk"),
+        Some(value),
+    ) {
+        Some(batch) => broker.append(rt, alloc, 0, batch).is_ok(),
+        None => false,
     }
 }
 
-/// Fills an output partition with the rows of eight batches, and fetches the first and the last.
-fn compare<Id: Names + Send + Sync, R: Threads + Wait + Print + Clock + Sync>(
+/// Appends eight batches of so many records with this value.
+fn append_all<Id: Names, C, R: Wait>(
     rt: &R,
     alloc: Global,
-    parts: Parts<Catalogue<&R>>,
-    shape: &Shape,
-    times: u32,
-) -> io::Result<()>
-    requires { IsNamed Id.cells Id.inputs Id.outputs parts }
-{
-    let made: Broker<Id, Catalogue<&R>> = Broker::new(alloc, parts)?;
-    let Some(()) = fill(rt, alloc, &made, shape) else {
-        return Err(ErrorKind::InvalidData.into());
-    };
-    let turn = Times {
-        times,
-        rows: shape.rows,
-    };
-    let bytes = show_fetches(rt, &made, shape.name, &turn)?;
-    show_others(rt, alloc, bytes, &turn)
-}
-
-/// Prints how fast the first rows are fetched, and the last; returns the batch of the first.
-fn show_fetches<Id: Names, C, R: Wait + Print + Clock>(
-    rt: &R,
     broker: &Broker<Id, C>,
-    name: &str,
-    turn: &Times,
-) -> io::Result<Vec<u8>> {
-    let Ok(Some(first)) = broker.fetch(rt, 0, 0, turn.rows) else {
-        return Err(ErrorKind::InvalidData.into());
+    rows: usize,
+    value: &[u8],
+) -> bool {
+    for _ in 0..8 {
+        if !append(rt, alloc, broker, rows, value) {
+            return false;
+        }
+    }
+    true
+}
+
+/// The bytes of the batch of the first rows, and the batch.
+fn given_of<Id: Names, C, R: Wait>(
+    rt: &R,
+    alloc: Global,
+    broker: &Broker<Id, C>,
+    rows: usize,
+) -> Option<Given> {
+    let Ok(Some(first)) = broker.fetch(rt, 0, 0, rows) else {
+        return None;
     };
-    let size = first.len();
-    println!(rt; "{name}, {size} bytes in all")?;
-    let took = shortest_fetch(rt, broker, 0, turn)?;
-    show(rt, "  fetch, first", took, turn, size)?;
-    let took = shortest_fetch(rt, broker, turn.rows.wrapping_mul(7), turn)?;
-    show(rt, "  fetch, last ", took, turn, size)?;
-    Ok(first)
+    let bytes = Bytes::from_vec(first).ok()?;
+    match decode(alloc, bytes.clone().ok()?) {
+        Ok((batch, _used)) => Some(Given { bytes, batch }),
+        Err(_) => None,
+    }
 }
 
-/// Prints how fast a batch is copied, and written.
-fn show_others<R: Print + Clock>(
+/// Whether the work is done once.
+fn is_done<Id: Names, C, R: Wait>(
     rt: &R,
     alloc: Global,
-    bytes: Vec<u8>,
-    turn: &Times,
-) -> io::Result<()> {
-    let size = bytes.len();
-    let took = shortest_copy(rt, alloc, bytes.as_slice(), turn.times)?;
-    show(rt, "  copy        ", took, turn, size)?;
-    let took = shortest_encode_of(rt, alloc, bytes, turn.times)?;
-    show(rt, "  encode      ", took, turn, size)
+    broker: &Broker<Id, C>,
+    given: &Given,
+    work: Work,
+    rows: usize,
+) -> bool {
+    match work {
+        Work::Fetch(place) => match broker.fetch(rt, 0, place, rows) {
+            Ok(found) => found.is_some(),
+            Err(_) => false,
+        },
+        Work::Copy => match Vec::from_slice(alloc, given.bytes.as_slice()) {
+            Ok(copy) => !copy.is_empty(),
+            Err(_) => false,
+        },
+        Work::Encode => match encode(alloc, &given.batch) {
+            Ok(bytes) => !bytes.is_empty(),
+            Err(_) => false,
+        },
+    }
 }
 
-/// The shortest turn of writing the batch of these bytes.
-fn shortest_encode_of<R: Clock>(
+/// How many seconds the work takes so many times. None where it is refused.
+fn turn<Id: Names, C, R: Wait + Clock>(
     rt: &R,
     alloc: Global,
-    bytes: Vec<u8>,
+    broker: &Broker<Id, C>,
+    given: &Given,
+    work: Work,
+    rows: usize,
     times: u32,
-) -> io::Result<Duration> {
-    let Ok((batch, _used)) = decode(alloc, Bytes::from_vec(bytes)?) else {
-        return Err(ErrorKind::InvalidData.into());
+) -> Option<f64> {
+    let start = Instant::now(rt).ok()?;
+    for _ in 0..times {
+        if !is_done(rt, alloc, broker, given, work, rows) {
+            return None;
+        }
+    }
+    Some(start.elapsed(rt).ok()?.as_secs_f64())
+}
+
+/// The shortest of ten turns.
+fn shortest<Id: Names, C, R: Wait + Clock>(
+    rt: &R,
+    alloc: Global,
+    broker: &Broker<Id, C>,
+    given: &Given,
+    work: Work,
+    rows: usize,
+    times: u32,
+) -> Option<f64> {
+    let mut shortest = f64::INFINITY;
+    for _ in 0..TURNS {
+        shortest = shortest.min(turn(rt, alloc, broker, given, work, rows, times)?);
+    }
+    Some(shortest)
+}
+
+/// How many bytes the batch of the first rows has, and the shortest turns of fetching it and the last rows,
+/// of copying it and of writing it.
+fn time_all<Id: Names, C, R: Wait + Clock>(
+    rt: &R,
+    alloc: Global,
+    broker: &Broker<Id, C>,
+    given: &Given,
+    rows: usize,
+    times: u32,
+) -> Option<Figures> {
+    let size = nearest_u64_to_f64(given.bytes.len() as u64);
+    let last = Work::Fetch(rows.wrapping_mul(7));
+    let first = shortest(rt, alloc, broker, given, Work::Fetch(0), rows, times)?;
+    let last = shortest(rt, alloc, broker, given, last, rows, times)?;
+    let copy = shortest(rt, alloc, broker, given, Work::Copy, rows, times)?;
+    let encode = shortest(rt, alloc, broker, given, Work::Encode, rows, times)?;
+    Some((size, first, last, copy, encode))
+}
+
+/// Gives output 0 of a new broker the rows of eight batches, and times what is done with them.
+pub(crate) fn fill_and_time<Id: Names + Send + Sync, R: Threads + Wait + Clock + Sync>(
+    rt: &R,
+    alloc: Global,
+    broker: &Broker<Id, Catalogue<&R>>,
+    times: u32,
+    rows: usize,
+    value: usize,
+) -> Option<Figures> {
+    deploy(rt, alloc, broker, 0, &FORWARD)?;
+    let is_full = match vec![in alloc; b'v'; value] {
+        Ok(value) => append_all(rt, alloc, broker, rows, value.as_slice()),
+        Err(_) => false,
     };
-    shortest_encode(rt, alloc, &batch, times)
+    if !is_full || !ends(rt, alloc, broker, Until::Drained, &Open, &[Ended::Done(9)]) {
+        return None;
+    }
+    match given_of(rt, alloc, broker, rows) {
+        Some(given) => time_all(rt, alloc, broker, &given, rows, times),
+        None => None,
+    }
+}
+
+/// Prints what a turn took that gave so many bytes and rows each time.
+fn show<R: Print>(
+    rt: &R,
+    name: &str,
+    seconds: f64,
+    times: u32,
+    bytes: f64,
+    rows: usize,
+) -> io::Result<()> {
+    let each = seconds * 1_000_000.0 / f64::from(times);
+    println!(rt;
+        "  {name}: {:6.0} MB/s  {:8.3} million rows/s",
+        bytes / each,
+        nearest_u64_to_f64(rows as u64) / each
+    )
+}
+
+/// Prints how fast so many rows with values of this length are fetched, copied and written.
+fn measure<R: Threads + Wait + Print + Clock + CpuClock + Sync>(
+    rt: &R,
+    alloc: Global,
+    name: &str,
+    rows: usize,
+    value: usize,
+    times: u32,
+) -> io::Result<()> {
+    let subject = Subject::Fetches(times, rows, value);
+    let (size, first, last, copy, encode) = best(rt, alloc, 1, 1, 256, subject, 1);
+    println!(rt; "{name}, {size:.0} bytes in all")?;
+    show(rt, "fetch, first", first, times, size, rows)?;
+    show(rt, "fetch, last ", last, times, size, rows)?;
+    show(rt, "copy        ", copy, times, size, rows)?;
+    show(rt, "encode      ", encode, times, size, rows)
 }
 
 /// Prints how fast the rows of both shapes are fetched.
-pub(crate) fn measure_all<R: Threads + Wait + Print + Clock + Sync>(
+pub(crate) fn measure_all<R: Threads + Wait + Print + Clock + CpuClock + Sync>(
     rt: &R,
     alloc: Global,
     times: u32,
 ) -> io::Result<()> {
-    for shape in [SMALL, LARGE] {
-        let parts = Parts::new(rt, alloc, 1, 1, 256)?;
-        compare::<Brand, R>(rt, alloc, parts, &shape, times)?;
-    }
-    Ok(())
+    measure(rt, alloc, "10,000 rows of 64 bytes", 10_000, 64, times)?;
+    measure(rt, alloc, "15 rows of 65,536 bytes", 15, 65_536, times)
 }

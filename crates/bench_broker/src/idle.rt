@@ -1,14 +1,12 @@
 //! What workers cost that wait for items, and how soon they deliver one.
 
-ghost use Rattle.broker.specs.Layouts.{IsNamed};
-
-use broker::{Broker, Parts, Until};
+use crate::brokers::{Figures, Subject, best};
+use broker::{Broker, Until};
 use broker_fixtures::{deploy, put};
 use catalogue::Catalogue;
 use fixtures::FORWARD;
 use part_log::Names;
 use std::alloc::Global;
-use std::marker::Brand;
 use std::rt::Clock;
 use std::sync::Wait;
 use std::thread::Threads;
@@ -27,13 +25,6 @@ const REST: u64 = 1;
 
 /// How often a row is looked for before it counts as lost.
 const LOOKS: usize = 10_000_000;
-
-/// The share of a core that idle workers take, and how long items took from append to row, shortest first.
-#[derive(Drop)]
-struct Idle {
-    share: f64,
-    took: Vec<Duration>,
-}
 
 /// The share of a core that the process takes while nothing is appended.
 fn idle_share<R: Clock + CpuClock>(rt: &R) -> Option<f64> {
@@ -64,27 +55,46 @@ fn time_one<Id: Names, C, R: Wait + Clock>(
     number: usize,
 ) -> Option<Duration> {
     thread::sleep(rt, Duration::from_millis(REST));
-    let start = Instant::now(rt).ok()?;
-    put(rt, alloc, broker, number % INPUTS, b'v')?;
+    let Ok(start) = Instant::now(rt) else {
+        return None;
+    };
+    if put(rt, alloc, broker, number % INPUTS, b'v').is_none() {
+        return None;
+    }
     wait_for_rows(rt, broker, number.wrapping_add(1))?;
     start.elapsed(rt).ok()
 }
 
-/// Watches idle workers, then gives them items one by one.
+/// The share of a core that idle workers take, then the least, the median and the greatest times in
+/// microseconds of items that they get one by one.
 fn watch<Id: Names, C, R: Wait + Clock + CpuClock>(
     rt: &R,
     alloc: Global,
     broker: &Broker<Id, C>,
     items: usize,
-) -> Option<Idle> {
+) -> Option<Figures> {
     thread::sleep(rt, Duration::from_millis(IDLE));
     let share = idle_share(rt)?;
-    let mut took = Vec::with_capacity(alloc, items).ok()?;
-    for number in 0..items {
-        took.push(time_one(rt, alloc, broker, number)?).ok()?;
-    }
+    let Ok(mut took) = vec![in alloc; Duration::from_millis(0); items] else {
+        return None;
+    };
+    time_each(rt, alloc, broker, &mut took)?;
     took.sort_unstable();
-    Some(Idle { share, took })
+    let middle = micros(took.get(took.len() / 2));
+    let (first, last) = (micros(took.first()), micros(took.last()));
+    Some((share, first, middle, last, 0.0))
+}
+
+fn time_each<Id: Names, C, R: Wait + Clock>(
+    rt: &R,
+    alloc: Global,
+    broker: &Broker<Id, C>,
+    took: &mut [Duration],
+) -> Option<()> {
+    for number in 0..took.len() {
+        took[number] = time_one(rt, alloc, broker, number)?;
+    }
+    Some(())
 }
 
 /// Closes each log, which ends its worker.
@@ -101,37 +111,24 @@ fn watch_and_close<Id: Names, C, R: Wait + Clock + CpuClock>(
     alloc: Global,
     broker: &Broker<Id, C>,
     items: usize,
-) -> Option<Idle> {
+) -> Option<Figures> {
     let idle = watch(rt, alloc, broker, items);
     close_all(rt, alloc, broker)?;
     idle
 }
 
-/// Runs the workers of a new broker and watches them from another thread.
-fn watched<Id: Names + Send + Sync, R: Threads + Wait + Clock + CpuClock + Sync>(
-    rt: &R,
-    alloc: Global,
-    parts: Parts<Catalogue<&R>>,
-    items: usize,
-) -> Option<Idle>
-    requires { IsNamed Id.cells Id.inputs Id.outputs parts }
-{
-    let made: Broker<Id, Catalogue<&R>> = Broker::new(alloc, parts).ok()?;
-    for input in 0..made.inputs() {
-        deploy(rt, alloc, &made, input, &FORWARD)?;
-    }
-    watch_beside(rt, alloc, &made, items)
-}
-
 /// Runs the workers of a broker and watches them from another thread.
-fn watch_beside<Id: Names + Send + Sync, C: Send, R: Threads + Wait + Clock + CpuClock + Sync>(
+pub(crate) fn watch_beside<Id: Names + Send + Sync, R: Threads + Wait + Clock + CpuClock + Sync>(
     rt: &R,
     alloc: Global,
-    broker: &Broker<Id, C>,
+    broker: &Broker<Id, Catalogue<&R>>,
     items: usize,
-) -> Option<Idle> {
+) -> Option<Figures> {
+    for input in 0..broker.inputs() {
+        deploy(rt, alloc, broker, input, &FORWARD)?;
+    }
     let work = move || broker.start(rt, alloc, Until::Closed, &Open).is_ok();
-    let look = move || -> Option<Idle> { watch_and_close(rt, alloc, broker, items) };
+    let look = move || -> Option<Figures> { watch_and_close(rt, alloc, broker, items) };
     let (_ended, idle) = thread::join(rt, work, look);
     idle
 }
@@ -149,22 +146,13 @@ pub(crate) fn measure<R: Threads + Wait + Clock + CpuClock + Print + Sync>(
     alloc: Global,
     items: u32,
 ) -> io::Result<()> {
-    let items = items as usize;
-    let parts = Parts::new(rt, alloc, INPUTS, 1, 65_536)?;
-    let Some(Idle { share, took }) = watched::<Brand, R>(rt, alloc, parts, items) else {
+    let subject = Subject::Idle(items as usize);
+    let (share, least, median, most, _) = best(rt, alloc, INPUTS, 1, 65_536, subject, 1);
+    if share == f64::INFINITY {
         return println!(rt; "a call was refused");
-    };
-    println!(rt; "{INPUTS} waiting workers take {:7.5} of a core", share)?;
-    show_times(rt, &took)
-}
-
-/// Prints the least, median and greatest times of items, given in order.
-fn show_times<R: Print>(rt: &R, took: &[Duration]) -> io::Result<()> {
+    }
+    println!(rt; "{INPUTS} waiting workers take {share:7.5} of a core")?;
     println!(rt;
-        "from append to row: {:7.1} µs at least, {:7.1} in the median, {:7.1} at most, of {} items",
-        micros(took.first()),
-        micros(took.get(took.len() / 2)),
-        micros(took.last()),
-        took.len()
+        "from append to row: {least:7.1} µs at least, {median:7.1} in the median, {most:7.1} at most, of {items} items"
     )
 }

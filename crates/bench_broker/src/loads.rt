@@ -31,8 +31,9 @@ fn load<W: Wait + Drop, R: Clock>(
     let image = Bytes::copy_from_slice(alloc, &FORWARD)?;
     let start = Instant::now(rt)?;
     for _ in 0..count {
-        let loaded = catalogue.load(alloc, NAME, &image, Table::One);
-        loaded.map_err(|_| AllocError)?;
+        if catalogue.load(alloc, NAME, &image, Table::One).is_err() {
+            return Err(AllocError.into());
+        }
     }
     let took = start.elapsed(rt)?.as_secs_f64();
     Ok(took * 1_000_000.0 / nearest_u64_to_f64(count))
@@ -44,10 +45,18 @@ pub(crate) fn measure<R: Wait + Clock + Files + Alloc + Print>(
     alloc: Global,
 ) -> io::Result<()> {
     let mut catalogue = Catalogue::new(rt, alloc)?;
-    let first = load(rt, alloc, &mut catalogue, SOME)?;
+    measure_on(rt, alloc, &mut catalogue)
+}
+
+fn measure_on<W: Wait + Drop, R: Clock + Files + Alloc + Print>(
+    rt: &R,
+    alloc: Global,
+    catalogue: &mut Catalogue<W>,
+) -> io::Result<()> {
+    let first = load(rt, alloc, catalogue, SOME)?;
     let before = peak_memory(rt)?;
-    load(rt, alloc, &mut catalogue, BETWEEN)?;
-    let last = load(rt, alloc, &mut catalogue, SOME)?;
+    load(rt, alloc, catalogue, BETWEEN)?;
+    let last = load(rt, alloc, catalogue, SOME)?;
     let after = peak_memory(rt)?;
     println!(rt;
         "the first 1,000 loads of 100,000: {first:6.2} us a load, {before} kB; \

@@ -17,6 +17,7 @@ use std::{io, thread};
 const ITEMS: usize = 2_000;
 
 /// The cells of four logs.
+#[derive(Drop)]
 struct Four {
     first: Cells,
     second: Cells,
@@ -24,13 +25,23 @@ struct Four {
     fourth: Cells,
 }
 
+fn two_cells(alloc: Global) -> Option<(Cells, Cells)> {
+    match (Cells::new(alloc, 65_536), Cells::new(alloc, 65_536)) {
+        (Ok(first), Ok(second)) => Some((first, second)),
+        _ => None,
+    }
+}
+
 fn four_cells(alloc: Global) -> Option<Four> {
-    Some(Four {
-        first: Cells::new(alloc, 65_536).ok()?,
-        second: Cells::new(alloc, 65_536).ok()?,
-        third: Cells::new(alloc, 65_536).ok()?,
-        fourth: Cells::new(alloc, 65_536).ok()?,
-    })
+    match (two_cells(alloc), two_cells(alloc)) {
+        (Some((first, second)), Some((third, fourth))) => Some(Four {
+            first,
+            second,
+            third,
+            fourth,
+        }),
+        _ => None,
+    }
 }
 
 /// The mean of what each thread found; infinite where one found nothing.
@@ -56,32 +67,39 @@ fn turn<Id: Names + Send + Sync, R: Threads + Wait + Clock + Sync>(
     requires inputs { Id.inputs ≡ 4 }
     requires outputs { Id.outputs ≡ 1 }
 {
-    let Four {
-        first,
-        second,
-        third,
-        fourth,
-    } = cells;
-    let made: [PartLog<Id>; 4] = [
-        PartLog::new(0, first),
-        PartLog::new(1, second),
-        PartLog::new(2, third),
-        PartLog::new(3, fourth),
+    let Ok(book) = Book::new(alloc, 4, 0) else {
+        return None;
+    };
+    let logs: [PartLog<Id>; 4] = [
+        PartLog::new(0, cells.first),
+        PartLog::new(1, cells.second),
+        PartLog::new(2, cells.third),
+        PartLog::new(3, cells.fourth),
     ];
-    let logs = made.as_slice();
+    turn_of(rt, alloc, &logs, &Mutex::new(book))
+}
+
+fn turn_of<Id: Names + Send + Sync, R: Threads + Wait + Clock + Sync>(
+    rt: &R,
+    alloc: Global,
+    logs: &[PartLog<Id>],
+    book: &Mutex<Book<Id>>,
+) -> Option<f64>
+    requires { Id.outputs ≡ 1 }
+{
     for log in logs {
         fill(rt, alloc, log, ITEMS)?;
     }
-    let made = Mutex::new(Book::new(alloc, 4, 0).ok()?);
-    let book = &made;
     let one = move |input: usize| -> Option<f64>
         requires { Id.outputs ≡ 1 }
     {
         let all = logs;
         held(rt, alloc, all.get(input)?, book, 0, ITEMS)
     };
-    let all = thread::map_indices(rt, alloc, 4, &one).ok()?;
-    Some(mean(&all))
+    match thread::map_indices(rt, alloc, 4, &one) {
+        Ok(all) => Some(mean(&all)),
+        Err(_) => None,
+    }
 }
 
 /// Prints the least of some turns.

@@ -19,6 +19,7 @@
 
 mod appends;
 mod books;
+mod brokers;
 mod deliveries;
 mod fetches;
 mod finds;
@@ -27,7 +28,6 @@ mod loads;
 mod locks;
 mod memory;
 mod reads;
-mod shortest;
 mod steps;
 mod turns;
 
@@ -36,18 +36,19 @@ use std::fs::Files;
 use std::rt::Clock;
 use std::sync::Wait;
 use std::thread::Threads;
+use std::time::CpuClock;
 use std::{env, io};
 
-/// How often a subject is measured.
-fn count_of(word: Option<String>, otherwise: u32) -> u32 {
+/// The number that a word is.
+fn number_of(word: Option<String>) -> Option<u32> {
     match word {
-        Some(word) => word.parse::<u32>().unwrap_or(otherwise),
-        None => otherwise,
+        Some(word) => word.parse::<u32>().ok(),
+        None => None,
     }
 }
 
 /// Appends, then finds and loads.
-fn measure_logs<R: Threads + Wait + Clock + Files + Alloc + Print + Sync>(
+fn measure_logs<R: Threads + Wait + Clock + CpuClock + Files + Alloc + Print + Sync>(
     rt: &R,
     alloc: Global,
     turns: u32,
@@ -58,27 +59,33 @@ fn measure_logs<R: Threads + Wait + Clock + Files + Alloc + Print + Sync>(
     loads::measure(rt, alloc)
 }
 
+/// Measures a subject.
+fn measure<R: Threads + Wait + Clock + CpuClock + Files + Alloc + Print + Sync>(
+    rt: &R,
+    alloc: Global,
+    subject: &str,
+    count: Option<u32>,
+    kept: Option<u32>,
+) -> io::Result<()> {
+    match subject {
+        "log" => measure_logs(rt, alloc, count.unwrap_or(20)),
+        "worker" => match kept {
+            Some(batches) => turns::keep(rt, alloc, batches as usize),
+            None => turns::measure_all(rt, alloc, count.unwrap_or(3)),
+        },
+        "book" => books::measure(rt, alloc, count.unwrap_or(3)),
+        "idle" => idle::measure(rt, alloc, count.unwrap_or(1_000)),
+        "fetch" => fetches::measure_all(rt, alloc, count.unwrap_or(20)),
+        _ => println!(rt; "the subjects are log, worker, book, idle and fetch"),
+    }
+}
+
 fn main(rt: HostRuntime) -> io::Result<()> {
-    let alloc = rt.alloc();
     let mut words = env::args(&rt)?.skip(1);
     let Some(subject) = words.next() else {
         return Ok(());
     };
-    let count = words.next();
-    if subject.as_str() == "log" {
-        measure_logs(&rt, alloc, count_of(count, 20))
-    } else if subject.as_str() == "worker" {
-        match words.next() {
-            Some(batches) => turns::keep(&rt, alloc, batches.parse::<usize>().unwrap_or(0)),
-            None => turns::measure_all(&rt, alloc, count_of(count, 3)),
-        }
-    } else if subject.as_str() == "book" {
-        books::measure(&rt, alloc, count_of(count, 3))
-    } else if subject.as_str() == "idle" {
-        idle::measure(&rt, alloc, count_of(count, 1_000))
-    } else if subject.as_str() == "fetch" {
-        fetches::measure_all(&rt, alloc, count_of(count, 20))
-    } else {
-        println!(rt; "the subjects are log, worker, book, idle and fetch")
-    }
+    let count = number_of(words.next());
+    let kept = number_of(words.next());
+    measure(&rt, rt.alloc(), subject.as_str(), count, kept)
 }

@@ -1,16 +1,14 @@
 //! What it takes to read the last rows of a book, after few rows and after many.
 
-ghost use Rattle.broker.specs.Layouts.{IsNamed};
-
+use crate::brokers::{self, Figures};
 use crate::turns::{RECORDS, append, fill};
-use broker::{Audit, Broker, Parts};
+use broker::{Audit, Broker};
 use broker_fixtures::{deploy, drain};
 use catalogue::Catalogue;
 use fixtures::FORWARD;
 use out_book::{Book, Probes};
 use part_log::{Names, Receipt};
 use std::alloc::Global;
-use std::marker::Brand;
 use std::num::nearest_u64_to_f64;
 use std::rt::Clock;
 use std::sync::Wait;
@@ -23,39 +21,9 @@ const LAST: usize = 10;
 /// How often they are read.
 const ROUNDS: usize = 100;
 
-/// What a read of the 100 rows of an item took in nanoseconds, and at how many places the search for the
-/// first of them looked.
-#[derive(Clone, Copy, Drop)]
-pub(crate) struct Reads {
-    pub(crate) audit: f64,
-    pub(crate) fetch: f64,
-    pub(crate) since: f64,
-    pub(crate) looks: u64,
-}
-
-const SLOWEST: Reads = Reads {
-    audit: f64::INFINITY,
-    fetch: f64::INFINITY,
-    since: f64::INFINITY,
-    looks: 0,
-};
-
-impl Reads {
-    /// The less of each time.
-    fn or_less(self, other: Reads) -> Reads {
-        Reads {
-            audit: self.audit.min(other.audit),
-            fetch: self.fetch.min(other.fetch),
-            since: self.since.min(other.since),
-            looks: self.looks.max(other.looks),
-        }
-    }
-}
-
 /// The nanoseconds of a read, since all reads began.
 fn each<R: Clock>(rt: &R, start: &Instant) -> Option<f64> {
-    let took = start.elapsed(rt).ok()?.as_secs_f64();
-    Some(took * 1_000_000_000.0 / nearest_u64_to_f64((LAST * ROUNDS) as u64))
+    brokers::each(rt, start, (LAST * ROUNDS) as u64)
 }
 
 /// Whether an audit finds the 100 rows of an item.
@@ -148,73 +116,55 @@ fn append_all<Id: Names, C, R: Wait>(
     items: usize,
 ) -> Option<Vec<Receipt<Id>>> {
     fill(rt, alloc, broker, 0, items.wrapping_sub(LAST), RECORDS)?;
-    let mut receipts = Vec::with_capacity(alloc, LAST).ok()?;
+    let mut receipts = Vec::new(alloc);
     for _ in 0..LAST {
-        receipts.push(append(rt, alloc, broker, 0, RECORDS)?).ok()?;
+        if !append_one(rt, alloc, broker, &mut receipts) {
+            return None;
+        }
     }
     Some(receipts)
 }
 
-/// What reads took after this number of items. None where there was no memory.
-fn after<Id: Names + Send + Sync, R: Threads + Wait + Clock + Sync>(
-    rt: &R,
-    alloc: Global,
-    parts: Parts<Catalogue<&R>>,
-    items: usize,
-) -> Option<Reads>
-    requires { IsNamed Id.cells Id.inputs Id.outputs parts }
-{
-    let made: Broker<Id, Catalogue<&R>> = Broker::new(alloc, parts).ok()?;
-    deploy(rt, alloc, &made, 0, &FORWARD)?;
-    let receipts = append_all(rt, alloc, &made, items)?;
-    read_all(rt, alloc, &made, &receipts)
-}
-
-/// What reads took once the workers are done. None where they came to no end.
-fn read_all<Id: Names + Send + Sync, C: Send, R: Threads + Wait + Clock + Sync>(
+/// Whether one more item is appended, and its receipt is put into the list.
+fn append_one<Id: Names, C, R: Wait>(
     rt: &R,
     alloc: Global,
     broker: &Broker<Id, C>,
-    receipts: &[Receipt<Id>],
-) -> Option<Reads> {
+    receipts: &mut Vec<Receipt<Id>>,
+) -> bool {
+    match append(rt, alloc, broker, 0, RECORDS) {
+        Some(receipt) => receipts.push(receipt).is_ok(),
+        None => false,
+    }
+}
+
+/// What reads of a new broker took once the workers are done. None where they came to no end.
+pub(crate) fn read_all<Id: Names + Send + Sync, R: Threads + Wait + Clock + Sync>(
+    rt: &R,
+    alloc: Global,
+    broker: &Broker<Id, Catalogue<&R>>,
+    items: usize,
+) -> Option<Figures> {
+    deploy(rt, alloc, broker, 0, &FORWARD)?;
+    let receipts = append_all(rt, alloc, broker, items)?;
     if !drain(rt, alloc, broker) {
         return None;
     }
     let _some = broker.outputs();
     let book = broker.book(0).lock(rt);
-    read_book(rt, broker, &book, receipts)
+    read_book(rt, broker, &book, &receipts)
 }
 
-/// What reads of a book took. None where one found other rows.
+/// What an audit of a book took, a fetch and a search, and at how many places a search looked at most. None
+/// where one found other rows.
 fn read_book<Id: Names, C, R: Wait + Clock>(
     rt: &R,
     broker: &Broker<Id, C>,
     book: &Book<Id>,
     receipts: &[Receipt<Id>],
-) -> Option<Reads> {
+) -> Option<Figures> {
     let (since, looks) = searches(rt, book, receipts)?;
-    Some(Reads {
-        audit: audits(rt, broker, book, receipts)?,
-        fetch: fetches(rt, book, receipts)?,
-        since,
-        looks,
-    })
-}
-
-/// The least that reads took in some turns, after this number of items.
-pub(crate) fn least<R: Threads + Wait + Clock + Sync>(
-    rt: &R,
-    alloc: Global,
-    items: usize,
-    turns: u32,
-) -> Reads {
-    let mut least = SLOWEST;
-    for _ in 0..turns {
-        if let Ok(parts) = Parts::new(rt, alloc, 1, 1, 65_536) {
-            if let Some(reads) = after::<Brand, R>(rt, alloc, parts, items) {
-                least = least.or_less(reads);
-            }
-        }
-    }
-    least
+    let audit = audits(rt, broker, book, receipts)?;
+    let fetch = fetches(rt, book, receipts)?;
+    Some((audit, fetch, since, nearest_u64_to_f64(looks), 0.0))
 }

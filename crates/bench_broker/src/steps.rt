@@ -1,9 +1,8 @@
 //! What a step of a book takes, after few and after many items.
 
-ghost use Rattle.broker.specs.Layouts.{IsNamed};
-
+use crate::brokers::{Figures, Subject, best, each};
 use crate::turns::fill;
-use broker::{Broker, Parts, Stepped};
+use broker::{Broker, Stepped};
 use broker_fixtures::{deploy, drain, step_book};
 use catalogue::Catalogue;
 use fixtures::FORWARD;
@@ -11,12 +10,10 @@ use out_book::Book;
 use part_log::Names;
 use std::alloc::Global;
 use std::io;
-use std::marker::Brand;
-use std::num::nearest_u64_to_f64;
 use std::rt::Clock;
 use std::sync::Wait;
 use std::thread::Threads;
-use std::time::Instant;
+use std::time::{CpuClock, Instant};
 
 /// How many cells the log has.
 const CELLS: usize = 65_536;
@@ -24,33 +21,20 @@ const CELLS: usize = 65_536;
 /// How many steps are measured together.
 const STEPS: usize = 1_000;
 
-/// What a step took in nanoseconds, after some items. None where there were too few.
-fn after<Id: Names + Send + Sync, R: Threads + Wait + Clock + Sync>(
+/// What a step of a new broker took in nanoseconds, after so many items.
+pub(crate) fn step_after<Id: Names + Send + Sync, R: Threads + Wait + Clock + Sync>(
     rt: &R,
     alloc: Global,
-    parts: Parts<Catalogue<&R>>,
+    broker: &Broker<Id, Catalogue<&R>>,
     items: usize,
-) -> Option<f64>
-    requires { IsNamed Id.cells Id.inputs Id.outputs parts }
-{
-    let made: Broker<Id, Catalogue<&R>> = Broker::new(alloc, parts).ok()?;
-    deploy(rt, alloc, &made, 0, &FORWARD)?;
-    step_after(rt, alloc, &made, items)
-}
-
-/// What a step took in nanoseconds, after the items that are there and more, so many in all.
-fn step_after<Id: Names + Send + Sync, C: Send, R: Threads + Wait + Clock + Sync>(
-    rt: &R,
-    alloc: Global,
-    broker: &Broker<Id, C>,
-    items: usize,
-) -> Option<f64> {
+) -> Option<Figures> {
+    deploy(rt, alloc, broker, 0, &FORWARD)?;
     fill(rt, alloc, broker, 0, items.wrapping_sub(1), 1)?;
     if !drain(rt, alloc, broker) {
         return None;
     }
     fill(rt, alloc, broker, 0, STEPS, 1)?;
-    step_all(rt, alloc, broker)
+    Some((step_all(rt, alloc, broker)?, 0.0, 0.0, 0.0, 0.0))
 }
 
 /// What a step took in nanoseconds, over the next steps of the first book.
@@ -77,8 +61,7 @@ fn step_book_on<Id: Names, C, R: Clock>(
             return None;
         }
     }
-    let took = start.elapsed(rt).ok()?.as_secs_f64();
-    Some(took * 1_000_000_000.0 / nearest_u64_to_f64(STEPS as u64))
+    each(rt, &start, STEPS as u64)
 }
 
 /// Whether a step of a book adds rows.
@@ -89,26 +72,14 @@ fn is_added<Id: Names, C>(alloc: Global, broker: &Broker<Id, C>, book: &mut Book
     )
 }
 
-/// The least that a step took in some turns, after this number of items.
-fn least<R: Threads + Wait + Clock + Sync>(rt: &R, alloc: Global, items: usize, turns: u32) -> f64 {
-    let mut least = f64::INFINITY;
-    for _ in 0..turns {
-        if let Ok(parts) = Parts::new(rt, alloc, 1, 1, CELLS) {
-            let took = after::<Brand, R>(rt, alloc, parts, items);
-            least = least.min(took.unwrap_or(f64::INFINITY));
-        }
-    }
-    least
-}
-
 /// Prints the least that a step took after 1,000 and after 60,000 items.
-pub(crate) fn measure<R: Threads + Wait + Clock + Print + Sync>(
+pub(crate) fn measure<R: Threads + Wait + Clock + CpuClock + Print + Sync>(
     rt: &R,
     alloc: Global,
     turns: u32,
 ) -> io::Result<()> {
-    let few = least(rt, alloc, 1_000, turns);
-    let many = least(rt, alloc, 60_000, turns);
+    let few = best(rt, alloc, 1, 1, CELLS, Subject::Steps(1_000), turns).0;
+    let many = best(rt, alloc, 1, 1, CELLS, Subject::Steps(60_000), turns).0;
     println!(rt;
         "a step of one record after 1,000 items: {few:6.1} ns, after 60,000 items: {many:6.1} ns"
     )

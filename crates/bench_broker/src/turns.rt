@@ -2,10 +2,11 @@
 
 ghost use Rattle.std.specs.Prelude.{IfSome};
 ghost use Rattle.log_spec.specs.Logs.{FitsLog};
-ghost use Rattle.broker.specs.Layouts.{IsCount, IsNamed};
+ghost use Rattle.broker.specs.Layouts.{IsCount};
 
+use crate::brokers::{Figures, Subject, best};
 use crate::memory::peak_memory;
-use broker::{Broker, Parts};
+use broker::Broker;
 use broker_fixtures::{deploy, drain};
 use bytes::Bytes;
 use catalogue::Catalogue;
@@ -13,7 +14,6 @@ use fixtures::{FORWARD, batch_at, record_of};
 use part_log::{Names, Receipt};
 use std::alloc::{Alloc, AllocError, Global};
 use std::fs::Files;
-use std::marker::Brand;
 use std::num::nearest_u64_to_f64;
 use std::rt::Clock;
 use std::sync::Wait;
@@ -29,7 +29,7 @@ const SIZE: usize = 64;
 pub(crate) const RECORDS: usize = 100;
 
 /// call 9; mov64 r1, r0; call 3; exit: each record goes to the output of its input's number as it is.
-const TO_OWN: [u8; 32] = [
+static TO_OWN: [u8; 32] = [
     0x85, 0, 0, 0, 9, 0, 0, 0, 0xbf, 1, 0, 0, 0, 0, 0, 0, 0x85, 0, 0, 0, 3, 0, 0, 0, 0x95, 0, 0, 0,
     0, 0, 0, 0,
 ];
@@ -39,35 +39,6 @@ const CELLS: usize = 65_536;
 
 /// How many batches all logs have together.
 const BATCHES: usize = 8_000;
-
-/// What the appends and then the workers took, and the processor time of both, in seconds.
-#[derive(Clone, Copy, Drop)]
-struct Times {
-    appends: f64,
-    workers: f64,
-    processors: f64,
-}
-
-const LONGEST: Times = Times {
-    appends: f64::INFINITY,
-    workers: f64::INFINITY,
-    processors: f64::INFINITY,
-};
-
-impl Times {
-    fn all(self) -> f64 {
-        self.appends + self.workers
-    }
-
-    /// Of two turns the one that took less in all.
-    fn or_less(self, other: Times) -> Times {
-        if other.all() < self.all() {
-            other
-        } else {
-            self
-        }
-    }
-}
 
 /// Records whose values share one buffer.
 fn records(alloc: Global, count: usize) -> Result<Records, AllocError> {
@@ -105,7 +76,9 @@ pub(crate) fn fill<Id: Names, C, R: Wait>(
     records: usize,
 ) -> Option<()> {
     for _ in 0..batches {
-        append(rt, alloc, broker, input, records)?;
+        if append(rt, alloc, broker, input, records).is_none() {
+            return None;
+        }
     }
     Some(())
 }
@@ -131,43 +104,16 @@ fn rows<Id: Names, C, R: Wait>(rt: &R, broker: &Broker<Id, C>) -> usize {
     rows
 }
 
-/// A turn with a new broker: appends side by side, and then the workers. None where a call is refused.
-fn taken<R: Threads + Wait + Clock + CpuClock + Sync>(
-    rt: &R,
-    alloc: Global,
-    inputs: usize,
-    outputs: usize,
-    image: &[u8],
-    batches: usize,
-) -> Option<Times>
-    requires inputs { IsCount inputs }
-    requires outputs { IsCount outputs }
-{
-    let parts = Parts::new(rt, alloc, inputs, outputs, CELLS).ok()?;
-    turn::<Brand, R>(rt, alloc, parts, image, batches)
-}
-
-fn turn<Id: Names + Send + Sync, R: Threads + Wait + Clock + CpuClock + Sync>(
-    rt: &R,
-    alloc: Global,
-    parts: Parts<Catalogue<&R>>,
-    image: &[u8],
-    batches: usize,
-) -> Option<Times>
-    requires { IsNamed Id.cells Id.inputs Id.outputs parts }
-{
-    let made: Broker<Id, Catalogue<&R>> = Broker::new(alloc, parts).ok()?;
-    time_all(rt, alloc, &made, image, batches)
-}
-
-/// What the appends and the workers of a new broker took. None where a call is refused, or a record has no row.
-fn time_all<Id: Names + Send + Sync, R: Threads + Wait + Clock + CpuClock + Sync>(
+/// What the appends and the workers of a new broker took in all, then the workers alone, and the processor
+/// time of both, in seconds. None where a call is refused, or a record has no row.
+pub(crate) fn time_all<Id: Names + Send + Sync, R: Threads + Wait + Clock + CpuClock + Sync>(
     rt: &R,
     alloc: Global,
     broker: &Broker<Id, Catalogue<&R>>,
-    image: &[u8],
     batches: usize,
-) -> Option<Times> {
+    to_own: bool,
+) -> Option<Figures> {
+    let image: &[u8] = if to_own { &TO_OWN } else { &FORWARD };
     let each = batches / broker.inputs();
     let before = rt.process_cpu_time().ok()?;
     let appends = append_all(rt, alloc, broker, image, each)?;
@@ -177,12 +123,7 @@ fn time_all<Id: Names + Send + Sync, R: Threads + Wait + Clock + CpuClock + Sync
     if rows(rt, broker) != all {
         return None;
     }
-    let processors = used.as_secs_f64();
-    Some(Times {
-        appends,
-        workers,
-        processors,
-    })
+    Some((appends + workers, workers, used.as_secs_f64(), 0.0, 0.0))
 }
 
 /// What it took to append that number of batches to each log by a thread of its own.
@@ -201,9 +142,12 @@ fn append_all<Id: Names + Send + Sync, R: Threads + Wait + Clock + Sync>(
         fill(rt, alloc, broker, input, each, RECORDS).is_some()
     };
     let start = Instant::now(rt).ok()?;
-    let filled = thread::map_indices(rt, alloc, inputs, &one).ok()?;
+    let is_full = match thread::map_indices(rt, alloc, inputs, &one) {
+        Ok(filled) => are_full(&filled),
+        Err(_) => false,
+    };
     let took = start.elapsed(rt).ok()?.as_secs_f64();
-    if are_full(&filled) { Some(took) } else { None }
+    if is_full { Some(took) } else { None }
 }
 
 /// Whether each log was filled.
@@ -228,27 +172,6 @@ fn work<Id: Names + Send + Sync, R: Threads + Wait + Clock + Sync>(
     if is_done { Some(took) } else { None }
 }
 
-/// The best of some turns.
-fn best<R: Threads + Wait + Clock + CpuClock + Sync>(
-    rt: &R,
-    alloc: Global,
-    inputs: usize,
-    outputs: usize,
-    image: &[u8],
-    turns: u32,
-) -> Times
-    requires inputs { IsCount inputs }
-    requires outputs { IsCount outputs }
-{
-    let mut least = LONGEST;
-    for _ in 0..turns {
-        if let Some(times) = taken(rt, alloc, inputs, outputs, image, BATCHES) {
-            least = least.or_less(times);
-        }
-    }
-    least
-}
-
 /// Nanoseconds a record.
 fn nanos(seconds: f64) -> f64 {
     seconds * 1_000_000_000.0 / nearest_u64_to_f64((BATCHES * RECORDS) as u64)
@@ -264,32 +187,33 @@ fn measure_cores<R: Threads + Wait + Clock + CpuClock + Print + Sync>(
     rt: &R,
     alloc: Global,
     outputs: usize,
-    image: &[u8],
+    to_own: bool,
     turns: u32,
 ) -> io::Result<()>
     requires { IsCount outputs }
 {
-    let one = best(rt, alloc, 1, outputs, image, turns);
+    let subject = Subject::Workers(BATCHES, to_own);
+    let one = best(rt, alloc, 1, outputs, CELLS, subject, turns);
     print_cores(rt, 1, one, one)?;
-    let two = best(rt, alloc, 2, outputs, image, turns);
+    let two = best(rt, alloc, 2, outputs, CELLS, subject, turns);
     print_cores(rt, 2, two, one)?;
-    let four = best(rt, alloc, 4, outputs, image, turns);
+    let four = best(rt, alloc, 4, outputs, CELLS, subject, turns);
     print_cores(rt, 4, four, one)
 }
 
 /// Prints each rate and the processor time, and beside it how many times that of one input partition it is.
-fn print_cores<R: Print>(rt: &R, inputs: usize, times: Times, one: Times) -> io::Result<()> {
+fn print_cores<R: Print>(rt: &R, inputs: usize, times: Figures, one: Figures) -> io::Result<()> {
     println!(rt;
         "{inputs} inputs: {:6.3} million records/s, {:5.2} of one; workers alone {:6.3}, {:5.2} of one",
-        rate(times.all()),
-        one.all() / times.all(),
-        rate(times.workers),
-        one.workers / times.workers
+        rate(times.0),
+        one.0 / times.0,
+        rate(times.1),
+        one.1 / times.1
     )?;
     println!(rt;
         "          processor time {:6.1} ns a record, {:5.2} of one",
-        nanos(times.processors),
-        times.processors / one.processors
+        nanos(times.2),
+        times.2 / one.2
     )
 }
 
@@ -302,11 +226,12 @@ fn measure_outputs<R: Threads + Wait + Clock + CpuClock + Print + Sync>(
 ) -> io::Result<()>
     requires { IsCount outputs }
 {
-    let times = best(rt, alloc, 1, outputs, &FORWARD, turns);
+    let subject = Subject::Workers(BATCHES, false);
+    let (all, workers, _, _, _) = best(rt, alloc, 1, outputs, CELLS, subject, turns);
     println!(rt;
         "1 input, {outputs:2} outputs: {:6.3} million records/s; workers alone {:6.3}",
-        rate(times.all()),
-        rate(times.workers)
+        rate(all),
+        rate(workers)
     )
 }
 
@@ -317,9 +242,9 @@ pub(crate) fn measure_all<R: Threads + Wait + Clock + CpuClock + Print + Sync>(
     turns: u32,
 ) -> io::Result<()> {
     println!(rt; "from append to row, all to 1 output:")?;
-    measure_cores(rt, alloc, 1, &FORWARD, turns)?;
+    measure_cores(rt, alloc, 1, false, turns)?;
     println!(rt; "from append to row, each input to 1 of 4 outputs:")?;
-    measure_cores(rt, alloc, 4, &TO_OWN, turns)?;
+    measure_cores(rt, alloc, 4, true, turns)?;
     println!(rt; "from append to row, all to the first of some outputs:")?;
     for outputs in [1, 8, 64] {
         measure_outputs(rt, alloc, outputs, turns)?;
@@ -334,9 +259,10 @@ pub(crate) fn keep<R: Threads + Wait + Clock + CpuClock + Files + Alloc + Print 
     batches: usize,
 ) -> io::Result<()> {
     let before = peak_memory(rt)?;
-    let Some(_) = taken(rt, alloc, 1, 1, &FORWARD, batches) else {
+    let subject = Subject::Workers(batches, false);
+    if best(rt, alloc, 1, 1, CELLS, subject, 1).0 == f64::INFINITY {
         return println!(rt; "a call was refused");
-    };
+    }
     let taken = peak_memory(rt)?.saturating_sub(before).wrapping_mul(1024);
     let records = batches.wrapping_mul(RECORDS) as u64;
     println!(rt;

@@ -29,13 +29,25 @@ pub(crate) fn audit_all<Id: Names, C, R: Wait>(
     end: usize,
 ) -> Option<()> {
     for number in first..end {
-        let batch = batch_of(alloc, number, 1)?;
-        let receipt = broker.append(rt, alloc, number % INPUTS, batch).ok()?;
-        if rows_of(rt, broker, &receipt)? > MOST_ROWS {
+        if audit_one(rt, alloc, broker, number)? > MOST_ROWS {
             return None;
         }
     }
     Some(())
+}
+
+/// Appends the record with this number; how many rows it has.
+fn audit_one<Id: Names, C, R: Wait>(
+    rt: &R,
+    alloc: Global,
+    broker: &Broker<Id, C>,
+    number: usize,
+) -> Option<usize> {
+    let batch = batch_of(alloc, number, 1)?;
+    match broker.append(rt, alloc, number % INPUTS, batch) {
+        Ok(receipt) => rows_of(rt, broker, &receipt),
+        Err(_) => None,
+    }
 }
 
 /// How many rows all output partitions have of a receipt's item, once each has processed it.

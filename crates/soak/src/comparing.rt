@@ -37,13 +37,14 @@ pub(crate) fn compare<Id: Names, C, R: Wait>(
     count: usize,
     versions: usize,
 ) -> Option<Compared> {
-    let mut core = World::new(alloc, INPUTS, OUTPUTS, CELLS).ok()?;
-    for deployer in 0..DEPLOYERS {
-        load_all(alloc, &mut core, deployer, versions)?;
-    }
-    let mut numbers = Numbers::new(alloc, count).ok()?;
-    for receipt in receipts {
-        append_all(alloc, broker, &mut core, &mut numbers, receipt)?;
+    let Ok(mut core) = World::new(alloc, INPUTS, OUTPUTS, CELLS) else {
+        return None;
+    };
+    let Ok(mut numbers) = Numbers::new(alloc, count) else {
+        return None;
+    };
+    if !are_replayed(alloc, broker, receipts, versions, &mut core, &mut numbers) {
+        return None;
     }
     let mut found = Compared {
         once: numbers.once,
@@ -51,20 +52,46 @@ pub(crate) fn compare<Id: Names, C, R: Wait>(
         rows: 0,
         different: 0,
     };
-    for output in 0..OUTPUTS {
-        found.add_all(rt, alloc, broker, &mut core, output)?;
+    if found.add_books(rt, alloc, broker, &mut core) {
+        Some(found)
+    } else {
+        None
     }
-    Some(found)
 }
 
-/// Loads the programs of a deployer.
-fn load_all(alloc: Global, core: &mut World, deployer: usize, versions: usize) -> Option<()> {
-    for turn in 0..versions {
-        let name = raw_name_of(alloc, program_name(deployer)).ok()?;
-        let event = Event::Load(name, image(alloc, turn)?, Table::One);
-        core.step(alloc, &event).ok()?;
+/// Whether the core gets the programs of all deployers, and then the items of the logs.
+fn are_replayed<Id: Names, C>(
+    alloc: Global,
+    broker: &Broker<Id, C>,
+    receipts: &[Receipt<Id>],
+    versions: usize,
+    core: &mut World,
+    numbers: &mut Numbers,
+) -> bool {
+    for number in 0..DEPLOYERS.wrapping_mul(versions) {
+        if !is_loaded(alloc, core, number % DEPLOYERS, number / DEPLOYERS) {
+            return false;
+        }
     }
-    Some(())
+    for receipt in receipts {
+        if append_all(alloc, broker, core, numbers, receipt).is_none() {
+            return false;
+        }
+    }
+    true
+}
+
+/// Whether the core gets a deployer's program of a turn.
+fn is_loaded(alloc: Global, core: &mut World, deployer: usize, turn: usize) -> bool {
+    match (
+        raw_name_of(alloc, program_name(deployer)),
+        image(alloc, turn),
+    ) {
+        (Ok(name), Some(image)) => core
+            .step(alloc, &Event::Load(name, image, Table::One))
+            .is_ok(),
+        _ => false,
+    }
 }
 
 /// Appends the items of a receipt's log to the core's.
@@ -78,11 +105,19 @@ fn append_all<Id: Names, C>(
     let trail = receipt.with_item();
     for index in 0..trail.len() {
         let item = item_of(broker, &trail, index)?;
-        core.step(alloc, &event_of(alloc, trail.partition(), item)?)
-            .ok()?;
+        if !is_appended(alloc, core, trail.partition(), item) {
+            return None;
+        }
         find_all(numbers, item);
     }
     Some(())
+}
+
+fn is_appended(alloc: Global, core: &mut World, input: usize, item: &Item) -> bool {
+    match event_of(alloc, input, item) {
+        Some(event) => core.step(alloc, &event).is_ok(),
+        None => false,
+    }
 }
 
 /// An item of a broker's log.
@@ -135,20 +170,24 @@ fn deliver_all(alloc: Global, core: &mut World, input: usize, output: usize) -> 
 }
 
 impl Compared {
-    /// Compares the rows of an output partition, those of each input partition apart.
-    fn add_all<Id: Names, C, R: Wait>(
+    /// Compares the rows of each output partition, those of each input partition apart; whether the core
+    /// has them.
+    fn add_books<Id: Names, C, R: Wait>(
         &mut self,
         rt: &R,
         alloc: Global,
         broker: &Broker<Id, C>,
         core: &mut World,
-        output: usize,
-    ) -> Option<()> {
-        for input in 0..INPUTS {
-            deliver_all(alloc, core, input, output)?;
-            self.add(rt, broker, core, input, output)?;
+    ) -> bool {
+        for number in 0..INPUTS * OUTPUTS {
+            let (input, output) = (number % INPUTS, number / INPUTS);
+            if deliver_all(alloc, core, input, output).is_none()
+                || self.add(rt, broker, core, input, output).is_none()
+            {
+                return false;
+            }
         }
-        Some(())
+        true
     }
 
     /// Compares the rows of an output partition from an input partition.

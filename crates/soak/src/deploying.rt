@@ -29,9 +29,13 @@ pub(crate) fn deploy_all<Id: Names, H: Wait + Drop, R: Wait>(
     end: usize,
 ) -> Option<()> {
     let name = program_name(deployer);
-    let mut finder = broker.finder(rt, alloc).ok()?;
+    let Ok(mut finder) = broker.finder(rt, alloc) else {
+        return None;
+    };
     for turn in first..end {
-        deploy(rt, alloc, broker, name, &mut finder, turn)?;
+        if !deploy(rt, alloc, broker, name, &mut finder, turn) {
+            return None;
+        }
         rest();
     }
     Some(())
@@ -42,7 +46,7 @@ fn input_of(turn: usize) -> usize {
     turn.wrapping_add(turn / INPUTS) % INPUTS
 }
 
-/// Loads a version and deploys it.
+/// Whether a version is loaded and deployed.
 fn deploy<Id: Names, H: Wait + Drop, R: Wait>(
     rt: &R,
     alloc: Global,
@@ -50,13 +54,16 @@ fn deploy<Id: Names, H: Wait + Drop, R: Wait>(
     name: &str,
     finder: &mut Finder,
     turn: usize,
-) -> Option<()> {
-    let image = image(alloc, turn)?;
-    let (_version, known) = broker.load(rt, alloc, name, &image, Table::One).ok()?;
-    broker
-        .deploy(rt, alloc, input_of(turn), known.name(), finder, &known)
-        .ok()?;
-    Some(())
+) -> bool {
+    let Some(image) = image(alloc, turn) else {
+        return false;
+    };
+    match broker.load(rt, alloc, name, &image, Table::One) {
+        Ok((_version, known)) => broker
+            .deploy(rt, alloc, input_of(turn), known.name(), finder, &known)
+            .is_ok(),
+        Err(_) => false,
+    }
 }
 
 /// Lets other threads go first for a while.

@@ -58,7 +58,10 @@ impl Share {
         let count = self.end.wrapping_sub(next).min((chance % 8 + 1) as usize);
         let input = (chance >> 8) as usize % INPUTS;
         let batch = batch_of(alloc, next, count)?;
-        broker.append(rt, alloc, input, batch).ok()?;
-        Some(count)
+        if broker.append(rt, alloc, input, batch).is_ok() {
+            Some(count)
+        } else {
+            None
+        }
     }
 }

@@ -11,12 +11,12 @@ use crate::producing::Share;
 use broker::{Broker, Ended, Parts, Until};
 use catalogue::Catalogue;
 use part_log::{Names, Receipt};
-use std::alloc::Global;
+use std::alloc::{AllocError, Global};
 use std::sync::Wait;
 use std::sync::atomic::{AtomicU64, Ordering};
 use std::thread;
 use std::thread::Threads;
-use worker::Open;
+use worker::{Gate, Open};
 
 /// How many input partitions the broker has.
 pub const INPUTS: usize = 4;
@@ -56,13 +56,6 @@ pub struct Soaked {
     pub different: u64,
 }
 
-/// How often workers were started, and how many of them a gate stopped.
-#[derive(Clone, Copy, Drop)]
-struct Runs {
-    starts: u64,
-    stops: u64,
-}
-
 /// What no soak comes to.
 pub const NOTHING: Soaked = Soaked {
     starts: 0,
@@ -91,20 +84,6 @@ impl Soaked {
     }
 }
 
-const NO_RUNS: Runs = Runs {
-    starts: 0,
-    stops: 0,
-};
-
-impl Runs {
-    fn and(self, other: Runs) -> Runs {
-        Runs {
-            starts: self.starts.wrapping_add(other.starts),
-            stops: self.stops.wrapping_add(other.stops),
-        }
-    }
-}
-
 /// What threads share.
 #[derive(Drop)]
 struct Players<'a, 'r, Id: Names, R: Wait> {
@@ -127,7 +106,10 @@ pub(crate) fn soak<Id: Names + Send + Sync, R: Threads + Wait + Sync>(
 ) -> Option<Soaked>
     requires { IsNamed Id.cells Id.inputs Id.outputs parts }
 {
-    let broker: Broker<Id, Catalogue<&R>> = Broker::new(alloc, parts).ok()?;
+    let made: Result<Broker<Id, Catalogue<&R>>, AllocError> = Broker::new(alloc, parts);
+    let Ok(broker) = made else {
+        return None;
+    };
     let players = Players {
         rt,
         alloc,
@@ -136,41 +118,47 @@ pub(crate) fn soak<Id: Names + Send + Sync, R: Threads + Wait + Sync>(
         seed,
         ended: AtomicU64::new(0),
     };
-    let runs = players.run_all()?;
-    let found = players.compare_all()?;
+    let (runs, found) = players.soak()?;
     Some(Soaked {
-        starts: runs.starts,
-        stops: runs.stops,
         deployments: DEPLOYERS.wrapping_mul(versions(records)) as u64,
         audits: (AUDITORS * OUTPUTS).wrapping_mul(audited_beside(records)) as u64,
         once: found.once,
         again: found.again,
         rows: found.rows,
         different: found.different,
+        ..runs
     })
 }
 
 impl<'a, 'r, Id: Names + Send + Sync, R: Threads + Wait + Sync> Players<'a, 'r, Id, R> {
+    fn soak(&self) -> Option<(Soaked, Compared)> {
+        let runs = self.run_all()?;
+        let receipts = self.close_all()?;
+        Some((runs, self.compare_all(&receipts)?))
+    }
+
     /// Deploys a program to each log, and then runs all threads side by side.
-    fn run_all(&self) -> Option<Runs> {
+    fn run_all(&self) -> Option<Soaked> {
         self.deploy(0, 0, INPUTS)?;
-        let one = move |number: usize| -> Option<Runs> {
+        let one = move |number: usize| -> Option<Soaked> {
             if number < PLAYERS {
                 self.play(number)
             } else {
                 self.run_workers()
             }
         };
-        let all = thread::map_indices(self.rt, self.alloc, PLAYERS + 1, &one).ok()?;
-        sum(&all)
+        match thread::map_indices(self.rt, self.alloc, PLAYERS + 1, &one) {
+            Ok(all) => sum(&all),
+            Err(_) => None,
+        }
     }
 
     /// What a player does; that it has ended is counted in any case.
-    fn play(&self, number: usize) -> Option<Runs> {
+    fn play(&self, number: usize) -> Option<Soaked> {
         let played = self.act(number);
         self.ended.fetch_add(1, Ordering::SeqCst);
         played?;
-        Some(NO_RUNS)
+        Some(NOTHING)
     }
 
     fn deploy(&self, deployer: usize, first: usize, end: usize) -> Option<()> {
@@ -200,8 +188,8 @@ impl<'a, 'r, Id: Names + Send + Sync, R: Threads + Wait + Sync> Players<'a, 'r, 
     }
 
     /// Starts workers again and again until all players have ended.
-    fn run_workers(&self) -> Option<Runs> {
-        let mut runs = NO_RUNS;
+    fn run_workers(&self) -> Option<Soaked> {
+        let mut runs = NOTHING;
         for turn in 0..u64::MAX {
             if self.ended.load(Ordering::SeqCst) >= PLAYERS as u64 {
                 break;
@@ -212,46 +200,57 @@ impl<'a, 'r, Id: Names + Send + Sync, R: Threads + Wait + Sync> Players<'a, 'r, 
     }
 
     /// Starts workers that a gate stops at random offers.
-    fn start(&self, turn: u64) -> Option<Runs> {
+    fn start(&self, turn: u64) -> Option<Soaked> {
         let gate = Chance::new(mixed(self.seed ^ turn));
-        let ended = self
-            .broker
-            .start(self.rt, self.alloc, Until::Drained, &gate)
-            .ok()?;
-        let stops = stops(&ended)?;
-        Some(Runs { starts: 1, stops })
+        let stops = self.stops(Until::Drained, &gate)?;
+        Some(Soaked {
+            starts: 1,
+            stops,
+            ..NOTHING
+        })
     }
 
-    /// Closes the logs, lets workers take the rest, and compares the books.
-    fn compare_all(&self) -> Option<Compared> {
-        let receipts = self.close_all()?;
-        let last = self
-            .broker
-            .start(self.rt, self.alloc, Until::Closed, &Open)
-            .ok()?;
-        if stops(&last)? > 0 {
+    /// Runs workers; how many of them were stopped. None where one ended badly.
+    fn stops<G: Gate + Sync>(&self, until: Until, gate: &G) -> Option<u64> {
+        match self.broker.start(self.rt, self.alloc, until, gate) {
+            Ok(ended) => stops(&ended),
+            Err(_) => None,
+        }
+    }
+
+    /// Lets workers take the rest of closed logs, and compares the books.
+    fn compare_all(&self, receipts: &[Receipt<Id>]) -> Option<Compared> {
+        if self.stops(Until::Closed, &Open)? > 0 {
             return None;
         }
         let audited = AUDITORS.wrapping_mul(audited_beside(self.records));
         let count = self.records.wrapping_add(audited);
         let versions = versions(self.records);
-        compare(self.rt, self.alloc, self.broker, &receipts, count, versions)
+        compare(self.rt, self.alloc, self.broker, receipts, count, versions)
     }
 
     /// Closes the logs. The receipts know all items.
     fn close_all(&self) -> Option<Vec<Receipt<Id>>> {
-        let mut receipts = Vec::with_capacity(self.alloc, INPUTS).ok()?;
+        let mut receipts = Vec::new(self.alloc);
         for input in 0..INPUTS {
-            let receipt = self.broker.close(self.rt, self.alloc, input).ok()?;
-            receipts.push(receipt).ok()?;
+            if !self.close(input, &mut receipts) {
+                return None;
+            }
         }
         Some(receipts)
+    }
+
+    fn close(&self, input: usize, receipts: &mut Vec<Receipt<Id>>) -> bool {
+        match self.broker.close(self.rt, self.alloc, input) {
+            Ok(receipt) => receipts.push(receipt).is_ok(),
+            Err(_) => false,
+        }
     }
 }
 
 /// What all threads did; none where one ended badly.
-fn sum(all: &[Option<Runs>]) -> Option<Runs> {
-    let mut sum = NO_RUNS;
+fn sum(all: &[Option<Soaked>]) -> Option<Soaked> {
+    let mut sum = NOTHING;
     for runs in all {
         sum = sum.and((*runs)?);
     }
