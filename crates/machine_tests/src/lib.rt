@@ -1,5 +1,5 @@
 //! Tests of programs on the interpreter and on the plain machine, by public calls: arithmetic, images, runs;
-//! in `helpers` calls of helpers, in `plain_machine` the plain machine alone, and in `damage` images that are
+//! in `helper_calls` calls of helpers, in `plain_machine` the plain machine alone, and in `damage` images that are
 //! damaged and memory that is refused.
 #![tactic(auto)]
 
@@ -10,7 +10,7 @@ mod changes;
 #[cfg(test)]
 mod damage;
 #[cfg(test)]
-mod helpers;
+mod helper_calls;
 #[cfg(test)]
 mod image_faults;
 #[cfg(test)]

@@ -1,7 +1,7 @@
 //! Parts of a record that are copied to the stack.
 
-use crate::helpers::addresses::{Emitted, first_other_plain};
-use crate::helpers::cases::{Case, LongCase, first_other, first_other_long};
+use crate::helper_calls::addresses::{Emitted, first_other_plain};
+use crate::helper_calls::cases::{Case, LongCase, first_other, first_other_long};
 use crate::slots::{
     ALL_ONES, BYTE, DOUBLE, EIGHT, EIGHT_BEFORE, EIGHT_BELOW, EMIT_VALUE, EXIT, FOUR,
     FROM_PAST_ALL, FROM_SECOND, FROM_START, HALF, LENGTH, LOAD_KEY, LOAD_VALUE, ONE, STACK_BYTES,

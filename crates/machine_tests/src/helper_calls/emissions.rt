@@ -1,6 +1,6 @@
 //! Emissions of a record as it is, and without its value; the place.
 
-use crate::helpers::cases::{Case, end_on, first_other, has_bytes, outcome_of, with_header};
+use crate::helper_calls::cases::{Case, end_on, first_other, has_bytes, outcome_of, with_header};
 use crate::runs::{End, emitting, end_of};
 use crate::slots::{
     EMIT_NULL, EMIT_RECORD, EXIT, OFFSET, PARTITION, TIMESTAMP, TO_FIRST, TO_TENTH,

@@ -1,6 +1,6 @@
 //! Emissions of bytes that a program names by address.
 
-use crate::helpers::cases::{
+use crate::helper_calls::cases::{
     Case, LongCase, end_on_long, first_other, first_other_long, has_bytes, outcome_of, with_header,
 };
 use crate::runs::{emitting, record_of};
