@@ -23,6 +23,9 @@ from kafka.record import MemoryRecords
 from mock_kafka import MockCluster
 
 TOOLS = os.path.dirname(os.path.abspath(__file__))
+# Debian's python3-confluent-kafka 1.7 drops references to None that it doesn't own, and Python aborts when none is left: at
+# the end, too, so that main's end doesn't free these.
+KEPT = [None] * (1 << 24)
 AT_ONCE = 4 << 20  # the mock cluster keeps 5 MiB of a partition
 
 
@@ -117,3 +120,5 @@ def main():
 
 if __name__ == "__main__":
     main()
+    sys.stdout.flush()
+    os._exit(0)
