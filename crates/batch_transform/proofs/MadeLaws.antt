@@ -1,6 +1,6 @@
 -- What output partitions hold in the end, of the rows of all batches.
-use Rattle.std.proofs.Common.{◌≡◌, ℕ, zero, suc, ◌+◌, ◌<◌, ◌≤◌, List, [], ◌∷◌, ◌++◌, length, drop, Option, Some, Ok, Err, refl}
-use Rattle.std.proofs.Common.{slice_get, sym, ap, subst, ◌∙◌, arith}
+use Rattle.std.proofs.Common.{◌≡◌, ℕ, zero, suc, ◌+◌, ◌<◌, ◌≤◌, List, [], ◌∷◌, ◌++◌, length, Option, Some, refl}
+use Rattle.std.proofs.Common.{slice_get, sym, subst, ◌∙◌, arith}
 use Rattle.std.specs.List.{concat}
 use Rattle.std.specs.Io.KnownBytes.{Appends}
 use Rattle.std.proofs.lemmas.Option.{same_Some}
@@ -9,11 +9,11 @@ use Rattle.wire_spec.specs.declared.record.Batch.{Batch}
 use Rattle.wire_spec.proofs.Varints.{IsBytes}
 use Rattle.log_spec.specs.declared.row.Row.{Row}
 use Rattle.batch.specs.Batches.{AreBatches as Begins}
-use Rattle.fates.specs.Totals.{Totals, AreCountsWith}
+use Rattle.fates.specs.Totals.{AreCountsWith}
 use Rattle.item_rows.specs.declared.origin.Origin.{Origin}
 use Rattle.transform.specs.Backlogs.{waiting}
 use Rattle.transform.specs.Outlets.{Outflow, outflow}
-use Rattle.transform.specs.Transforms.{flow, output_at, InEach, Empties, Finished, AreRows, FillsAll}
+use Rattle.transform.specs.Transforms.{flow, output_at, InEach, Empties, AreRows, FillsAll}
 use Rattle.transform.proofs.{OutletLaws.total, FollowLaws.end_finishes}
 use Rattle.batch_transform.specs.declared.{stream.Stream.Stream, pass.Transformed.Transformed}
 use Rattle.batch_transform.specs.declared.{ending.OutputBatches.OutputBatches}

@@ -3,18 +3,19 @@ use Rattle.std.proofs.Common.{◌≡◌, ℕ, ◌+◌, ◌-◌, ◌<◌, ◌≤�
 use Rattle.std.proofs.Common.{Result, Ok, Err, sym, ap, subst, ◌∙◌, append_assoc, append-nil, arith}
 use Rattle.std.specs.Prelude.{◌==◌}
 use Rattle.std.proofs.lemmas.List.{length-append, length-drop}
-use Rattle.wire_spec.specs.declared.{record.Record.Record, record.Batch.Batch}
+use Rattle.wire_spec.specs.declared.record.Batch.{Batch}
 use Rattle.wire_spec.specs.BatchReading.{batch_at}
 use Rattle.machine_spec.specs.Image.{Program}
 use Rattle.log_spec.specs.Logs.{Records}
 use Rattle.batch.specs.Batches.{AreBatches as Begins}
+use Rattle.fates.proofs.FateLaws.{records_fates}
 use Rattle.fates.specs.declared.fate.Fate.{Fate}
-use Rattle.fates.specs.Fates.{AreRecordsFates, AreItemFates}
-use Rattle.fates.specs.Totals.{Totals, AreCounts, AreCountsWith, AreItemCounts}
+use Rattle.fates.specs.Fates.{AreItemFates}
+use Rattle.fates.specs.Totals.{Totals, AreCounts, AreItemCounts}
 use Rattle.wire_spec.specs.declared.limits.TheConstants.{TIMESTAMP_END, MAX_RECORDS}
 use Rattle.log_spec.specs.declared.row.Row.{Row}
 use Rattle.item_rows.specs.ItemRows.{rows_in, AreItemRows}
-use Rattle.transform.specs.Transforms.{origin_of, InEach, Fills, Follows, records_of}
+use Rattle.transform.specs.Transforms.{origin_of, InEach, Fills, records_of}
 use Rattle.transform.proofs.FollowLaws.{none_follows, one_follows}
 use Rattle.item_rows.specs.declared.origin.Origin.{Origin}
 use Rattle.batch_transform.specs.declared.{stream.Stream.Stream, fault.Stop.Stop, fault.BatchPlace.BatchPlace}
@@ -23,15 +24,6 @@ use Rattle.batch_transform.specs.Transformed.{AreFates, EndsAt, StopsAt}
 use Rattle.batch_transform.specs.Passes.{flow_of, IsStream, StartsAt, PushesBatch, TakesOne, HavePassed, PassesOne, PassesAll}
 
 -- ---- how many records were counted
-
-records_fates : (input outputs : ℕ) (program : Option Program) (batch : Batch) (offset : ℕ) (givens : List Record)
-    (fates : List Fate) → AreRecordsFates input outputs program batch offset givens fates →
-    length fates ≡ length givens
-records_fates input outputs program batch offset [] fates h = ap (λ (fs : List Fate). length fs) h
-records_fates input outputs program batch offset (given ∷ givens) fates h =
-    let later = records_fates input outputs program batch (offset + 1) givens h.1 h.3 in
-    let whole = ap (λ (fs : List Fate). length fs) h.4 in
-    omega (arith, later, whole)
 
 pub batch_counted : (input outputs : ℕ) (program : Option Program) (offset : ℕ) (batch : Batch) (counts : Totals) →
     AreItemCounts input outputs program offset (Records batch) counts → counts.records ≡ length batch.records

@@ -1,7 +1,7 @@
 -- What a program makes of record batches in memory.
 use Rattle.std.specs.Prelude.{◌≡◌, ◌≢◌, ℕ, ◌+◌, ◌<◌, List, [], ◌∷◌, ◌++◌, length, slice_get, Some, Result, Ok, Err, ⊤}
 use Rattle.std.specs.List.{concat}
-use Rattle.wire_spec.specs.declared.{record.Batch.Batch, fault.BatchFault.BatchFault}
+use Rattle.wire_spec.specs.declared.record.Batch.{Batch}
 use Rattle.wire_spec.specs.declared.fault.BatchFault.TheVariants.{Memory as NoMemory}
 use Rattle.wire_spec.specs.declared.limits.TheConstants.{TIMESTAMP_END, MAX_RECORDS}
 use Rattle.wire_spec.specs.BatchReading.{batch_at}

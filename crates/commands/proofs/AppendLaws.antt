@@ -11,7 +11,7 @@ use Rattle.wire_spec.specs.BatchReading.{batch_at}
 use Rattle.wire_spec.proofs.MoreBytes.{batch_at-part, batch_at-append}
 use Rattle.part_log.specs.Parts.{Received}
 use Rattle.part_log.specs.declared.fault.LogFault.TheVariants as log
-use Rattle.broker.specs.Streams.{Appended, Streams, IsBadNext, AppendsFrom}
+use Rattle.broker.specs.Streams.{Streams, IsBadNext, AppendsFrom}
 use Rattle.broker.specs.declared.fault.BrokerFault.TheVariants as broker
 use Rattle.broker.specs.declared.stream.StreamFault.{StreamFault}
 use Rattle.broker.specs.declared.stream.StreamFault.TheVariants as stream
@@ -21,7 +21,7 @@ use Rattle.commands.specs.declared.{reading.Unread.Unread, stop.Stop.Stop}
 use Rattle.commands.specs.declared.reading.Unread.TheVariants as unread
 use Rattle.commands.specs.declared.stop.Stop.TheVariants as stop
 use Rattle.commands.specs.Appends.{append_lines, bytes_of, unread_of, EndsAt, AppendsOf, Prints, AppendDoes}
-use Rattle.commands.specs.Stops.{stop_of_fault, stop_of_unread, end_of_stream, IsUnread, IsUnwritten}
+use Rattle.commands.specs.Stops.{stop_of_fault, stop_of_unread, end_of_stream, IsUnread}
 use Rattle.commands.proofs.StopLaws.{of_fault}
 
 -- ---- All bytes of a reader

@@ -20,7 +20,7 @@ use Rattle.transform.specs.declared.outlet.OutletFault.TheVariants as outlet
 use Rattle.transform.specs.Backlogs.{Waiting, waiting, with_rows}
 use Rattle.transform.specs.Outlets.{Outflow, outflow, WroteBatches}
 use Rattle.transform.specs.Streams.{TransformsAll}
-use Rattle.transform.specs.Transforms.{Flow, flow, output_at, AreRows, AreRowsOfALog, AreFlowRows, FillsAll, FillsSome}
+use Rattle.transform.specs.Transforms.{Flow, flow, output_at, AreRows, AreRowsOfALog, FillsAll, FillsSome}
 use Rattle.transform.specs.Transforms.{StopsFilling, Finished, Broken}
 use Rattle.script.specs.Words.{word_at}
 use Rattle.commands.specs.declared.halts.Halt.{Halt}

@@ -7,7 +7,6 @@ use Rattle.catalogue.specs.declared.fault.CatFault.TheVariants as catalogue
 use Rattle.out_book.specs.declared.fault.BookFault.TheVariants as book
 use Rattle.broker.specs.declared.fault.BrokerFault.{BrokerFault}
 use Rattle.broker.specs.declared.fault.BrokerFault.TheVariants as broker
-use Rattle.commands.specs.declared.stop.Stop.{Stop}
 use Rattle.commands.specs.declared.stop.Stop.TheVariants as stop
 use Rattle.commands.specs.Sessions.{Refuses}
 use Rattle.commands.specs.Stops.{stop_of_fault, stop_of_broker}

@@ -1,5 +1,5 @@
 -- What a transform is given is in the ranges of a broker's, and why it stops.
-use Rattle.std.specs.Prelude.{◌≡◌, ◌≢◌, ℕ, zero, suc, true, false, List, Option, Err, ◌≤◌, ◌<◌}
+use Rattle.std.specs.Prelude.{◌≡◌, ◌≢◌, ℕ, zero, suc, true, List, Option, Err, ◌≤◌, ◌<◌}
 use mathlib.Core.Path.{refl, ap}
 use Rattle.std.proofs.Common.{arith}
 use Rattle.std.proofs.lemmas.Bool.{and_parts, leb-true, ltb-true}
@@ -10,7 +10,7 @@ use Rattle.machine_spec.specs.Image.{Program}
 use Rattle.batch_transform.specs.declared.{fault.Stop.Stop, fault.BatchPlace.BatchPlace, pass.Transformed.Transformed}
 use Rattle.batch_transform.specs.declared.fault.Stop.TheVariants as stop
 use Rattle.batch_transform.specs.Transformed.{IsTransformed, TransformsBatches}
-use Rattle.klog_c.specs.Calls.{Fills, takes_kind}
+use Rattle.klog_c.specs.Calls.{Fills}
 use Rattle.klog_c.specs.Numbers.{batch_number, stop_number}
 use Rattle.klog_c.specs.Batches.{is_source, origin_of, stopped_at, IsStop, TransformsSource}
 use Rattle.klog_c.specs.declared.faults.TheConstants.{MEMORY, KIND}

@@ -1,9 +1,4 @@
-use Rattle.std.proofs.Common.{◌≡◌, List, length, sym, ap, subst, ◌∙◌, rules, arith}
-use Rattle.std.proofs.lemmas.List.{map-id}
-use Rattle.std.proofs.lemmas.Iterator.Adapters.{YieldsList-from_vec}
-use Rattle.std.proofs.lemmas.Iterator.Consumers.{YieldsList-end}
-use Rattle.transform.specs.Outlets.{Outflow}
-use Rattle.batch_transform.specs.Passes.{Ends, AreEnds}
+use Rattle.std.proofs.Common.{◌≡◌, ◌∙◌, rules}
 use Rattle.batch_transform.proofs.MadeLaws.{ends_more}
 use Rattle.batch_transform.proofs.ending.end_each.Goals as goal
 

@@ -1,6 +1,4 @@
-use Rattle.std.proofs.Common.{◌≡◌, false, take, sym, ◌∙◌}
-use Rattle.std.specs.Prelude.{string_eq}
-use Rattle.std.specs.List.{list_any}
+use Rattle.std.proofs.Common.{◌≡◌, false, sym, ◌∙◌}
 use Rattle.command_line.proofs.CallLaws.{one_distinct}
 use Rattle.command_line.proofs.transforms.has_twice.Goals as goal
 

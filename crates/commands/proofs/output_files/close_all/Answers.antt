@@ -1,6 +1,5 @@
-use Rattle.std.proofs.Common.{rules, arith, ◌≡◌, ◌≢◌, ◌+◌, ◌<◌, ℕ, List, length}
+use Rattle.std.proofs.Common.{rules, arith, ◌≡◌, ◌≢◌, ◌+◌, ◌<◌, length}
 use Rattle.std.proofs.lemmas.List.{length_push}
-use Rattle.script.specs.Words.{word_at}
 use Rattle.command_line.specs.Calls.{names_of}
 use Rattle.commands.proofs.FileLaws.{held_more, many_names}
 use Rattle.commands.proofs.output_files.close_all.Goals as goal

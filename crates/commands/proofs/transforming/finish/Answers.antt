@@ -1,4 +1,4 @@
-use Rattle.std.proofs.Common.{List, ℕ, subst, inl, inr}
+use Rattle.std.proofs.Common.{List, subst, inr}
 use Rattle.transform.specs.Outlets.{Outflow}
 use Rattle.command_line.specs.Calls.{names_of}
 use Rattle.commands.specs.FileTransforms.{HaveWritten}

@@ -1,7 +1,6 @@
-use Rattle.std.proofs.Common.{◌<◌, List, length, ap, sym, ◌∙◌, arith}
-use Rattle.part_log.specs.Parts.{Log}
+use Rattle.std.proofs.Common.{◌<◌, List, length, sym, ◌∙◌, arith}
 use Rattle.report.specs.Holdings.{Held}
-use Rattle.report.proofs.PlaceLaws.{IsLeastOf, least_start, least_more, holdings_count, partition_at, held_from}
+use Rattle.report.proofs.PlaceLaws.{least_start, least_more, holdings_count, partition_at, held_from}
 use Rattle.report.proofs.gathering.least.Goals as goal
 
 pub loop-holdings-init : goal.loop-holdings-init
