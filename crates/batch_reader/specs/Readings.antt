@@ -13,6 +13,7 @@ pub record Inlet : Type 0 where
   pub stream : Stream
   pub rest : Option (List ℕ)
 
+-- an inlet by its stream and, where they are known, the bytes that its reader has left
 abbrev pub inlet : Stream → Option (List ℕ) → Inlet
 inlet stream rest = record { stream = stream; rest = rest }
 

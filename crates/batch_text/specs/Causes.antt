@@ -32,25 +32,30 @@ are_zeros bytes = list_all (λ b. b == 0) bytes
 abbrev pub is_old : List ℕ → Bool
 is_old bytes = nat_lt 16 (length bytes) && nat_lt (magic bytes) 2
 
+-- the field magic where it is not 2: a lower one is of an older format, and a higher one no Kafka writes
 abbrev pub magic_cause : List ℕ → List ℕ
 magic_cause bytes =
     codes "magic " ++ (decimal (magic bytes)
     ++ (if nat_lt (magic bytes) 2 then codes ", a message set of Kafka before 0.11" else codes ", which no Kafka writes"))
 
+-- why batchLength is below 49: the bytes are zeros, or of an older format; else the number that it is
 abbrev pub length_cause : List ℕ → List ℕ
 length_cause bytes =
     if are_zeros bytes then codes "zeros, as at the end of a preallocated segment" else
     if is_old bytes then magic_cause bytes else
     codes "batchLength is " ++ (signed_decimal (batch_length bytes) ++ codes ", and 49 is the least")
 
+-- why batchLength is above 4,194,292: the bytes are of an older format; else the number that it is
 abbrev pub large_cause : List ℕ → List ℕ
 large_cause bytes =
     if is_old bytes then magic_cause bytes else
     codes "batchLength is " ++ (signed_decimal (batch_length bytes) ++ codes ", and 4194292 is the most")
 
+-- a field crc and the sum of the bytes that it is compared with, in words
 abbrev pub crc_words : ℕ → ℕ → List ℕ
 crc_words crc sum = codes "crc is " ++ (decimal crc ++ (codes ", and the sum of the bytes is " ++ decimal sum))
 
+-- the field crc of these bytes and the checksum of the bytes after it, in words
 abbrev pub crc_cause : List ℕ → List ℕ
 crc_cause bytes = crc_words (crc bytes) (checksum (drop 21 bytes))
 
@@ -68,13 +73,16 @@ attribute_cause n =
     if n / 32 % 2 == 1 then codes "a control batch" else
     if n / 64 % 2 == 1 then codes "has a delete horizon" else codes "has unknown attributes"
 
+-- a number of records and a lastOffsetDelta, in words
 abbrev pub count_words : ℕ → ℕ → List ℕ
 count_words count delta =
     codes "the number of records is " ++ (decimal count ++ (codes ", and lastOffsetDelta " ++ decimal delta))
 
+-- the number of records and the lastOffsetDelta that the header states, in words
 abbrev pub count_cause : List ℕ → List ℕ
 count_cause bytes = count_words (record_count bytes) (last_offset_delta bytes)
 
+-- the baseTimestamp and the maxTimestamp that the header states, in words
 abbrev pub timestamp_cause : List ℕ → List ℕ
 timestamp_cause bytes = field (codes "baseTimestamp is ") (base_timestamp bytes)
     ++ field (codes ", maxTimestamp ") (max_timestamp bytes)
@@ -130,6 +138,7 @@ past_of sizes =
     if nat_lt MAX_KEY sizes.key then Past.Key else if nat_lt MAX_VALUE sizes.value then Past.Value else
     if nat_lt MAX_HEADERS sizes.headers then Past.Headers else Past.Other
 
+-- the size of the part that is past its limit, and the limit; where no part is, that the record has another form
 abbrev pub past_cause : Sizes → Past → List ℕ
 past_cause sizes Past.Key = count_field (codes " has a key of ") sizes.key ++ codes " bytes, 4096 at most"
 past_cause sizes Past.Value = count_field (codes " has a value of ") sizes.value ++ codes " bytes, 1048576 at most"
@@ -140,6 +149,7 @@ unfoldable pub sizes_cause : Option Sizes → List ℕ
 sizes_cause None = codes " is cut"
 sizes_cause (Some sizes) = past_cause sizes (past_of sizes)
 
+-- the sizes that the record at the front of these bytes states; none where the bytes are missing or state no sizes
 abbrev pub sizes_in : Option (List ℕ) → Option Sizes
 sizes_in None = None
 sizes_in (Some bytes) = sizes_at bytes

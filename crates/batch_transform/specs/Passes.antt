@@ -21,6 +21,7 @@ use Rattle.batch_transform.specs.declared.{ending.OutputBatches.OutputBatches}
 use Rattle.batch_transform.specs.declared.fault.Stop.TheVariants as stop
 use Rattle.batch_transform.specs.Transformed.{AreFates}
 
+-- a stream without its counts: the input partition, the offset of its next record, and the output partitions
 abbrev pub flow_of : Stream → Flow
 flow_of s = flow s.input s.offset s.outlets.items
 

@@ -20,11 +20,13 @@ abbrev pub with_extent : Table → Option Extent → Option (Table × Extent)
 with_extent table (Some extent) = Some (table, extent)
 with_extent table None = None
 
--- The table and how much is listed, by the words after the image. The first word may be left out, for table one.
+-- the table, with how much is listed by the second word; without a table, table one with how much is listed by the
+-- first word, if that is the only one
 abbrev pub shown_by : Option Table → Option (List ℕ) → Option (List ℕ) → Option (Table × Extent)
 shown_by (Some table) first second = with_extent table (extent_of second)
 shown_by None first None = with_extent Table.One (extent_of first)
 shown_by None first (Some second) = None
 
+-- The table and how much is listed, by the words after the image. The first word may be left out, for table one.
 abbrev pub shown_of : Option (List ℕ) → Option (List ℕ) → Option (Table × Extent)
 shown_of first second = shown_by (table_of first) first second

@@ -10,11 +10,13 @@ unreached_count claims zero = 0
 unreached_count claims (suc k) =
     if is_none (claim_at claims k) then unreached_count claims k + 1 else unreached_count claims k
 
+-- `never reached: 2 of 7 instructions`; nothing where all are reached
 abbrev pub unreached_text : ℕ → ℕ → List ℕ
 unreached_text unreached count =
     if unreached == 0 then [] else codes "never reached: "
     ++ (decimal unreached ++ (codes " of " ++ (decimal count ++ (codes " instructions" ++ 10 ∷ []))))
 
+-- the number and the name of a check, as `V7 RecordBounds`
 abbrev pub check_text : Check → List ℕ
 check_text Check.JumpTarget = codes "V1 JumpTarget"
 check_text Check.BackJump = codes "V2 BackJump"

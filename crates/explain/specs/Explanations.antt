@@ -32,6 +32,7 @@ listing extent code claims fault =
     texts_below (printed_count code fault) (lines_where (is_listed extent code claims fault) code claims)
     ++ ending_text claims (printed_count code fault) fault
 
+-- a fault of code with these states, what it is about, and what usually leads to it
 abbrev pub refusal_at : Table → List Placed → Claims → VerifyFault → Refusal
 refusal_at table code claims fault =
     record {

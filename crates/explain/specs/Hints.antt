@@ -76,6 +76,7 @@ record_hint bytes known =
 abbrev pub ends_unset : StackSet → Reached → ℕ → ℕ → Bool
 ends_unset set bytes first place = nat_le first place && not (is_unset_in set bytes (place + 1))
 
+-- the places from one to a last one, which may not be set; none where there is no last one
 abbrev pub unset_to : ℕ → Option ℕ → Option Hint
 unset_to first (Some last) = Some (Hint.Unset first last)
 unset_to first None = None
@@ -85,6 +86,8 @@ abbrev pub unset_from : StackSet → Reached → Option ℕ → Option Hint
 unset_from set bytes (Some first) = unset_to first (first_below STACK_SIZE (ends_unset set bytes first))
 unset_from set bytes None = None
 
+-- of bytes on the stack: those before it or past its end, or else the first of them that may not be set, with those
+-- right after it that may not be set either; none where all are set
 abbrev pub stack_hint : StackSet → Reached → Option Hint
 stack_hint set bytes = if leaves_region bytes then Some (no_bytes bytes) else unset_from set bytes
     (first_below STACK_SIZE (is_unset_in set bytes))
@@ -114,12 +117,14 @@ abbrev pub room_hint : Reached → Interval → Hint
 room_hint bytes range = if not (is_stack bytes.region) then Hint.Room else if range.low == 0 then Hint.NoRoom else
     no_bytes bytes
 
+-- the same where the bytes and their number are known; else none
 abbrev pub room_hint_of : Option Reached → Option Interval → Option Hint
 room_hint_of (Some bytes) (Some range) = Some (room_hint bytes range)
 room_hint_of _ _ = None
 
 -- ---- by what the refusal is about
 
+-- what usually leads to a refusal of an instruction in a state, by what it is about; none where nothing is said of that
 abbrev pub hint_of : Abstract → Summary → Reason → Option Hint
 hint_of s m (Reason.NoHelper number) = helper_hint number
 hint_of s m (Reason.NoNumber _ _) = number_hint m
@@ -135,10 +140,12 @@ hint_of s m (Reason.WrongRoom address kind _ count) =
     room_hint_of (named_bytes address kind (range_of s count)) (range_of s count)
 hint_of s m _ = None
 
+-- the same where it is known what the refusal is about; else none
 abbrev pub hint_with : Abstract → Summary → Option Reason → Option Hint
 hint_with s m (Some reason) = hint_of s m reason
 hint_with s m None = None
 
+-- the same with the state before the instruction; none where it is not reached
 abbrev pub hint_where : Placed → Option Abstract → Option Reason → Option Hint
 hint_where placed (Some s) reason = hint_with s (summary_of placed.instruction) reason
 hint_where placed None reason = None
@@ -151,5 +158,6 @@ placed_hint table code claims pc reason (Some placed) =
     (hint_where placed (claim_at claims pc) reason)
 placed_hint table code claims pc reason None = None
 
+-- what usually leads to a fault of code with these states that has this reason; none where nothing is said of it
 abbrev pub hint_at : Table → List Placed → Claims → VerifyFault → Option Reason → Option Hint
 hint_at table code claims fault reason = placed_hint table code claims fault.pc reason (slice_get code fault.pc)

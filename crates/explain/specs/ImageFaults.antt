@@ -19,6 +19,7 @@ byte_text byte = codes " " ++ digit_glyph false (byte / 16) ∷ digit_glyph fals
 abbrev pub bytes_text : List ℕ → List ℕ
 bytes_text bytes = texts_below 8 (λ i. byte_text (slice_index bytes i))
 
+-- the first eight bytes, and the end of their line
 abbrev pub bytes_line : List ℕ → List ℕ
 bytes_line bytes = bytes_text bytes ++ 10 ∷ []
 
@@ -26,9 +27,11 @@ bytes_line bytes = bytes_text bytes ++ 10 ∷ []
 abbrev pub slot_text : ℕ → List ℕ → List ℕ
 slot_text slot bytes = codes "slot " ++ (decimal slot ++ (codes ":" ++ bytes_line bytes))
 
+-- ` imm=0`, with the name of a field that is cleared; nothing where it is not
 abbrev pub field_text : Bool → List ℕ → List ℕ
 field_text is_cleared name = if is_cleared then codes " " ++ (name ++ codes "=0") else []
 
+-- the fields that are cleared, as ` src=0 imm=0`
 abbrev pub fields_text : Cleared → List ℕ
 fields_text c = field_text c.dst (codes "dst")
     ++ (field_text c.src (codes "src") ++ (field_text c.offset (codes "offset") ++ field_text c.imm (codes "imm")))
@@ -44,6 +47,7 @@ repair_text bytes = mended_text (wrong_fields bytes) (mended_instruction bytes (
 
 -- ---- by fault
 
+-- why an image of this length is refused by its size: it is empty, ends within a slot, or has too many slots
 abbrev pub size_text : ℕ → List ℕ
 size_text n =
     if n == 0 then codes "the image is empty" ++ 10 ∷ [] else
@@ -51,6 +55,7 @@ size_text n =
     ++ (decimal (n % 8) ++ (codes " bytes into a slot of 8 bytes" ++ 10 ∷ [])) else
     codes "the image has more than " ++ (decimal MAX_SLOTS ++ (codes " slots of 8 bytes" ++ 10 ∷ []))
 
+-- what is said of an opcode that no instruction has
 abbrev pub opcode_text : ℕ → List ℕ
 opcode_text opcode =
     codes "no instruction has the opcode"
@@ -70,9 +75,13 @@ left_out_text opcode src =
     if nat_le 0xc0 opcode then codes "atomic operations are left out: nobody else reads the stack" ++ 10 ∷ [] else
     codes "packet loads are left out: load from the address of the value or the key" ++ 10 ∷ []
 
+-- of bytes that begin with an instruction that klog leaves out: the instruction that they are with 0 in some fields, if
+-- they are one then; and what is left out, with what to do without it
 abbrev pub left_out_lines : List ℕ → List ℕ
 left_out_lines bytes = repair_text bytes ++ left_out_text (slice_index bytes 0) (slice_index bytes 1 / 16)
 
+-- of bytes whose first slot names a register above r10: the instruction that they are with 0 in some fields, if they
+-- are one then, and which registers there are
 abbrev pub register_fault_text : List ℕ → List ℕ
 register_fault_text bytes = repair_text bytes ++ (codes "registers are r0 to r10" ++ 10 ∷ [])
 
@@ -81,20 +90,26 @@ abbrev pub order_text : Option Instruction → List ℕ
 order_text (Some i) = []
 order_text None = codes "the imm of a byte order is 16, 32 or 64" ++ 10 ∷ []
 
+-- of bytes that are no instruction for the value of some field: the instruction that they are with 0 there; where they
+-- are none then, which imm a byte order has
 abbrev pub unused_text : List ℕ → List ℕ
 unused_text bytes = repair_text bytes ++ order_text (mended_instruction bytes (wrong_fields bytes))
 
+-- `second slot: 00 00 00 00 01 00 00 00`, with the bytes that begin there
 abbrev pub second_slot_text : List ℕ → List ℕ
 second_slot_text bytes = codes "second slot:" ++ bytes_line bytes
 
+-- the line of the second slot of some bytes, or that they have none
 abbrev pub second_text : List ℕ → List ℕ
 second_text bytes = if nat_lt (length bytes) 16 then codes "no second slot" ++ 10
     ∷ [] else second_slot_text (drop 8 bytes)
 
+-- of bytes that begin with a 64-bit immediate whose second slot is missing or wrong: that slot, and how one begins
 abbrev pub wide_text : List ℕ → List ℕ
 wide_text bytes = second_text bytes
     ++ (codes "a 64-bit immediate has a second slot that begins with 00 00 00 00" ++ 10 ∷ [])
 
+-- what is said of the bytes that begin at the slot of a fault; nothing where a fault is at no slot
 abbrev pub flaw_text : List ℕ → IsaFault → List ℕ
 flaw_text bytes (IsaFault.Opcode _) = opcode_text (slice_index bytes 0)
 flaw_text bytes (IsaFault.NotInProfile _) = left_out_lines bytes
@@ -103,9 +118,11 @@ flaw_text bytes (IsaFault.Unused _) = unused_text bytes
 flaw_text bytes (IsaFault.Wide _) = wide_text bytes
 flaw_text bytes _ = []
 
+-- the line of the slot that a fault is at, and what is said of the bytes that begin there
 abbrev pub slot_fault_text : ℕ → List ℕ → IsaFault → List ℕ
 slot_fault_text slot bytes fault = slot_text slot bytes ++ flaw_text bytes fault
 
+-- what the fault of an image is about, in lines; nothing where memory ran out
 abbrev pub fault_text : List ℕ → IsaFault → List ℕ
 fault_text image IsaFault.Size = size_text (length image)
 fault_text image (IsaFault.Opcode slot) = slot_fault_text slot (drop (8 * slot) image) (IsaFault.Opcode slot)

@@ -15,6 +15,7 @@ use Rattle.explain.specs.Reasons.{first_below}
 
 -- ---- the kind that an edge propagates
 
+-- There is a number, and it is j.
 abbrev pub is_number_of : Option ℕ → ℕ → Bool
 is_number_of (Some k) j = k == j
 is_number_of None j = false
@@ -39,26 +40,32 @@ kind_passed table code r j k _ _ = None
 
 -- ---- two kinds that nothing is known of together
 
+-- Two kinds are addresses of the same region.
 abbrev pub same_address : Abs → Abs → Bool
 same_address (Abs.Addr a _ _) (Abs.Addr b _ _) = same_region a b
 same_address _ _ = false
 
+-- Two kinds are of one sort: nothing is known of either, both are numbers, or both are addresses of the same region.
 abbrev pub same_sort : Abs → Abs → Bool
 same_sort a b = (is_unknown a && is_unknown b) || ((is_number_kind a && is_number_kind b) || same_address a b)
 
+-- There is another kind, and it is of another sort than this one.
 abbrev pub is_other : Abs → Option Abs → Bool
 is_other kind (Some other) = not (same_sort kind other)
 is_other kind None = false
 
 -- ---- one instruction
 
+-- the slot of an instruction; 0 where there is none
 abbrev pub slot_in : Option Placed → ℕ
 slot_in (Some placed) = placed.slot
 slot_in None = 0
 
+-- the slot at which instruction number k begins; 0 where there is no such instruction
 abbrev pub slot_of : List Placed → ℕ → ℕ
 slot_of code k = slot_in (slice_get code k)
 
+-- an edge from instruction number k that propagates a kind
 abbrev pub edge_from : List Placed → ℕ → Abs → Edge
 edge_from code k kind = record { kind = kind; slot = slot_of code k }
 
@@ -72,6 +79,7 @@ abbrev pub lost_in : List Placed → Claims → ℕ → ℕ → Loss
 lost_in code claims r k = if is_lost_before r (claim_at claims k) then Loss.Before k else Loss.Here
     (Hint.Called (slot_of code k))
 
+-- where a register was lost, if it was here; else what is said of the instruction before which it is unknown too
 abbrev pub after_step : (ℕ → Option Hint) → Loss → Option Hint
 after_step before (Loss.Here hint) = Some hint
 after_step before (Loss.Before k) = before k
@@ -120,6 +128,7 @@ abbrev pub lost_register : Option Reason → Option ℕ
 lost_register (Some (Reason.Unknown r)) = Some r
 lost_register _ = None
 
+-- where a register was lost that is unknown before instruction number pc; none where there is no such register
 abbrev pub lost_hint_of : Table → List Placed → Claims → ℕ → Option ℕ → Option Hint
 lost_hint_of table code claims pc (Some r) = lost_within table code claims r (length code) pc
 lost_hint_of table code claims pc None = None

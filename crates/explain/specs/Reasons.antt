@@ -25,6 +25,7 @@ use Rattle.explain.specs.declared.{reason.Reached.Reached, reason.Reason.Reason}
 abbrev pub landing_slot : ℕ → ℤ → ℤ
 landing_slot slot offset = (pos slot +ℤ pos 1) +ℤ offset
 
+-- the slot that an instruction's jump leads to; none where it does not jump
 abbrev pub landing_of : Placed → Option ℤ
 landing_of placed = option_map (landing_slot placed.slot) (summary_of placed.instruction).jump
 
@@ -42,15 +43,17 @@ no_number s r = if is_number_kind (kind_at s r) then None else Some (Reason.NoNu
 abbrev pub no_address : Abstract → ℕ → Option Reason
 no_address s r = if is_address_kind (kind_at s r) then None else Some (Reason.NoAddress r (kind_at s r))
 
+-- a source that is no number; an immediate always is one
 abbrev pub no_number_source : Abstract → Source → Option Reason
 no_number_source s (Register r) = no_number s r
 no_number_source s (Immediate _) = None
 
--- a number that moves the address in a register: its sign is not settled, or it moves the address too far
+-- a register's number that moves an address and whose sign is not settled; an immediate's always is
 abbrev pub no_sign : Abstract → ℕ → Source → Option Reason
 no_sign s dst (Register r) = Some (Reason.NoSign dst r (kind_at s r))
 no_sign s dst (Immediate _) = None
 
+-- why a source can't move the address in a register: its sign is not settled, it moves it too far, or it is no number
 abbrev pub wrong_move : Abstract → Operation → ℕ → Source → Option Interval → Option Reason
 wrong_move s operation dst source (Some range) =
     if is_one_sign range
@@ -68,6 +71,8 @@ wrong_operand s width operation dst source Abs.None = no_number s dst
 wrong_operand s width operation dst source (Abs.Num low high) = no_number_source s source
 wrong_operand s width operation dst source (Abs.Len region) = no_number_source s source
 
+-- what an instruction can't take of its operands: a source that is no number, or what its operation can't take; none
+-- where it takes any value, or nothing
 abbrev pub wrong_operands : Operands → Abstract → Option Reason
 wrong_operands Operands.Nothing s = None
 wrong_operands (Operands.Any _) s = None
@@ -75,10 +80,12 @@ wrong_operands (Operands.Number width source) s = no_number_source s source
 wrong_operands (Operands.Computed width operation dst source) s =
     wrong_operand s width operation dst source (kind_at s dst)
 
+-- the base of a load or a store that is no address; none where there is no load or store
 abbrev pub wrong_base : Option MemoryOperand → Abstract → Option Reason
 wrong_base (Some m) s = no_address s m.base
 wrong_base None s = None
 
+-- the first register that a condition compares and that is no number; none where there is no condition
 abbrev pub wrong_condition : Option Condition → Abstract → Option Reason
 wrong_condition (Some c) s = option_or (no_number s c.dst) (no_number_source s c.source)
 wrong_condition None s = None
@@ -102,10 +109,12 @@ reached_by m kind (Some reach) =
     })
 reached_by m kind None = None
 
+-- the bytes that an instruction may load or store in a state; none where it does neither, or its base is no address
 abbrev pub reached_bytes : Option MemoryOperand → Abstract → Option Reached
 reached_bytes (Some m) s = reached_by m (kind_at s m.base) (reach_of (Some m) s)
 reached_bytes None s = None
 
+-- bytes that the key or the value may lack, with how many bytes it has at least in a state
 abbrev pub outside_record : Abstract → Reached → Reason
 outside_record s bytes = Reason.OutsideRecord bytes (length_range s bytes.region).min
 
@@ -119,6 +128,7 @@ abbrev pub is_unset_in : StackSet → Reached → ℕ → Bool
 is_unset_in set bytes place = int_le bytes.first (pos place)
     && (int_le (pos place) bytes.last && not (are_set set place 1))
 
+-- the first of some bytes on the stack that may not be set; none where all are set, or there are no such bytes
 abbrev pub unset_byte : StackSet → Option Reached → Option Reason
 unset_byte set (Some bytes) = option_map (Reason.UnsetByte bytes) (first_below STACK_SIZE (is_unset_in set bytes))
 unset_byte set None = None
@@ -142,6 +152,7 @@ abbrev pub wrong_room : Abstract → ℕ → ℕ → Reason
 wrong_room s address count = unwrap_or (wrong_pair s address count)
     (Reason.WrongRoom address (kind_at s address) count (kind_at s count))
 
+-- why a helper can't take an argument, as no number, no bytes or no room; none where there is no argument
 abbrev pub wrong_argument : Abstract → Option Argument → Option Reason
 wrong_argument s (Some (Argument.Number r)) = Some (Reason.NoNumber r (kind_at s r))
 wrong_argument s (Some (Argument.Bytes address count)) = Some (wrong_bytes s address count)
@@ -180,10 +191,12 @@ state_reason placed m s Check.Exit = Some (Reason.NoNumber 0 (kind_at s 0))
 state_reason placed m s Check.Memory = None
 state_reason placed m s Check.Notes = None
 
+-- what a check that an instruction fails is about, in the state before it or where it is not reached
 abbrev pub reason_of : Placed → Option Abstract → Check → Option Reason
 reason_of placed (Some s) check = state_reason placed (summary_of placed.instruction) s check
 reason_of placed None check = shape_reason placed check
 
+-- the same where there is an instruction; else none
 abbrev pub placed_reason : Option Placed → Option Abstract → Check → Option Reason
 placed_reason (Some placed) known check = reason_of placed known check
 placed_reason None known check = None

@@ -5,12 +5,15 @@ use Rattle.machine_spec.specs.declared.instruction.Instruction.{Instruction}
 use Rattle.machine_spec.specs.Image.{form_at}
 use Rattle.explain.specs.declared.slot_bytes.Cleared.{Cleared}
 
+-- every field
 abbrev pub everything : Cleared
 everything = record { dst = true; src = true; offset = true; imm = true }
 
+-- a byte of a field, or 0 where the field is cleared
 abbrev pub kept_byte : Bool → ℕ → ℕ
 kept_byte is_cleared byte = if is_cleared then 0 else byte
 
+-- the byte of both registers, with 0 for each one whose field is cleared
 abbrev pub registers : Cleared → ℕ → ℕ
 registers c byte = kept_byte c.dst (byte % 16) + kept_byte c.src (byte / 16 * 16)
 

@@ -19,6 +19,7 @@ texts_below (suc n) text = texts_below n text ++ text n
 
 -- ---- registers
 
+-- the word for a region
 abbrev pub region_word : Region → List ℕ
 region_word Region.Stack = codes "stack"
 region_word Region.Key = codes "key"
@@ -44,6 +45,7 @@ kind_text (Abs.Addr region low high) = region_word region ++ offsets_text low hi
 abbrev pub register_text : ℕ → Abs → List ℕ
 register_text r kind = if is_unknown kind then [] else codes "  r" ++ (decimal r ++ (codes ": " ++ kind_text kind))
 
+-- the line of the registers of which something is known
 abbrev pub registers_text : Abstract → List ℕ
 registers_text s = texts_below 11 (λ r. register_text r (kind_at s r)) ++ 10 ∷ []
 
@@ -59,30 +61,35 @@ length_text region low high limit =
 abbrev pub is_in : StackSet → ℕ → Bool
 is_in set place = are_set set place 1
 
--- the place before one that is in a set isn't, or the one after it isn't
+-- the place before one that is in a set isn't in it, or there is none
 abbrev pub begins : StackSet → ℕ → Bool
 begins set place = not (nat_lt 0 place && is_in set (place - 1))
 
+-- the place after one that is in a set isn't in it
 abbrev pub ends : StackSet → ℕ → Bool
 ends set place = not (is_in set (place + 1))
 
--- `  stack set: 504 to 511`: the first place of those that are set one after another gives the line's beginning, the
--- last one its end
+-- `  stack set: 504`, where a place is the first of those that are set one after another; else nothing
 abbrev pub beginning_text : StackSet → ℕ → List ℕ
 beginning_text set place = if begins set place then codes "  stack set: " ++ decimal place else []
 
+-- ` to 511` and the end of that line, where a place is the last of them; no more than the end where it is the first
+-- too; else nothing
 abbrev pub end_text : StackSet → ℕ → List ℕ
 end_text set place = if ends set place then (if begins set place then 10 ∷ [] else codes " to "
     ++ (decimal place ++ 10 ∷ [])) else []
 
+-- what a place adds to the lines of those that are set; nothing where it is not set
 abbrev pub place_text : StackSet → ℕ → List ℕ
 place_text set place = if is_in set place then beginning_text set place ++ end_text set place else []
 
+-- the lines of the stack places that are set, one line for those that are set one after another
 abbrev pub stack_text : StackSet → List ℕ
 stack_text set = texts_below STACK_SIZE (place_text set)
 
 -- ---- instructions
 
+-- the lines of a state: its registers, the lengths of key and value, and the stack places that are set
 abbrev pub state_text : Abstract → List ℕ
 state_text s = registers_text s
     ++ (length_text Region.Key s.key.min s.key.max MAX_KEY
@@ -98,6 +105,7 @@ abbrev pub instruction_text : ℕ → Placed → List ℕ
 instruction_text k placed = decimal k
     ++ (codes " slot " ++ (decimal placed.slot ++ (codes ": " ++ line_text placed.instruction)))
 
+-- the lines of an instruction and of what is known before it; none where there is no instruction
 abbrev pub lines_of : ℕ → Option Placed → Option Abstract → List ℕ
 lines_of k (Some placed) known = instruction_text k placed ++ claim_text known
 lines_of k None known = []

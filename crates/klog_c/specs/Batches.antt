@@ -18,6 +18,7 @@ use Rattle.klog_c.specs.declared.{outputs.Counted.Counted, outputs.Reject.Reject
 use Rattle.klog_c.specs.Calls.{takes_kind}
 use Rattle.c_outcomes.specs.Outcomes.{Copies}
 
+-- what a program made of record batches, if a handle contains that
 abbrev pub batches_in : Option Object → Option Transformed
 batches_in (Some (object.Program program)) = None
 batches_in (Some (object.Outcome outcome)) = None
@@ -33,12 +34,16 @@ abbrev pub is_source : Source → Bool
 is_source source = nat_lt source.partition 64 && nat_le source.offset TIMESTAMP_END && nat_le 1 source.outputs
     && nat_le source.outputs 64
 
+-- the input partition of a source, the offset of its first record, and how many output partitions there are
 abbrev pub origin_of : Source → Origin
 origin_of source = record { input = source.partition; offset = source.offset; outputs = source.outputs }
 
+-- how many whole batches are before the place where a transform stopped, and how many bytes they have
 abbrev pub place_of : Stopped → BatchPlace
 place_of stopped = record { batch = stopped.batch; byte = stopped.byte }
 
+-- what is reported of a stop at a place: the whole batches before it, how many bytes they have, and the record that the
+-- stop is about
 abbrev pub stopped_at : BatchPlace → Stop → Stopped
 stopped_at place stop = record { batch = place.batch; byte = place.byte; place = stop_record stop }
 
@@ -60,6 +65,7 @@ TransformsSource program source bytes before after stopped (suc number) =
     (after ≡ before) × (suc number ≢ MEMORY → suc number ≢ KIND → IsStop source bytes stopped (suc number))
     × (suc number ≡ KIND → takes_kind before 3 ≡ false)
 
+-- The same where the numbers of the source are in range; else RANGE is returned, and the handle is as it was.
 abbrev pub TransformsIf : Bool → Program → Source → List ℕ → Option Object → Option Object → Stopped → ℕ → Type 0
 TransformsIf false program source bytes before after stopped number = (after ≡ before) × (number ≡ RANGE)
 TransformsIf true program source bytes before after stopped number =
@@ -73,6 +79,8 @@ Transforms (Some program) source bytes before after stopped number =
 
 -- ---- what batches tell
 
+-- how many batches a program was given, how many records they had, how many of these were kept, how many codes rejected
+-- others, and how many output partitions there are
 abbrev pub counted_of : Transformed → Counted
 counted_of made = record {
   batches = made.batches;
@@ -82,6 +90,7 @@ counted_of made = record {
   outputs = length made.outputs.items;
 }
 
+-- the counts of the batches in a handle; KIND where it contains none
 abbrev pub TellsCounts : Option Transformed → Counted → ℕ → Type 0
 TellsCounts None told number = number ≡ KIND
 TellsCounts (Some made) told number = (number ≡ 0) × (told ≡ counted_of made)
@@ -92,10 +101,12 @@ TellsListed None told number = number ≡ RANGE
 TellsListed (Some listed) told number =
     (number ≡ 0) × (told.code ≡ listed.0) × (told.records ≡ listed.1)
 
+-- a code and how many records of the batches in a handle it rejected, by its number; KIND where there are no batches
 abbrev pub TellsReject : Option Transformed → ℕ → Reject → ℕ → Type 0
 TellsReject None at told number = number ≡ KIND
 TellsReject (Some made) at told number = TellsListed (slice_get made.rejects.items at) told number
 
+-- what is reported of an output partition: how many rows it has, and how many bytes and batches these are
 abbrev pub told_of : OutputBatches → OutputTold
 told_of made = record { rows = made.rows; length = length made.bytes.items; batches = made.batches }
 
@@ -104,14 +115,19 @@ abbrev pub TellsOne : Option OutputBatches → OutputTold → ℕ → Type 0
 TellsOne None told number = number ≡ RANGE
 TellsOne (Some made) told number = (number ≡ 0) × (told ≡ told_of made)
 
+-- what is reported of an output partition of the batches in a handle, by its number; KIND where there are no batches
 abbrev pub TellsOutput : Option Transformed → ℕ → OutputTold → ℕ → Type 0
 TellsOutput None at told number = number ≡ KIND
 TellsOutput (Some made) at told number = TellsOne (slice_get made.outputs.items at) told number
 
+-- The batches of an output partition are copied to the front of a buffer, where they fit; where there is no such
+-- partition, RANGE is returned and the buffer is as it was.
 abbrev pub CopiesOne : Option OutputBatches → List ℕ → List ℕ → ℕ → Type 0
 CopiesOne None before after number = (after ≡ before) × (number ≡ RANGE)
 CopiesOne (Some made) before after number = Copies made.bytes.items before after number
 
+-- The same of an output partition of the batches in a handle, by its number; where the handle contains no batches, KIND
+-- is returned and the buffer is as it was.
 abbrev pub CopiesOutput : Option Transformed → ℕ → List ℕ → List ℕ → ℕ → Type 0
 CopiesOutput None at before after number = (after ≡ before) × (number ≡ KIND)
 CopiesOutput (Some made) at before after number = CopiesOne (slice_get made.outputs.items at) before after number

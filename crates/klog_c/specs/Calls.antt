@@ -23,6 +23,7 @@ use Rattle.klog_c.specs.declared.running.Asked.{Asked}
 
 -- ---- what a handle holds
 
+-- the program in a handle; none where it contains nothing, or something else
 abbrev pub program_in : Option Object → Option Program
 program_in (Some (object.Program program)) = Some program
 program_in (Some (object.Outcome outcome)) = None
@@ -31,6 +32,7 @@ program_in (Some (object.Batches made)) = None
 program_in (Some (object.Headers headers)) = None
 program_in None = None
 
+-- the outcome in a handle; none where it contains nothing, or something else
 abbrev pub outcome_in : Option Object → Option Outcome
 outcome_in (Some (object.Program program)) = None
 outcome_in (Some (object.Outcome outcome)) = Some outcome
@@ -57,6 +59,7 @@ headers_in (Some (object.Batches made)) = None
 headers_in (Some (object.Headers headers)) = Some headers
 headers_in None = Some []
 
+-- the number of an object's kind
 abbrev pub kind_of : Object → ℕ
 kind_of (object.Program program) = 0
 kind_of (object.Outcome outcome) = 1
@@ -69,6 +72,7 @@ abbrev pub takes_kind : Option Object → ℕ → Bool
 takes_kind None kind = true
 takes_kind (Some held) kind = kind_of held == kind
 
+-- a handle that may be filled with this object
 abbrev pub takes : Option Object → Object → Bool
 takes before object = takes_kind before (kind_of object)
 
@@ -134,12 +138,15 @@ is_in_range asked =
     nat_lt asked.partition 64 && nat_lt asked.offset TIMESTAMP_END && nat_lt asked.timestamp TIMESTAMP_END
     && nat_le 1 asked.outputs && nat_le asked.outputs 64 && nat_le asked.nulls 3
 
+-- The key is null, by the number that says which parts are null.
 abbrev pub is_key_null : ℕ → Bool
 is_key_null nulls = nulls % 2 == 1
 
+-- The value is null, by the number that says which parts are null.
 abbrev pub is_value_null : ℕ → Bool
 is_value_null nulls = nat_le 2 nulls
 
+-- Neither the key nor the value of a record is too long; a null one never is.
 abbrev pub are_parts_fitting : Asked → List ℕ → List ℕ → Bool
 are_parts_fitting asked key value =
     is_part_fitting (is_key_null asked.nulls) key MAX_KEY && is_part_fitting (is_value_null asked.nulls) value MAX_VALUE
@@ -153,6 +160,7 @@ record_of asked key value headers = record {
   headers = headers;
 }
 
+-- what a program is run on: the record, and where it is
 abbrev pub input_of : Asked → List ℕ → List ℕ → List Header → Input
 input_of asked key value headers = record { given = record_of asked key value headers; place = place_of asked }
 

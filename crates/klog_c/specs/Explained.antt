@@ -19,6 +19,7 @@ abbrev pub Continues : List ℕ → Option Refusal → List ℕ → Type 0
 Continues lines None text = text ≡ lines
 Continues lines (Some refusal) text = (said : List ℕ) × (text ≡ lines ++ said)
 
+-- A text ends with these lines.
 abbrev pub EndsWith : List ℕ → List ℕ → Type 0
 EndsWith lines text = (said : List ℕ) × (text ≡ said ++ lines)
 
@@ -32,6 +33,7 @@ abbrev pub IsExplained : Extent → Program → List ℕ → Type 0
 IsExplained extent program text =
     (found : Result Explanation IsaFault) × ExplainsAs extent program found × IsTextOf program.image found text
 
+-- how much of a program is listed: the refused instruction with those on the way to it, or all
 abbrev pub extent_of : Bool → Extent
 extent_of is_refused_alone = if is_refused_alone then extent.Refused else extent.All
 

@@ -13,9 +13,11 @@ use Rattle.klog_c.specs.RecordParts.{part_of, is_part_fitting}
 abbrev pub AreHeaders : List Header → Type 0
 AreHeaders headers = (length headers ≤ MAX_HEADERS) × AllByRecursion HeaderFits headers
 
+-- a header with this key, and with null or these bytes as its value
 abbrev pub header_of : List ℕ → Bool → List ℕ → Header
 header_of key is_null value = record { key = key; value = part_of is_null value }
 
+-- Neither the key nor the value of a header is too long; a null value never is.
 abbrev pub are_parts_short : List ℕ → Bool → List ℕ → Bool
 are_parts_short key is_null value =
     nat_le (length key) MAX_HEADER_KEY && is_part_fitting is_null value MAX_HEADER_VALUE

@@ -9,6 +9,7 @@ use Rattle.wire_spec.specs.declared.fault.BatchFault.TheVariants as fault
 use Rattle.batch_transform.specs.declared.fault.Stop.{Stop}
 use Rattle.batch_transform.specs.declared.fault.Stop.TheVariants as stop
 
+-- the number of a fault of an image without code: I1 to I6 are 101 to 106; 1 where memory ran out
 abbrev pub isa_number : IsaFault → ℕ
 isa_number IsaFault.Size = 101
 isa_number (IsaFault.Opcode slot) = 102
@@ -18,6 +19,7 @@ isa_number (IsaFault.Wide slot) = 105
 isa_number (IsaFault.NotInProfile slot) = 106
 isa_number IsaFault.Memory = 1
 
+-- the number of a check that a program fails: V1 to V13 are 201 to 213, and V15 is 215; 1 where memory ran out
 abbrev pub check_number : Check → ℕ
 check_number Check.JumpTarget = 201
 check_number Check.BackJump = 202
@@ -40,6 +42,7 @@ abbrev pub fault_number : LoadFault → ℕ
 fault_number (Isa fault) = isa_number fault
 fault_number (Verify fault) = check_number fault.kind
 
+-- the slot that a fault of an image without code is about; 0 where it is about none
 abbrev pub isa_place : IsaFault → ℕ
 isa_place IsaFault.Size = 0
 isa_place (IsaFault.Opcode slot) = slot
@@ -54,6 +57,7 @@ abbrev pub fault_place : LoadFault → ℕ
 fault_place (Isa fault) = isa_place fault
 fault_place (Verify fault) = fault.pc
 
+-- the number of a fault of a batch: B1 to B9 are 301 to 309; 1 where memory ran out
 abbrev pub batch_number : BatchFault → ℕ
 batch_number fault.Short = 301
 batch_number fault.Length = 302
@@ -72,6 +76,7 @@ stop_number (stop.Batch why) = batch_number why
 stop_number stop.Full = 7
 stop_number stop.Memory = 1
 
+-- the record of its batch that a fault is about; 0 where it is about none
 abbrev pub batch_record : BatchFault → ℕ
 batch_record fault.Short = 0
 batch_record fault.Length = 0

@@ -3,6 +3,7 @@ use Rattle.std.specs.Prelude.{◌≡◌, ℕ, ◌⊎◌, ◌==◌, ◌&&◌, nat
 use Rattle.klog_c.specs.declared.faults.TheConstants.{MEMORY}
 use Rattle.c_outcomes.specs.Outcomes.{Copies}
 
+-- the name of a fault of a batch; `no fault` for every other number
 abbrev pub batch_fault_name : ℕ → List ℕ
 batch_fault_name n =
     if n == 301 then codes "B1 Short" else if n == 302 then codes "B2 Length" else
@@ -11,18 +12,21 @@ batch_fault_name n =
     if n == 307 then codes "B7 Count" else if n == 308 then codes "B8 Record" else
     if n == 309 then codes "B9 Timestamp" else codes "no fault"
 
+-- the name of a fault of an image without code, or of a batch
 abbrev pub image_fault_name : ℕ → List ℕ
 image_fault_name n =
     if n == 101 then codes "I1 Size" else if n == 102 then codes "I2 Opcode" else
     if n == 103 then codes "I3 Register" else if n == 104 then codes "I4 Unused" else
     if n == 105 then codes "I5 Wide" else if n == 106 then codes "I6 NotInProfile" else batch_fault_name n
 
+-- the name of one of the checks V1 to V6, or of a fault of an image without code or of a batch
 abbrev pub register_fault_name : ℕ → List ℕ
 register_fault_name n =
     if n == 201 then codes "V1 JumpTarget" else if n == 202 then codes "V2 BackJump" else
     if n == 203 then codes "V3 RunsOff" else if n == 204 then codes "V4 Unset" else
     if n == 205 then codes "V5 Type" else if n == 206 then codes "V6 Frame" else image_fault_name n
 
+-- the name of one of the checks V1 to V13, or of a fault of an image without code or of a batch
 abbrev pub program_fault_name : ℕ → List ℕ
 program_fault_name n =
     if n == 207 then codes "V7 RecordBounds" else if n == 208 then codes "V8 StackBounds" else
@@ -46,6 +50,7 @@ place_word n =
     if nat_le 102 n && nat_le n 106 then codes " slot " else
     if nat_le 201 n && nat_le n 213 then codes " at " else if n == 308 then codes " record " else []
 
+-- a name, and after it a word with a place; the name alone where the word is empty
 abbrev pub with_place : List ℕ → List ℕ → ℕ → List ℕ
 with_place name word place = if length word == 0 then name else name ++ (word ++ decimal place)
 

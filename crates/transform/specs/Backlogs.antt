@@ -11,6 +11,7 @@ pub record Waiting : Type 0 where
   pub place : ℕ
   pub rows : List Row
 
+-- what waits where this many rows are in batches, and these rows in none yet
 abbrev pub waiting : ℕ → List Row → Waiting
 waiting place rows = record { place = place; rows = rows }
 

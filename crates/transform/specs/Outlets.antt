@@ -12,6 +12,7 @@ pub record Outflow : Type 0 where
   pub written : Option (List ℕ)
   pub waits : Waiting
 
+-- an output partition by what its writer contains, where that is known, and by what waits for a batch
 abbrev pub outflow : Option (List ℕ) → Waiting → Outflow
 outflow written waits = record { written = written; waits = waits }
 

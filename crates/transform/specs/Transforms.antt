@@ -42,6 +42,7 @@ pub record Flow : Type 0 where
   pub offset : ℕ
   pub outputs : List Outflow
 
+-- a stream by its input partition, the offset of its next record, and its output partitions
 abbrev pub flow : ℕ → ℕ → List Outflow → Flow
 flow input offset outputs = record { input = input; offset = offset; outputs = outputs }
 
