@@ -20,19 +20,19 @@ image_fault_name n =
     if n == 105 then codes "I5 Wide" else if n == 106 then codes "I6 NotInProfile" else batch_fault_name n
 
 -- the name of one of the checks V1 to V6, or of a fault of an image without code or of a batch
-abbrev pub register_fault_name : ℕ → List ℕ
-register_fault_name n =
+abbrev pub first_check_name : ℕ → List ℕ
+first_check_name n =
     if n == 201 then codes "V1 JumpTarget" else if n == 202 then codes "V2 BackJump" else
     if n == 203 then codes "V3 RunsOff" else if n == 204 then codes "V4 Unset" else
     if n == 205 then codes "V5 Type" else if n == 206 then codes "V6 Frame" else image_fault_name n
 
 -- the name of one of the checks V1 to V13, or of a fault of an image without code or of a batch
-abbrev pub program_fault_name : ℕ → List ℕ
-program_fault_name n =
+abbrev pub check_name : ℕ → List ℕ
+check_name n =
     if n == 207 then codes "V7 RecordBounds" else if n == 208 then codes "V8 StackBounds" else
     if n == 209 then codes "V9 StackUnset" else if n == 210 then codes "V10 ReadOnly" else
     if n == 211 then codes "V11 Helper" else if n == 212 then codes "V12 HelperArg" else
-    if n == 213 then codes "V13 Exit" else register_fault_name n
+    if n == 213 then codes "V13 Exit" else first_check_name n
 
 -- the names of faults, as `klog` prints them
 abbrev pub name_of : ℕ → List ℕ
@@ -42,7 +42,7 @@ name_of n =
     if n == 5 then codes "a buffer is too short" else
     if n == 6 then codes "a null pointer, or a handle given twice" else
     if n == 7 then codes "the offsets of records are used up" else
-    if n == 8 then codes "a header's key is not UTF-8" else program_fault_name n
+    if n == 8 then codes "a header's key is not UTF-8" else check_name n
 
 -- an image's faults but its size's are at a slot, the verifier's at an instruction, and one of a batch's at a record
 abbrev pub place_word : ℕ → List ℕ

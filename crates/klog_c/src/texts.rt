@@ -53,8 +53,8 @@ fn image_fault_name(number: u32) -> &'static str
     }
 }
 
-fn register_fault_name(number: u32) -> &'static str
-    ensures { result.now ≡ definitions.register_fault_name number }
+fn first_check_name(number: u32) -> &'static str
+    ensures { result.now ≡ definitions.first_check_name number }
 {
     if number == 201 {
         "V1 JumpTarget"
@@ -73,8 +73,8 @@ fn register_fault_name(number: u32) -> &'static str
     }
 }
 
-fn program_fault_name(number: u32) -> &'static str
-    ensures { result.now ≡ definitions.program_fault_name number }
+fn check_name(number: u32) -> &'static str
+    ensures { result.now ≡ definitions.check_name number }
 {
     if number == 207 {
         "V7 RecordBounds"
@@ -91,7 +91,7 @@ fn program_fault_name(number: u32) -> &'static str
     } else if number == 213 {
         "V13 Exit"
     } else {
-        register_fault_name(number)
+        first_check_name(number)
     }
 }
 
@@ -115,7 +115,7 @@ fn name_of(number: u32) -> &'static str
     } else if number == 8 {
         "a header's key is not UTF-8"
     } else {
-        program_fault_name(number)
+        check_name(number)
     }
 }
 
