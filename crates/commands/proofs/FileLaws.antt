@@ -12,7 +12,7 @@ use Rattle.machine_spec.specs.declared.helper.Table.{Table}
 use Rattle.log_spec.specs.declared.row.Row.{Row}
 use Rattle.batch.specs.Streams.{Open}
 use Rattle.batch_reader.specs.declared.reader.ReadFault.TheVariants as read
-use Rattle.batch_reader.specs.Readings.{Inlet, inlet, BeginsBadly}
+use Rattle.batch_reader.specs.Readings.{Inlet, inlet, none_given, BeginsBadly}
 use Rattle.transform.specs.declared.{stream.StreamFault.StreamFault, outlet.OutletFault.OutletFault}
 use Rattle.transform.specs.declared.stream.StreamFault.TheVariants as fault
 use Rattle.transform.specs.declared.flow.TransformFault.TheVariants as stop
@@ -160,7 +160,7 @@ all_broken program batches fresh now output why files law new broken stops held 
 
 streamed : (program : Program) (bytes : List ℕ) (fresh : List Outflow) (result : Result (Unit {0}) StreamFault)
     (now : Flow) (files : ℕ → Option (List ℕ)) → AreRowsOfALog → All IsFresh fresh →
-    TransformsAll program (inlet (Open []) (Some bytes)) (flow 0 0 fresh) result now →
+    TransformsAll program (inlet (Open []) (Some bytes) none_given) (flow 0 0 fresh) result now →
     AllWritten now.outputs (length fresh) files → StreamsAs program bytes (length fresh) (status_of result) files
 streamed program bytes fresh (Ok done) now files law new (batches, rest, begins, ends) held =
     let b = begins bytes refl in
@@ -225,7 +225,7 @@ streamed program bytes fresh (Err (fault.Transform (stop.Output output outlet.Wr
     inl refl
 
 count_of : (program : Program) (bytes : List ℕ) (fresh : List Outflow) (result : Result (Unit {0}) StreamFault)
-    (now : Flow) → TransformsAll program (inlet (Open []) (Some bytes)) (flow 0 0 fresh) result now →
+    (now : Flow) → TransformsAll program (inlet (Open []) (Some bytes) none_given) (flow 0 0 fresh) result now →
     length now.outputs ≡ length fresh
 count_of program bytes fresh (Ok done) now (batches, rest, begins, ends) = ends.0.count
 count_of program bytes fresh (Err (fault.Read (read.Batch why))) now (batches, rest, begins, ends) = ends.0.count
@@ -241,7 +241,7 @@ pub record IsStream (program : Program) (bytes : List ℕ) (fresh : List Outflow
   where
     pub law : AreRowsOfALog
     pub new : All IsFresh fresh
-    pub reader_is : reader ≡ inlet (Open []) (Some bytes)
+    pub reader_is : reader ≡ inlet (Open []) (Some bytes) none_given
     pub start_is : start ≡ flow 0 0 fresh
 
 pub wrote_files : (program : Program) (bytes : List ℕ) (names : List (List ℕ)) (count : ℕ) (fresh outs : List Outflow)
@@ -253,7 +253,7 @@ pub wrote_files : (program : Program) (bytes : List ℕ) (names : List (List ℕ
 wrote_files program bytes names count fresh outs reader start result now files is many of_names does same held =
     let from : TransformsAll program reader (flow 0 0 fresh) result now =
     subst (λ (f : Flow). TransformsAll program reader f result now) is.start_is does in
-    let known : TransformsAll program (inlet (Open []) (Some bytes)) (flow 0 0 fresh) result now =
+    let known : TransformsAll program (inlet (Open []) (Some bytes) none_given) (flow 0 0 fresh) result now =
     subst (λ (r : Inlet). TransformsAll program r (flow 0 0 fresh) result now) is.reader_is from in
     let long : length now.outputs ≡ length fresh = count_of program bytes fresh result now known in
     let held_now : HaveWritten names now.outputs files =

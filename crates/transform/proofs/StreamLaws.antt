@@ -71,7 +71,7 @@ goes_on program inlet start mid after old new batch so_far reads pushes = record
 pub at_end : (program : Program) (inlet : Inlet) (start : Flow) (mid after : Inlet) (now : Flow) →
     Underway program inlet start mid now → ReadsBatch mid (Ok None) after → PushesAll program inlet start (Ok tt) now
 at_end program inlet start mid after now so_far reads =
-    (so_far.batches, left_of mid, so_far.begins, (so_far.follows, reads))
+    (so_far.batches, left_of mid, so_far.begins, (so_far.follows, reads.0))
 
 pub unread : (program : Program) (inlet : Inlet) (start : Flow) (mid after : Inlet) (now : Flow) (why : ReadFault)
     (result : Result (Unit {0}) StreamFault) → Underway program inlet start mid now → ReadsBatch mid (Err why) after →
@@ -82,7 +82,7 @@ unread program inlet start mid after now why result so_far reads is =
   where
     by_fault : (why : ReadFault) → ReadsBatch mid (Err why) after →
         Pushed start program so_far.batches (left_of mid) (Err (fault.Read why)) now
-    by_fault (read.Batch cause) reads = (so_far.follows, reads)
+    by_fault (read.Batch cause) reads = (so_far.follows, reads.0)
     by_fault read.Read reads = (so_far.follows, tt)
     by_fault read.Memory reads = (so_far.follows, tt)
 
