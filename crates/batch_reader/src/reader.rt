@@ -1,7 +1,7 @@
 ghost use Rattle.std.specs.Prelude.{◌≡◌, ◌≤◌, [], length, IfOk, IfSome};
 ghost use Rattle.wire_spec.specs.BatchSpelling.{BatchFits};
 ghost use Rattle.batch.specs.Streams.{Open, pending_bytes, Gives};
-ghost use Rattle.batch_reader.specs.Readings.{inlet, IsOpen, ReadsBatch, ReadsMore, EndsReading};
+ghost use Rattle.batch_reader.specs.Readings.{none_given, with_batch, inlet, IsOpen, ReadsBatch, ReadsMore, CountsCut, EndsReading};
 ghost use Rattle.batch_reader.specs.declared.reader.ReadFault.TheVariants.{Batch as Refused};
 
 use batch::Feed;
@@ -34,7 +34,7 @@ impl From<BatchFault> for ReadFault {
     }
 }
 
-/// How much of a reader was given.
+/// How much of a reader was given. A number that would reach 2^64 stays at 2^64 - 1.
 #[derive(Clone, Copy, Debug, PartialEq, Eq)]
 pub struct Position {
     /// How many batches.
@@ -43,8 +43,20 @@ pub struct Position {
     pub bytes: u64,
 }
 
+impl Position {
+    // With one batch more, of this many bytes.
+    fn with_batch(self, bytes: u64) -> Position
+        ensures { result ≡ with_batch self bytes }
+    {
+        Position {
+            batches: self.batches.saturating_add(1),
+            bytes: self.bytes.saturating_add(bytes),
+        }
+    }
+}
+
 /// A reader whose bytes are record batches, read in pieces. Contracts see the bytes that were read and
-/// not given yet, and those that the reader has left, where they are known.
+/// not given yet, those that the reader has left, where they are known, and how much was given.
 #[derive(Drop)]
 pub struct BatchReader<R: Read> {
     feed: Feed,
@@ -59,7 +71,7 @@ impl<R: Read> Model for BatchReader<R> {
 
     ghost Value = { Inlet };
 
-    ghost view = { λ r. inlet r.feed (R.remaining r.reader) };
+    ghost view = { λ r. inlet r.feed (R.remaining r.reader) r.position };
 
     ghost invariant = { λ r. 1 ≤ length r.buffer.items };
 }
@@ -69,7 +81,7 @@ impl<R: Read + Drop> BatchReader<R> {
     /// fails only where memory runs out.
     pub fn new(alloc: Global, reader: R, piece: usize) -> Result<BatchReader<R>, AllocError>
         requires { (1 ≤ piece) × (piece ≤ MAX_PIECE) }
-        ensures { IfOk result (λ r. r ≡ inlet (Open []) (R.remaining reader)) }
+        ensures { IfOk result (λ r. r ≡ inlet (Open []) (R.remaining reader) none_given) }
     {
         Ok(BatchReader {
             feed: Feed::new(alloc),
@@ -84,15 +96,18 @@ impl<R: Read + Drop> BatchReader<R> {
 }
 
 impl<R: Read> BatchReader<R> {
-    /// How much was given. No clause says so.
-    pub fn position(&self) -> Position {
+    /// How much was given: each batch that `next` returned, and its bytes.
+    pub fn position(&self) -> Position
+        ensures { result ≡ self.now.given }
+    {
         self.position
     }
 
     /// The next batch, or `None` at the reader's end. Bytes are read until they hold a whole batch; no
     /// bytes are kept beyond those of one batch and one piece. A read that was interrupted is tried
     /// again. It fails where the reader fails, where the bytes that follow begin with no batch or end
-    /// inside one, and where memory runs out; it is not called again then.
+    /// inside one, and where memory runs out; it is not called again then. How much was given changes
+    /// with a batch alone.
     pub fn next(&mut self) -> Result<Option<Batch>, ReadFault>
         requires { IsOpen self.old }
         ensures gives { ReadsBatch self.old result self.new }
@@ -112,7 +127,7 @@ fn next_of<R: Read>(
 ) -> Result<Option<Batch>, ReadFault>
     requires open { feed.old ≡ Open (pending_bytes feed.old) }
     requires buffer { 1 ≤ length buffer.old }
-    ensures gives { ReadsBatch (inlet feed.old (R.remaining reader.old)) result (inlet feed.new (R.remaining reader.new)) }
+    ensures gives { ReadsBatch (inlet feed.old (R.remaining reader.old) position.old) result (inlet feed.new (R.remaining reader.new) position.new) }
     ensures fits { IfOk result (λ given. IfSome given BatchFits) }
 {
     for _ in 0..u64::MAX {
@@ -127,26 +142,26 @@ fn next_of<R: Read>(
     Err(ReadFault::Read)
 }
 
-// The batch that the fed bytes begin with, if they hold a whole one.
+// The batch that the fed bytes begin with, if they hold a whole one. It is counted.
 fn cut(feed: &mut Feed, position: &mut Position) -> Result<Option<Batch>, BatchFault>
     ensures gives { Gives feed.old result feed.new }
+    ensures counts { CountsCut feed.old position.old result feed.new position.new }
     ensures fits { IfOk result (λ given. IfSome given BatchFits) }
 {
     let before = feed.len() as u64;
-    let found = feed.next()?;
-    if found.is_some() {
-        let used = before.saturating_sub(feed.len() as u64);
-        position.batches = position.batches.saturating_add(1);
-        position.bytes = position.bytes.saturating_add(used);
-    }
-    Ok(found)
+    let Some(batch) = feed.next()? else {
+        return Ok(None);
+    };
+    let used = before.saturating_sub(feed.len() as u64);
+    *position = position.with_batch(used);
+    Ok(Some(batch))
 }
 
 // Feeds a piece more, or returns false at the reader's end.
 fn read_more<R: Read>(feed: &mut Feed, reader: &mut R, buffer: &mut [u8]) -> Result<bool, ReadFault>
     requires open { feed.old ≡ Open (pending_bytes feed.old) }
     requires buffer { 1 ≤ length buffer.old }
-    ensures reads { ReadsMore (inlet feed.old (R.remaining reader.old)) result (inlet feed.new (R.remaining reader.new)) }
+    ensures reads { ReadsMore feed.old (R.remaining reader.old) result feed.new (R.remaining reader.new) }
     ensures buffer { length buffer.new ≡ length buffer.old }
 {
     match reader.read(buffer) {

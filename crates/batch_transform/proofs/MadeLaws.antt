@@ -1,5 +1,5 @@
 -- What output partitions hold in the end, of the rows of all batches.
-use Rattle.std.proofs.Common.{◌≡◌, ℕ, zero, suc, ◌+◌, ◌<◌, ◌≤◌, List, [], ◌∷◌, ◌++◌, length, Option, Some, refl}
+use Rattle.std.proofs.Common.{◌≡◌, ℕ, zero, suc, ◌+◌, ◌<◌, List, [], ◌∷◌, ◌++◌, length, Option, Some, refl}
 use Rattle.std.proofs.Common.{slice_get, sym, subst, ◌∙◌, arith}
 use Rattle.std.specs.List.{concat}
 use Rattle.std.specs.Io.KnownBytes.{Appends}
@@ -13,11 +13,11 @@ use Rattle.fates.specs.Totals.{AreCountsWith}
 use Rattle.item_rows.specs.declared.origin.Origin.{Origin}
 use Rattle.transform.specs.Backlogs.{waiting}
 use Rattle.transform.specs.Outlets.{Outflow, outflow}
-use Rattle.transform.specs.Transforms.{flow, output_at, InEach, Empties, AreRows, FillsAll}
+use Rattle.transform.specs.Transforms.{flow, output_at, InEach, Empties, AreRows, AreFates, FillsAll}
 use Rattle.transform.proofs.{OutletLaws.total, FollowLaws.end_finishes}
 use Rattle.batch_transform.specs.declared.{stream.Stream.Stream, pass.Transformed.Transformed}
 use Rattle.batch_transform.specs.declared.{ending.OutputBatches.OutputBatches}
-use Rattle.batch_transform.specs.Transformed.{AreFates, AreOutputBatches, IsTransformed}
+use Rattle.batch_transform.specs.Transformed.{AreOutputBatches, IsTransformed}
 use Rattle.batch_transform.specs.Passes.{flow_of, StartsAt, HavePassed, Ends, AreEnds, Finishes}
 use Rattle.batch_transform.proofs.CountLaws.{spelled}
 
@@ -128,11 +128,17 @@ all_made program origin bytes rest start now count made starts passed none ends 
       count = count_news olds mades ends.outputs_are;
       each = each_empties olds mades ends.outputs_are;
     } in
-    let finished = end_finishes (flow_of start) (flow_of now) (flow now.input now.offset all) program passed.batches
-    passed.follows each in
+    let finished = end_finishes (flow_of start) (flow_of now) (flow now.input now.offset all now.counts) program
+    passed.batches passed.follows (each, refl) in
     let outputs : length start.outlets.items ≡ origin.outputs = starts.empty.count in
+    let from_none : AreCountsWith (AreFates start.input (length start.outlets.items) program start.offset
+    passed.batches) now.counts = record {
+      fates = passed.follows.counts.0;
+      fates_are = passed.follows.counts.1;
+      counts_are = passed.follows.counts.2 [] starts.none;
+    } in
     let counted = subst (λ (i : ℕ). AreCountsWith (AreFates i (length start.outlets.items) program start.offset
-    passed.batches) now.counts) starts.input passed.counts in
+    passed.batches) now.counts) starts.input from_none in
     let counted' = subst (λ (n : ℕ). AreCountsWith (AreFates origin.input n program start.offset passed.batches)
     now.counts) outputs counted in
     let counted'' = subst (λ (o : ℕ). AreCountsWith (AreFates origin.input origin.outputs program o passed.batches)

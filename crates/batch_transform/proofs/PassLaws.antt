@@ -1,6 +1,6 @@
 -- Batches that were transformed one after the other.
-use Rattle.std.proofs.Common.{◌≡◌, ℕ, ◌+◌, ◌-◌, ◌<◌, ◌≤◌, false, List, [], ◌∷◌, ◌++◌, length, drop, Option, Some, refl}
-use Rattle.std.proofs.Common.{Result, Ok, Err, sym, ap, subst, ◌∙◌, append_assoc, append-nil, arith}
+use Rattle.std.proofs.Common.{◌≡◌, ℕ, ◌+◌, ◌-◌, ◌<◌, ◌≤◌, false, List, [], ◌∷◌, ◌++◌, length, drop, Some, refl}
+use Rattle.std.proofs.Common.{Result, Ok, Err, sym, ap, subst, ◌∙◌, arith}
 use Rattle.std.specs.Prelude.{◌==◌}
 use Rattle.std.proofs.lemmas.List.{length-append, length-drop}
 use Rattle.wire_spec.specs.declared.record.Batch.{Batch}
@@ -8,43 +8,34 @@ use Rattle.wire_spec.specs.BatchReading.{batch_at}
 use Rattle.machine_spec.specs.Image.{Program}
 use Rattle.log_spec.specs.Logs.{Records}
 use Rattle.batch.specs.Batches.{AreBatches as Begins}
-use Rattle.fates.proofs.FateLaws.{records_fates}
 use Rattle.fates.specs.declared.fate.Fate.{Fate}
-use Rattle.fates.specs.Fates.{AreItemFates}
 use Rattle.fates.specs.Totals.{Totals, AreCounts, AreItemCounts}
 use Rattle.wire_spec.specs.declared.limits.TheConstants.{TIMESTAMP_END, MAX_RECORDS}
 use Rattle.log_spec.specs.declared.row.Row.{Row}
 use Rattle.item_rows.specs.ItemRows.{rows_in, AreItemRows}
-use Rattle.transform.specs.Transforms.{origin_of, InEach, Fills, records_of}
+use Rattle.transform.specs.Transforms.{Flow, IsFlow, origin_of, InEach, Fills, Pushes}
+use Rattle.transform.proofs.CountLaws.{batch_counted, counts_batch}
 use Rattle.transform.proofs.FollowLaws.{none_follows, one_follows}
 use Rattle.item_rows.specs.declared.origin.Origin.{Origin}
 use Rattle.batch_transform.specs.declared.{stream.Stream.Stream, fault.Stop.Stop, fault.BatchPlace.BatchPlace}
 use Rattle.batch_transform.specs.declared.fault.Stop.TheVariants as stop
-use Rattle.batch_transform.specs.Transformed.{AreFates, EndsAt, StopsAt}
-use Rattle.batch_transform.specs.Passes.{flow_of, IsStream, StartsAt, PushesBatch, TakesOne, HavePassed, PassesOne, PassesAll}
-
--- ---- how many records were counted
-
-pub batch_counted : (input outputs : ℕ) (program : Option Program) (offset : ℕ) (batch : Batch) (counts : Totals) →
-    AreItemCounts input outputs program offset (Records batch) counts → counts.records ≡ length batch.records
-batch_counted input outputs program offset batch counts are =
-    are.counts_are.records_are
-    ∙ records_fates input outputs program batch offset batch.records are.fates are.fates_are
+use Rattle.batch_transform.specs.Transformed.{EndsAt, StopsAt}
+use Rattle.batch_transform.specs.Passes.{flow_of, IsStream, StartsAt, TakesOne, HavePassed, PassesOne, PassesAll}
 
 -- ---- one batch
 
-pub pushed : (program : Program) (batch : Batch) (old new : Stream) (all : List (List Row)) (here : Totals) →
-    AreItemRows (origin_of (flow_of old)) (Some program) (Records batch) all →
-    AreItemCounts old.input (length old.outlets.items) (Some program) old.offset (Records batch) here →
-    InEach old.outlets.items new.outlets.items (λ output. Fills (rows_in all output)) → new.input ≡ old.input →
+pub pushed : (program : Program) (batch : Batch) (old new : Flow) (all : List (List Row)) (here : Totals) →
+    AreItemRows (origin_of old) (Some program) (Records batch) all →
+    AreItemCounts old.input (length old.outputs) (Some program) old.offset (Records batch) here →
+    InEach old.outputs new.outputs (λ output. Fills (rows_in all output)) → new.input ≡ old.input →
     new.offset ≡ old.offset + length batch.records →
-    ((before later : List Fate) → AreCounts before old.counts → AreCounts later here → AreCounts (before ++ later) new.counts) →
-    new.counts.records ≡ old.counts.records + here.records → IsStream old → old.offset + MAX_RECORDS ≤ TIMESTAMP_END →
-    length batch.records ≤ MAX_RECORDS → PushesBatch program batch old (Ok tt) new
+    ((before later : List Fate) → AreCounts before old.counts → AreCounts later here →
+    AreCounts (before ++ later) new.counts) → new.counts.records ≡ old.counts.records + here.records → IsFlow old →
+    old.offset + MAX_RECORDS ≤ TIMESTAMP_END → length batch.records ≤ MAX_RECORDS →
+    Pushes program batch old (Ok tt) new × IsFlow new
 pushed program batch old new all here rows counts put input offset sums records is room few =
-    let counted = batch_counted old.input (length old.outlets.items) (Some program) old.offset batch here counts in (
-      (all, rows, put, input, offset),
-      (counts.fates, counts.fates_are, λ before are. sums before counts.fates are counts.counts_are),
+    let counted = batch_counted old.input (length old.outputs) (Some program) old.offset batch here counts in (
+      (all, rows, put, input, offset, counts_batch program batch old here new.counts counts sums),
       record {
         input = omega (arith, is.input, input);
         offset = omega (arith, offset, room, few);
@@ -56,29 +47,6 @@ pushed program batch old new all here rows counts put input offset sums records 
 
 -- ---- one batch more
 
-fates_more : (input outputs : ℕ) (program : Program) (offset : ℕ) (batches : List Batch) (batch : Batch)
-    (fates here : List Fate) → AreFates input outputs program offset batches fates →
-    AreItemFates input outputs (Some program) (offset + records_of batches) (Records batch) here →
-    AreFates input outputs program offset (batches ++ batch ∷ []) (fates ++ here)
-fates_more input outputs program offset [] batch fates here none is =
-    let at : offset + 0 ≡ offset = omega arith in (
-      here,
-      [],
-      subst (λ (o : ℕ). AreItemFates input outputs (Some program) o (Records batch) here) at is,
-      refl,
-      ap (λ (fs : List Fate). fs ++ here) none ∙ sym (append-nil here),
-    )
-fates_more input outputs program offset (first ∷ batches) batch fates here are is =
-    let at : offset + records_of (first ∷ batches) ≡ (offset + length first.records) + records_of batches = omega arith in
-    let later = fates_more input outputs program (offset + length first.records) batches batch are.1 here are.3
-    (subst (λ (o : ℕ). AreItemFates input outputs (Some program) o (Records batch) here) at is) in (
-      are.0,
-      are.1 ++ here,
-      are.2,
-      later,
-      ap (λ (fs : List Fate). fs ++ here) are.4 ∙ append_assoc are.0 are.1 here,
-    )
-
 one_more : (bytes : List ℕ) (batches : List Batch) (rest : List ℕ) (batch : Batch) (used : ℕ) →
     Begins bytes batches rest → batch_at rest ≡ Ok (batch, used) → Begins bytes (batches ++ batch ∷ []) (drop used rest)
 one_more bytes [] rest batch used is found =
@@ -87,48 +55,31 @@ one_more bytes (first ∷ batches) rest batch used are found =
     (are.0, are.1, one_more (drop are.0 bytes) batches rest batch used are.2 found)
 
 pub none_passed : (program : Program) (bytes : List ℕ) (start : Stream) (count : ℕ) → count ≡ 0 → IsStream start →
-    AreCounts [] start.counts → HavePassed program bytes start bytes count start
-none_passed program bytes start count zero is none = record {
+    HavePassed program bytes start bytes count start
+none_passed program bytes start count zero is = record {
   batches = [];
   are = refl;
   count_is = zero;
   within = omega (arith, zero);
   follows = none_follows (flow_of start) program;
-  counts = record { fates = []; fates_are = refl; counts_are = none };
   stream = is;
 }
 
 pub one_passed : (program : Program) (bytes : List ℕ) (start : Stream) (rest : List ℕ) (count : ℕ) (old : Stream)
     (left : List ℕ) (new : Stream) → HavePassed program bytes start rest count old → TakesOne program rest old left new →
     HavePassed program bytes start left (count + 1) new
-one_passed program bytes start rest count old left new so_far one =
-    let fates = so_far.counts.fates in
-    let here = one.pushes.1.0 in
-    let follows = so_far.follows in
-    let with_input = subst (λ (i : ℕ). AreItemFates i (length old.outlets.items) (Some program) old.offset
-    (Records one.batch) here) follows.input one.pushes.1.1 in
-    let with_count = subst (λ (n : ℕ). AreItemFates start.input n (Some program) old.offset (Records one.batch) here)
-    follows.count with_input in
-    let with_offset = subst (λ (o : ℕ). AreItemFates start.input (length start.outlets.items) (Some program) o
-    (Records one.batch) here) follows.offset with_count in
-    record {
-      batches = so_far.batches ++ one.batch ∷ [];
-      are = subst (λ (bs : List ℕ). Begins bytes (so_far.batches ++ one.batch ∷ []) bs) (sym one.rest_is)
-          (one_more bytes so_far.batches rest one.batch one.used so_far.are one.found);
-      count_is = omega (arith, so_far.count_is, length-append so_far.batches (one.batch ∷ []));
-      within =
-          let left_is = ap (λ (bs : List ℕ). length bs) one.rest_is in
-          omega (arith, so_far.within, one.some, one.within, left_is, length-drop one.used rest);
-      follows = one_follows (flow_of start) (flow_of old) (flow_of new) program so_far.batches one.batch follows
-          one.pushes.0;
-      counts = record {
-        fates = fates ++ here;
-        fates_are = fates_more start.input (length start.outlets.items) program start.offset so_far.batches one.batch
-            fates here so_far.counts.fates_are with_offset;
-        counts_are = one.pushes.1.2 fates so_far.counts.counts_are;
-      };
-      stream = one.pushes.2;
-    }
+one_passed program bytes start rest count old left new so_far one = record {
+  batches = so_far.batches ++ one.batch ∷ [];
+  are = subst (λ (bs : List ℕ). Begins bytes (so_far.batches ++ one.batch ∷ []) bs) (sym one.rest_is)
+      (one_more bytes so_far.batches rest one.batch one.used so_far.are one.found);
+  count_is = omega (arith, so_far.count_is, length-append so_far.batches (one.batch ∷ []));
+  within =
+      let left_is = ap (λ (bs : List ℕ). length bs) one.rest_is in
+      omega (arith, so_far.within, one.some, one.within, left_is, length-drop one.used rest);
+  follows = one_follows (flow_of start) (flow_of old) (flow_of new) program so_far.batches one.batch so_far.follows
+      one.pushes.0;
+  stream = one.pushes.1;
+}
 
 -- ---- a fault
 

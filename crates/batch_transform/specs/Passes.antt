@@ -1,37 +1,30 @@
 -- What is known between two batches, and of each step.
-use Rattle.std.specs.Prelude.{◌≡◌, ◌≢◌, ℕ, ◌+◌, ◌<◌, ◌≤◌, List, [], ◌∷◌, ◌++◌, length, drop, slice_index, Option, Some, None, Result}
-use Rattle.std.specs.Prelude.{Ok, Err, ⊤, nat_lt, if◌then◌else◌}
+use Rattle.std.specs.Prelude.{◌≡◌, ◌≢◌, ℕ, ◌+◌, ◌<◌, ◌≤◌, List, [], ◌∷◌, length, drop, slice_index, Option}
+use Rattle.std.specs.Prelude.{Some, None, Result, Ok, Err, ⊤, nat_lt, if◌then◌else◌}
 use Rattle.std.specs.Int.{w32}
 use Rattle.wire_spec.specs.declared.record.Batch.{Batch}
 use Rattle.wire_spec.specs.declared.fault.BatchFault.TheVariants.{Memory as NoMemory}
 use Rattle.wire_spec.specs.declared.limits.TheConstants.{TIMESTAMP_END, MAX_RECORDS}
 use Rattle.wire_spec.specs.BatchReading.{number_at, batch_at}
 use Rattle.machine_spec.specs.Image.{Program}
-use Rattle.log_spec.specs.Logs.{Records}
 use Rattle.batch.specs.Batches.{AreBatches as Begins}
-use Rattle.fates.specs.declared.fate.Fate.{Fate}
-use Rattle.fates.specs.Fates.{AreItemFates}
-use Rattle.fates.specs.Totals.{AreCounts, AreCountsWith}
+use Rattle.fates.specs.Totals.{AreCounts}
 use Rattle.item_rows.specs.declared.origin.Origin.{Origin}
 use Rattle.transform.specs.Backlogs.{waiting}
 use Rattle.transform.specs.Outlets.{Outflow, outflow}
-use Rattle.transform.specs.Transforms.{Flow, flow, output_at, Pushes, Follows, Empties}
+use Rattle.transform.specs.Transforms.{Flow, flow, IsFlow, output_at, Pushes, Follows, Empties}
 use Rattle.batch_transform.specs.declared.{fault.Stop.Stop, stream.Stream.Stream, pass.Transformed.Transformed}
 use Rattle.batch_transform.specs.declared.{ending.OutputBatches.OutputBatches}
 use Rattle.batch_transform.specs.declared.fault.Stop.TheVariants as stop
-use Rattle.batch_transform.specs.Transformed.{AreFates}
 
--- a stream without its counts: the input partition, the offset of its next record, and the output partitions
+-- a stream without its blocks: the input partition, the offset of its next record, the output partitions, and the
+-- counts of the records
 abbrev pub flow_of : Stream → Flow
-flow_of s = flow s.input s.offset s.outlets.items
+flow_of s = flow s.input s.offset s.outlets.items s.counts
 
 -- the numbers of a stream are in range
-pub record IsStream (s : Stream) : Type 0 where
-  pub input : s.input < 64
-  pub offset : s.offset ≤ TIMESTAMP_END
-  pub some_output : 1 ≤ length s.outlets.items
-  pub outputs : length s.outlets.items ≤ 64
-  pub counted : s.counts.records ≤ s.offset
+abbrev pub IsStream : Stream → Type 0
+IsStream s = IsFlow (flow_of s)
 
 -- no row was put into any of the output partitions
 pub record AreEmpty (outputs : ℕ) (outlets : List Outflow) : Type 0 where
@@ -45,16 +38,10 @@ pub record StartsAt (origin : Origin) (s : Stream) : Type 0 where
   pub none : AreCounts [] s.counts
   pub empty : AreEmpty origin.outputs s.outlets.items
 
--- the fates of a batch's records were counted beside those before
-abbrev pub CountsBatch : Program → Batch → Stream → Stream → Type 0
-CountsBatch program batch old new =
-    (here : List Fate) × AreItemFates old.input (length old.outlets.items) (Some program) old.offset (Records batch) here
-    × ((before : List Fate) → AreCounts before old.counts → AreCounts (before ++ here) new.counts)
-
 -- A batch was transformed; or it might reach the offset 2^62; or memory ran out.
 abbrev pub PushesBatch : Program → Batch → Stream → Result (Unit {0}) Stop → Stream → Type 0
 PushesBatch program batch old (Ok done) new =
-    Pushes program batch (flow_of old) (Ok tt) (flow_of new) × CountsBatch program batch old new × IsStream new
+    Pushes program batch (flow_of old) (Ok tt) (flow_of new) × IsStream new
 PushesBatch program batch old (Err (stop.Batch fault)) new = ⊥
 PushesBatch program batch old (Err stop.Full) new = (TIMESTAMP_END < old.offset + MAX_RECORDS) × (new ≡ old)
 PushesBatch program batch old (Err stop.Memory) new = ⊤
@@ -93,7 +80,6 @@ pub record HavePassed (program : Program) (bytes : List ℕ) (start : Stream) (r
   pub count_is : count ≡ length batches
   pub within : count + length rest ≤ length bytes
   pub follows : Follows (flow_of start) program batches (flow_of now)
-  pub counts : AreCountsWith (AreFates start.input (length start.outlets.items) program start.offset batches) now.counts
   pub stream : IsStream now
 
 -- All batches were transformed, or those before a fault.

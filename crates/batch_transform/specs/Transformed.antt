@@ -1,5 +1,5 @@
 -- What a program makes of record batches in memory.
-use Rattle.std.specs.Prelude.{◌≡◌, ◌≢◌, ℕ, ◌+◌, ◌<◌, List, [], ◌∷◌, ◌++◌, length, slice_get, Some, Result, Ok, Err, ⊤}
+use Rattle.std.specs.Prelude.{◌≡◌, ◌≢◌, ℕ, ◌+◌, ◌<◌, List, [], length, slice_get, Some, Result, Ok, Err, ⊤}
 use Rattle.std.specs.List.{concat}
 use Rattle.wire_spec.specs.declared.record.Batch.{Batch}
 use Rattle.wire_spec.specs.declared.fault.BatchFault.TheVariants.{Memory as NoMemory}
@@ -7,26 +7,15 @@ use Rattle.wire_spec.specs.declared.limits.TheConstants.{TIMESTAMP_END, MAX_RECO
 use Rattle.wire_spec.specs.BatchReading.{batch_at}
 use Rattle.machine_spec.specs.Image.{Program}
 use Rattle.log_spec.specs.declared.row.Row.{Row}
-use Rattle.log_spec.specs.Logs.{Records}
 use Rattle.batch.specs.Batches.{AreBatches as Begins}
-use Rattle.fates.specs.declared.fate.Fate.{Fate}
-use Rattle.fates.specs.Fates.{AreItemFates}
 use Rattle.fates.specs.Totals.{AreCountsWith}
 use Rattle.item_rows.specs.declared.origin.Origin.{Origin}
 use Rattle.transform.specs.Backlogs.{Waiting, waiting}
 use Rattle.transform.specs.Outlets.{AreBatches as AreRowBatches}
-use Rattle.transform.specs.Transforms.{AreRows, records_of}
+use Rattle.transform.specs.Transforms.{AreRows, AreFates, records_of}
 use Rattle.batch_transform.specs.declared.{fault.Stop.Stop, fault.BatchPlace.BatchPlace, pass.Transformed.Transformed}
 use Rattle.batch_transform.specs.declared.{ending.OutputBatches.OutputBatches}
 use Rattle.batch_transform.specs.declared.fault.Stop.TheVariants as stop
-
--- What becomes of the records of batches, one after the other: the first batch's first record has this offset, and each
--- record the offset after the one before.
-abbrev pub AreFates : ℕ → ℕ → Program → ℕ → List Batch → List Fate → Type 0
-AreFates input outputs program offset [] fates = fates ≡ []
-AreFates input outputs program offset (batch ∷ batches) fates =
-    (here : List Fate) × (later : List Fate) × AreItemFates input outputs (Some program) offset (Records batch) here
-    × AreFates input outputs program (offset + length batch.records) batches later × (fates ≡ here ++ later)
 
 -- the rows that batches give to an output, all of them in record batches of which each takes as many as it can
 pub record AreOutputBatches (origin : Origin) (program : Program) (batches : List Batch) (output : ℕ)

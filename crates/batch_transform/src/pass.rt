@@ -1,7 +1,6 @@
 //! All batches of some bytes through a program.
 
-ghost use Rattle.std.specs.Prelude.{◌≡◌, ◌<◌, ◌≤◌, [], length, IfOk};
-ghost use Rattle.fates.specs.Totals.{AreCounts};
+ghost use Rattle.std.specs.Prelude.{◌≡◌, ◌<◌, ◌≤◌, length, IfOk};
 ghost use Rattle.wire_spec.specs.declared.limits.TheConstants.{TIMESTAMP_END};
 ghost use Rattle.log_spec.specs.Logs.{FitsLog};
 ghost use Rattle.batch_transform.specs.Passes.{IsStream, ReadsBatch, PassesOne, PassesAll, Finishes};
@@ -72,7 +71,6 @@ fn pass_all(
 ) -> Result<(), Stop>
     requires stream { IsStream stream.old }
     requires none { count.old ≡ 0 }
-    requires counts { AreCounts [] stream.old.counts }
     ensures { PassesAll program.now rest.old stream.old result rest.new count.new stream.new }
 {
     let _bounded = rest.len();

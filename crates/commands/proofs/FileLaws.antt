@@ -12,7 +12,7 @@ use Rattle.machine_spec.specs.declared.helper.Table.{Table}
 use Rattle.log_spec.specs.declared.row.Row.{Row}
 use Rattle.batch.specs.Streams.{Open}
 use Rattle.batch_reader.specs.declared.reader.ReadFault.TheVariants as read
-use Rattle.batch_reader.specs.Readings.{Inlet, inlet, BeginsBadly}
+use Rattle.batch_reader.specs.Readings.{Inlet, inlet, none_given, BeginsBadly}
 use Rattle.transform.specs.declared.{stream.StreamFault.StreamFault, outlet.OutletFault.OutletFault}
 use Rattle.transform.specs.declared.stream.StreamFault.TheVariants as fault
 use Rattle.transform.specs.declared.flow.TransformFault.TheVariants as stop
@@ -20,8 +20,8 @@ use Rattle.transform.specs.declared.outlet.OutletFault.TheVariants as outlet
 use Rattle.transform.specs.Backlogs.{Waiting, waiting, with_rows}
 use Rattle.transform.specs.Outlets.{Outflow, outflow, WroteBatches}
 use Rattle.transform.specs.Streams.{TransformsAll}
-use Rattle.transform.specs.Transforms.{Flow, flow, output_at, AreRows, AreRowsOfALog, FillsAll, FillsSome}
-use Rattle.transform.specs.Transforms.{StopsFilling, Finished, Broken}
+use Rattle.transform.specs.Transforms.{Flow, flow, none_counted, output_at, AreRows, AreRowsOfALog, FillsAll}
+use Rattle.transform.specs.Transforms.{FillsSome, StopsFilling, Finished, Broken}
 use Rattle.script.specs.Words.{word_at}
 use Rattle.commands.specs.declared.halts.Halt.{Halt}
 use Rattle.commands.specs.declared.halts.Halt.TheVariants as halt
@@ -124,7 +124,8 @@ fresh_at : (fresh : List Outflow) (q : ℕ) → All IsFresh fresh → q < length
 fresh_at fresh q all lt = all q (outflow None (waiting 0 [])) lt
 
 all_finished : (program : Program) (batches : List Batch) (fresh now : List Outflow) (broken : Bool)
-    (files : ℕ → Option (List ℕ)) → AreRowsOfALog → All IsFresh fresh → Finished (flow 0 0 fresh) program batches now →
+    (files : ℕ → Option (List ℕ)) → AreRowsOfALog → All IsFresh fresh →
+    Finished (flow 0 0 fresh none_counted) program batches now →
     AllWritten now (length fresh) files → (q : ℕ) → q < length fresh →
     IfSome (files q) (HasRows program batches (length fresh) q broken)
 all_finished program batches fresh now broken files law new finished held q lt =
@@ -133,7 +134,7 @@ all_finished program batches fresh now broken files law new finished held q lt =
 
 all_broken : (program : Program) (batches : List Batch) (fresh now : List Outflow) (output : ℕ) (why : OutletFault)
     (files : ℕ → Option (List ℕ)) → AreRowsOfALog → All IsFresh fresh →
-    Broken (flow 0 0 fresh) program batches now output why →
+    Broken (flow 0 0 fresh none_counted) program batches now output why →
     ((rows : List Row) (old new : Outflow) → StopsFilling rows old why new → FillsSome rows old new) →
     AllWritten now (length fresh) files → (q : ℕ) → q < length fresh →
     IfSome (files q) (HasRows program batches (length fresh) q true)
@@ -160,7 +161,7 @@ all_broken program batches fresh now output why files law new broken stops held 
 
 streamed : (program : Program) (bytes : List ℕ) (fresh : List Outflow) (result : Result (Unit {0}) StreamFault)
     (now : Flow) (files : ℕ → Option (List ℕ)) → AreRowsOfALog → All IsFresh fresh →
-    TransformsAll program (inlet (Open []) (Some bytes)) (flow 0 0 fresh) result now →
+    TransformsAll program (inlet (Open []) (Some bytes) none_given) (flow 0 0 fresh none_counted) result now →
     AllWritten now.outputs (length fresh) files → StreamsAs program bytes (length fresh) (status_of result) files
 streamed program bytes fresh (Ok done) now files law new (batches, rest, begins, ends) held =
     let b = begins bytes refl in
@@ -200,7 +201,7 @@ streamed program bytes fresh (Err (fault.Transform stop.Full)) now files law new
         rest = b.0;
         begin = b.1;
         ends = tt;
-        each = all_finished program batches fresh now.outputs false files law new ends held;
+        each = all_finished program batches fresh now.outputs false files law new ends.0 held;
       },
     )
 streamed program bytes fresh (Err (fault.Transform stop.Memory)) now files law new ends held = inl refl
@@ -225,14 +226,15 @@ streamed program bytes fresh (Err (fault.Transform (stop.Output output outlet.Wr
     inl refl
 
 count_of : (program : Program) (bytes : List ℕ) (fresh : List Outflow) (result : Result (Unit {0}) StreamFault)
-    (now : Flow) → TransformsAll program (inlet (Open []) (Some bytes)) (flow 0 0 fresh) result now →
+    (now : Flow) →
+    TransformsAll program (inlet (Open []) (Some bytes) none_given) (flow 0 0 fresh none_counted) result now →
     length now.outputs ≡ length fresh
 count_of program bytes fresh (Ok done) now (batches, rest, begins, ends) = ends.0.count
 count_of program bytes fresh (Err (fault.Read (read.Batch why))) now (batches, rest, begins, ends) = ends.0.count
 count_of program bytes fresh (Err (fault.Read read.Read)) now (batches, rest, begins, ends) = ends.0.count
 count_of program bytes fresh (Err (fault.Read read.Memory)) now (batches, rest, begins, ends) = ends.0.count
-count_of program bytes fresh (Err (fault.Transform stop.Full)) now (batches, rest, begins, ends) = ends.count
-count_of program bytes fresh (Err (fault.Transform stop.Memory)) now (batches, rest, begins, ends) = ends.count
+count_of program bytes fresh (Err (fault.Transform stop.Full)) now (batches, rest, begins, ends) = ends.0.count
+count_of program bytes fresh (Err (fault.Transform stop.Memory)) now (batches, rest, begins, ends) = ends.0.count
 count_of program bytes fresh (Err (fault.Transform (stop.Output output why))) now (batches, rest, begins, ends) =
     ends.count
 
@@ -241,8 +243,8 @@ pub record IsStream (program : Program) (bytes : List ℕ) (fresh : List Outflow
   where
     pub law : AreRowsOfALog
     pub new : All IsFresh fresh
-    pub reader_is : reader ≡ inlet (Open []) (Some bytes)
-    pub start_is : start ≡ flow 0 0 fresh
+    pub reader_is : reader ≡ inlet (Open []) (Some bytes) none_given
+    pub start_is : start ≡ flow 0 0 fresh none_counted
 
 pub wrote_files : (program : Program) (bytes : List ℕ) (names : List (List ℕ)) (count : ℕ) (fresh outs : List Outflow)
     (reader : Inlet) (start : Flow) (result : Result (Unit {0}) StreamFault) (now : Flow)
@@ -251,10 +253,10 @@ pub wrote_files : (program : Program) (bytes : List ℕ) (names : List (List ℕ
     HaveWritten names outs files →
     StreamsAs program bytes count (status_of result) (λ output. files (word_at names (output + 2)))
 wrote_files program bytes names count fresh outs reader start result now files is many of_names does same held =
-    let from : TransformsAll program reader (flow 0 0 fresh) result now =
+    let from : TransformsAll program reader (flow 0 0 fresh none_counted) result now =
     subst (λ (f : Flow). TransformsAll program reader f result now) is.start_is does in
-    let known : TransformsAll program (inlet (Open []) (Some bytes)) (flow 0 0 fresh) result now =
-    subst (λ (r : Inlet). TransformsAll program r (flow 0 0 fresh) result now) is.reader_is from in
+    let known : TransformsAll program (inlet (Open []) (Some bytes) none_given) (flow 0 0 fresh none_counted) result
+    now = subst (λ (r : Inlet). TransformsAll program r (flow 0 0 fresh none_counted) result now) is.reader_is from in
     let long : length now.outputs ≡ length fresh = count_of program bytes fresh result now known in
     let held_now : HaveWritten names now.outputs files =
     subst (λ (os : List Outflow). HaveWritten names os files) same held in

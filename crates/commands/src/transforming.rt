@@ -4,7 +4,7 @@ ghost use Rattle.std.specs.Prelude.{◌≡◌, ◌≤◌, ◌+◌, ◌-◌, ◌�
 ghost use Rattle.machine_spec.specs.Image as images;
 ghost use Rattle.annotate.specs.Loads.{FaultIs};
 ghost use Rattle.batch.specs.Streams.{Open};
-ghost use Rattle.batch_reader.specs.Readings.{IsOpen, inlet};
+ghost use Rattle.batch_reader.specs.Readings.{IsOpen, inlet, none_given};
 ghost use Rattle.transform.specs.Streams.{TransformsAll};
 ghost use Rattle.script.specs.Words.{word_at};
 ghost use Rattle.command_line.specs.Calls.{names_of, AreDistinct};
@@ -120,7 +120,7 @@ fn write_batches<F: Files, R: Read, E: Write>(
     requires some { 3 ≤ length words.now }
     requires few { length words.now ≤ MAX_PARTITIONS + 2 }
     requires open { IsOpen batches.old }
-    ensures { F.tells ≡ true → AreDistinct (names_of words.now) → (bytes : List ℕ) → batches.old ≡ inlet (Open []) (Some bytes)
+    ensures { F.tells ≡ true → AreDistinct (names_of words.now) → (bytes : List ℕ) → batches.old ≡ inlet (Open []) (Some bytes) none_given
         → StreamsAs program.now bytes (length (names_of words.now) - 2) (status_of_ended result) (λ output. F.bytes files.new (word_at (names_of words.now) (output + 2))) }
 {
     rows_of_a_log();

@@ -1,20 +1,23 @@
 -- Batches that were pushed one after the other.
-use Rattle.std.proofs.Common.{◌≡◌, ℕ, ◌+◌, ◌<◌, List, [], ◌∷◌, ◌++◌, length, Some, Ok, Err, refl, sym, subst, ◌∙◌}
-use Rattle.std.proofs.Common.{arith}
+use Rattle.std.proofs.Common.{◌≡◌, ℕ, ◌+◌, ◌<◌, List, [], ◌∷◌, ◌++◌, length, Some, Result, Ok, Err, refl, sym, ap}
+use Rattle.std.proofs.Common.{subst, ◌∙◌, arith}
 use Rattle.wire_spec.specs.declared.record.Batch.{Batch}
 use Rattle.machine_spec.specs.Image.{Program}
 use Rattle.log_spec.specs.declared.row.Row.{Row}
 use Rattle.item_rows.specs.ItemRows.{rows_in, AreItemRows}
 use Rattle.log_spec.specs.Logs.{Records, IsItemRows}
-use Rattle.transform.specs.declared.{outlet.OutletFault.OutletFault}
+use Rattle.fates.specs.Totals.{Totals}
+use Rattle.transform.specs.declared.{outlet.OutletFault.OutletFault, flow.TransformFault.TransformFault}
 use Rattle.transform.specs.declared.flow.TransformFault.TheVariants as fault
 use Rattle.transform.specs.Backlogs.{Waiting, with_rows}
 use Rattle.transform.specs.Outlets.{Outflow, WroteFull}
 use Rattle.transform.specs.Transforms.{Flow, output_at, Fills, FillsSome, StopsFilling}
-use Rattle.transform.specs.Transforms.{Pushes, EndsFlow, AreFlowRows, Follows, Finished, Broken, origin_of, records_of}
+use Rattle.transform.specs.Transforms.{Pushes, EndsFlow, AreFlowRows, CountsBatches, Follows, Finished, Broken}
+use Rattle.transform.specs.Transforms.{origin_of, records_of}
 use Rattle.transform.proofs.ShownLaws.{none_with, more_with}
 use Rattle.transform.proofs.OutletLaws.{full_none, wrote_with, wrote_then, wrote_then_batches, wrote_then_stops}
 use Rattle.transform.proofs.LogOfLaws.{rows_more}
+use Rattle.transform.proofs.CountLaws.{adds_none, counts_more}
 
 -- ---- one output partition
 
@@ -57,6 +60,7 @@ none_follows start program = record {
   offset = omega arith;
   count = refl;
   each = λ q lt. ([], refl, fills_nothing (output_at start.outputs q));
+  counts = ([], refl, adds_none start.counts);
 }
 
 -- the rows of one more batch
@@ -83,7 +87,7 @@ total_more (first ∷ batches) batch = omega (arith, total_more batches batch)
 pub one_follows : (start old new : Flow) (program : Program) (batches : List Batch) (batch : Batch) →
     Follows start program batches old → Pushes program batch old (Ok tt) new →
     Follows start program (batches ++ batch ∷ []) new
-one_follows start old new program batches batch follows (all, are, put, input, offset) = record {
+one_follows start old new program batches batch follows (all, are, put, input, offset, counts) = record {
   input = input ∙ follows.input;
   offset = omega (arith, offset, follows.offset, total_more batches batch);
   count = put.count ∙ follows.count;
@@ -94,6 +98,8 @@ one_follows start old new program batches batch follows (all, are, put, input, o
         fills_then before.0 (rows_in all q) (output_at start.outputs q) (output_at old.outputs q)
             (output_at new.outputs q) before.2 (put.each q (omega (arith, lt, follows.count))),
       );
+  counts = counts_more start old program batches batch new.counts follows.input follows.count follows.offset
+      follows.counts counts;
 }
 
 pub one_stops : (start old new : Flow) (program : Program) (batches : List Batch) (batch : Batch) (output : ℕ)
@@ -121,7 +127,7 @@ one_stops start old new program batches batch output why follows (all, are, put)
 
 pub end_finishes : (start old new : Flow) (program : Program) (batches : List Batch) → Follows start program batches old →
     EndsFlow old (Ok tt) new → Finished start program batches new.outputs
-end_finishes start old new program batches follows ends = record {
+end_finishes start old new program batches follows (ends, stays) = record {
   count = ends.count ∙ follows.count;
   each = λ q lt.
       let before = follows.each q lt in
@@ -137,10 +143,17 @@ end_finishes start old new program batches follows ends = record {
       );
 }
 
+pub end_counts : (start old new : Flow) (program : Program) (batches : List Batch)
+    (result : Result (Unit {0}) TransformFault) → Follows start program batches old → EndsFlow old result new →
+    CountsBatches start program batches new.counts
+end_counts start old new program batches result follows (ends, stays) =
+    let same : new.counts ≡ old.counts = ap (λ (f : Flow). f.counts) stays in
+    subst (λ (c : Totals). CountsBatches start program batches c) (sym same) follows.counts
+
 pub end_stops : (start old new : Flow) (program : Program) (batches : List Batch) (output : ℕ) (why : OutletFault) →
     Follows start program batches old → EndsFlow old (Err (fault.Output output why)) new →
     Broken start program batches new.outputs output why
-end_stops start old new program batches output why follows ends =
+end_stops start old new program batches output why follows (ends, stays) =
     let within : output < length start.outputs = omega (arith, ends.within, follows.count) in record {
       count = ends.count ∙ follows.count;
       within = within;

@@ -5,5 +5,7 @@ pub mod OpenLaws
 pub mod EachLaws
 pub mod FillLaws
 pub mod LogOfLaws
+pub mod CountLaws
+pub mod PushLaws
 pub mod FollowLaws
 pub mod StreamLaws

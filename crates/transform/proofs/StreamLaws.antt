@@ -15,9 +15,9 @@ use Rattle.batch_reader.specs.Readings.{Inlet, left_of, IsOpen, LosesBatch, Read
 use Rattle.transform.specs.declared.{stream.StreamFault.StreamFault, flow.TransformFault.TransformFault}
 use Rattle.transform.specs.declared.stream.StreamFault.TheVariants as fault
 use Rattle.transform.specs.declared.flow.TransformFault.TheVariants as stop
-use Rattle.transform.specs.Transforms.{Flow, Follows, Pushes, EndsFlow}
+use Rattle.transform.specs.Transforms.{Flow, Follows, Finished, CountsBatches, Pushes, EndsFlow}
 use Rattle.transform.specs.Streams.{Begins, Pushed, is_broken, PushesAll, TransformsAll}
-use Rattle.transform.proofs.FollowLaws.{none_follows, one_follows, one_stops, end_finishes, end_stops}
+use Rattle.transform.proofs.FollowLaws.{none_follows, one_follows, one_stops, end_finishes, end_counts, end_stops}
 
 -- what is decoded is a batch that a log takes
 pub fits : {E : Type 0} (r : Result (Option Batch) E) → IfOk r (λ given. IfSome given BatchFits) →
@@ -71,7 +71,7 @@ goes_on program inlet start mid after old new batch so_far reads pushes = record
 pub at_end : (program : Program) (inlet : Inlet) (start : Flow) (mid after : Inlet) (now : Flow) →
     Underway program inlet start mid now → ReadsBatch mid (Ok None) after → PushesAll program inlet start (Ok tt) now
 at_end program inlet start mid after now so_far reads =
-    (so_far.batches, left_of mid, so_far.begins, (so_far.follows, reads))
+    (so_far.batches, left_of mid, so_far.begins, (so_far.follows, reads.0))
 
 pub unread : (program : Program) (inlet : Inlet) (start : Flow) (mid after : Inlet) (now : Flow) (why : ReadFault)
     (result : Result (Unit {0}) StreamFault) → Underway program inlet start mid now → ReadsBatch mid (Err why) after →
@@ -82,7 +82,7 @@ unread program inlet start mid after now why result so_far reads is =
   where
     by_fault : (why : ReadFault) → ReadsBatch mid (Err why) after →
         Pushed start program so_far.batches (left_of mid) (Err (fault.Read why)) now
-    by_fault (read.Batch cause) reads = (so_far.follows, reads)
+    by_fault (read.Batch cause) reads = (so_far.follows, reads.0)
     by_fault read.Read reads = (so_far.follows, tt)
     by_fault read.Memory reads = (so_far.follows, tt)
 
@@ -128,25 +128,35 @@ broken program inlet start (Err (fault.Transform stop.Full)) now is pushed = abs
 broken program inlet start (Err (fault.Transform stop.Memory)) now is pushed = absurd cc
 broken program inlet start (Err (fault.Transform (stop.Output output why))) now is pushed = pushed
 
+written : (start mid new : Flow) (program : Program) (batches : List Batch) → Follows start program batches mid →
+    EndsFlow mid (Ok tt) new →
+    Finished start program batches new.outputs × CountsBatches start program batches new.counts
+written start mid new program batches follows ends = (
+  end_finishes start mid new program batches follows ends,
+  end_counts start mid new program batches (Ok tt) follows ends,
+)
+
 pub all_written : (program : Program) (inlet : Inlet) (start : Flow) (result : Result (Unit {0}) StreamFault)
     (mid new : Flow) → is_broken result ≡ false → PushesAll program inlet start result mid → EndsFlow mid (Ok tt) new →
     TransformsAll program inlet start result new
 all_written program inlet start (Ok done) mid new is (batches, rest, begins, pushed) ends =
-    (batches, rest, begins, (end_finishes start mid new program batches pushed.0 ends, pushed.1))
+    let wrote = written start mid new program batches pushed.0 ends in
+    (batches, rest, begins, (wrote.0, pushed.1, wrote.1))
 all_written program inlet start (Err (fault.Read why)) mid new is (batches, rest, begins, pushed) ends =
-    (batches, rest, begins, (end_finishes start mid new program batches pushed.0 ends, pushed.1))
+    let wrote = written start mid new program batches pushed.0 ends in
+    (batches, rest, begins, (wrote.0, pushed.1, wrote.1))
 all_written program inlet start (Err (fault.Transform stop.Full)) mid new is (batches, rest, begins, pushed) ends =
-    (batches, rest, begins, end_finishes start mid new program batches pushed ends)
+    (batches, rest, begins, written start mid new program batches pushed ends)
 all_written program inlet start (Err (fault.Transform stop.Memory)) mid new is (batches, rest, begins, pushed) ends =
-    (batches, rest, begins, end_finishes start mid new program batches pushed ends)
+    (batches, rest, begins, written start mid new program batches pushed ends)
 all_written program inlet start (Err (fault.Transform (stop.Output output why))) mid new is pushed ends = absurd cc
 
 -- an output partition failed at the end
 pub unwritten : (program : Program) (inlet : Inlet) (start : Flow) (result : Result (Unit {0}) StreamFault)
     (mid new : Flow) (why : TransformFault) → is_broken result ≡ false → PushesAll program inlet start result mid →
     EndsFlow mid (Err why) new → TransformsAll program inlet start (Err (fault.Transform why)) new
-unwritten program inlet start result mid new stop.Full is pushed ends = absurd ends
-unwritten program inlet start result mid new stop.Memory is pushed ends = absurd ends
+unwritten program inlet start result mid new stop.Full is pushed ends = absurd ends.0
+unwritten program inlet start result mid new stop.Memory is pushed ends = absurd ends.0
 unwritten program inlet start (Ok done) mid new (stop.Output output why) is (batches, rest, begins, pushed) ends =
     (batches, rest, begins, end_stops start mid new program batches output why pushed.0 ends)
 unwritten program inlet start (Err (fault.Read cause)) mid new (stop.Output output why) is

@@ -10,7 +10,7 @@ use Rattle.batch_reader.specs.Readings.{Inlet, left_of, BeginsBadly}
 use Rattle.transform.specs.declared.{stream.StreamFault.StreamFault}
 use Rattle.transform.specs.declared.stream.StreamFault.TheVariants as fault
 use Rattle.transform.specs.declared.flow.TransformFault.TheVariants as stop
-use Rattle.transform.specs.Transforms.{Flow, Follows, Finished, Broken}
+use Rattle.transform.specs.Transforms.{Flow, Follows, Finished, Broken, CountsBatches}
 
 -- where bytes are known, they begin with these batches, one after the other, and those are the others
 abbrev pub Begins : Option (List ℕ) → List Batch → Option (List ℕ) → Type 0
@@ -40,15 +40,16 @@ Pushed start program batches rest (Err (fault.Transform stop.Memory)) now = Foll
 Pushed start program batches rest (Err (fault.Transform (stop.Output output why))) now =
     Broken start program batches now.outputs output why
 
--- The same, and all rows of the batches were written, unless an output partition failed.
+-- The same, and all rows of the batches were written, and their records counted, unless an output partition failed.
 abbrev pub Transformed : Flow → Program → List Batch → Option (List ℕ) → Result (Unit {0}) StreamFault → Flow → Type 0
-Transformed start program batches rest (Ok done) now = Finished start program batches now.outputs × IsAtEnd rest
+Transformed start program batches rest (Ok done) now =
+    Finished start program batches now.outputs × IsAtEnd rest × CountsBatches start program batches now.counts
 Transformed start program batches rest (Err (fault.Read why)) now =
-    Finished start program batches now.outputs × EndsBadly rest why
+    Finished start program batches now.outputs × EndsBadly rest why × CountsBatches start program batches now.counts
 Transformed start program batches rest (Err (fault.Transform stop.Full)) now =
-    Finished start program batches now.outputs
+    Finished start program batches now.outputs × CountsBatches start program batches now.counts
 Transformed start program batches rest (Err (fault.Transform stop.Memory)) now =
-    Finished start program batches now.outputs
+    Finished start program batches now.outputs × CountsBatches start program batches now.counts
 Transformed start program batches rest (Err (fault.Transform (stop.Output output why))) now =
     Broken start program batches now.outputs output why
 

@@ -6,6 +6,9 @@ use Rattle.wire_spec.specs.declared.limits.TheConstants.{TIMESTAMP_END, MAX_RECO
 use Rattle.machine_spec.specs.Image.{Program}
 use Rattle.log_spec.specs.declared.row.Row.{Row}
 use Rattle.log_spec.specs.Logs.{Item as LogItem, Records, Marked, IsItemRows, IsRowsOf}
+use Rattle.fates.specs.declared.fate.Fate.{Fate}
+use Rattle.fates.specs.Fates.{AreItemFates}
+use Rattle.fates.specs.Totals.{Totals, totals, AreCounts}
 use Rattle.item_rows.specs.declared.origin.Origin.{Origin}
 use Rattle.item_rows.specs.ItemRows.{rows_in, AreItemRows}
 use Rattle.transform.specs.declared.{flow.TransformFault.TransformFault, outlet.OutletFault.OutletFault}
@@ -23,6 +26,14 @@ AreRows input output outputs program offset (batch ∷ batches) rows =
     (here : List Row) × (later : List Row) × IsItemRows input output outputs (Some program) offset (Records batch) here
     × AreRows input output outputs program (offset + length batch.records) batches later × (rows ≡ here ++ later)
 
+-- What becomes of the records of batches, one after the other: the first batch's first record has this offset, and each
+-- record the offset after the one before.
+abbrev pub AreFates : ℕ → ℕ → Program → ℕ → List Batch → List Fate → Type 0
+AreFates input outputs program offset [] fates = fates ≡ []
+AreFates input outputs program offset (batch ∷ batches) fates =
+    (here : List Fate) × (later : List Fate) × AreItemFates input outputs (Some program) offset (Records batch) here
+    × AreFates input outputs program (offset + length batch.records) batches later × (fates ≡ here ++ later)
+
 -- the log of a program's mark and of batches after it
 abbrev pub log_of : List ℕ → ℕ → Program → List Batch → List LogItem
 log_of name version program batches = Marked name version program ∷ map Records batches
@@ -36,15 +47,20 @@ AreRowsOfALog = (input output outputs version : ℕ) (name : List ℕ) (program 
 
 -- ---- what is known between two batches
 
--- the input partition, the offset of its next record, and the output partitions
+-- the input partition, the offset of its next record, the output partitions, and the counts of the records
 pub record Flow : Type 0 where
   pub input : ℕ
   pub offset : ℕ
   pub outputs : List Outflow
+  pub counts : Totals
 
--- a stream by its input partition, the offset of its next record, and its output partitions
-abbrev pub flow : ℕ → ℕ → List Outflow → Flow
-flow input offset outputs = record { input = input; offset = offset; outputs = outputs }
+-- a stream by its input partition, the offset of its next record, its output partitions, and its counts
+abbrev pub flow : ℕ → ℕ → List Outflow → Totals → Flow
+flow input offset outputs counts = record { input = input; offset = offset; outputs = outputs; counts = counts }
+
+-- the counts of no record
+abbrev pub none_counted : Totals
+none_counted = totals 0 0 0 []
 
 -- the numbers of a stream are in range
 pub record IsFlow (f : Flow) : Type 0 where
@@ -52,6 +68,7 @@ pub record IsFlow (f : Flow) : Type 0 where
   pub offset : f.offset ≤ TIMESTAMP_END
   pub some_output : 1 ≤ length f.outputs
   pub outputs : length f.outputs ≤ 64
+  pub counted : f.counts.records ≤ f.offset
 
 -- an output partition by its number; past the last nothing is known
 abbrev pub output_at : List Outflow → ℕ → Outflow
@@ -97,12 +114,23 @@ PutsEach all old (Err (fault.Output output why)) new =
 PutsEach all old (Err fault.Full) new = ⊥
 PutsEach all old (Err fault.Memory) new = ⊥
 
--- A batch was transformed: its rows were put into the output partitions. Or one of them failed, or nothing was done.
+-- Fates were counted beside those that were counted before.
+abbrev pub AddsCounts : Totals → List Fate → Totals → Type 0
+AddsCounts old fates new = (before : List Fate) → AreCounts before old → AreCounts (before ++ fates) new
+
+-- What became of a batch's records was counted.
+abbrev pub CountsBatch : Program → Batch → Flow → Totals → Type 0
+CountsBatch program batch old counts =
+    (fates : List Fate) × AreItemFates old.input (length old.outputs) (Some program) old.offset (Records batch) fates
+    × AddsCounts old.counts fates counts
+
+-- A batch was transformed: its rows were put into the output partitions, and its records counted. Or an output
+-- partition failed, or nothing was done.
 abbrev pub Pushes : Program → Batch → Flow → Result (Unit {0}) TransformFault → Flow → Type 0
 Pushes program batch old (Ok done) new =
     (all : List (List Row)) × AreItemRows (origin_of old) (Some program) (Records batch) all
     × PutsEach all old.outputs (Ok done) new.outputs × (new.input ≡ old.input)
-    × (new.offset ≡ old.offset + length batch.records)
+    × (new.offset ≡ old.offset + length batch.records) × CountsBatch program batch old new.counts
 Pushes program batch old (Err (fault.Output output why)) new =
     (all : List (List Row)) × AreItemRows (origin_of old) (Some program) (Records batch) all
     × PutsEach all old.outputs (Err (fault.Output output why)) new.outputs
@@ -131,9 +159,10 @@ EndsEach old (Err (fault.Output output why)) new =
 EndsEach old (Err fault.Full) new = ⊥
 EndsEach old (Err fault.Memory) new = ⊥
 
--- the same of a stream
+-- the same of a stream; all else of it stays
 abbrev pub EndsFlow : Flow → Result (Unit {0}) TransformFault → Flow → Type 0
-EndsFlow old result new = EndsEach old.outputs result new.outputs
+EndsFlow old result new =
+    EndsEach old.outputs result new.outputs × (new ≡ flow old.input old.offset new.outputs old.counts)
 
 -- ---- one output partition
 
@@ -169,7 +198,18 @@ abbrev pub AreFlowRows : Flow → Program → List Batch → ℕ → List Row �
 AreFlowRows start program batches output rows =
     AreRows start.input output (length start.outputs) program start.offset batches rows
 
+-- what becomes of the records of batches in a stream
+abbrev pub AreFlowFates : Flow → Program → List Batch → List Fate → Type 0
+AreFlowFates start program batches fates =
+    AreFates start.input (length start.outputs) program start.offset batches fates
+
+-- What became of the records of batches was counted since the start.
+abbrev pub CountsBatches : Flow → Program → List Batch → Totals → Type 0
+CountsBatches start program batches counts =
+    (fates : List Fate) × AreFlowFates start program batches fates × AddsCounts start.counts fates counts
+
 -- Batches were pushed since the start: each output partition has their rows, some in full batches, and the others wait.
+-- Their records were counted.
 pub record Follows (start : Flow) (program : Program) (batches : List Batch) (now : Flow) : Type 0 where
   pub input : now.input ≡ start.input
   pub offset : now.offset ≡ start.offset + records_of batches
@@ -177,6 +217,7 @@ pub record Follows (start : Flow) (program : Program) (batches : List Batch) (no
   pub each : (output : ℕ) → output < length start.outputs →
       (rows : List Row) × AreFlowRows start program batches output rows
       × Fills rows (output_at start.outputs output) (output_at now.outputs output)
+  pub counts : CountsBatches start program batches now.counts
 
 -- all rows that waited in an output partition and those that were added were written
 abbrev pub FillsAll : List Row → Outflow → Outflow → Type 0
@@ -214,6 +255,9 @@ pub record ManyBatches : Type 0 where
       Broken start program (batches ++ batch ∷ []) new.outputs output why
   pub end : (start old new : Flow) (program : Program) (batches : List Batch) → Follows start program batches old →
       EndsFlow old (Ok tt) new → Finished start program batches new.outputs
+  pub counts : (start old new : Flow) (program : Program) (batches : List Batch)
+      (result : Result (Unit {0}) TransformFault) → Follows start program batches old → EndsFlow old result new →
+      CountsBatches start program batches new.counts
   pub end_stop : (start old new : Flow) (program : Program) (batches : List Batch) (output : ℕ) (why : OutletFault) →
       Follows start program batches old → EndsFlow old (Err (fault.Output output why)) new →
       Broken start program batches new.outputs output why

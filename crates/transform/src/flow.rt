@@ -4,7 +4,7 @@ ghost use Rattle.std.specs.Prelude.{◌≡◌, ℕ, ◌<◌, ◌≤◌, length, 
 ghost use Rattle.wire_spec.specs.declared.limits.TheConstants.{TIMESTAMP_END};
 ghost use Rattle.log_spec.specs.Logs.{FitsLog, RowFits};
 ghost use Rattle.item_rows.specs.ItemRows.{rows_in};
-ghost use Rattle.transform.specs.Transforms.{flow, Pushes, PutsEach, PutsOne, EndsEach, EndsOne, EndsFlow};
+ghost use Rattle.transform.specs.Transforms.{flow, none_counted, Pushes, PutsEach, PutsOne, EndsEach, EndsOne, EndsFlow};
 
 use crate::outlet::{Outlet, OutletFault};
 use fates::Counts;
@@ -16,9 +16,6 @@ use std::io::Write;
 use std::marker::Model;
 use thiserror::Error;
 use wire_spec::{Batch, MAX_RECORDS, TIMESTAMP_END};
-
-/// Fewer records than this are counted: 2^63.
-const MOST_COUNTED: u64 = 9_223_372_036_854_775_808;
 
 /// Why a batch is not transformed.
 #[derive(Clone, Copy, Debug, PartialEq, Eq, Drop, Error)]
@@ -45,7 +42,7 @@ impl From<AllocError> for TransformFault {
 }
 
 /// A stream of record batches through a program. Contracts see the input partition's number, the
-/// offset of the next record, and the output partitions.
+/// offset of the next record, the output partitions, and the counts of the records.
 #[derive(Drop)]
 pub struct Transform<W: Write> {
     alloc: Global,
@@ -61,9 +58,9 @@ impl<W: Write> Model for Transform<W> {
 
     ghost Value = { Flow };
 
-    ghost view = { λ t. flow t.input t.offset t.outlets.items };
+    ghost view = { λ t. flow t.input t.offset t.outlets.items t.counts };
 
-    ghost invariant = { λ t. IsFlow (flow t.input t.offset t.outlets.items) };
+    ghost invariant = { λ t. IsFlow (flow t.input t.offset t.outlets.items t.counts) };
 }
 
 impl<W: Write> Transform<W> {
@@ -74,7 +71,7 @@ impl<W: Write> Transform<W> {
         requires offset { offset ≤ TIMESTAMP_END }
         requires some { 1 ≤ length outlets.items }
         requires few { length outlets.items ≤ 64 }
-        ensures { result ≡ flow input offset outlets.items }
+        ensures { result ≡ flow input offset outlets.items none_counted }
     {
         Transform {
             alloc,
@@ -93,8 +90,11 @@ impl<W: Write> Transform<W> {
         self.offset
     }
 
-    /// What became of the records, as a report counts them. No clause says so.
-    pub fn counts(&self) -> &Counts {
+    /// What became of the records of the batches that were pushed, as a report counts them. Nothing is
+    /// said of a batch at which an output partition failed.
+    pub fn counts(&self) -> &Counts
+        ensures { result.now ≡ self.now.counts }
+    {
         &self.counts
     }
 
@@ -121,12 +121,12 @@ impl<W: Write> Transform<W> {
         outlets
     }
 
-    /// Runs a program on the records of the next batch, in order, each once, and puts the rows into
-    /// the output partitions, which write each batch that has no room for the next row. Rows that wait
-    /// share no bytes with the batch. It fails where the batch might reach the offset 2^62, or where
-    /// memory runs out before a row is put; then nothing changes. It fails with an output partition
-    /// as `Outlet::put` does; then each output partition has written whole batches of its rows, and
-    /// that one maybe a beginning of one more.
+    /// Runs a program on the records of the next batch, in order, each once, counts what became of
+    /// them, and puts the rows into the output partitions, which write each batch that has no room for
+    /// the next row. Rows that wait share no bytes with the batch. It fails where the batch might reach
+    /// the offset 2^62, or where memory runs out before a row is put; then nothing changes. It fails
+    /// with an output partition as `Outlet::put` does; then each output partition has written whole
+    /// batches of its rows, and that one maybe a beginning of one more.
     pub fn push(&mut self, program: &Program, batch: Batch) -> Result<(), TransformFault>
         requires { FitsLog batch }
         ensures { Pushes program.now batch self.old result self.new }
@@ -141,10 +141,9 @@ impl<W: Write> Transform<W> {
         };
         let item = Item::Batch(LoggedBatch::new(batch));
         let rows = item_rows_in(&mut self.blocks, &origin, Some(program), &item)?;
-        count(&mut self.counts, rows.counts())?;
-        put_each(self.alloc, rows, &mut self.outlets)?;
+        self.counts.add_all(rows.counts())?;
         self.offset += item.records();
-        Ok(())
+        put_each(self.alloc, rows, &mut self.outlets)
     }
 
     /// Writes the batches of all rows that wait. It fails with an output partition as `Outlet::end`
@@ -154,15 +153,6 @@ impl<W: Write> Transform<W> {
         ensures { EndsFlow self.old result self.new }
     {
         end_each(&mut self.outlets)
-    }
-}
-
-// Counts what became of a batch's records. There are fewer than 2^63, since their offsets are below 2^62.
-fn count(counts: &mut Counts, batch: &Counts) -> Result<(), AllocError> {
-    if counts.records().saturating_add(batch.records()) < MOST_COUNTED {
-        counts.add_all(batch)
-    } else {
-        Ok(())
     }
 }
 

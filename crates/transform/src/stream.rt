@@ -54,10 +54,10 @@ impl Watch for Unwatched {
     fn batch_done(&mut self, _position: Position, _records: u64) {}
 }
 
-/// Runs a program on all batches of a reader, one after the other, and writes all their rows. After a
-/// fault the rows of the batches before it are written too, unless an output partition failed:
-/// then each output partition has written whole batches of its rows, and that one maybe a beginning
-/// of one more.
+/// Runs a program on all batches of a reader, one after the other, counts what became of their
+/// records, and writes all their rows. After a fault the rows of the batches before it are written too,
+/// and their records counted, unless an output partition failed: then each output partition has
+/// written whole batches of its rows, and that one maybe a beginning of one more.
 pub fn transform_all<R: Read, W: Write>(
     program: &Program,
     reader: &mut BatchReader<R>,

@@ -1,4 +1,4 @@
-use Rattle.std.proofs.Common.{◌≡◌, ◌∙◌, rules}
+use Rattle.std.proofs.Common.{rules}
 use Rattle.batch_transform.proofs.MadeLaws.{ends_more}
 use Rattle.batch_transform.proofs.ending.end_each.Goals as goal
 

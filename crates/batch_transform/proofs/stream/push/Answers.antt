@@ -9,17 +9,17 @@ use Rattle.transform.specs.Outlets.{Outflow}
 use Rattle.transform.specs.Transforms.{origin_of, InEach, Fills}
 use Rattle.batch_transform.specs.declared.{stream.Stream.Stream}
 use Rattle.batch_transform.specs.Passes.{flow_of}
-use Rattle.batch_transform.proofs.PassLaws.{batch_counted, pushed}
+use Rattle.transform.proofs.CountLaws.{batch_counted}
+use Rattle.batch_transform.proofs.PassLaws.{pushed}
 use Rattle.batch_transform.proofs.stream.push.Goals as goal
 
 pub add_all-requires : goal.add_all-requires
 add_all-requires c =
     let old : Stream = c.args.stream.now in
-    let here : Totals = c.deref.result.now in
-    let counts : AreItemCounts old.input (length old.outlets.items) (Some c.args.program.now) old.offset
-    (Records c.args.batch) here = search rules in
-    let counted = batch_counted old.input (length old.outlets.items) (Some c.args.program.now) old.offset c.args.batch here
-    counts in
+    let here : Totals = c.deref.result.now in let outputs = length old.outlets.items in
+    let counts : AreItemCounts old.input outputs (Some c.args.program.now) old.offset (Records c.args.batch) here =
+    search rules in
+    let counted = batch_counted old.input outputs (Some c.args.program.now) old.offset c.args.batch here counts in
     omega (arith, counted, c.requires.fits.count, c.requires.stream.counted, c.requires.stream.offset)
 
 pub returns : goal.returns
@@ -37,5 +37,5 @@ returns c =
     (sym same) put in
     let more : c.records.result ≡ length c.args.batch.records = search rules in
     let room : old.offset + MAX_RECORDS ≤ TIMESTAMP_END = omega (arith, c.if-stream.false) in
-    pushed c.args.program.now c.args.batch old _ all here rows counts put' refl (omega (arith, more))
+    pushed c.args.program.now c.args.batch (flow_of old) _ all here rows counts put' refl (omega (arith, more))
     c.in_ok-add_all.ensures.counts c.in_ok-add_all.ensures.records c.requires.stream room c.requires.fits.count
