@@ -17,8 +17,7 @@ returns-in_err-batch-clause-gives g c =
     let stays : CountsCut c.loop.feed c.loop.position (Err why) c.cut.new.feed c.cut.new.position = search rules in
     let is : c.from_residual.result ≡ Err (Refused why) = search rules in
     subst (λ (r : Result (Option Batch) ReadFault). ReadsBatch start r (inlet c.cut.new.feed rest c.cut.new.position))
-    (sym is)
-    (
+    (sym is) (
       refuses before c.loop.feed c.cut.new.feed why rest c.loop.invariant.0 c.loop.invariant.1 gives,
       stays ∙ c.loop.invariant.3,
     )
