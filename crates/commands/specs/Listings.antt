@@ -1,5 +1,5 @@
 -- What `batches` and `records` print of a file.
-use Rattle.std.specs.Prelude.{◌≡◌, ℕ, ◌≤◌, ◌⊎◌, if◌then◌else◌, List, Option, Some, Result, Ok, Err, codes}
+use Rattle.std.specs.Prelude.{◌≡◌, ℕ, ◌⊎◌, if◌then◌else◌, List, Option, Some, Result, Ok, Err, codes}
 use Rattle.std.specs.Str.{bytes_eq}
 use Rattle.batch_text.specs.declared.listing.{Listing.Listing, ListFault.ListFault}
 use Rattle.batch_text.specs.declared.listing.ListFault.TheVariants as fault

@@ -1,4 +1,3 @@
-use Rattle.std.proofs.Common.{◌≡◌}
 use Rattle.commands.proofs.AppendLaws.{unopened}
 use Rattle.commands.proofs.appending.append_file.Goals as goal
 

@@ -1,4 +1,4 @@
-use Rattle.std.proofs.Common.{◌≡◌, ◌≢◌, ◌⊎◌, Option, Some, None, sym, ◌∙◌, inl, inr}
+use Rattle.std.proofs.Common.{◌≢◌, Option, Some, None, sym, ◌∙◌, inl, inr}
 use Rattle.explain.specs.declared.explanation.Refusal.{Refusal}
 use Rattle.commands.specs.Explanations.{status_of_refusal}
 use Rattle.commands.proofs.call.explain_bytes.Goals as goal

@@ -1,4 +1,4 @@
-use Rattle.std.proofs.Common.{rules, arith, ◌≡◌, ◌≢◌, ◌+◌, ◌<◌, length}
+use Rattle.std.proofs.Common.{rules, arith, ◌≡◌, length}
 use Rattle.std.proofs.lemmas.List.{length_push}
 use Rattle.command_line.specs.Calls.{names_of}
 use Rattle.commands.proofs.FileLaws.{held_more, many_names}

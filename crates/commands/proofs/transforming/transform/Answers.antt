@@ -1,4 +1,3 @@
-use Rattle.std.proofs.Common.{◌≡◌}
 use Rattle.command_line.specs.Calls.{names_of}
 use Rattle.commands.specs.FileTransforms.{status_of_halt}
 use Rattle.commands.proofs.FileLaws.{told_as}

@@ -1,4 +1,3 @@
-use Rattle.std.proofs.Common.{◌≡◌}
 use Rattle.command_line.specs.Calls.{names_of}
 use Rattle.commands.proofs.FileLaws.{called, uncalled}
 use Rattle.commands.proofs.transforming.transform_files.Goals as goal
