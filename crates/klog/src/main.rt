@@ -9,6 +9,7 @@
 use commands::{Files, command, tell_no_words};
 use std::alloc::Global;
 use std::io::{BufWriter, IsTerminal, Stdout, Write};
+use std::path::PathBuf;
 use std::process::ExitCode;
 use std::sync::Wait;
 use std::thread::Threads;
@@ -44,6 +45,33 @@ struct HostFiles<'a> {
     rt: &'a HostRuntime,
     /// When the program began, if somebody watches standard error.
     start: Option<Instant>,
+    /// Where the files are that a transform has opened and created, by their real paths. A script, which may
+    /// open many files, has none here.
+    used: Option<Vec<PathBuf>>,
+}
+
+impl HostFiles<'_> {
+    /// Keeps the real path of a file that was opened or created, if it has one: a pipe has none.
+    fn keep(&mut self, name: &str) -> io::Result<()> {
+        let Some(used) = &mut self.used else {
+            return Ok(());
+        };
+        if let Ok(path) = fs::canonicalize(self.rt, name) {
+            used.push(path)?;
+        }
+        Ok(())
+    }
+
+    /// Whether a file was opened or created, perhaps by another path to it.
+    fn is_used(&self, name: &str) -> bool {
+        let Some(used) = &self.used else {
+            return false;
+        };
+        match fs::canonicalize(self.rt, name) {
+            Ok(path) => used.iter().any(|it| *it == path),
+            Err(_) => false,
+        }
+    }
 }
 
 impl Files for HostFiles<'_> {
@@ -52,7 +80,9 @@ impl Files for HostFiles<'_> {
     type Writer = HostWriter<<HostRuntime as fs::Files>::File>;
 
     fn open(&mut self, name: &str) -> io::Result<<HostRuntime as fs::Files>::File> {
-        fs::open(self.rt, name)
+        let file = fs::open(self.rt, name)?;
+        self.keep(name)?;
+        Ok(file)
     }
 
     fn write(&mut self, name: &str, content: &[u8]) -> io::Result<()> {
@@ -66,7 +96,12 @@ impl Files for HostFiles<'_> {
         if name == "stdout" {
             return Ok(HostWriter::Stdout(self.rt.stdout()));
         }
-        Ok(HostWriter::File(fs::create(self.rt, name)?))
+        if self.is_used(name) {
+            return Err(io::Error::from(io::ErrorKind::AlreadyExists));
+        }
+        let file = fs::create(self.rt, name)?;
+        self.keep(name)?;
+        Ok(HostWriter::File(file))
     }
 
     fn close(&mut self, _name: &str, mut writer: Self::Writer) -> io::Result<()> {
@@ -105,6 +140,22 @@ fn watched_since(rt: &HostRuntime) -> Option<Instant> {
     }
 }
 
+/// The files of a call with these words.
+fn files_for<'a>(rt: &'a HostRuntime, words: &[String]) -> HostFiles<'a> {
+    let is_transform = words
+        .first()
+        .is_some_and(|word| word.as_str() == "transform");
+    HostFiles {
+        rt,
+        start: watched_since(rt),
+        used: if is_transform {
+            Some(Vec::new(rt.alloc()))
+        } else {
+            None
+        },
+    }
+}
+
 /// As many bytes as two batches have at most.
 const KEPT_MEMORY: usize = 8_388_608;
 
@@ -125,8 +176,7 @@ fn called<T: Threads + Wait + Sync>(threads: &T, rt: &HostRuntime) -> io::Result
     for word in env::args(rt)?.skip(1) {
         words.push(word)?;
     }
-    let start = watched_since(rt);
-    let mut files = HostFiles { rt, start };
+    let mut files = files_for(rt, &words);
     let mut stdout = BufWriter::new(alloc, rt.stdout())?;
     let mut stderr = rt.stderr();
     let mut stdin = rt.stdin();
