@@ -34,7 +34,7 @@ check_name n =
     if n == 211 then codes "V11 Helper" else if n == 212 then codes "V12 HelperArg" else
     if n == 213 then codes "V13 Exit" else first_check_name n
 
--- the names of faults, as `klog` prints them
+-- the names of faults; from 100 on as `klog` prints them
 abbrev pub name_of : ℕ → List ℕ
 name_of n =
     if n == 1 then codes "memory ran out" else if n == 2 then codes "a handle of nothing, or of another kind" else
