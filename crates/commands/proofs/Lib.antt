@@ -1,5 +1,6 @@
 pub mod AppendLaws
 pub mod BatchLaws
+pub mod Checked
 pub mod FileLaws
 pub mod Loaded
 pub mod Marks

@@ -1,8 +1,11 @@
 -- What the calls on one image print of it.
-use Rattle.std.specs.Prelude.{◌≡◌, ℕ, ◌+◌, ◌*◌, take, List, [], ◌∷◌, ◌++◌, length, Result, Ok, Err, codes, decimal}
+use Rattle.std.specs.Prelude.{◌≡◌, ◌⊎◌, ℕ, ◌+◌, ◌*◌, take, List, [], ◌∷◌, ◌++◌, length, Option, Result, Ok, Err, codes}
+use Rattle.std.specs.Prelude.{decimal}
+use Rattle.std.specs.Io.KnownBytes.{Appends}
 use Rattle.machine_spec.specs.declared.limits.TheConstants.{MAX_SLOTS}
 use Rattle.machine_spec.specs.Image.{Program}
 use Rattle.verifier_spec.specs.Loading.{IsAccepted, IsRefusedWith}
+use Rattle.verifier_spec.specs.declared.fault.LoadFault.{LoadFault}
 use Rattle.commands.specs.declared.image.Refused.{Refused}
 use Rattle.commands.specs.declared.image.Refused.TheVariants as refused
 
@@ -24,3 +27,21 @@ abbrev pub ChecksAs : {X : Type 0} → Program → (X → List ℕ) → Result X
 ChecksAs program view (Ok text) = (accepted : IsAccepted program)
     × (view text ≡ accepted_line (length accepted.code))
 ChecksAs program view (Err reported) = IsRefusal program reported
+
+-- a program is accepted, and standard output gets its line
+pub record PrintsAccepted (program : Program) (status : ℕ) (before after : Option (List ℕ)) : Type 0 where
+  pub accepted : IsAccepted program
+  pub status_is : status ≡ 0
+  pub printed : Appends before after (accepted_line (length accepted.code))
+
+-- a program is refused with its fault, and standard output gets nothing
+pub record PrintsNone (program : Program) (status : ℕ) (before after : Option (List ℕ)) : Type 0 where
+  pub fault : LoadFault
+  pub refused : IsRefusedWith program fault
+  pub status_is : status ≡ 1
+  pub kept : after ≡ before
+
+-- A call that verifies a program ends with this status, which is 3 where a file, standard output or memory failed.
+abbrev pub PrintsCheck : Program → ℕ → Option (List ℕ) → Option (List ℕ) → Type 0
+PrintsCheck program status before after =
+    (status ≡ 3) ⊎ (PrintsAccepted program status before after ⊎ PrintsNone program status before after)

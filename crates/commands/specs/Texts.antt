@@ -31,11 +31,12 @@ disassembly_of (Err reported) = Err (refusal_of reported)
 abbrev pub disassembly : List ℕ → Result (List ℕ) Refused
 disassembly image = disassembly_of (read_image image)
 
--- A call that prints an answer, seen by view, ends with this status: standard output got all of the text, or the
--- refusal was reported, unless a file, standard output or memory failed.
+-- A call that prints an answer, seen by view, ends with this status: standard output got all of the text, or it got
+-- nothing and the refusal was reported, unless a file, standard output or memory failed.
 abbrev pub PrintsAs : {X : Type 0} → (X → List ℕ) → Result X Refused → ℕ → Option (List ℕ) → Option (List ℕ) → Type 0
 PrintsAs view (Ok text) status before after = (status ≡ 3) ⊎ ((status ≡ 0) × Appends before after (view text))
-PrintsAs view (Err reported) status before after = (status ≡ 3) ⊎ (status ≡ status_of_refused reported)
+PrintsAs view (Err reported) status before after =
+    (status ≡ 3) ⊎ ((status ≡ status_of_refused reported) × (after ≡ before))
 
 -- the status of a text's fault: 1 where a line is refused, 3 where memory ran out
 abbrev pub status_of_fault : AsmFault → ℕ

@@ -7,7 +7,7 @@ ghost use Rattle.commands.specs.Explanations as explanations;
 ghost use Rattle.commands.specs.Explanations.{PrintsExplanation};
 ghost use Rattle.machine_spec.specs.Image.{program_of};
 ghost use Rattle.machine_spec.specs.declared.instruction.IsaFault.TheVariants as isa;
-ghost use Rattle.commands.specs.Images.{first_bytes};
+ghost use Rattle.commands.specs.Images.{first_bytes, PrintsCheck};
 ghost use Rattle.commands.specs.Texts as texts;
 
 use crate::asm::{read_text, utf8, write_image};
@@ -84,8 +84,21 @@ fn print_answer<O: Write, E: Write>(
     }
 }
 
-/// Verifies the image in a file by a helper table and prints how many instructions it has, or says why
-/// it is refused; answers the status.
+/// Verifies the program of an image and a helper table and prints how many instructions it has, or says
+/// why it is refused; answers the status.
+fn check_bytes<O: Write, E: Write>(
+    alloc: Global,
+    stdout: &mut O,
+    stderr: &mut E,
+    image: &[u8],
+    table: Table,
+) -> u8
+    ensures { PrintsCheck (program_of image.now table) result (O.contents stdout.old) (O.contents stdout.new) }
+{
+    print_answer(alloc, stdout, stderr, check(alloc, image, table))
+}
+
+/// Verifies the program of the image in a file and a helper table; answers the status.
 fn check_file<F: Files, O: Write, E: Write>(
     alloc: Global,
     files: &mut F,
@@ -94,12 +107,26 @@ fn check_file<F: Files, O: Write, E: Write>(
     name: &str,
     table: Table,
 ) -> u8
-    ensures { result ≤ 3 }
+    ensures small { result ≤ 3 }
+    ensures printed { (bytes : List ℕ) → F.bytes files.old name.now ≡ Some bytes
+        → PrintsCheck (program_of (first_bytes bytes) table) result (O.contents stdout.old) (O.contents stdout.new) }
 {
     match read_image(alloc, files, name) {
-        Ok(image) => print_answer(alloc, stdout, stderr, check(alloc, image.as_slice(), table)),
+        Ok(image) => check_bytes(alloc, stdout, stderr, image.as_slice(), table),
         Err(unread) => tell_unread(alloc, stderr, name, unread),
     }
+}
+
+/// Prints the text of an image, or says why it is refused; answers the status.
+fn disassemble_bytes<O: Write, E: Write>(
+    alloc: Global,
+    stdout: &mut O,
+    stderr: &mut E,
+    image: &[u8],
+) -> u8
+    ensures { texts.PrintsAs (λ text. text) (texts.disassembly image.now) result (O.contents stdout.old) (O.contents stdout.new) }
+{
+    print_answer(alloc, stdout, stderr, disassembly(alloc, image))
 }
 
 /// Prints the text of the image in a file, or says why it is refused; answers the status.
@@ -114,7 +141,7 @@ fn disassemble_file<F: Files, O: Write, E: Write>(
     ensures printed { (bytes : List ℕ) → F.bytes files.old name.now ≡ Some bytes → texts.PrintsAs (λ text. text) (texts.disassembly (first_bytes bytes)) result (O.contents stdout.old) (O.contents stdout.new) }
 {
     match read_image(alloc, files, name) {
-        Ok(image) => print_answer(alloc, stdout, stderr, disassembly(alloc, image.as_slice())),
+        Ok(image) => disassemble_bytes(alloc, stdout, stderr, image.as_slice()),
         Err(unread) => tell_unread(alloc, stderr, name, unread),
     }
 }
