@@ -1,4 +1,5 @@
 pub mod AppendLaws
+pub mod Assembled
 pub mod BatchLaws
 pub mod Checked
 pub mod FileLaws

@@ -48,7 +48,9 @@ status_of_fault (asm.Size _) = 1
 status_of_fault asm.Memory = 3
 
 -- A call that writes the image of a text ends with this status: the file has the image, or the text's fault was
--- reported, unless a file or memory failed.
-abbrev pub WritesAs : Result (List ℕ) AsmFault → ℕ → Option (List ℕ) → Type 0
-WritesAs (Ok image) status file = (status ≡ 3) ⊎ ((status ≡ 0) × IfSome file (λ bytes. bytes ≡ image))
-WritesAs (Err reported) status file = (status ≡ 3) ⊎ (status ≡ status_of_fault reported)
+-- reported, unless a file or memory failed. A refused text writes no file: what the file had before it has after, also
+-- where memory failed.
+abbrev pub WritesAs : Result (List ℕ) AsmFault → ℕ → (before after : Option (List ℕ)) → Type 0
+WritesAs (Ok image) status before after = (status ≡ 3) ⊎ ((status ≡ 0) × IfSome after (λ bytes. bytes ≡ image))
+WritesAs (Err reported) status before after =
+    ((status ≡ 3) ⊎ (status ≡ status_of_fault reported)) × (after ≡ before)

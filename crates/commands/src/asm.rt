@@ -1,6 +1,6 @@
 //! The files of `asm`: the text that it reads and the image that it writes.
 
-ghost use Rattle.std.specs.Prelude.{◌≡◌, ℕ, List, Some, IfOk, OnOk, IfSome, string_bytes};
+ghost use Rattle.std.specs.Prelude.{◌≡◌, ◌≢◌, ℕ, List, Some, IfOk, OnOk, IfSome, string_bytes};
 
 use crate::files::Files;
 use crate::reading::{Unread, cause_of, read_file};
@@ -27,9 +27,10 @@ pub fn read_text<F: Files>(alloc: Global, files: &mut F, name: &str) -> Result<S
     }
 }
 
-/// Makes a named file hold an image.
+/// Makes a named file hold an image. Files of other names stay.
 pub fn write_image<F: Files>(files: &mut F, name: &str, image: &[u8]) -> Result<(), Unread>
-    ensures { OnOk result (IfSome (F.bytes files.new name.now) (λ bytes. bytes ≡ image.now)) }
+    ensures held { OnOk result (IfSome (F.bytes files.new name.now) (λ bytes. bytes ≡ image.now)) }
+    ensures kept { (other : List ℕ) → other ≢ name.now → F.bytes files.new other ≡ F.bytes files.old other }
 {
     match files.write(name, image) {
         Ok(()) => Ok(()),

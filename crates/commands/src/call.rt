@@ -110,6 +110,7 @@ fn check_file<F: Files, O: Write, E: Write>(
     ensures small { result ≤ 3 }
     ensures printed { (bytes : List ℕ) → F.bytes files.old name.now ≡ Some bytes
         → PrintsCheck (program_of (first_bytes bytes) table) result (O.contents stdout.old) (O.contents stdout.new) }
+    ensures kept { (other : List ℕ) → F.bytes files.new other ≡ F.bytes files.old other }
 {
     match read_image(alloc, files, name) {
         Ok(image) => check_bytes(alloc, stdout, stderr, image.as_slice(), table),
@@ -139,6 +140,7 @@ fn disassemble_file<F: Files, O: Write, E: Write>(
 ) -> u8
     ensures small { result ≤ 3 }
     ensures printed { (bytes : List ℕ) → F.bytes files.old name.now ≡ Some bytes → texts.PrintsAs (λ text. text) (texts.disassembly (first_bytes bytes)) result (O.contents stdout.old) (O.contents stdout.new) }
+    ensures kept { (other : List ℕ) → F.bytes files.new other ≡ F.bytes files.old other }
 {
     match read_image(alloc, files, name) {
         Ok(image) => disassemble_bytes(alloc, stdout, stderr, image.as_slice()),
@@ -220,6 +222,7 @@ fn explain_file<F: Files, O: Write, E: Write>(
     ensures small { result ≤ 3 }
     ensures printed { (bytes : List ℕ) → F.bytes files.old name.now ≡ Some bytes
         → PrintsExplanation extent (program_of (first_bytes bytes) table) result (O.contents stdout.old) (O.contents stdout.new) }
+    ensures kept { (other : List ℕ) → F.bytes files.new other ≡ F.bytes files.old other }
 {
     match read_image(alloc, files, name) {
         Ok(image) => explain_bytes(alloc, stdout, stderr, image.as_slice(), table, extent),
@@ -237,7 +240,7 @@ fn tell_fault<E: Write>(alloc: Global, stderr: &mut E, fault: AsmFault) -> u8
     }
 }
 
-/// Writes an image to a file, and answers the status.
+/// Writes an image to a file, and answers the status. Files of other names stay.
 fn put_image<F: Files, E: Write>(
     alloc: Global,
     files: &mut F,
@@ -245,7 +248,8 @@ fn put_image<F: Files, E: Write>(
     name: &str,
     image: &[u8],
 ) -> u8
-    ensures { texts.WritesAs (Ok image.now) result (F.bytes files.new name.now) }
+    ensures written { texts.WritesAs (Ok image.now) result (F.bytes files.old name.now) (F.bytes files.new name.now) }
+    ensures kept { (other : List ℕ) → other ≢ name.now → F.bytes files.new other ≡ F.bytes files.old other }
 {
     match write_image(files, name, image) {
         Ok(()) => DONE,
@@ -253,8 +257,28 @@ fn put_image<F: Files, E: Write>(
     }
 }
 
-/// Writes the image of the text in a file to another file, or says why the text is refused, and writes
-/// no file; answers the status.
+/// Writes the image of a text to a file, or says why the text is refused, and writes no file; answers
+/// the status. Files of other names stay.
+fn assemble_text<F: Files, E: Write>(
+    alloc: Global,
+    files: &mut F,
+    stderr: &mut E,
+    text: &str,
+    image: &str,
+) -> u8
+    ensures small { result ≤ 3 }
+    ensures written { texts.WritesAs (image_of text.now) result (F.bytes files.old image.now) (F.bytes files.new image.now) }
+    ensures refused { result ≡ 1 → (other : List ℕ) → F.bytes files.new other ≡ F.bytes files.old other }
+    ensures kept { (other : List ℕ) → other ≢ image.now → F.bytes files.new other ≡ F.bytes files.old other }
+{
+    match assemble(alloc, text) {
+        Ok(bytes) => put_image(alloc, files, stderr, image, &bytes),
+        Err(fault) => tell_fault(alloc, stderr, fault),
+    }
+}
+
+/// Writes the image of the text in a file to another file, or says why the text is refused or can't be
+/// read, and writes no file; answers the status. Files of other names stay.
 fn assemble_file<F: Files, E: Write>(
     alloc: Global,
     files: &mut F,
@@ -263,15 +287,14 @@ fn assemble_file<F: Files, E: Write>(
     image: &str,
 ) -> u8
     ensures small { result ≤ 3 }
-    ensures written { (bytes : List ℕ) → F.bytes files.old text.now ≡ Some bytes → texts.WritesAs (image_of bytes) result (F.bytes files.new image.now) }
+    ensures written { (bytes : List ℕ) → F.bytes files.old text.now ≡ Some bytes
+        → texts.WritesAs (image_of bytes) result (F.bytes files.old image.now) (F.bytes files.new image.now) }
+    ensures refused { result ≡ 1 → (other : List ℕ) → F.bytes files.new other ≡ F.bytes files.old other }
+    ensures kept { (other : List ℕ) → other ≢ image.now → F.bytes files.new other ≡ F.bytes files.old other }
 {
-    let source = match read_text(alloc, files, text) {
-        Ok(source) => source,
-        Err(unread) => return tell_unread(alloc, stderr, text, unread),
-    };
-    match assemble(alloc, source.as_str()) {
-        Ok(bytes) => put_image(alloc, files, stderr, image, &bytes),
-        Err(fault) => tell_fault(alloc, stderr, fault),
+    match read_text(alloc, files, text) {
+        Ok(source) => assemble_text(alloc, files, stderr, source.as_str(), image),
+        Err(unread) => tell_unread(alloc, stderr, text, unread),
     }
 }
 

@@ -22,17 +22,19 @@ pub trait Files {
         ensures read { (known : List ℕ) → bytes self.old name.now ≡ Some known → IfOk result (λ reader. Self.Reader.remaining reader ≡ Some known) }
         ensures kept { (other : List ℕ) → bytes self.new other ≡ bytes self.old other };
 
-    /// Makes a file hold these bytes and no others, or fails as `open` does.
+    /// Makes a file hold these bytes and no others, or fails as `open` does. Files of other names stay.
     fn write(&mut self, name: &str, content: &[u8]) -> io::Result<()>
-        ensures { OnOk result (IfSome (bytes self.new name.now) (λ known. known ≡ content.now)) };
+        ensures held { OnOk result (IfSome (bytes self.new name.now) (λ known. known ≡ content.now)) }
+        ensures kept { (other : List ℕ) → other ≢ name.now → bytes self.new other ≡ bytes self.old other };
 
     /// What a file is written by, piece by piece.
     type Writer: Write + Drop;
 
     /// Makes a file empty, to be written piece by piece; the name `stdout` is standard output. It fails
-    /// as `open` does.
+    /// as `open` does. Files of other names stay.
     fn create(&mut self, name: &str) -> io::Result<Self::Writer>
-        ensures { tells ≡ true → IfOk result (λ writer. Self.Writer.contents writer ≡ Some []) };
+        ensures empty { tells ≡ true → IfOk result (λ writer. Self.Writer.contents writer ≡ Some []) }
+        ensures kept { (other : List ℕ) → other ≢ name.now → bytes self.new other ≡ bytes self.old other };
 
     /// Ends a file that was created under this name: it holds what its writer has, or the call fails as
     /// `open` does. Files of other names stay.
@@ -40,8 +42,8 @@ pub trait Files {
         ensures held { (held : List ℕ) → Self.Writer.contents writer ≡ Some held → OnOk result (IfSome (bytes self.new name.now) (λ known. known ≡ held)) }
         ensures kept { (other : List ℕ) → other ≢ name.now → bytes self.new other ≡ bytes self.old other };
 
-    /// Milliseconds since some time, where somebody watches standard error.
-    fn watched(&mut self) -> Option<u64> {
+    /// Milliseconds since some time, where somebody watches standard error. It changes no file.
+    fn watched(&self) -> Option<u64> {
         None
     }
 }

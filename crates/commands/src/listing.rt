@@ -1,6 +1,6 @@
 //! The batches or the records of a file, listed.
 
-ghost use Rattle.std.specs.Prelude.{◌≡◌, ◌≤◌, ◌⊎◌};
+ghost use Rattle.std.specs.Prelude.{◌≡◌, ◌≤◌, ◌⊎◌, ℕ, List};
 ghost use Rattle.std.specs.Io.KnownBytes.{Keeps};
 ghost use Rattle.commands.specs.Listings.{ListsAs, source_of, status_of, status_of_listed};
 
@@ -116,6 +116,7 @@ fn list_file<F: Files, O: Write, E: Write>(
 ) -> u8
     ensures small { result ≤ 3 }
     ensures listed { ListsAs listing (F.bytes files.old name.now) result (O.contents stdout.old) (O.contents stdout.new) }
+    ensures kept { (other : List ℕ) → F.bytes files.new other ≡ F.bytes files.old other }
 {
     match files.open(name) {
         Ok(reader) => list_reader(alloc, listing, reader, stdout, stderr, name),
@@ -124,7 +125,8 @@ fn list_file<F: Files, O: Write, E: Write>(
 }
 
 /// Lists the batches, or the records, of a file; the name `stdin` is standard input. Answers the status: 0
-/// all are listed, 1 the bytes that follow begin with no batch, 3 a file, standard output or memory failed.
+/// all are listed, 1 the bytes that follow begin with no batch, 3 a file, standard output or memory failed. No
+/// file changes.
 pub fn list<F: Files, I: Read, O: Write, E: Write>(
     alloc: Global,
     listing: Listing,
@@ -136,6 +138,7 @@ pub fn list<F: Files, I: Read, O: Write, E: Write>(
 ) -> u8
     ensures small { result ≤ 3 }
     ensures listed { ListsAs listing (source_of name.now (I.remaining stdin.old) (F.bytes files.old name.now)) result (O.contents stdout.old) (O.contents stdout.new) }
+    ensures kept { (other : List ℕ) → F.bytes files.new other ≡ F.bytes files.old other }
 {
     if name == "stdin" {
         list_reader(alloc, listing, stdin, stdout, stderr, name)

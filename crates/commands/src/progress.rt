@@ -14,7 +14,7 @@ const PAUSE: u64 = 1000;
 #[derive(Drop)]
 pub struct Progress<'a, F, E> {
     alloc: Global,
-    files: &'a mut F,
+    files: &'a F,
     stderr: &'a mut E,
     /// When the last line was written, and how many records had been read.
     last: u64,
@@ -23,7 +23,7 @@ pub struct Progress<'a, F, E> {
 
 impl<'a, F: Files, E: Write> Progress<'a, F, E> {
     /// At the start.
-    pub fn new(alloc: Global, files: &'a mut F, stderr: &'a mut E) -> Progress<'a, F, E> {
+    pub fn new(alloc: Global, files: &'a F, stderr: &'a mut E) -> Progress<'a, F, E> {
         let last = files.watched().unwrap_or(0);
         Progress {
             alloc,

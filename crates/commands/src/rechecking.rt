@@ -163,7 +163,8 @@ fn recheck_lines<F: Files, O: Write, E: Write>(
     stderr: &mut E,
     lines: &[&str],
 ) -> Result<bool, Ended>
-    ensures { Rechecks (F.bytes files.old) (texts lines.now) (O.contents stdout.old) (O.contents stdout.new) result }
+    ensures kept { (other : List ℕ) → F.bytes files.new other ≡ F.bytes files.old other }
+    ensures told { Rechecks (F.bytes files.old) (texts lines.now) (O.contents stdout.old) (O.contents stdout.new) result }
 {
     let mut refused = false;
     for index in 0..lines.len() {
@@ -186,7 +187,8 @@ fn recheck_text<F: Files, O: Write, E: Write>(
     stderr: &mut E,
     list: &str,
 ) -> Result<bool, Ended>
-    ensures { Rechecks (F.bytes files.old) (definitions.lines_of list.now) (O.contents stdout.old) (O.contents stdout.new) result }
+    ensures kept { (other : List ℕ) → F.bytes files.new other ≡ F.bytes files.old other }
+    ensures told { Rechecks (F.bytes files.old) (definitions.lines_of list.now) (O.contents stdout.old) (O.contents stdout.new) result }
 {
     match pieces(alloc, list, '\n') {
         Ok(pieces) => recheck_lines(alloc, files, stdout, stderr, without_end(&pieces)),
@@ -200,7 +202,7 @@ fn recheck_text<F: Files, O: Write, E: Write>(
 /// Verifies the programs that a list names anew, in order: says of each that it is accepted or why it
 /// is refused, and goes on. A line that names no program ends it, and a file that can't be read does.
 /// Answers the status: 0 all are accepted, 1 one is refused or a line names none, 3 a file, standard
-/// output or memory failed.
+/// output or memory failed. No file changes.
 pub fn recheck<F: Files, O: Write, E: Write>(
     alloc: Global,
     files: &mut F,
@@ -209,6 +211,7 @@ pub fn recheck<F: Files, O: Write, E: Write>(
     name: &str,
 ) -> u8
     ensures small { result ≤ 3 }
+    ensures kept { (other : List ℕ) → F.bytes files.new other ≡ F.bytes files.old other }
     ensures told { (list : List ℕ) → F.bytes files.old name.now ≡ Some list
         → RechecksAs (F.bytes files.old) list result (O.contents stdout.old) (O.contents stdout.new) }
 {

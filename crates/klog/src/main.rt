@@ -108,7 +108,7 @@ impl Files for HostFiles<'_> {
         writer.flush()
     }
 
-    fn watched(&mut self) -> Option<u64> {
+    fn watched(&self) -> Option<u64> {
         let start = self.start?;
         let passed = start.elapsed(self.rt).ok()?;
         Some(passed.as_secs().saturating_mul(1000))

@@ -7,4 +7,4 @@ returns-clause-told g c = λ list known.
     of_list (g.F.Files.bytes c.args.files.now) (g.F.Files.bytes c.read_text.new.files) c.read_text.ensures.kept
     list c.as_str.result.now (c.as_str.ensures.value ∙ c.in-Ok.ensures.read list known)
     (g.O.Write.contents c.args.stdout.now) (g.O.Write.contents c.recheck_text.new.stdout)
-    (Err c.in-Err-recheck_text.ended) c.tell.result c.in-Err-recheck_text.ensures c.tell.ensures
+    (Err c.in-Err-recheck_text.ended) c.tell.result c.in-Err-recheck_text.ensures.told c.tell.ensures
