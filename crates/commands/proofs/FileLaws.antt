@@ -1,10 +1,11 @@
 -- What the files of a transform have.
 use Rattle.std.proofs.Common.{◌≡◌, ◌≢◌, ◌⊎◌, ℕ, ◌+◌, ◌<◌, ◌≤◌, Bool, true, false, List, [], ◌∷◌, ◌++◌, length, Option, Some, None}
-use Rattle.std.proofs.Common.{Result, Ok, Err, refl, sym, subst, inl, inr, ⊎_elim, arith}
+use Rattle.std.proofs.Common.{Result, Ok, Err, refl, sym, ap, subst, inl, inr, ⊎_elim, ◌∙◌, arith}
 use Rattle.std.specs.Prelude.{◌-◌, All, IfSome, string_bytes}
 use Rattle.std.specs.declared.string.String.{String}
 use Rattle.std.specs.Io.KnownBytes.{IsAtEnd}
 use Rattle.std.proofs.lemmas.Bool.{cases_lt}
+use Rattle.std.proofs.lemmas.List.Elements.{All-push}
 use Rattle.std.proofs.lemmas.List.{get_or_append_left, get_or_push, length_push, length-map}
 use Rattle.wire_spec.specs.declared.record.Batch.{Batch}
 use Rattle.machine_spec.specs.Image.{Program, program_of}
@@ -26,10 +27,42 @@ use Rattle.script.specs.Words.{word_at}
 use Rattle.commands.specs.declared.halts.Halt.{Halt}
 use Rattle.commands.specs.declared.halts.Halt.TheVariants as halt
 use Rattle.command_line.specs.Calls.{names_of, AreDistinct}
-use Rattle.commands.specs.FileTransforms.{HasRows, IsFresh, HasWritten, HaveWritten, StreamsAs}
+use Rattle.commands.specs.FileTransforms.{KeepsOthers, HasRows, IsFresh, HasWritten, HaveWritten, StreamsAs}
 use Rattle.commands.specs.FileTransforms.{TransformsAs, CallTransforms, IsUnloaded, status_of, status_of_halt}
 use Rattle.commands.specs.Images.{first_bytes}
 use Rattle.commands.specs.Listings.{source_of}
+
+-- ---- All other files
+
+pub many_names : {A : Type 0} (words : List (String A)) → length (names_of words) ≡ length words
+many_names words = length-map words string_bytes
+
+-- the file of one output partition may have changed
+pub kept_but : (names : List (List ℕ)) (before after : List ℕ → Option (List ℕ)) (output : ℕ) (name : List ℕ) →
+    output + 2 < length names → name ≡ word_at names (output + 2) →
+    ((other : List ℕ) → other ≢ name → after other ≡ before other) → KeepsOthers names before after
+kept_but names before after output name within is kept other none = kept other (λ e. none output within (e ∙ is))
+
+-- the file of one more output partition may have changed, if there is one
+pub kept_more : {A : Type 0} (words : List (String A)) (before mid after : List ℕ → Option (List ℕ)) (output : ℕ) →
+    ((other : List ℕ) → (output + 2 < length words → other ≢ word_at (names_of words) (output + 2)) →
+    after other ≡ mid other) →
+    KeepsOthers (names_of words) before mid → KeepsOthers (names_of words) before after
+kept_more words before mid after output kept earlier other none =
+    kept other (λ lt. none output (omega (arith, lt, many_names words))) ∙ earlier other none
+
+-- one more output partition without rows
+pub one_fresh : {written : Option (List ℕ)} (outlets now : List Outflow) (last : Outflow) → All IsFresh outlets →
+    written ≡ Some [] → last ≡ outflow written (waiting 0 []) → now ≡ outlets ++ last ∷ [] → All IsFresh now
+one_fresh outlets now last all none is same =
+    subst (λ (l : List Outflow). All IsFresh l) (sym same)
+    (All-push IsFresh outlets last all (is ∙ ap (λ (w : Option (List ℕ)). outflow w (waiting 0 [])) none))
+
+-- the first words are of no output partition's file, where no two are the same
+pub sources_kept : (names : List (List ℕ)) (before after : List ℕ → Option (List ℕ)) → AreDistinct names →
+    KeepsOthers names before after → (word : ℕ) → word < 2 → after (word_at names word) ≡ before (word_at names word)
+sources_kept names before after distinct kept word first =
+    kept (word_at names word) (λ output within e. distinct word (output + 2) (omega (arith, first)) within (sym e))
 
 -- ---- One file after the other
 
@@ -273,9 +306,6 @@ ended_as program bytes count status ended files (inr (same, held)) streams =
     subst (λ (s : ℕ). StreamsAs program bytes count s files) (sym same) (streams held)
 
 -- ---- The call
-
-pub many_names : {A : Type 0} (words : List (String A)) → length (names_of words) ≡ length words
-many_names words = length-map words string_bytes
 
 -- the image has a program, which is run on the bytes
 pub called : (table : Table) (names : List (List ℕ)) (stdin : Option (List ℕ))

@@ -1,5 +1,5 @@
 -- What `transform` writes to the files of output partitions.
-use Rattle.std.specs.Prelude.{◌≡◌, ◌⊎◌, ℕ, ◌+◌, ◌-◌, ◌<◌, Bool, false, List, [], length, Option, Some, Result}
+use Rattle.std.specs.Prelude.{◌≡◌, ◌≢◌, ◌⊎◌, ℕ, ◌+◌, ◌-◌, ◌<◌, Bool, false, List, [], length, Option, Some, Result}
 use Rattle.std.specs.Prelude.{Ok, Err, ⊤, IfSome}
 use Rattle.std.specs.List.{concat}
 use Rattle.wire_spec.specs.declared.{record.Batch.Batch, fault.BatchFault.BatchFault}
@@ -42,6 +42,14 @@ pub record HasRows (program : Program) (batches : List Batch) (outputs output : 
   pub are_written : outlets.AreBatches (waiting 0 rows) written rest
   pub bytes_are : bytes ≡ concat written
   pub all : broken ≡ false → rest.rows ≡ []
+
+-- a name is of no output partition's file; the names of these are the words from the third on
+abbrev pub IsNoOutput : List (List ℕ) → List ℕ → Type 0
+IsNoOutput names other = (output : ℕ) → output + 2 < length names → other ≢ word_at names (output + 2)
+
+-- all files but those of the output partitions have the bytes that they had
+abbrev pub KeepsOthers : List (List ℕ) → (before after : List ℕ → Option (List ℕ)) → Type 0
+KeepsOthers names before after = (other : List ℕ) → IsNoOutput names other → after other ≡ before other
 
 -- how a transform ends at the bytes that are left: none are, or they begin with no batch, and why
 abbrev pub EndsAt : Result (Unit {0}) StreamFault → List ℕ → Type 0

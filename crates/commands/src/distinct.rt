@@ -1,8 +1,9 @@
 //! A transform whose files have different names.
 
-ghost use Rattle.std.specs.Prelude.{◌≡◌, ◌≤◌, true};
+ghost use Rattle.std.specs.Prelude.{◌≡◌, ◌≤◌, ◌<◌, ℕ, true};
+ghost use Rattle.script.specs.Words.{word_at};
 ghost use Rattle.command_line.specs.Calls.{names_of, AreFiles};
-ghost use Rattle.commands.specs.FileTransforms.{CallWrites};
+ghost use Rattle.commands.specs.FileTransforms.{CallWrites, KeepsOthers};
 
 use crate::files::Files;
 use crate::transforming::transform;
@@ -11,7 +12,8 @@ use std::alloc::Global;
 use std::io::{Read, Write};
 
 /// Runs a program of a helper table on record batches by the words of an accepted call, no two of
-/// which are the same; answers the status.
+/// which are the same; answers the status. The image and the file of the batches stay, and all other
+/// files but those of the output partitions.
 pub(crate) fn transform_distinct<F: Files, I: Read, E: Write>(
     alloc: Global,
     files: &mut F,
@@ -23,6 +25,8 @@ pub(crate) fn transform_distinct<F: Files, I: Read, E: Write>(
     requires { AreFiles words.now }
     ensures small { result ≤ 3 }
     ensures written { F.tells ≡ true → CallWrites table (names_of words.now) (I.remaining stdin.old) (F.bytes files.old) (F.bytes files.new) result }
+    ensures kept { KeepsOthers (names_of words.now) (F.bytes files.old) (F.bytes files.new) }
+    ensures sources { (word : ℕ) → word < 2 → F.bytes files.new (word_at (names_of words.now) word) ≡ F.bytes files.old (word_at (names_of words.now) word) }
 {
     transform(alloc, files, stdin, stderr, table, words)
 }

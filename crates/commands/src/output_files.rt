@@ -1,9 +1,9 @@
 //! The files of output partitions.
 
-ghost use Rattle.std.specs.Prelude.{◌≡◌, ◌≢◌, ◌<◌, ◌≤◌, ◌+◌, ℕ, List, true, length, All, IfOk, IfErr, OnOk};
+ghost use Rattle.std.specs.Prelude.{◌≡◌, ◌≢◌, ◌<◌, ◌≤◌, ◌+◌, ℕ, List, [], Some, true, length, All, IfOk, IfErr, OnOk};
 ghost use Rattle.script.specs.Words.{word_at};
 ghost use Rattle.command_line.specs.Calls.{names_of, AreDistinct};
-ghost use Rattle.commands.specs.FileTransforms.{IsFresh, HasWritten, HaveWritten, status_of_halt};
+ghost use Rattle.commands.specs.FileTransforms.{KeepsOthers, IsFresh, HasWritten, HaveWritten, status_of_halt};
 
 use crate::files::Files;
 use crate::halts::{FIRST_OUTPUT, Halt, unused};
@@ -18,6 +18,21 @@ pub(crate) fn name_at(words: &[String], place: usize) -> &str
     words[place].as_str()
 }
 
+/// Makes the file of an output partition empty, to be written. All files but those of output partitions
+/// stay.
+fn create_one<F: Files>(files: &mut F, words: &[String], output: usize) -> Result<F::Writer, Halt>
+    requires { output + 2 < length words.now }
+    ensures fresh { F.tells ≡ true → IfOk result (λ writer. F.Writer.contents writer ≡ Some []) }
+    ensures kept { KeepsOthers (names_of words.now) (F.bytes files.old) (F.bytes files.new) }
+    ensures err { IfErr result (λ halt. status_of_halt halt ≡ 3) }
+{
+    let place = output + FIRST_OUTPUT;
+    match files.create(name_at(words, place)) {
+        Ok(writer) => Ok(writer),
+        Err(error) => Err(unused(place, &error)),
+    }
+}
+
 /// An empty output partition for each word from the third on, whose batches a file of that name will have.
 pub(crate) fn create_all<F: Files>(
     alloc: Global,
@@ -27,16 +42,13 @@ pub(crate) fn create_all<F: Files>(
     requires { 2 ≤ length words.now }
     ensures count { IfOk result (λ outlets. length outlets.items + 2 ≡ length words.now) }
     ensures fresh { F.tells ≡ true → IfOk result (λ outlets. All IsFresh outlets.items) }
+    ensures kept { KeepsOthers (names_of words.now) (F.bytes files.old) (F.bytes files.new) }
     ensures err { IfErr result (λ halt. status_of_halt halt ≡ 3) }
 {
     let count = words.len() - FIRST_OUTPUT;
     let mut outlets = Vec::with_capacity(alloc, count)?;
     for output in 0..count {
-        let place = output + FIRST_OUTPUT;
-        let writer = match files.create(name_at(words, place)) {
-            Ok(writer) => writer,
-            Err(error) => return Err(unused(place, &error)),
-        };
+        let writer = create_one(files, words, output)?;
         let Ok(()) = outlets.push(Outlet::new(alloc, writer)) else {
             return Err(Halt::Memory);
         };
@@ -72,6 +84,7 @@ pub(crate) fn close_all<F: Files>(
     outlets: Vec<Outlet<F::Writer>>,
 ) -> Result<(), Halt>
     ensures held { AreDistinct (names_of words.now) → OnOk result (HaveWritten (names_of words.now) outlets.items (F.bytes files.new)) }
+    ensures kept { KeepsOthers (names_of words.now) (F.bytes files.old) (F.bytes files.new) }
     ensures err { IfErr result (λ halt. status_of_halt halt ≡ 3) }
 {
     let mut output = 0;

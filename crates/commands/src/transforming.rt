@@ -8,7 +8,7 @@ ghost use Rattle.batch_reader.specs.Readings.{IsOpen, inlet, none_given};
 ghost use Rattle.transform.specs.Streams.{TransformsAll};
 ghost use Rattle.script.specs.Words.{word_at};
 ghost use Rattle.command_line.specs.Calls.{names_of, AreDistinct};
-ghost use Rattle.commands.specs.FileTransforms.{StreamsAs, CallTransforms, IsLoaded, IsUnloaded, HaveWritten, status_of, status_of_ended};
+ghost use Rattle.commands.specs.FileTransforms.{KeepsOthers, StreamsAs, CallTransforms, IsLoaded, IsUnloaded, HaveWritten, status_of, status_of_ended};
 ghost use Rattle.commands.specs.Images.{first_bytes};
 ghost use Rattle.commands.specs.Listings.{source_of};
 
@@ -74,7 +74,7 @@ fn load_file<F: Files>(
 /// Runs a program on a reader's batches, and says on the way how far that is.
 fn run<F: Files, R: Read, E: Write>(
     alloc: Global,
-    files: &mut F,
+    files: &F,
     stderr: &mut E,
     program: &Program,
     batches: &mut BatchReader<R>,
@@ -98,8 +98,9 @@ fn finish<F: Files, E: Write>(
     ended: Result<(), StreamFault>,
     position: Position,
 ) -> Result<(), Halt>
-    ensures { (status_of_ended result ≡ 3) ⊎ ((status_of_ended result ≡ status_of ended)
+    ensures held { (status_of_ended result ≡ 3) ⊎ ((status_of_ended result ≡ status_of ended)
         × (AreDistinct (names_of words.now) → HaveWritten (names_of words.now) stream.outputs (F.bytes files.new))) }
+    ensures kept { KeepsOthers (names_of words.now) (F.bytes files.old) (F.bytes files.new) }
 {
     let counts = counts_text(alloc, &stream, position.batches);
     close_all(files, words, stream.into_outlets())?;
@@ -120,8 +121,9 @@ fn write_batches<F: Files, R: Read, E: Write>(
     requires some { 3 ≤ length words.now }
     requires few { length words.now ≤ MAX_PARTITIONS + 2 }
     requires open { IsOpen batches.old }
-    ensures { F.tells ≡ true → AreDistinct (names_of words.now) → (bytes : List ℕ) → batches.old ≡ inlet (Open []) (Some bytes) none_given
+    ensures written { F.tells ≡ true → AreDistinct (names_of words.now) → (bytes : List ℕ) → batches.old ≡ inlet (Open []) (Some bytes) none_given
         → StreamsAs program.now bytes (length (names_of words.now) - 2) (status_of_ended result) (λ output. F.bytes files.new (word_at (names_of words.now) (output + 2))) }
+    ensures kept { KeepsOthers (names_of words.now) (F.bytes files.old) (F.bytes files.new) }
 {
     rows_of_a_log();
     let outlets = create_all(alloc, files, words)?;
@@ -149,8 +151,9 @@ fn write_files<F: Files, R: Read + Drop, E: Write>(
 ) -> Result<(), Halt>
     requires some { 3 ≤ length words.now }
     requires few { length words.now ≤ MAX_PARTITIONS + 2 }
-    ensures { F.tells ≡ true → AreDistinct (names_of words.now) → (bytes : List ℕ) → R.remaining reader ≡ Some bytes
+    ensures written { F.tells ≡ true → AreDistinct (names_of words.now) → (bytes : List ℕ) → R.remaining reader ≡ Some bytes
         → StreamsAs program.now bytes (length (names_of words.now) - 2) (status_of_ended result) (λ output. F.bytes files.new (word_at (names_of words.now) (output + 2))) }
+    ensures kept { KeepsOthers (names_of words.now) (F.bytes files.old) (F.bytes files.new) }
 {
     match BatchReader::new(alloc, reader, MAX_PIECE) {
         Ok(mut batches) => write_batches(alloc, files, stderr, program, words, &mut batches),
@@ -169,9 +172,10 @@ fn write_source<F: Files, I: Read, E: Write>(
 ) -> Result<(), Halt>
     requires some { 3 ≤ length words.now }
     requires few { length words.now ≤ MAX_PARTITIONS + 2 }
-    ensures { F.tells ≡ true → AreDistinct (names_of words.now) → (bytes : List ℕ)
+    ensures written { F.tells ≡ true → AreDistinct (names_of words.now) → (bytes : List ℕ)
         → source_of (word_at (names_of words.now) 1) (I.remaining stdin.old) (F.bytes files.old (word_at (names_of words.now) 1)) ≡ Some bytes
         → StreamsAs program.now bytes (length (names_of words.now) - 2) (status_of_ended result) (λ output. F.bytes files.new (word_at (names_of words.now) (output + 2))) }
+    ensures kept { KeepsOthers (names_of words.now) (F.bytes files.old) (F.bytes files.new) }
 {
     let input = name_at(words, INPUT);
     if input == "stdin" {
@@ -194,7 +198,8 @@ fn transform_files<F: Files, I: Read, E: Write>(
 ) -> Result<(), Halt>
     requires some { 3 ≤ length words.now }
     requires few { length words.now ≤ MAX_PARTITIONS + 2 }
-    ensures { F.tells ≡ true → CallTransforms table (names_of words.now) (I.remaining stdin.old) (F.bytes files.old) (F.bytes files.new) (status_of_ended result) }
+    ensures transformed { F.tells ≡ true → CallTransforms table (names_of words.now) (I.remaining stdin.old) (F.bytes files.old) (F.bytes files.new) (status_of_ended result) }
+    ensures kept { KeepsOthers (names_of words.now) (F.bytes files.old) (F.bytes files.new) }
 {
     match load_file(alloc, files, name_at(words, 0), table) {
         Ok(program) => write_source(alloc, files, stdin, stderr, &program, words),
@@ -204,7 +209,8 @@ fn transform_files<F: Files, I: Read, E: Write>(
 
 /// Runs a program of a helper table on the batches of a file and writes each output partition's rows as
 /// batches to a file of its own; answers the status. The words are the image, the file of the batches and one file for
-/// each output partition. The input partition is 0, and its offsets begin at 0.
+/// each output partition. The input partition is 0, and its offsets begin at 0. All files but those of the output
+/// partitions stay.
 pub fn transform<F: Files, I: Read, E: Write>(
     alloc: Global,
     files: &mut F,
@@ -216,6 +222,7 @@ pub fn transform<F: Files, I: Read, E: Write>(
     ensures small { result ≤ 3 }
     ensures transformed { F.tells ≡ true → 3 ≤ length words.now → length words.now ≤ MAX_PARTITIONS + 2
         → CallTransforms table (names_of words.now) (I.remaining stdin.old) (F.bytes files.old) (F.bytes files.new) result }
+    ensures kept { KeepsOthers (names_of words.now) (F.bytes files.old) (F.bytes files.new) }
 {
     if words.len() < 3 || words.len() > MAX_PARTITIONS + 2 {
         return tell_usage(stderr);

@@ -1,6 +1,6 @@
 use Rattle.std.proofs.Common.{◌≡◌, ◌≤◌, ◌+◌, length}
 use Rattle.command_line.specs.Calls.{names_of, AreDistinct}
-use Rattle.commands.specs.FileTransforms.{HaveWritten}
+use Rattle.commands.specs.FileTransforms.{KeepsOthers, HaveWritten}
 use Rattle.commands.proofs.output_files.close_all.Given as goal
 
 abbrev pub invariant-loop-outlet : goal.invariant-loop-outlet
@@ -11,3 +11,4 @@ invariant-loop-outlet g l =
     × (l.output + (goal.iterator-loop-outlet g).remaining l.outlet-iterator
     ≤ (goal.iterator-loop-outlet g).remaining l.initial.outlet-iterator)
     × (AreDistinct (names_of l.words) → HaveWritten (names_of l.words) l.yielded (g.F.Files.bytes l.files))
+    × KeepsOthers (names_of l.words) (g.F.Files.bytes l.initial.files) (g.F.Files.bytes l.files)

@@ -1,7 +1,12 @@
 use Rattle.std.proofs.Common.{◌≡◌, true, length}
 use Rattle.std.specs.Prelude.{All}
-use Rattle.commands.specs.FileTransforms.{IsFresh}
+use Rattle.command_line.specs.Calls.{names_of}
+use Rattle.commands.specs.FileTransforms.{KeepsOthers, IsFresh}
 use Rattle.commands.proofs.output_files.create_all.Given as goal
 
 abbrev pub invariant-loop-output : goal.invariant-loop-output
-invariant-loop-output g l = (length l.outlets.items ≡ l.output) × (g.F.Files.tells ≡ true → All IsFresh l.outlets.items)
+invariant-loop-output g l = record {
+  count : length l.outlets.items ≡ l.output;
+  fresh : g.F.Files.tells ≡ true → All IsFresh l.outlets.items;
+  kept : KeepsOthers (names_of l.words) (g.F.Files.bytes l.initial.files) (g.F.Files.bytes l.files);
+}

@@ -4,8 +4,8 @@ use Rattle.command_line.specs.Calls.{names_of}
 use Rattle.commands.specs.FileTransforms.{HaveWritten}
 use Rattle.commands.proofs.transforming.finish.Goals as goal
 
-pub returns : goal.returns
-returns g c = inr (
+pub returns-clause-held : goal.returns-clause-held
+returns-clause-held g c = inr (
   c.halted.ensures,
   λ distinct. subst
       (λ (outs : List Outflow). HaveWritten (names_of c.args.words.now) outs (g.F.Files.bytes c.close_all.new.files))
