@@ -332,13 +332,19 @@ def little_memory():
     resource.setrlimit(resource.RLIMIT_AS, (64 << 20, 64 << 20))
 
 
+def usage():
+    """What is said where words are no call: the calls of the first table of docs/commands.md."""
+    with open(os.path.join(os.path.dirname(os.path.abspath(__file__)), "..", "docs", "commands.md")) as text:
+        return "\n".join(["usage:"] + re.findall(r"^\| `(klog [^`]*)` \|", text.read(), re.M))
+
+
 def fixed_calls(folder):
     """Words of a call, what else it is given, and its status and standard error; it prints nothing."""
     place = lambda name: os.path.join(folder, name)
     good, image = written(place("good"), b"mov64 r0, 0\nexit\n"), written(place("zero.bin"), slot(0xB7) + slot(0x95))
     long, none, inside = written(place("long"), b"#" * (100 << 20)), place("none"), place("none/image")
     for words in ((), ("frob", good), ("asm", good), ("asm", good, none, none), ("dis",), ("dis", image, image), ("check",), ("check", image, image), ("check", image, "3"), ("check", image, "01"), ("check", image, "2", "2"), ("explain", image, "refused", "2"), ("check", "--help"), ("--help",), ("--version",), ("dis", "-x"), ("asm", "--", none)):
-        yield words, {}, 2, "usage: klog COMMAND FILE ..."
+        yield words, {}, 2, usage()
     for name in (none, folder, "-"):
         yield ("check", name), {}, 3, "file " + name
         yield ("dis", name), {}, 3, "file " + name

@@ -33,16 +33,21 @@ pub(crate) const MEMORY: &str = "memory\n";
 /// What is reported where there is no thread for a worker.
 const THREAD: &str = "thread\n";
 
+/// What is reported where the words are no call: all calls.
+const CALLS: &str = "usage:\nklog asm TEXT IMAGE\nklog batches FILE\nklog check IMAGE [1 or 2]\n\
+    klog explain IMAGE [1 or 2] [refused]\nklog dis IMAGE\nklog recheck LIST\nklog records FILE\n\
+    klog run SCRIPT\nklog transform [table2] IMAGE IN OUT ..\n";
+
 /// A text on standard error, as far as it can be written.
 pub(crate) fn say<E: Write>(stderr: &mut E, text: &str) {
     let _ = stderr.write_all(text.as_bytes());
 }
 
-/// Says how the program is called, and answers the status.
+/// Says which calls there are, and answers the status.
 pub(crate) fn tell_usage<E: Write>(stderr: &mut E) -> u8
     ensures { result ≡ 2 }
 {
-    say(stderr, "usage: klog COMMAND FILE ...\n");
+    say(stderr, CALLS);
     USAGE
 }
 

@@ -311,6 +311,12 @@ pub(crate) fn script_answers<R: Threads + Wait + Sync>(
     }
 }
 
+/// What is said where the words are no call.
+pub(crate) const USAGE: &str =
+    "usage:\nklog asm TEXT IMAGE\nklog batches FILE\nklog check IMAGE [1 or 2]\n\
+    klog explain IMAGE [1 or 2] [refused]\nklog dis IMAGE\nklog recheck LIST\nklog records FILE\n\
+    klog run SCRIPT\nklog transform [table2] IMAGE IN OUT ..\n";
+
 /// mov64 r1, 0; call 3; exit
 pub(crate) const FORWARD: [u8; 24] = [
     0xb7, 1, 0, 0, 0, 0, 0, 0, 0x85, 0, 0, 0, 3, 0, 0, 0, 0x95, 0, 0, 0, 0, 0, 0, 0,

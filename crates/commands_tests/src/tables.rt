@@ -1,6 +1,6 @@
 //! Calls that name the helper table of a program.
 
-use crate::shelf::{BATCHES, FORWARD, answers, shelf_of};
+use crate::shelf::{BATCHES, FORWARD, USAGE, answers, shelf_of};
 use crate::verdicts::all_hold;
 use std::alloc::Global;
 use std::sync::Wait;
@@ -59,12 +59,7 @@ static ROWS: [Row; 11] = [
         "out 0 in 0 done 3 rows 5\nin 0 items 3 records 5 unprogrammed 0 kept 5\n",
         0,
     ),
-    (
-        &["transform", "table2", "header", "batches"],
-        "",
-        "usage: klog COMMAND FILE ...\n",
-        2,
-    ),
+    (&["transform", "table2", "header", "batches"], "", USAGE, 2),
 ];
 
 /// The files that the calls read.

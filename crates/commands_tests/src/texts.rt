@@ -1,4 +1,4 @@
-use crate::shelf::{Shelf, answers, file_answers, shelf_of};
+use crate::shelf::{Shelf, USAGE, answers, file_answers, shelf_of};
 use crate::verdicts::all_hold;
 use std::alloc::Global;
 use std::sync::Wait;
@@ -70,14 +70,10 @@ static REFUSED: [Row; 8] = [
     (&["asm", "binary", "image"], "file binary\n", 3),
     (&["asm", "nothing", "image"], "file nothing\n", 3),
     (&["asm", "text", "locked"], "file locked\n", 3),
-    (&["asm", "text"], "usage: klog COMMAND FILE ...\n", 2),
+    (&["asm", "text"], USAGE, 2),
     (&["dis", "cut"], "I1 Size\n", 1),
     (&["dis", "nothing"], "file nothing\n", 3),
-    (
-        &["dis", "text", "image"],
-        "usage: klog COMMAND FILE ...\n",
-        2,
-    ),
+    (&["dis", "text", "image"], USAGE, 2),
 ];
 
 /// The number of the first call with another answer, or that leaves an image; 0 where there are no files.

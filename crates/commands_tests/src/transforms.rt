@@ -1,6 +1,6 @@
 //! Calls that run a program on the batches of a file.
 
-use crate::shelf::{BATCHES, FORWARD, Shelf, answers, empty_shelf, puts, puts_all};
+use crate::shelf::{BATCHES, FORWARD, Shelf, USAGE, answers, empty_shelf, puts, puts_all};
 use crate::verdicts::all_hold;
 use std::alloc::Global;
 use std::sync::Wait;
@@ -34,8 +34,6 @@ fn len_of(files: &Shelf, name: &str) -> usize {
 
 /// Words of a call, its status, what it says, and how many bytes the file `out` has.
 type Row = (&'static [&'static str], u8, &'static str, usize);
-
-const USAGE: &str = "usage: klog COMMAND FILE ...\n";
 
 static ROWS: [Row; 13] = [
     (

@@ -1,5 +1,5 @@
 use crate::scripts::BEGIN;
-use crate::shelf::{Shelf, empty_shelf, input_of, script_answers, words_of};
+use crate::shelf::{Shelf, USAGE, empty_shelf, input_of, script_answers, words_of};
 use crate::verdicts::all_hold;
 use commands::{command, tell_no_words};
 use std::alloc::Global;
@@ -22,8 +22,6 @@ impl Write for Full {
         Ok(())
     }
 }
-
-const USAGE: &str = "usage: klog COMMAND FILE ...\n";
 
 /// Why there are no words, what is said of it, and the status.
 static UNHAD: [(io::ErrorKind, &str, u8); 2] = [
