@@ -3,7 +3,6 @@ use Rattle.std.specs.Prelude.{◌≡◌, ◌≢◌, ◌⊎◌, ℕ, ◌+◌, ◌
 use Rattle.std.specs.Prelude.{Ok, Err, ⊤, IfSome}
 use Rattle.std.specs.List.{concat}
 use Rattle.wire_spec.specs.declared.{record.Batch.Batch, fault.BatchFault.BatchFault}
-use Rattle.wire_spec.specs.declared.fault.BatchFault.TheVariants as batch
 use Rattle.machine_spec.specs.Image.{Program, program_of}
 use Rattle.machine_spec.specs.declared.helper.Table.{Table}
 use Rattle.verifier_spec.specs.Loading.{IsRefusedWith}
@@ -27,6 +26,7 @@ use Rattle.commands.specs.declared.halts.Halt.TheVariants as halt
 use Rattle.command_line.specs.Calls.{AreDistinct}
 use Rattle.commands.specs.Images.{first_bytes}
 use Rattle.commands.specs.Listings.{source_of}
+use Rattle.commands.specs.Stops as stops
 
 -- ---- what a file has
 
@@ -72,18 +72,9 @@ pub record Transformed (program : Program) (bytes : List ℕ) (outputs : ℕ) (r
 
 -- ---- the status
 
--- the status of bytes that begin with no batch
+-- the status of bytes that begin with no batch, which is that of a script's line with them
 abbrev pub status_of_batch : BatchFault → ℕ
-status_of_batch batch.Short = 1
-status_of_batch batch.Length = 1
-status_of_batch batch.TooLarge = 1
-status_of_batch batch.Magic = 1
-status_of_batch batch.Crc = 1
-status_of_batch batch.Attributes = 1
-status_of_batch batch.Count = 1
-status_of_batch (batch.Record place) = 1
-status_of_batch batch.Timestamp = 1
-status_of_batch batch.Memory = 3
+status_of_batch why = stops.status_of (stops.stop_of_fault why)
 
 -- the status of a transform that ends so: 1 at bytes that begin with no batch, and where offsets are used up
 abbrev pub status_of : Result (Unit {0}) StreamFault → ℕ
