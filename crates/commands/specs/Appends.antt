@@ -52,7 +52,7 @@ IsRefusal inputs input old new rest (BookRefuses fault) = ⊥
 -- failed.
 abbrev pub EndsAt : ℕ → ℕ → Stop → List Received → List Received → List ℕ → Result ⊤ Stop → Type 0
 EndsAt inputs input cause old new rest (Ok done) = (input < inputs) × (rest ≡ [])
-EndsAt inputs input cause old new rest (Err (stop.Line fault)) = new ≡ old
+EndsAt inputs input cause old new rest (Err (stop.Line fault)) = ⊥
 EndsAt inputs input cause old new rest (Err (stop.Broker fault)) = IsRefusal inputs input old new rest fault
 EndsAt inputs input cause old new rest (Err (stop.Batch fault)) = (input < inputs) × (rest ≢ [])
     × (batch_at rest ≡ Err fault)

@@ -1,6 +1,6 @@
 -- What the lines of a script do to its broker.
 use Rattle.std.specs.Prelude.{◌≡◌, ℕ, ◌<◌, ◌≤◌, ◌⊎◌, List, [], ◌∷◌, ◌++◌, length, All, Option, Some, None, Result, Ok}
-use Rattle.std.specs.Prelude.{Err, OnOk, ⊤}
+use Rattle.std.specs.Prelude.{Err, Bool, true, OnOk, IfErr, ⊤}
 use Rattle.std.specs.Io.KnownBytes.{Appends}
 use Rattle.wire_spec.specs.declared.record.Batch.{Batch}
 use Rattle.machine_spec.specs.{Image.Program, Image.program_of, declared.helper.Table.Table}
@@ -15,6 +15,9 @@ use Rattle.broker.specs.declared.fault.BrokerFault.TheVariants.{Partition as Abs
 use Rattle.script.specs.declared.{command.Command.Command, command.Source.Source}
 use Rattle.script.specs.declared.command.Command.TheVariants.{Partitions, Load, Deploy, Put, Append, Close, Fetch, Go}
 use Rattle.script.specs.declared.command.Source.TheVariants.{Line, File}
+use Rattle.script.specs.declared.fault.ScriptFault.{ScriptFault}
+use Rattle.script.specs.declared.fault.ScriptFault.TheVariants.{Syntax, Order}
+use Rattle.script.specs.Faults.{fault_of}
 use Rattle.script.specs.Texts.{load_line, deploy_line, close_line, fetch_line}
 use Rattle.report.specs.Snapshots.{Gathered, IsGathered}
 use Rattle.report.specs.Texts.{report_text}
@@ -23,7 +26,7 @@ use Rattle.commands.specs.declared.stop.Stop.TheVariants as stop
 use Rattle.commands.specs.Appends.{line_of, AppendDoes}
 use Rattle.commands.specs.Images.{first_bytes}
 use Rattle.commands.specs.Puts.{put_batch}
-use Rattle.commands.specs.Stops.{IsUnwritten}
+use Rattle.commands.specs.Stops.{IsNoLine, IsUnwritten}
 
 -- a broker has `inputs` input partitions, with `cells` cells each, and `outputs` output partitions
 pub record IsMade (inputs outputs cells : ℕ) (parts : Layout) : Type 0 where
@@ -103,13 +106,17 @@ IsUntouched old new before after = (new ≡ old) × (after ≡ before)
 -- Why a command that appends one item is refused before anything is done. There is no such input partition only where
 -- the broker says so.
 abbrev pub Refuses : ℕ → ℕ → Stop → Type 0
-Refuses inputs input (stop.Line fault) = ⊤
+Refuses inputs input (stop.Line fault) = ⊥
 Refuses inputs input (stop.Broker fault) = fault ≡ Absent → inputs ≤ input
 Refuses inputs input stop.Memory = ⊤
 Refuses inputs input (stop.Batch fault) = ⊥
 Refuses inputs input (stop.File name) = ⊥
 Refuses inputs input stop.Output = ⊥
 Refuses inputs input stop.Thread = ⊥
+
+-- why no mark of a name is appended: the script did not load it, or the broker refuses it
+abbrev pub MarkFails : ℕ → ℕ → Stop → Type 0
+MarkFails inputs input reason = (reason ≡ stop.Line Order) ⊎ Refuses inputs input reason
 
 -- What a command does that appends one item to the log of an input partition, of whose receipt `Is` holds, and prints
 -- its line, which `Says`. It ends early before anything is done, or where the item's line can't be printed.
@@ -154,16 +161,38 @@ Does cells inputs outputs files (Append input source) old new before after resul
     AppendDoes inputs files input source old new before after result
 Does cells inputs outputs files (Load name source table) old new before after result = (new ≡ old)
     × OnOk result ((image : List ℕ) × IsImageIn files source image × Loads name image table before after)
+    × IfErr result IsNoLine
 Does cells inputs outputs files (Fetch output place max) old new before after result = (new ≡ old)
-    × OnOk result (Fetches cells inputs outputs output place max before after)
+    × OnOk result (Fetches cells inputs outputs output place max before after) × IfErr result IsNoLine
 Does cells inputs outputs files Go old new before after result = (new ≡ old)
-    × OnOk result (Reports inputs outputs before after)
+    × OnOk result (Reports inputs outputs before after) × IfErr result IsNoLine
 Does cells inputs outputs files (Partitions _ _ _) old new before after result = IsUntouched old new before after
-    × OnOk result ⊥
+    × OnOk result ⊥ × IfErr result IsNoLine
 
--- What a line does that is this command; one that is none is refused.
+-- Why a line of a script that has begun is refused before anything of it is done: it is no command, or the command has
+-- this fault. Whether the script loaded the program of a `deploy` is left open.
+abbrev pub IsLineFault : Option Command → ScriptFault → Type 0
+IsLineFault None fault = fault ≡ Syntax
+IsLineFault (Some command) fault = (is_loaded : Bool) × (fault_of command true is_loaded ≡ Some fault)
+
+-- A line is refused with its fault, and nothing else is done.
+pub record RefusesLine (said : Option Command) (old new : List Received) (before after : Option (List ℕ))
+    (result : Result ⊤ Stop) : Type 0 where
+  pub fault : ScriptFault
+  pub is_fault : IsLineFault said fault
+  pub result_is : result ≡ Err (stop.Line fault)
+  pub untouched : IsUntouched old new before after
+
+-- What is done of a line that is not refused so; for one that is no command that is nothing, since memory ran out.
+abbrev pub CommandDoes : (ℕ → List ℕ) → ℕ → ℕ → (List ℕ → Option (List ℕ)) → Option Command → List Received →
+    List Received → Option (List ℕ) → Option (List ℕ) → Result ⊤ Stop → Type 0
+CommandDoes cells inputs outputs files (Some command) old new before after result =
+    Does cells inputs outputs files command old new before after result
+CommandDoes cells inputs outputs files None old new before after result = IsUntouched old new before after
+    × (result ≡ Err stop.Memory)
+
+-- What a line does: it is refused, or it does what its command does, which then reports no fault of a line.
 abbrev pub LineDoes : (ℕ → List ℕ) → ℕ → ℕ → (List ℕ → Option (List ℕ)) → Option Command → List Received →
     List Received → Option (List ℕ) → Option (List ℕ) → Result ⊤ Stop → Type 0
-LineDoes cells inputs outputs files (Some command) old new before after result =
-    Does cells inputs outputs files command old new before after result
-LineDoes cells inputs outputs files None old new before after result = IsUntouched old new before after × OnOk result ⊥
+LineDoes cells inputs outputs files said old new before after result = RefusesLine said old new before after result
+    ⊎ CommandDoes cells inputs outputs files said old new before after result

@@ -111,6 +111,16 @@ IsUnwritten (stop.Batch fault) = ⊥
 IsUnwritten (stop.File name) = ⊥
 IsUnwritten stop.Thread = ⊥
 
+-- a command ends early, but not because its line is refused before anything of it is done
+abbrev pub IsNoLine : Stop → Type 0
+IsNoLine (stop.Line fault) = ⊥
+IsNoLine (stop.Broker fault) = ⊤
+IsNoLine (stop.Batch fault) = ⊤
+IsNoLine (stop.File name) = ⊤
+IsNoLine stop.Output = ⊤
+IsNoLine stop.Thread = ⊤
+IsNoLine stop.Memory = ⊤
+
 -- the status of a script that ends so: 1 where the line is refused, 3 where a file, standard output, a thread or memory
 -- fails
 abbrev pub status_of : Stop → ℕ

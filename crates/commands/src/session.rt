@@ -1,15 +1,16 @@
 //! The commands of a script after its first, one after the other.
 
-ghost use Rattle.std.specs.Prelude.{◌≡◌, ◌<◌, ◌≤◌, ℕ, List, length, true, OnOk, IfOk, IfErr, option_map};
+ghost use Rattle.std.specs.Prelude.{◌≡◌, ◌<◌, ◌≤◌, ◌⊎◌, ℕ, List, length, true, Some, OnOk, IfOk, IfErr, option_map};
 ghost use Rattle.script.specs.Commands.{command_of};
 ghost use Rattle.script.specs.Faults.{text_size, is_in_range};
+ghost use Rattle.script.specs.declared.command.Command.TheVariants as asked;
 ghost use Rattle.broker.specs.Layouts.{IsNamed};
 ghost use Rattle.broker.specs.declared.fault.BrokerFault.TheVariants.{Partition};
 ghost use Rattle.commands.specs.declared.stop.Stop.TheVariants as stop;
 ghost use Rattle.commands.specs.Appends.{AppendDoes};
 ghost use Rattle.commands.specs.Puts.{put_batch};
-ghost use Rattle.commands.specs.Sessions.{IsMark, IsImageIn, Loads, Fetches, Reports, Refuses, DeployDoes, PutDoes, CloseDoes, Does, LineDoes};
-ghost use Rattle.commands.specs.Stops.{HasNoFinder};
+ghost use Rattle.commands.specs.Sessions.{IsMark, IsImageIn, Loads, Fetches, Reports, MarkFails, RefusesLine, DeployDoes, PutDoes, CloseDoes, LineDoes};
+ghost use Rattle.commands.specs.Stops.{HasNoFinder, IsNoLine};
 
 use crate::appending::{add, append_source, make_room, print_appended};
 use crate::batches::batch_of;
@@ -105,8 +106,10 @@ impl<'a, Id: Names + Send + Sync, R: Threads + Wait + Sync> Session<'a, Id, R> {
     }
 
     /// The image that a command names.
+    #[tactic(auto, using(crate::proofs::StopLaws::unread_no_line))]
     fn image<F: Files>(&self, files: &mut F, source: Source) -> Result<Bytes, Stop>
-        ensures { IfOk result (IsImageIn (F.bytes files.old) source) }
+        ensures read { IfOk result (IsImageIn (F.bytes files.old) source) }
+        ensures failed { IfErr result IsNoLine }
     {
         match source {
             Source::Line(image) => Ok(image),
@@ -119,6 +122,7 @@ impl<'a, Id: Names + Send + Sync, R: Threads + Wait + Sync> Session<'a, Id, R> {
 
     /// Loads an image under a name, as a program of a helper table, and prints its version; answers what
     /// is known of the name then.
+    #[tactic(auto, using(crate::proofs::StopLaws::broker_no_line, crate::proofs::StopLaws::unwritten_no_line))]
     fn load<O: Write>(
         &self,
         stdout: &mut O,
@@ -126,7 +130,8 @@ impl<'a, Id: Names + Send + Sync, R: Threads + Wait + Sync> Session<'a, Id, R> {
         image: &Bytes,
         table: Table,
     ) -> Result<Known, Stop>
-        ensures { IfOk result (λ _. Loads name.now image.now table (O.contents stdout.old) (O.contents stdout.new)) }
+        ensures loaded { IfOk result (λ _. Loads name.now image.now table (O.contents stdout.old) (O.contents stdout.new)) }
+        ensures failed { IfErr result IsNoLine }
     {
         let text = name.text.as_str();
         let (version, known) = self.broker.load(self.rt, self.alloc, text, image, table)?;
@@ -143,8 +148,9 @@ impl<'a, Id: Names + Send + Sync, R: Threads + Wait + Sync> Session<'a, Id, R> {
         source: Source,
         table: Table,
     ) -> Result<(), Stop>
-        ensures { OnOk result ((image : List ℕ) × IsImageIn (F.bytes files.old) source image
+        ensures loaded { OnOk result ((image : List ℕ) × IsImageIn (F.bytes files.old) source image
             × Loads name image table (O.contents stdout.old) (O.contents stdout.new)) }
+        ensures failed { IfErr result IsNoLine }
     {
         let image = self.image(files, source)?;
         let known = self.load(stdout, &name, &image, table)?;
@@ -152,7 +158,9 @@ impl<'a, Id: Names + Send + Sync, R: Threads + Wait + Sync> Session<'a, Id, R> {
     }
 
     /// Keeps what is known of a name.
-    fn keep(&mut self, name: RawName, known: Known) -> Result<(), Stop> {
+    fn keep(&mut self, name: RawName, known: Known) -> Result<(), Stop>
+        ensures { IfErr result IsNoLine }
+    {
         match self.loaded.insert(name.text, known) {
             Ok(_) => Ok(()),
             Err(_) => Err(Stop::Memory),
@@ -174,7 +182,7 @@ impl<'a, Id: Names + Send + Sync, R: Threads + Wait + Sync> Session<'a, Id, R> {
     #[tactic(auto, using(crate::proofs::Marks::no_finder))]
     fn mark(&mut self, input: u64, name: &Name) -> Result<(Receipt<Id>, u32), Stop>
         ensures ok { IfOk result (λ marked. (input < self.old) × IsMark input name.now marked.1 marked.0) }
-        ensures err { IfErr result (Refuses self.old input) }
+        ensures err { IfErr result (MarkFails self.old input) }
     {
         let mut finder = self.taken_finder()?;
         let Some(known) = self.loaded.get(name.text.as_str()) else {
@@ -194,6 +202,7 @@ impl<'a, Id: Names + Send + Sync, R: Threads + Wait + Sync> Session<'a, Id, R> {
 
     /// Deploys a loaded name, and prints where its mark is. No text that is too long for a name is
     /// loaded.
+    #[tactic(auto, using(crate::proofs::Said::unloaded))]
     fn deploy<O: Write>(
         &mut self,
         stdout: &mut O,
@@ -201,7 +210,8 @@ impl<'a, Id: Names + Send + Sync, R: Threads + Wait + Sync> Session<'a, Id, R> {
         name: RawName,
         receipts: &mut Vec<Receipt<Id>>,
     ) -> Result<(), Stop>
-        ensures { DeployDoes self.old input name receipts.old.items receipts.new.items (O.contents stdout.old) (O.contents stdout.new) result }
+        ensures { RefusesLine (Some (asked.Deploy input name)) receipts.old.items receipts.new.items (O.contents stdout.old) (O.contents stdout.new) result
+            ⊎ DeployDoes self.old input name receipts.old.items receipts.new.items (O.contents stdout.old) (O.contents stdout.new) result }
     {
         match Name::new(name.text.as_str()) {
             None => Err(Stop::Line(ScriptFault::Order)),
@@ -209,6 +219,7 @@ impl<'a, Id: Names + Send + Sync, R: Threads + Wait + Sync> Session<'a, Id, R> {
         }
     }
 
+    #[tactic(auto, using(crate::proofs::Said::not_marked))]
     fn deploy_named<O: Write>(
         &mut self,
         stdout: &mut O,
@@ -216,7 +227,8 @@ impl<'a, Id: Names + Send + Sync, R: Threads + Wait + Sync> Session<'a, Id, R> {
         name: &Name,
         receipts: &mut Vec<Receipt<Id>>,
     ) -> Result<(), Stop>
-        ensures { DeployDoes self.old input name.now receipts.old.items receipts.new.items (O.contents stdout.old) (O.contents stdout.new) result }
+        ensures { RefusesLine (Some (asked.Deploy input name.now)) receipts.old.items receipts.new.items (O.contents stdout.old) (O.contents stdout.new) result
+            ⊎ DeployDoes self.old input name.now receipts.old.items receipts.new.items (O.contents stdout.old) (O.contents stdout.new) result }
     {
         self.known_input(input)?;
         make_room(receipts)?;
@@ -295,9 +307,10 @@ impl<'a, Id: Names + Send + Sync, R: Threads + Wait + Sync> Session<'a, Id, R> {
     }
 
     /// Prints the rows of an output partition from a place on as one record batch, or `none`.
-    #[tactic(auto, using(crate::proofs::Loaded::fetches, crate::proofs::Written::line_printed))]
+    #[tactic(auto, using(crate::proofs::Loaded::fetches, crate::proofs::Written::line_printed, crate::proofs::StopLaws::broker_no_line, crate::proofs::StopLaws::unwritten_no_line))]
     fn fetch<O: Write>(&self, stdout: &mut O, output: u64, place: u64, max: u64) -> Result<(), Stop>
-        ensures { OnOk result (Fetches Id.cells self.now Id.outputs output place max (O.contents stdout.old) (O.contents stdout.new)) }
+        ensures fetched { OnOk result (Fetches Id.cells self.now Id.outputs output place max (O.contents stdout.old) (O.contents stdout.new)) }
+        ensures failed { IfErr result IsNoLine }
     {
         let found = self
             .broker
@@ -306,8 +319,10 @@ impl<'a, Id: Names + Send + Sync, R: Threads + Wait + Sync> Session<'a, Id, R> {
     }
 
     /// Runs the programs on every item that the logs have, then prints the report.
+    #[tactic(auto, using(crate::proofs::StopLaws::broker_no_line, crate::proofs::StopLaws::report_no_line, crate::proofs::StopLaws::end_no_line))]
     fn go<O: Write>(&self, stdout: &mut O) -> Result<(), Stop>
-        ensures { OnOk result (Reports self.now Id.outputs (O.contents stdout.old) (O.contents stdout.new)) }
+        ensures reported { OnOk result (Reports self.now Id.outputs (O.contents stdout.old) (O.contents stdout.new)) }
+        ensures failed { IfErr result IsNoLine }
     {
         let ended = self
             .broker
@@ -320,6 +335,7 @@ impl<'a, Id: Names + Send + Sync, R: Threads + Wait + Sync> Session<'a, Id, R> {
 
     /// What a line asks for. The receipts of all that it appends are put at the end of the list, also
     /// before a fault.
+    #[tactic(auto, using(crate::proofs::Said::no_command, crate::proofs::Said::has_fault))]
     pub fn line<F: Files, O: Write>(
         &mut self,
         files: &mut F,
@@ -340,6 +356,7 @@ impl<'a, Id: Names + Send + Sync, R: Threads + Wait + Sync> Session<'a, Id, R> {
     }
 
     /// What a command asks for.
+    #[tactic(auto, using(crate::proofs::Said::begun_twice))]
     fn act<F: Files, O: Write>(
         &mut self,
         files: &mut F,
@@ -348,7 +365,7 @@ impl<'a, Id: Names + Send + Sync, R: Threads + Wait + Sync> Session<'a, Id, R> {
         receipts: &mut Vec<Receipt<Id>>,
     ) -> Result<(), Stop>
         requires { is_in_range command ≡ true }
-        ensures { Does Id.cells self.old Id.outputs (F.bytes files.old) command receipts.old.items receipts.new.items (O.contents stdout.old) (O.contents stdout.new) result }
+        ensures { LineDoes Id.cells self.old Id.outputs (F.bytes files.old) (Some command) receipts.old.items receipts.new.items (O.contents stdout.old) (O.contents stdout.new) result }
     {
         match command {
             Command::Partitions(..) => Err(Stop::Line(ScriptFault::Order)),

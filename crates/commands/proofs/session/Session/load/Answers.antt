@@ -4,8 +4,8 @@ use Rattle.commands.proofs.Loaded.{loads}
 use Rattle.commands.proofs.Written.{line_printed}
 use Rattle.commands.proofs.session.Session.load.Goals as goal
 
-pub returns : goal.returns
-returns g c =
+pub returns-clause-loaded : goal.returns-clause-loaded
+returns-clause-loaded g c =
     let version = c.in_ok-version.version in
     let before = g.O.Write.contents c.args.stdout.now in
     let after = g.O.Write.contents c.print_line.new.stdout in
