@@ -16,6 +16,8 @@ mod headers;
 #[cfg(test)]
 mod images;
 #[cfg(test)]
+mod known;
+#[cfg(test)]
 mod listings;
 #[cfg(test)]
 mod receipts;

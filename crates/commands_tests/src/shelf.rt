@@ -1,5 +1,9 @@
 //! Files in memory, and calls of the program over them.
 
+ghost use Rattle.std.specs.Prelude.{◌≡◌, ◌≢◌, ◌<◌, ℕ, List, [], true, Some, IfOk, OnOk, IfSome};
+ghost use Rattle.std.specs.Bool.{OnTrue};
+ghost use Rattle.commands_tests.specs.Shelves.{bytes_in, left_of};
+
 use commands::{Files, command};
 use std::alloc::Global;
 use std::collections::BTreeMap;
@@ -8,7 +12,8 @@ use std::io::{Cursor, Read, Write};
 use std::sync::Wait;
 use std::thread::Threads;
 
-/// Files in memory, of which no one called `locked` can be written.
+/// Files in memory, of which no one called `locked` can be written. The bytes of each are known, and so is what is
+/// written to one piece by piece.
 #[derive(Drop)]
 pub(crate) struct Shelf {
     alloc: Global,
@@ -22,9 +27,12 @@ pub(crate) struct Opened {
     bytes: Cursor<Vec<u8>>,
     has_end: bool,
     most: usize,
+    ghost positive: { 0 < most },
 }
 
 impl Read for Opened {
+    ghost remaining = { λ opened. left_of opened.bytes };
+
     fn read(&mut self, buf: &mut [u8]) -> io::Result<usize> {
         let most = self.most.min(buf.len());
         let count = self.bytes.read(&mut buf[..most])?;
@@ -44,6 +52,8 @@ pub(crate) struct Created {
 }
 
 impl Write for Created {
+    ghost contents = { λ created. Some created.bytes.items };
+
     fn write(&mut self, bytes: &[u8]) -> io::Result<usize> {
         let count = bytes.len().min(self.room);
         self.bytes.extend_from_slice(&bytes[..count])?;
@@ -57,6 +67,10 @@ impl Write for Created {
 }
 
 impl Files for Shelf {
+    ghost bytes = { λ shelf. bytes_in shelf.files };
+
+    ghost tells = { true };
+
     type Reader = Opened;
 
     type Writer = Created;
@@ -79,7 +93,10 @@ impl Files for Shelf {
         self.write(name, writer.bytes.as_slice())
     }
 
-    fn write(&mut self, name: &str, content: &[u8]) -> io::Result<()> {
+    fn write(&mut self, name: &str, content: &[u8]) -> io::Result<()>
+        ensures held { OnOk result (bytes_in self.new.files name.now ≡ Some content.now) }
+        ensures kept { (other : List ℕ) → other ≢ name.now → bytes_in self.new.files other ≡ bytes_in self.old.files other }
+    {
         if name == "locked" {
             return Err(io::Error::from(io::ErrorKind::PermissionDenied));
         }
@@ -92,12 +109,11 @@ impl Files for Shelf {
 }
 
 /// Puts a file in place; whether there was memory for it.
-fn is_put(
-    alloc: Global,
-    files: &mut BTreeMap<String, Vec<u8>>,
-    name: &str,
-    content: &[u8],
-) -> bool {
+#[tactic(auto, using(std::proofs::lemmas::Map::Text::text_keys))]
+fn is_put(alloc: Global, files: &mut BTreeMap<String, Vec<u8>>, name: &str, content: &[u8]) -> bool
+    ensures held { OnTrue result (bytes_in files.new name.now ≡ Some content.now) }
+    ensures kept { (other : List ℕ) → other ≢ name.now → bytes_in files.new other ≡ bytes_in files.old other }
+{
     match (
         String::from_str(alloc, name),
         Vec::from_slice(alloc, content),
@@ -108,7 +124,9 @@ fn is_put(
 }
 
 /// A file to read, by its name.
-fn open_file(alloc: Global, name: &str, bytes: &[u8]) -> io::Result<Opened> {
+fn open_file(alloc: Global, name: &str, bytes: &[u8]) -> io::Result<Opened>
+    ensures { IfOk result (λ opened. left_of opened.bytes ≡ Some bytes.now) }
+{
     let has_end = !name.starts_with("endless");
     let most = if name.starts_with("slow") {
         1
@@ -126,7 +144,9 @@ fn open_file(alloc: Global, name: &str, bytes: &[u8]) -> io::Result<Opened> {
 }
 
 /// A file to write, by its name.
-fn create_file(alloc: Global, name: &str) -> Created {
+fn create_file(alloc: Global, name: &str) -> Created
+    ensures { result.bytes.items ≡ [] }
+{
     let room = if name.starts_with("narrow") {
         100
     } else {
@@ -190,7 +210,9 @@ pub(crate) fn words_of(alloc: Global, words: &[&str]) -> Option<Vec<String>> {
 }
 
 /// Bytes to read.
-pub(crate) fn input_of(alloc: Global, bytes: &[u8]) -> Option<Cursor<Vec<u8>>> {
+pub(crate) fn input_of(alloc: Global, bytes: &[u8]) -> Option<Cursor<Vec<u8>>>
+    ensures { IfSome result (λ input. left_of input ≡ Some bytes.now) }
+{
     match Vec::from_slice(alloc, bytes) {
         Ok(bytes) => Some(Cursor::new(bytes)),
         Err(_) => None,
