@@ -1,12 +1,17 @@
 //! Calls over a shelf, whose files have known bytes: what the commands promise of known bytes is met there.
 
 ghost use Rattle.std.specs.Prelude.{Some, IfSome, codes};
+ghost use Rattle.command_line.specs.Calls.{names_of};
+ghost use Rattle.commands.specs.FileTransforms.{CallTransforms};
 ghost use Rattle.commands.specs.Rechecks.{RechecksAs};
-ghost use Rattle.commands_tests.specs.Shelves.{bytes_in, with_file};
+ghost use Rattle.commands_tests.specs.Shelves.{bytes_in, left_of, with_file};
 
-use crate::shelf::{FORWARD, Shelf, shelf_of};
-use commands::{Files, recheck};
+use crate::shelf::{BATCHES, FORWARD, Shelf, input_of, shelf_of};
+use crate::transforms::len_of;
+use commands::{Files, recheck, transform};
+use machine_spec::Table;
 use std::alloc::Global;
+use std::io::Cursor;
 use std::test::*;
 
 /// Puts a list on a shelf, and verifies the programs that it names anew; `None` where it can't be put.
@@ -41,4 +46,47 @@ fn is_rechecked(alloc: Global, list: &[u8], status: u8, printed: &[u8]) -> bool 
 fn a_list_on_a_shelf_is_rechecked(rt: HostRuntime) {
     let printed = b"forward.bin accepted 3 instructions\n";
     assert!(rt; is_rechecked(rt.alloc(), b"forward.bin\n\n", 1, printed));
+}
+
+/// Runs a program of the first helper table on batches. The words are the image, the batches and the file of the one
+/// output partition.
+fn transform_to(
+    alloc: Global,
+    files: &mut Shelf,
+    stdin: &mut Cursor<Vec<u8>>,
+    stderr: &mut Vec<u8>,
+    words: &[String; 3],
+) -> u8
+    ensures { CallTransforms Table.One (names_of words.now) (left_of stdin.old) (bytes_in files.old.files)
+        (bytes_in files.new.files) result }
+{
+    transform(alloc, files, stdin, stderr, Table::One, words)
+}
+
+/// Whether the rows of all batches are in the file.
+fn is_transformed(alloc: Global, words: &[String; 3]) -> bool {
+    let files = shelf_of(alloc, &[("forward.bin", &FORWARD)]);
+    let (Some(mut files), Some(mut stdin)) = (files, input_of(alloc, &BATCHES)) else {
+        return false;
+    };
+    let mut stderr = Vec::new(alloc);
+    let status = transform_to(alloc, &mut files, &mut stdin, &mut stderr, words);
+    status == 0 && len_of(&files, words[2].as_str()) == 202
+}
+
+/// The same with the names of the files.
+fn is_transformed_out(alloc: Global) -> bool {
+    match (
+        String::from_str(alloc, "forward.bin"),
+        String::from_str(alloc, "stdin"),
+        String::from_str(alloc, "out"),
+    ) {
+        (Ok(image), Ok(batches), Ok(out)) => is_transformed(alloc, &[image, batches, out]),
+        _ => false,
+    }
+}
+
+#[test]
+fn batches_go_through_a_program_onto_a_shelf(rt: HostRuntime) {
+    assert!(rt; is_transformed_out(rt.alloc()));
 }

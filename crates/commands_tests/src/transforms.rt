@@ -25,7 +25,7 @@ fn shelf(alloc: Global) -> Option<Shelf> {
 }
 
 /// How many bytes a file has; 0 where it is not there.
-fn len_of(files: &Shelf, name: &str) -> usize {
+pub(crate) fn len_of(files: &Shelf, name: &str) -> usize {
     match files.files.get(name) {
         Some(bytes) => bytes.len(),
         None => 0,
