@@ -1,16 +1,16 @@
 -- What the files of a shelf are.
-use Rattle.std.specs.Prelude.{ℕ, List, Option, Some, String}
+use Rattle.std.specs.Prelude.{ℕ, List, [], Option, Some, String}
 use Rattle.std.specs.BTreeMap.{BTreeMap, get_by_text}
 use Rattle.std.specs.Global.{Global, Vec}
 use Rattle.std.specs.Io.Cursor.{cursor_remaining}
 use Rattle.std.specs.Map.{update}
-use Rattle.std.specs.Option.{option_map}
+use Rattle.std.specs.Option.{option_map_or}
 use Rattle.std.specs.Str.{bytes_eq}
 use Rattle.std.specs.declared.io.Cursor.{Cursor}
 
--- the bytes of the file with this name, if there is one
+-- the bytes of the file with this name; one that isn't there has none
 abbrev pub bytes_in : BTreeMap (String Global) (Vec ℕ) → List ℕ → Option (List ℕ)
-bytes_in files name = option_map (λ content. content.items) (get_by_text files name)
+bytes_in files name = Some (option_map_or (λ content. content.items) (get_by_text files name) [])
 
 -- files, and one of these bytes under this name
 abbrev pub with_file : (List ℕ → Option (List ℕ)) → List ℕ → List ℕ → List ℕ → Option (List ℕ)
