@@ -8,7 +8,8 @@ Not part of the build. With a built program (`rt run` in crates/klog leaves it i
 
 It prints the first call on which status, standard output, standard error or the written image differ, and ends with
 status 1; else how many calls were compared, and how often each fault was met. Before them come fixed calls on files that
-can't be read or written, on words that are no call, and with little memory.
+can't be read or written, on words that are no call, with little memory, and on a transform's output that is its input
+by another path.
 """
 import collections
 import os
@@ -356,6 +357,12 @@ def fixed_calls(folder):
     for command in ("check", "dis"):
         yield (command, "/dev/zero"), {"preexec_fn": little_memory}, 1, "I1 Size"
         yield (command, image), {"stdout": open("/dev/full", "wb")}, 3, "file stdout"
+    batches, link, out, again = written(place("in"), b"no batch"), place("link"), place("out"), place("./out")
+    os.symlink(batches, link)
+    for same in (place("./in"), link):
+        yield ("transform", image, batches, same), {}, 3, "file " + same
+    yield ("transform", image, batches, place("./zero.bin")), {}, 3, "file " + place("./zero.bin")
+    yield ("transform", image, batches, out, again), {}, 3, "file " + again
 
 
 def compare_fixed(program, folder):
@@ -367,6 +374,8 @@ def compare_fixed(program, folder):
         calls += 1
     if os.path.exists(os.path.join(folder, "none")):
         sys.exit("a file was written")
+    if os.path.getsize(os.path.join(folder, "in")) == 0 or os.path.getsize(os.path.join(folder, "zero.bin")) == 0:
+        sys.exit("a transform has emptied its own input")
     return calls
 
 
