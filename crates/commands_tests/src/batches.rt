@@ -1,5 +1,6 @@
+use crate::calls::{Call, RUN, RUN_FILE, first_other};
 use crate::scripts::BEGIN;
-use crate::shelf::{BATCHES, answers, script_answers, shelf_of};
+use crate::shelf::{BATCHES, SCRIPT_FILES, answers, shelf_of};
 use crate::verdicts::all_hold;
 use std::alloc::Global;
 use std::sync::Wait;
@@ -25,22 +26,22 @@ const APPENDED: &str = "load fwd version 1\ndeploy 0 index 0 fwd version 1\n\
         row 0 0 5 0 0 6b 76 0\n\
         out 0 in 0 done 4 rows 6\nin 0 items 4 records 6 unprogrammed 0 kept 6\n";
 
-fn are_appended<R: Threads + Wait + Sync>(rt: &R, alloc: Global) -> bool {
-    let script = format!(in alloc;
-        "{BEGIN}deploy 0 fwd\nappend 0 batches.bin\nappend 0 hex:{ONE}\ngo\n"
-    );
-    match script {
-        Ok(script) => {
-            let want = (0, APPENDED, "");
-            script_answers(rt, alloc, &["run", "stdin"], script.as_str(), want)
-        }
-        Err(_) => false,
-    }
-}
+static APPENDS: [Call; 1] = [(
+    RUN,
+    &[
+        BEGIN,
+        "deploy 0 fwd\nappend 0 batches.bin\nappend 0 hex:",
+        ONE,
+        "\ngo\n",
+    ],
+    &[APPENDED],
+    "",
+    0,
+)];
 
 #[test]
 fn appends_batches(rt: HostRuntime) {
-    assert!(rt; are_appended(&rt, rt.alloc()));
+    all_hold(&rt, first_other(&rt, rt.alloc(), &SCRIPT_FILES, &APPENDS));
 }
 
 /// `ONE` without its last byte.
@@ -50,100 +51,84 @@ const CUT: &str =
 /// What is printed of `ONE` in an empty log.
 const FIRST: &str = "append 0 index 0 base 0\n";
 
-/// How many cells the log has, a line in three parts, the status, and what is printed on both outputs.
-type Line = (usize, [&'static str; 3], u8, &'static str, &'static str);
-
-static LINES: [Line; 11] = [
-    (8, ["append 0 hex:", "", ""], 0, "", ""),
+/// Scripts that append batches in their second line.
+static LINES: [Call; 11] = [
+    (RUN_FILE, &["partitions 1 1 8\nappend 0 hex:"], &[], "", 0),
     (
-        8,
-        ["append 0 hex:", ONE, CUT],
-        1,
-        FIRST,
+        RUN_FILE,
+        &["partitions 1 1 8\nappend 0 hex:", ONE, CUT],
+        &[FIRST],
         "line 2: B1 Short\n",
+        1,
     ),
     (
-        8,
-        ["append 0 hex:", ONE, SAME_DELTA],
-        1,
-        FIRST,
+        RUN_FILE,
+        &["partitions 1 1 8\nappend 0 hex:", ONE, SAME_DELTA],
+        &[FIRST],
         "line 2: B8 Record record 1\n",
+        1,
     ),
     (
-        1,
-        ["append 0 hex:", ONE, ONE],
-        1,
-        FIRST,
+        RUN_FILE,
+        &["partitions 1 1 1\nappend 0 hex:", ONE, ONE],
+        &[FIRST],
         "line 2: L1 Full\n",
+        1,
     ),
     (
-        1,
-        ["append 0 hex:", ONE, CUT],
-        1,
-        FIRST,
+        RUN_FILE,
+        &["partitions 1 1 1\nappend 0 hex:", ONE, CUT],
+        &[FIRST],
         "line 2: B1 Short\n",
-    ),
-    (
-        8,
-        ["append 1 hex:", "00", ""],
         1,
-        "",
-        "line 2: P1 Partition\n",
     ),
     (
-        8,
-        ["append 1 hex:", "", ""],
+        RUN_FILE,
+        &["partitions 1 1 8\nappend 1 hex:", "00"],
+        &[],
+        "line 2: P1 Partition\n",
         1,
-        "",
-        "line 2: P1 Partition\n",
     ),
     (
-        8,
-        ["append 1180591620717411303424 bad", "", ""],
+        RUN_FILE,
+        &["partitions 1 1 8\nappend 1 hex:"],
+        &[],
+        "line 2: P1 Partition\n",
         1,
-        "",
-        "line 2: P1 Partition\n",
     ),
     (
-        8,
-        ["append 1 nothing.bin", "", ""],
-        3,
-        "",
+        RUN_FILE,
+        &["partitions 1 1 8\nappend 1180591620717411303424 bad"],
+        &[],
+        "line 2: P1 Partition\n",
+        1,
+    ),
+    (
+        RUN_FILE,
+        &["partitions 1 1 8\nappend 1 nothing.bin"],
+        &[],
         "file nothing.bin\n",
+        3,
     ),
-    (8, ["append 0 hex:0", "", ""], 3, "", "file hex:0\n"),
-    (8, ["append 0", "", ""], 1, "", "line 2: S1 Syntax\n"),
+    (
+        RUN_FILE,
+        &["partitions 1 1 8\nappend 0 hex:0"],
+        &[],
+        "file hex:0\n",
+        3,
+    ),
+    (
+        RUN_FILE,
+        &["partitions 1 1 8\nappend 0"],
+        &[],
+        "line 2: S1 Syntax\n",
+        1,
+    ),
 ];
-
-/// Whether a script whose second line this is has its answer.
-fn line_answers<R: Threads + Wait + Sync>(rt: &R, alloc: Global, row: &Line) -> bool {
-    let (cells, [call, first, second], status, out, err) = *row;
-    match format!(in alloc; "partitions 1 1 {cells}\n{call}{first}{second}\n") {
-        Ok(script) => {
-            let want = (status, out, err);
-            script_answers(rt, alloc, &["run", "script"], script.as_str(), want)
-        }
-        Err(_) => false,
-    }
-}
-
-/// The number of the first line with another answer.
-fn first_other_line<R: Threads + Wait + Sync>(
-    rt: &R,
-    alloc: Global,
-    rows: &[Line],
-) -> Option<usize> {
-    for (k, row) in rows.iter().enumerate() {
-        if !line_answers(rt, alloc, row) {
-            return Some(k);
-        }
-    }
-    None
-}
 
 #[test]
 fn keeps_the_batches_before_a_faulty_one(rt: HostRuntime) {
-    all_hold(&rt, first_other_line(&rt, rt.alloc(), &LINES));
+    all_hold(&rt, first_other(&rt, rt.alloc(), &SCRIPT_FILES, &LINES));
 }
 
 /// Adds bytes at the end; whether it could.

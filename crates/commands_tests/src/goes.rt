@@ -1,6 +1,6 @@
 //! Scripts over several partitions, and what `go` and `fetch` print.
 
-use crate::runs::{Run, first_other};
+use crate::calls::{Call, RUN, first_other};
 use crate::verdicts::all_hold;
 use std::test::*;
 
@@ -45,7 +45,8 @@ const ALL_ROWS: &str = "row 0 0 0 0 1 6b 41 0\nrow 0 0 3 1 7 . - 0\nrow 0 1 2 1 
     in 0 items 7 records 4 unprogrammed 0 kept 4\n\
     in 1 items 5 records 3 unprogrammed 1 kept 2\n";
 
-static GOES: [Run; 1] = [(
+static GOES: [Call; 1] = [(
+    RUN,
     &[DEPLOYED],
     &[BEFORE, FIRST_ROWS, BETWEEN, ALL_ROWS, ALL_ROWS],
     "",
@@ -54,7 +55,7 @@ static GOES: [Run; 1] = [(
 
 #[test]
 fn prints_all_rows_at_each_go(rt: HostRuntime) {
-    all_hold(&rt, first_other(&rt, rt.alloc(), &GOES));
+    all_hold(&rt, first_other(&rt, rt.alloc(), &[], &GOES));
 }
 
 /// Of three records the first has no program, and the others are rejected.
@@ -84,9 +85,10 @@ const ONE_ROW_BATCH: &str =
     "00000000000000000000003a0000000002716a618900000000000000000000000003e800\
     000000000003e8ffffffffffffffffffffffffffff0000000110000000026b027600\n";
 
-static FETCHES: [Run; 2] = [
-    (&[NO_ROWS], &[NO_ROWS_PRINTED], "", 0),
+static FETCHES: [Call; 2] = [
+    (RUN, &[NO_ROWS], &[NO_ROWS_PRINTED], "", 0),
     (
+        RUN,
         &[ONE_ROW],
         &[
             ONE_ROW_BEGUN,
@@ -103,5 +105,5 @@ static FETCHES: [Run; 2] = [
 
 #[test]
 fn prints_fetched_batches(rt: HostRuntime) {
-    all_hold(&rt, first_other(&rt, rt.alloc(), &FETCHES));
+    all_hold(&rt, first_other(&rt, rt.alloc(), &[], &FETCHES));
 }

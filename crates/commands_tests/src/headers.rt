@@ -1,6 +1,6 @@
 //! Programs of both helper tables in one log.
 
-use crate::runs::{Run, first_other};
+use crate::calls::{Call, RUN, first_other};
 use crate::verdicts::all_hold;
 use std::test::*;
 
@@ -37,7 +37,8 @@ const PRINTED: &str = "load plain version 1\nload routed version 1\nload coded v
     in 0 items 6 records 12 unprogrammed 0 kept 9\n\
     in 0 reject 1 count 1\nin 0 reject 2 count 1\nin 0 reject 4 count 1\n";
 
-static MIXED: [Run; 1] = [(
+static MIXED: [Call; 1] = [(
+    RUN,
     &[
         "partitions 1 5 16\nload plain hex:",
         PLAIN,
@@ -62,32 +63,36 @@ static MIXED: [Run; 1] = [(
 
 #[test]
 fn each_record_goes_by_its_own_table(rt: HostRuntime) {
-    all_hold(&rt, first_other(&rt, rt.alloc(), &MIXED));
+    all_hold(&rt, first_other(&rt, rt.alloc(), &[], &MIXED));
 }
 
 /// A load with no table, and with the numbers of some.
 const LOAD: &str = "partitions 1 1 8\nload coded hex:";
 
-static LOADS: [Run; 4] = [
+static LOADS: [Call; 4] = [
     (
+        RUN,
         &[LOAD, FIRST_HEADER, EXIT, "\n"],
         &[],
         "line 2: V11 Helper at 4\n",
         1,
     ),
     (
+        RUN,
         &[LOAD, FIRST_HEADER, EXIT, " 1\n"],
         &[],
         "line 2: S1 Syntax\n",
         1,
     ),
     (
+        RUN,
         &[LOAD, FIRST_HEADER, EXIT, " 3\n"],
         &[],
         "line 2: S1 Syntax\n",
         1,
     ),
     (
+        RUN,
         &[LOAD, FIRST_HEADER, EXIT, " 2\n"],
         &["load coded version 1\n"],
         "",
@@ -97,5 +102,5 @@ static LOADS: [Run; 4] = [
 
 #[test]
 fn the_first_table_has_no_headers(rt: HostRuntime) {
-    all_hold(&rt, first_other(&rt, rt.alloc(), &LOADS));
+    all_hold(&rt, first_other(&rt, rt.alloc(), &[], &LOADS));
 }

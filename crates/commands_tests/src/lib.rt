@@ -4,6 +4,8 @@
 #[cfg(test)]
 mod batches;
 #[cfg(test)]
+mod calls;
+#[cfg(test)]
 mod causes;
 #[cfg(test)]
 mod examples;
@@ -25,8 +27,6 @@ mod receipts;
 mod rechecks;
 #[cfg(test)]
 mod rows;
-#[cfg(test)]
-mod runs;
 #[cfg(test)]
 mod scripts;
 #[cfg(test)]

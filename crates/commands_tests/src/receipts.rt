@@ -2,7 +2,7 @@
 
 ghost use Rattle.broker.specs.Layouts.{IsNamed};
 
-use crate::runs::joined;
+use crate::calls::joined;
 use crate::shelf::empty_shelf;
 use broker::Parts;
 use catalogue::Catalogue;

@@ -1,6 +1,6 @@
 //! Rows of scripts, and the counts after them.
 
-use crate::runs::{Run, first_other};
+use crate::calls::{Call, RUN, first_other};
 use crate::verdicts::all_hold;
 use std::test::*;
 
@@ -22,11 +22,11 @@ const FOUR_PRINTED: &str = "load both version 1\nload turned version 1\n\
     in 0 items 1 records 1 unprogrammed 1 kept 0\n\
     in 1 items 5 records 2 unprogrammed 0 kept 2\n";
 
-static BY_PLACE: [Run; 1] = [(&[FOUR], &[FOUR_PRINTED], "", 0)];
+static BY_PLACE: [Call; 1] = [(RUN, &[FOUR], &[FOUR_PRINTED], "", 0)];
 
 #[test]
 fn prints_rows_by_output_and_input(rt: HostRuntime) {
-    all_hold(&rt, first_other(&rt, rt.alloc(), &BY_PLACE));
+    all_hold(&rt, first_other(&rt, rt.alloc(), &[], &BY_PLACE));
 }
 
 /// The first record has no program; the next two are rejected, and so are two emissions of the last one.
@@ -43,9 +43,9 @@ const REJECTED_PRINTED: &str =
     in 0 items 7 records 4 unprogrammed 1 kept 0\n\
     in 0 reject 5 count 2\nin 0 reject 6 count 1\n";
 
-static COUNTED: [Run; 1] = [(&[REJECTED], &[REJECTED_PRINTED], "", 0)];
+static COUNTED: [Call; 1] = [(RUN, &[REJECTED], &[REJECTED_PRINTED], "", 0)];
 
 #[test]
 fn counts_what_programs_reject(rt: HostRuntime) {
-    all_hold(&rt, first_other(&rt, rt.alloc(), &COUNTED));
+    all_hold(&rt, first_other(&rt, rt.alloc(), &[], &COUNTED));
 }

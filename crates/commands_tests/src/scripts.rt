@@ -1,4 +1,5 @@
-use crate::shelf::script_answers;
+use crate::calls::{Call, RUN, RUN_FILE, first_other};
+use crate::shelf::{SCRIPT_FILES, script_answers};
 use crate::verdicts::all_hold;
 use std::alloc::Global;
 use std::sync::Wait;
@@ -18,201 +19,236 @@ const FORWARDED: &str =
     row 0 0 0 0 1000 6b 76 0\n\
     out 0 in 0 done 2 rows 1\nin 0 items 2 records 1 unprogrammed 0 kept 1\n";
 
-/// Whether a script has this answer from a file and from standard input.
-fn both_answer<R: Threads + Wait + Sync>(rt: &R, alloc: Global) -> bool {
-    let want = (0, FORWARDED, "");
-    script_answers(rt, alloc, &["run", "stdin"], FORWARDING, want)
-        && script_answers(rt, alloc, &["run", "script"], FORWARDING, want)
-}
+static FORWARDS: [Call; 2] = [
+    (RUN, &[FORWARDING], &[FORWARDED], "", 0),
+    (RUN_FILE, &[FORWARDING], &[FORWARDED], "", 0),
+];
 
 #[test]
 fn forwards_a_record(rt: HostRuntime) {
-    assert!(rt; both_answer(&rt, rt.alloc()));
+    all_hold(&rt, first_other(&rt, rt.alloc(), &[], &FORWARDS));
 }
 
-/// A text, what is printed on both outputs, and the status.
-type Row = (&'static str, &'static str, &'static str, u8);
-
-/// Lines after those of `BEGIN`, with what is then printed on both outputs and the status.
-static ENDS: [Row; 18] = [
-    ("", "load fwd version 1\n", "", 0),
-    ("\n# nothing\n\n", "load fwd version 1\n", "", 0),
-    ("frob\n", "load fwd version 1\n", "line 3: S1 Syntax\n", 1),
-    ("\ngo \n", "load fwd version 1\n", "line 4: S1 Syntax\n", 1),
+/// Lines after those of `BEGIN`.
+static ENDS: [Call; 18] = [
+    (RUN, &[BEGIN], &["load fwd version 1\n"], "", 0),
     (
-        "partitions 1 1 8",
-        "load fwd version 1\n",
+        RUN,
+        &[BEGIN, "\n# nothing\n\n"],
+        &["load fwd version 1\n"],
+        "",
+        0,
+    ),
+    (
+        RUN,
+        &[BEGIN, "frob\n"],
+        &["load fwd version 1\n"],
+        "line 3: S1 Syntax\n",
+        1,
+    ),
+    (
+        RUN,
+        &[BEGIN, "\ngo \n"],
+        &["load fwd version 1\n"],
+        "line 4: S1 Syntax\n",
+        1,
+    ),
+    (
+        RUN,
+        &[BEGIN, "partitions 1 1 8"],
+        &["load fwd version 1\n"],
         "line 3: S2 Order\n",
         1,
     ),
     (
-        "deploy 0 other",
-        "load fwd version 1\n",
+        RUN,
+        &[BEGIN, "deploy 0 other"],
+        &["load fwd version 1\n"],
         "line 3: S2 Order\n",
         1,
     ),
     (
-        "deploy 1 other",
-        "load fwd version 1\n",
+        RUN,
+        &[BEGIN, "deploy 1 other"],
+        &["load fwd version 1\n"],
         "line 3: S2 Order\n",
         1,
     ),
     (
-        "deploy 1 fwd",
-        "load fwd version 1\n",
+        RUN,
+        &[BEGIN, "deploy 1 fwd"],
+        &["load fwd version 1\n"],
         "line 3: P1 Partition\n",
         1,
     ),
     (
-        "deploy 1180591620717411303424 fwd",
-        "load fwd version 1\n",
+        RUN,
+        &[BEGIN, "deploy 1180591620717411303424 fwd"],
+        &["load fwd version 1\n"],
         "line 3: P1 Partition\n",
         1,
     ),
     (
-        "put 1 4611686018427387904 - -",
-        "load fwd version 1\n",
+        RUN,
+        &[BEGIN, "put 1 4611686018427387904 - -"],
+        &["load fwd version 1\n"],
         "line 3: S3 Range\n",
         1,
     ),
     (
-        "put 1 4611686018427387903 - -",
-        "load fwd version 1\n",
+        RUN,
+        &[BEGIN, "put 1 4611686018427387903 - -"],
+        &["load fwd version 1\n"],
         "line 3: P1 Partition\n",
         1,
     ),
     (
-        "load f.d forward.bin",
-        "load fwd version 1\n",
+        RUN,
+        &[BEGIN, "load f.d forward.bin"],
+        &["load fwd version 1\n"],
         "line 3: C1 Name\n",
         1,
     ),
     (
-        "load f.d nothing.bin",
-        "load fwd version 1\n",
+        RUN,
+        &[BEGIN, "load f.d nothing.bin"],
+        &["load fwd version 1\n"],
         "file nothing.bin\n",
         3,
     ),
-    ("load a hex:0", "load fwd version 1\n", "file hex:0\n", 3),
     (
-        "load a hex:",
-        "load fwd version 1\n",
+        RUN,
+        &[BEGIN, "load a hex:0"],
+        &["load fwd version 1\n"],
+        "file hex:0\n",
+        3,
+    ),
+    (
+        RUN,
+        &[BEGIN, "load a hex:"],
+        &["load fwd version 1\n"],
         "line 3: I1 Size\n",
         1,
     ),
     (
-        "load a hex:71100000000000009500000000000000",
-        "load fwd version 1\n",
+        RUN,
+        &[BEGIN, "load a hex:71100000000000009500000000000000"],
+        &["load fwd version 1\n"],
         "line 3: V7 RecordBounds at 0\n",
         1,
     ),
     (
-        "load a hex:b70b000000000000",
-        "load fwd version 1\n",
+        RUN,
+        &[BEGIN, "load a hex:b70b000000000000"],
+        &["load fwd version 1\n"],
         "line 3: I3 Register slot 0\n",
         1,
     ),
     (
-        "load fwd forward.bin",
-        "load fwd version 1\nload fwd version 2\n",
+        RUN,
+        &[BEGIN, "load fwd forward.bin"],
+        &["load fwd version 1\nload fwd version 2\n"],
         "",
         0,
     ),
 ];
 
-/// Whether the lines have their answer.
-fn ends_so<R: Threads + Wait + Sync>(rt: &R, alloc: Global, row: &Row) -> bool {
-    let (rest, out, err, status) = *row;
-    match format!(in alloc; "{BEGIN}{rest}") {
-        Ok(script) => {
-            let want = (status, out, err);
-            script_answers(rt, alloc, &["run", "stdin"], script.as_str(), want)
-        }
-        Err(_) => false,
-    }
-}
-
-/// The number of the first row that ends in another way.
-fn first_other_end<R: Threads + Wait + Sync>(rt: &R, alloc: Global, rows: &[Row]) -> Option<usize> {
-    for (k, row) in rows.iter().enumerate() {
-        if !ends_so(rt, alloc, row) {
-            return Some(k);
-        }
-    }
-    None
-}
-
 #[test]
 fn reports_where_a_script_ends(rt: HostRuntime) {
-    all_hold(&rt, first_other_end(&rt, rt.alloc(), &ENDS));
+    all_hold(&rt, first_other(&rt, rt.alloc(), &SCRIPT_FILES, &ENDS));
 }
 
-/// Scripts, with what they print on both outputs and their status.
-static FIRST: [Row; 18] = [
-    ("", "", "", 0),
-    ("go", "", "line 1: S2 Order\n", 1),
-    ("append 0 nothing", "", "line 1: S2 Order\n", 1),
-    ("#\ngo", "", "line 2: S2 Order\n", 1),
-    ("load x nothing", "", "line 1: S2 Order\n", 1),
-    ("frob", "", "line 1: S1 Syntax\n", 1),
-    ("partitions 1 65 8", "", "line 1: S3 Range\n", 1),
-    ("partitions 0 1 8", "", "line 1: S3 Range\n", 1),
-    ("partitions 1 1 0", "", "line 1: S3 Range\n", 1),
+/// Scripts that need the line of partitions first, and others that end early.
+static FIRST: [Call; 18] = [
+    (RUN_FILE, &[], &[], "", 0),
+    (RUN_FILE, &["go"], &[], "line 1: S2 Order\n", 1),
     (
-        "partitions 1 1 1\nput 0 0 - -\nput 0 0 - -",
-        "append 0 index 0 base 0\n",
+        RUN_FILE,
+        &["append 0 nothing"],
+        &[],
+        "line 1: S2 Order\n",
+        1,
+    ),
+    (RUN_FILE, &["#\ngo"], &[], "line 2: S2 Order\n", 1),
+    (RUN_FILE, &["load x nothing"], &[], "line 1: S2 Order\n", 1),
+    (RUN_FILE, &["frob"], &[], "line 1: S1 Syntax\n", 1),
+    (
+        RUN_FILE,
+        &["partitions 1 65 8"],
+        &[],
+        "line 1: S3 Range\n",
+        1,
+    ),
+    (
+        RUN_FILE,
+        &["partitions 0 1 8"],
+        &[],
+        "line 1: S3 Range\n",
+        1,
+    ),
+    (
+        RUN_FILE,
+        &["partitions 1 1 0"],
+        &[],
+        "line 1: S3 Range\n",
+        1,
+    ),
+    (
+        RUN_FILE,
+        &["partitions 1 1 1\nput 0 0 - -\nput 0 0 - -"],
+        &["append 0 index 0 base 0\n"],
         "line 3: L1 Full\n",
         1,
     ),
     (
-        "partitions 2 1 1\nclose 1\nclose 1",
-        "close 1 index 0\n",
+        RUN_FILE,
+        &["partitions 2 1 1\nclose 1\nclose 1"],
+        &["close 1 index 0\n"],
         "line 3: L2 Closed\n",
         1,
     ),
-    ("partitions 2 1 1\nclose 2", "", "line 2: P1 Partition\n", 1),
-    ("close 0", "", "line 1: S2 Order\n", 1),
-    ("fetch 0 0 1", "", "line 1: S2 Order\n", 1),
-    ("partitions 1 1 1\nfetch 0 0", "", "line 2: S1 Syntax\n", 1),
     (
-        "partitions 1 1 1\nfetch 1 0 1",
-        "",
+        RUN_FILE,
+        &["partitions 2 1 1\nclose 2"],
+        &[],
+        "line 2: P1 Partition\n",
+        1,
+    ),
+    (RUN_FILE, &["close 0"], &[], "line 1: S2 Order\n", 1),
+    (RUN_FILE, &["fetch 0 0 1"], &[], "line 1: S2 Order\n", 1),
+    (
+        RUN_FILE,
+        &["partitions 1 1 1\nfetch 0 0"],
+        &[],
+        "line 2: S1 Syntax\n",
+        1,
+    ),
+    (
+        RUN_FILE,
+        &["partitions 1 1 1\nfetch 1 0 1"],
+        &[],
         "line 2: P1 Partition\n",
         1,
     ),
     (
-        "partitions 1 1 1\nfetch 1180591620717411303424 0 1",
-        "",
+        RUN_FILE,
+        &["partitions 1 1 1\nfetch 1180591620717411303424 0 1"],
+        &[],
         "line 2: P1 Partition\n",
         1,
     ),
     (
-        "partitions 1 1 1\nfetch 0 1180591620717411303424 1180591620717411303424",
-        "none\n",
+        RUN_FILE,
+        &["partitions 1 1 1\nfetch 0 1180591620717411303424 1180591620717411303424"],
+        &["none\n"],
         "",
         0,
     ),
 ];
 
-/// Whether a script from a file has its answer.
-fn has_answer<R: Threads + Wait + Sync>(rt: &R, alloc: Global, row: &Row) -> bool {
-    let want = (row.3, row.1, row.2);
-    script_answers(rt, alloc, &["run", "script"], row.0, want)
-}
-
-/// The number of the first script with another answer.
-fn first_other<R: Threads + Wait + Sync>(rt: &R, alloc: Global, rows: &[Row]) -> Option<usize> {
-    for (k, row) in rows.iter().enumerate() {
-        if !has_answer(rt, alloc, row) {
-            return Some(k);
-        }
-    }
-    None
-}
-
 #[test]
 fn needs_partitions_first(rt: HostRuntime) {
-    all_hold(&rt, first_other(&rt, rt.alloc(), &FIRST));
+    all_hold(&rt, first_other(&rt, rt.alloc(), &[], &FIRST));
 }
 
 /// A word that spells `count` bytes.

@@ -256,7 +256,7 @@ pub(crate) fn called<R: Threads + Wait + Sync>(
     words: &[&str],
     script: &str,
 ) -> Option<Called> {
-    match shelf_of(alloc, &FILES) {
+    match shelf_of(alloc, &SCRIPT_FILES) {
         Some(mut files) => called_by(rt, &mut files, words, script),
         None => None,
     }
@@ -276,7 +276,7 @@ fn called_by<R: Threads + Wait + Sync>(
 }
 
 /// The files that are there beside a script.
-static FILES: [(&str, &[u8]); 3] = [
+pub(crate) static SCRIPT_FILES: [(&str, &[u8]); 3] = [
     ("forward.bin", &FORWARD),
     ("bad", b"go\xff"),
     ("batches.bin", &BATCHES),

@@ -1,11 +1,9 @@
 //! Calls that name the helper table of a program.
 
-use crate::shelf::{BATCHES, FORWARD, USAGE, answers, shelf_of};
+use crate::calls::{Call, first_other};
+use crate::shelf::{BATCHES, FORWARD, USAGE};
 use crate::verdicts::all_hold;
-use std::alloc::Global;
-use std::sync::Wait;
 use std::test::*;
-use std::thread::Threads;
 
 /// mov64 r1, r10; add64 r1, -8; mov64 r2, 0; mov64 r3, 8; call 12; exit: rejects a record that has a
 /// header.
@@ -14,52 +12,73 @@ pub(crate) const FIRST_HEADER: [u8; 48] = [
     0xb7, 3, 0, 0, 8, 0, 0, 0, 0x85, 0, 0, 0, 12, 0, 0, 0, 0x95, 0, 0, 0, 0, 0, 0, 0,
 ];
 
-/// Words of a call, what it prints, what it says on standard error and its status.
-type Row = (&'static [&'static str], &'static str, &'static str, u8);
-
-static ROWS: [Row; 11] = [
-    (&["check", "header"], "", "V11 Helper at 4\n", 1),
-    (&["check", "header", "1"], "", "V11 Helper at 4\n", 1),
+static CALLS: [Call; 11] = [
+    (&["check", "header"], &[], &[], "V11 Helper at 4\n", 1),
+    (&["check", "header", "1"], &[], &[], "V11 Helper at 4\n", 1),
     (
         &["check", "header", "2"],
-        "accepted 6 instructions\n",
+        &[],
+        &["accepted 6 instructions\n"],
         "",
         0,
     ),
     (
         &["check", "forward", "1"],
-        "accepted 3 instructions\n",
+        &[],
+        &["accepted 3 instructions\n"],
         "",
         0,
     ),
     (
         &["check", "forward", "2"],
-        "accepted 3 instructions\n",
+        &[],
+        &["accepted 3 instructions\n"],
         "",
         0,
     ),
-    (&["explain", "forward", "1", "refused"], "ok\n", "", 0),
-    (&["explain", "header", "2", "refused"], "ok\n", "", 0),
+    (
+        &["explain", "forward", "1", "refused"],
+        &[],
+        &["ok\n"],
+        "",
+        0,
+    ),
+    (
+        &["explain", "header", "2", "refused"],
+        &[],
+        &["ok\n"],
+        "",
+        0,
+    ),
     (
         &["transform", "header", "batches", "out"],
-        "",
+        &[],
+        &[],
         "V11 Helper at 4\n",
         1,
     ),
     (
         &["transform", "table2", "header", "batches", "out"],
-        "",
+        &[],
+        &[],
         "out 0 in 0 done 3 rows 0\nin 0 items 3 records 5 unprogrammed 0 kept 3\n\
         in 0 reject 1 count 1\nin 0 reject 2 count 1\n",
         0,
     ),
     (
         &["transform", "table2", "forward", "batches", "out"],
-        "",
+        &[],
+        &[],
         "out 0 in 0 done 3 rows 5\nin 0 items 3 records 5 unprogrammed 0 kept 5\n",
         0,
     ),
-    (&["transform", "table2", "header", "batches"], "", USAGE, 2),
+    (
+        &["transform", "table2", "header", "batches"],
+        &[],
+        &[],
+        USAGE,
+        2,
+    ),
 ];
 
 /// The files that the calls read.
@@ -69,24 +88,7 @@ static FILES: [(&str, &[u8]); 3] = [
     ("batches", &BATCHES),
 ];
 
-fn is_answered<R: Threads + Wait + Sync>(rt: &R, alloc: Global, row: &Row) -> bool {
-    match shelf_of(alloc, &FILES) {
-        Some(mut files) => answers(rt, &mut files, row.0, b"", (row.3, row.1, row.2)),
-        None => false,
-    }
-}
-
-/// The number of the first call with another answer.
-fn first_other<R: Threads + Wait + Sync>(rt: &R, alloc: Global, rows: &[Row]) -> Option<usize> {
-    for (k, row) in rows.iter().enumerate() {
-        if !is_answered(rt, alloc, row) {
-            return Some(k);
-        }
-    }
-    None
-}
-
 #[test]
 fn calls_name_the_table(rt: HostRuntime) {
-    all_hold(&rt, first_other(&rt, rt.alloc(), &ROWS));
+    all_hold(&rt, first_other(&rt, rt.alloc(), &FILES, &CALLS));
 }

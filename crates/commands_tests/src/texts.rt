@@ -1,4 +1,6 @@
-use crate::shelf::{Shelf, USAGE, answers, file_answers, shelf_of};
+use crate::calls;
+use crate::calls::Call;
+use crate::shelf::{Shelf, USAGE, answers, shelf_of};
 use crate::verdicts::all_hold;
 use std::alloc::Global;
 use std::sync::Wait;
@@ -51,15 +53,14 @@ fn writes_the_image_of_a_text(rt: HostRuntime) {
     assert!(rt; is_written(&rt, rt.alloc()));
 }
 
-/// Whether the text of an image is printed.
-fn is_printed<R: Threads + Wait + Sync>(rt: &R, alloc: Global) -> bool {
-    let file = ("image", PROGRAM_IMAGE.as_slice());
-    file_answers(rt, alloc, &["dis", "image"], file, (0, PROGRAM, ""))
-}
+static PRINTED: [Call; 1] = [(&["dis", "image"], &[], &[PROGRAM], "", 0)];
 
 #[test]
 fn prints_the_text_of_an_image(rt: HostRuntime) {
-    assert!(rt; is_printed(&rt, rt.alloc()));
+    all_hold(
+        &rt,
+        calls::first_other(&rt, rt.alloc(), &[("image", &PROGRAM_IMAGE)], &PRINTED),
+    );
 }
 
 /// Calls that print nothing, with what they write to standard error and their status.
