@@ -4,17 +4,9 @@
 #[cfg(test)]
 mod batches;
 #[cfg(test)]
-mod calls;
-#[cfg(test)]
 mod causes;
 #[cfg(test)]
-mod examples;
-#[cfg(test)]
 mod failures;
-#[cfg(test)]
-mod goes;
-#[cfg(test)]
-mod headers;
 #[cfg(test)]
 mod images;
 #[cfg(test)]
@@ -24,17 +16,9 @@ mod listings;
 #[cfg(test)]
 mod receipts;
 #[cfg(test)]
-mod rechecks;
-#[cfg(test)]
-mod rows;
-#[cfg(test)]
 mod scripts;
 #[cfg(test)]
-mod sessions;
-#[cfg(test)]
 mod shelf;
-#[cfg(test)]
-mod tables;
 #[cfg(test)]
 mod texts;
 #[cfg(test)]

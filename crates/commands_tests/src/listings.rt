@@ -30,24 +30,14 @@ const RECORDS: &str = "put 0 1700000000000 6b 76\n\
 /// Words of a call, its status, and what it writes to standard output and error.
 type Row = (&'static [&'static str], u8, &'static str, &'static str);
 
-static CALLS: [Row; 9] = [
-    (&["batches", "whole"], 0, LINES, ""),
+static CALLS: [Row; 4] = [
     (&["batches", "slow"], 0, LINES, ""),
     (&["batches", "stdin"], 0, LINES, ""),
-    (&["records", "whole"], 0, RECORDS, ""),
     (&["records", "stdin"], 0, RECORDS, ""),
-    (&["batches", "none"], 0, "", ""),
-    (&["records", "none"], 0, "", ""),
     (&["batches", "endless"], 3, LINES, "file endless\n"),
-    (&["records", "nothing"], 3, "", "file nothing\n"),
 ];
 
-static FILES: [(&str, &[u8]); 4] = [
-    ("whole", &BATCHES),
-    ("slow", &BATCHES),
-    ("endless", &BATCHES),
-    ("none", &[]),
-];
+static FILES: [(&str, &[u8]); 2] = [("slow", &BATCHES), ("endless", &BATCHES)];
 
 fn is_listed<R: Threads + Wait + Sync>(rt: &R, alloc: Global, row: &Row) -> bool {
     match shelf_of(alloc, &FILES) {

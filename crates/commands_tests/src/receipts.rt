@@ -2,7 +2,6 @@
 
 ghost use Rattle.broker.specs.Layouts.{IsNamed};
 
-use crate::calls::joined;
 use crate::shelf::empty_shelf;
 use broker::Parts;
 use catalogue::Catalogue;
@@ -18,6 +17,17 @@ use wire_spec::BatchFault;
 /// A batch of one record: key `k`, value `v`, timestamp 0.
 const ONE: &str =
     "00000000000000000000003a0000000002fe917cab00000000000000000000000000000000000000000000ffffffffffffffffffffffffffff0000000110000000026b027600";
+
+/// The pieces, one after the other. None where memory ran out.
+fn joined(alloc: Global, pieces: &[&str]) -> Option<String> {
+    let mut text = String::new(alloc);
+    for piece in pieces {
+        let Ok(()) = text.push_str(piece) else {
+            return None;
+        };
+    }
+    Some(text)
+}
 
 /// A line that appends two batches and is then refused, since the third is cut.
 fn cut_line(alloc: Global) -> Option<String> {

@@ -1,6 +1,5 @@
-use crate::calls::{Call, first_other};
 use crate::scripts::BEGIN;
-use crate::shelf::{SCRIPT_FILES, Shelf, USAGE, empty_shelf, input_of, words_of};
+use crate::shelf::{Shelf, USAGE, empty_shelf, input_of, script_answers, words_of};
 use crate::verdicts::all_hold;
 use commands::{command, tell_no_words};
 use std::alloc::Global;
@@ -44,50 +43,53 @@ fn words_that_can_not_be_had(rt: HostRuntime) {
 }
 
 /// Words that are no call.
-static NO_CALLS: [Call; 24] = [
-    (&[], &[], &[], USAGE, 2),
-    (&["run"], &[], &[], USAGE, 2),
-    (&["run", "a", "b"], &[], &[], USAGE, 2),
-    (&["frob", "script"], &[], &[], USAGE, 2),
-    (&["explain"], &[], &[], USAGE, 2),
-    (&["explain", "a", "b"], &[], &[], USAGE, 2),
-    (&["explain", "a", "Refused"], &[], &[], USAGE, 2),
-    (&["explain", "a", ""], &[], &[], USAGE, 2),
-    (&["explain", "a", "refused", "refused"], &[], &[], USAGE, 2),
-    (&["explain", "a", "refused", "2"], &[], &[], USAGE, 2),
-    (&["explain", "a", "2", "2"], &[], &[], USAGE, 2),
-    (&["explain", "a", "3"], &[], &[], USAGE, 2),
-    (
-        &["explain", "a", "2", "refused", "refused"],
-        &[],
-        &[],
-        USAGE,
-        2,
-    ),
-    (&["check", "a", "0"], &[], &[], USAGE, 2),
-    (&["check", "a", "02"], &[], &[], USAGE, 2),
-    (&["check", "a", "refused"], &[], &[], USAGE, 2),
-    (&["check", "a", "2", "2"], &[], &[], USAGE, 2),
-    (&["recheck"], &[], &[], USAGE, 2),
-    (&["recheck", "a", "2"], &[], &[], USAGE, 2),
-    (&["help"], &[], &[], USAGE, 2),
-    (&["help", "run"], &[], &[], USAGE, 2),
-    (&["run", "--help"], &[], &[], USAGE, 2),
-    (&["-h"], &[], &[], USAGE, 2),
-    (&["run", "-x"], &[], &[], USAGE, 2),
+static NO_CALLS: [&[&str]; 24] = [
+    &[],
+    &["run"],
+    &["run", "a", "b"],
+    &["frob", "script"],
+    &["explain"],
+    &["explain", "a", "b"],
+    &["explain", "a", "Refused"],
+    &["explain", "a", ""],
+    &["explain", "a", "refused", "refused"],
+    &["explain", "a", "refused", "2"],
+    &["explain", "a", "2", "2"],
+    &["explain", "a", "3"],
+    &["explain", "a", "2", "refused", "refused"],
+    &["check", "a", "0"],
+    &["check", "a", "02"],
+    &["check", "a", "refused"],
+    &["check", "a", "2", "2"],
+    &["recheck"],
+    &["recheck", "a", "2"],
+    &["help"],
+    &["help", "run"],
+    &["run", "--help"],
+    &["-h"],
+    &["run", "-x"],
 ];
 
-/// Scripts that can not be read.
-static UNREAD: [Call; 3] = [
-    (&["run", "nothing"], &[], &[], "file nothing\n", 3),
-    (&["run", "-"], &[], &[], "file -\n", 3),
-    (&["run", "bad"], &[], &[], "file bad\n", 3),
-];
+/// The number of the first words that are taken as a call.
+fn first_call<R: Threads + Wait + Sync>(rt: &R, alloc: Global, rows: &[&[&str]]) -> Option<usize> {
+    for (k, row) in rows.iter().enumerate() {
+        if !script_answers(rt, alloc, row, "", (2, "", USAGE)) {
+            return Some(k);
+        }
+    }
+    None
+}
 
 #[test]
 fn refuses_words(rt: HostRuntime) {
-    all_hold(&rt, first_other(&rt, rt.alloc(), &SCRIPT_FILES, &NO_CALLS));
-    all_hold(&rt, first_other(&rt, rt.alloc(), &SCRIPT_FILES, &UNREAD));
+    all_hold(&rt, first_call(&rt, rt.alloc(), &NO_CALLS));
+}
+
+/// Standard input is no list.
+#[test]
+fn rechecks_no_standard_input(rt: HostRuntime) {
+    let want = (3, "", "file stdin\n");
+    assert!(rt; script_answers(&rt, rt.alloc(), &["recheck", "stdin"], "", want));
 }
 
 /// The status of a call whose standard output takes nothing, and what it writes to standard error.

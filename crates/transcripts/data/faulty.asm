@@ -1,0 +1,3 @@
+exit
+mov64 r11, 0
+frob

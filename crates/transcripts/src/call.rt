@@ -1,0 +1,61 @@
+//! The calls of a transcript.
+
+use std::alloc::{AllocError, Global};
+
+/// A call of a transcript.
+#[derive(Drop)]
+pub(crate) struct Call {
+    /// The number of its line, from 1.
+    pub(crate) line: usize,
+    pub(crate) words: Vec<String>,
+    /// Its standard input.
+    pub(crate) input: String,
+    /// What it writes to standard output, then to standard error, and its status unless that is 0.
+    pub(crate) answer: String,
+}
+
+/// A call with these words, which has no input and answers nothing.
+fn call_of(alloc: Global, line: usize, text: &str) -> Result<Call, AllocError> {
+    let mut words = Vec::new(alloc);
+    for word in text.split(' ') {
+        words.push(String::from_str(alloc, word)?)?;
+    }
+    Ok(Call {
+        line,
+        words,
+        input: String::new(alloc),
+        answer: String::new(alloc),
+    })
+}
+
+/// The text of a line that is input.
+fn input_of<'a>(line: &'a str) -> Option<&'a str> {
+    if line == "|" {
+        Some("")
+    } else {
+        line.strip_prefix("| ")
+    }
+}
+
+/// Adds a line of a call to its input or its answer.
+fn add_line(call: &mut Call, line: &str) -> Result<(), AllocError> {
+    let (to, text) = match input_of(line) {
+        Some(text) => (&mut call.input, text),
+        None => (&mut call.answer, line),
+    };
+    to.push_str(text)?;
+    to.push('\n')
+}
+
+/// The calls of a transcript, in order.
+pub(crate) fn calls_of(alloc: Global, text: &str) -> Result<Vec<Call>, AllocError> {
+    let mut calls = Vec::new(alloc);
+    for (at, line) in text.lines().enumerate() {
+        if let Some(words) = line.strip_prefix("$ klog ") {
+            calls.push(call_of(alloc, at.wrapping_add(1), words)?)?;
+        } else if let (false, Some(call)) = (line.starts_with('#'), calls.last_mut()) {
+            add_line(call, line)?;
+        }
+    }
+    Ok(calls)
+}
