@@ -6,8 +6,6 @@ mod asm_faults;
 #[cfg(test)]
 mod asm_words;
 #[cfg(test)]
-mod hints;
-#[cfg(test)]
 mod image_faults;
 #[cfg(test)]
 mod images;

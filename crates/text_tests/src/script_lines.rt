@@ -10,6 +10,14 @@ use std::alloc::{AllocError, Global};
 use std::test::*;
 use wire_spec::Headers;
 
+/// A source as one text: its bytes, or the name of its file.
+fn source_shown(alloc: Global, source: &Source) -> Result<String, AllocError> {
+    match source {
+        Source::Line(bytes) => format!(in alloc; "hex {:?}", bytes.as_slice()),
+        Source::File(file) => String::from_str(alloc, file.text.as_str()),
+    }
+}
+
 /// A `load` as one text.
 fn load_shown(
     alloc: Global,
@@ -17,18 +25,14 @@ fn load_shown(
     source: &Source,
     table: Table,
 ) -> Result<String, AllocError> {
-    match source {
-        Source::Line(image) => format!(in alloc; "image {name} {:?} {table:?}", image.as_slice()),
-        Source::File(file) => format!(in alloc; "file {name} {} {table:?}", file.text.as_str()),
-    }
+    let source = source_shown(alloc, source)?;
+    format!(in alloc; "load {name} {source} {table:?}")
 }
 
 /// An `append` as one text.
 fn append_shown(alloc: Global, input: u64, source: &Source) -> Result<String, AllocError> {
-    match source {
-        Source::Line(batches) => format!(in alloc; "batches {input} {:?}", batches.as_slice()),
-        Source::File(file) => format!(in alloc; "append {input} {}", file.text.as_str()),
-    }
+    let source = source_shown(alloc, source)?;
+    format!(in alloc; "append {input} {source}")
 }
 
 /// A `put` as one text: whether it has a key, and how many bytes its value has.
@@ -78,13 +82,13 @@ static LINES: [(&str, &str); 46] = [
     ("partitions 1 1 +8", "none"),
     ("partitions 1 1 0", "partitions 1 1 0"),
     ("partitions 1 1", "none"),
-    ("load fwd f.bin", "file fwd f.bin One"),
-    ("load fwd hex:", "image fwd [] One"),
-    ("load fwd hex:00ff", "image fwd [0, 255] One"),
-    ("load fwd hex:00f", "file fwd hex:00f One"),
-    ("load fwd hex:00FF", "file fwd hex:00FF One"),
-    ("load fwd f.bin 2", "file fwd f.bin Two"),
-    ("load fwd hex:00ff 2", "image fwd [0, 255] Two"),
+    ("load fwd f.bin", "load fwd f.bin One"),
+    ("load fwd hex:", "load fwd hex [] One"),
+    ("load fwd hex:00ff", "load fwd hex [0, 255] One"),
+    ("load fwd hex:00f", "load fwd hex:00f One"),
+    ("load fwd hex:00FF", "load fwd hex:00FF One"),
+    ("load fwd f.bin 2", "load fwd f.bin Two"),
+    ("load fwd hex:00ff 2", "load fwd hex [0, 255] Two"),
     ("load fwd f 1", "none"),
     ("load fwd f 3", "none"),
     ("load fwd f 02", "none"),
@@ -107,8 +111,8 @@ static LINES: [(&str, &str); 46] = [
     ("put 0 1000 6b 7G", "none"),
     ("put 0 1000 6b .76", "none"),
     ("append 0 batches.bin", "append 0 batches.bin"),
-    ("append 3 hex:00ff", "batches 3 [0, 255]"),
-    ("append 0 hex:", "batches 0 []"),
+    ("append 3 hex:00ff", "append 3 hex [0, 255]"),
+    ("append 0 hex:", "append 0 hex []"),
     ("append 0 hex:FF", "append 0 hex:FF"),
     ("append 00 batches.bin", "none"),
     ("append batches.bin", "none"),

@@ -10,12 +10,23 @@ pub(crate) struct Call {
     pub(crate) words: Vec<String>,
     /// Its standard input.
     pub(crate) input: String,
+    /// Whether the answer has what it writes to standard output.
+    pub(crate) has_output: bool,
     /// What it writes to standard output, then to standard error, and its status unless that is 0.
     pub(crate) answer: String,
 }
 
-/// A call with these words, which has no input and answers nothing.
+/// The words of a call, and whether its standard output is looked at.
+fn words_of<'a>(text: &'a str) -> (&'a str, bool) {
+    match text.strip_suffix(" > /dev/null") {
+        Some(words) => (words, false),
+        None => (text, true),
+    }
+}
+
+/// A call of a line, which has no input and answers nothing.
 fn call_of(alloc: Global, line: usize, text: &str) -> Result<Call, AllocError> {
+    let (text, has_output) = words_of(text);
     let mut words = Vec::new(alloc);
     for word in text.split(' ') {
         words.push(String::from_str(alloc, word)?)?;
@@ -23,6 +34,7 @@ fn call_of(alloc: Global, line: usize, text: &str) -> Result<Call, AllocError> {
     Ok(Call {
         line,
         words,
+        has_output,
         input: String::new(alloc),
         answer: String::new(alloc),
     })

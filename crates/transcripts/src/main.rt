@@ -3,7 +3,8 @@
 //!
 //! A line `$ klog WORDS` is a call. Of the lines after it, those that begin with `|` are its standard input and
 //! the file `input`. The others are what it answers: standard output, then standard error, then the status in
-//! brackets unless that is 0. Lines that begin with `#` are remarks. Files lie beside the transcripts.
+//! brackets unless that is 0. A call whose line ends with ` > /dev/null` answers without standard output. Lines that
+//! begin with `#` are remarks. Files lie beside the transcripts.
 #![tactic(auto)]
 
 mod call;
@@ -53,7 +54,7 @@ fn answer_of<T: Threads + Wait + Sync>(
     let alloc = rt.alloc();
     fs::write(rt, "input", call.input.as_bytes())?;
     let mut stdin = Cursor::new(Vec::from_slice(alloc, call.input.as_bytes())?);
-    let mut answer = Vec::new(alloc);
+    let mut stdout = Vec::new(alloc);
     let mut stderr = Vec::new(alloc);
     let status = command(
         threads,
@@ -61,9 +62,14 @@ fn answer_of<T: Threads + Wait + Sync>(
         &call.words,
         &mut Folder { rt },
         &mut stdin,
-        &mut answer,
+        &mut stdout,
         &mut stderr,
     );
+    let mut answer = if call.has_output {
+        stdout
+    } else {
+        Vec::new(alloc)
+    };
     answer.extend_from_slice(&stderr)?;
     if status != 0 {
         writeln!(answer, "[{status}]")?;
