@@ -14,16 +14,16 @@ static PLACES: [(&[u64], &str); 7] = [
     (&[TIMESTAMP, EXIT], "rejected 1000 after 2"),
     (&[PARTITION, EXIT], "rejected 7 after 2"),
     // mov64 r0, r1: the call has clobbered r1
-    (&[OFFSET, 0xbf10_0000_0000_0000, EXIT], "K4 after 1"),
+    (&[OFFSET, 0xbf10_0000_0000_0000, EXIT], "Unset after 1"),
     // mov64 r6, 4 before the call, mov64 r0, r6 after it
     (
         &[0xb706_0000_0400_0000, OFFSET, 0xbf60_0000_0000_0000, EXIT],
         "rejected 4 after 4",
     ),
     // call 99
-    (&[0x8500_0000_6300_0000, EXIT], "K11 after 0"),
+    (&[0x8500_0000_6300_0000, EXIT], "Helper after 0"),
     // which is in table two alone
-    (&[OFFSET, HEADER_COUNT, EXIT], "K11 after 1"),
+    (&[OFFSET, HEADER_COUNT, EXIT], "Helper after 1"),
 ];
 
 #[test]
@@ -35,8 +35,8 @@ static NULL_VALUES: [(&[u64], &str); 4] = [
     (&[TO_FIRST, EMIT_NULL, EXIT], "kept 1 after 3"),
     (&[TO_TENTH, EMIT_NULL, EXIT], "rejected 1 after 3"),
     // r1 is an address
-    (&[EMIT_NULL, EXIT], "K12 after 0"),
-    (&[OFFSET, EMIT_NULL, EXIT], "K4 after 1"),
+    (&[EMIT_NULL, EXIT], "HelperArgument after 0"),
+    (&[OFFSET, EMIT_NULL, EXIT], "Unset after 1"),
 ];
 
 #[test]
@@ -58,7 +58,7 @@ static BYTES_BY_ADDRESS: [(&[u64], &str); 10] = [
     // from the second byte on
     (
         &[LENGTH, VALUE, NEXT, TO_FIRST, EMIT_VALUE, EXIT],
-        "K12 after 4",
+        "HelperArgument after 4",
     ),
     // no bytes at the value's end, and behind it: mov64 r3, 0
     (
@@ -82,7 +82,7 @@ static BYTES_BY_ADDRESS: [(&[u64], &str); 10] = [
             EMIT_VALUE,
             EXIT,
         ],
-        "K12 after 5",
+        "HelperArgument after 5",
     ),
     // the length is not wrapped: mov64 r3, -1
     (
@@ -94,7 +94,7 @@ static BYTES_BY_ADDRESS: [(&[u64], &str); 10] = [
             EMIT_VALUE,
             EXIT,
         ],
-        "K12 after 4",
+        "HelperArgument after 4",
     ),
     // nor is the address: add64 r2, -1
     (
@@ -106,16 +106,16 @@ static BYTES_BY_ADDRESS: [(&[u64], &str); 10] = [
             EMIT_VALUE,
             EXIT,
         ],
-        "K12 after 4",
+        "HelperArgument after 4",
     ),
     // an address where the length is: mov64 r3, r1
     (
         &[0xbf13_0000_0000_0000, VALUE, TO_FIRST, EMIT_VALUE, EXIT],
-        "K12 after 3",
+        "HelperArgument after 3",
     ),
-    (&[TO_FIRST, EMIT_VALUE, EXIT], "K12 after 1"),
+    (&[TO_FIRST, EMIT_VALUE, EXIT], "HelperArgument after 1"),
     // the first call has clobbered r2
-    (&[OFFSET, TO_FIRST, EMIT_VALUE, EXIT], "K4 after 2"),
+    (&[OFFSET, TO_FIRST, EMIT_VALUE, EXIT], "Unset after 2"),
 ];
 
 /// Bytes by address: they lie in their region, which is this record's value, or are set in the stack.
@@ -152,7 +152,7 @@ static BYTES_OF_THE_STACK: [(&[u64], &str); 2] = [
             EMIT_VALUE,
             EXIT,
         ],
-        "K12 after 5",
+        "HelperArgument after 5",
     ),
 ];
 
@@ -188,7 +188,7 @@ static TWO_PIECES: [(&[u64], &str); 3] = [
             EMIT,
             EXIT,
         ],
-        "K12 after 6",
+        "HelperArgument after 6",
     ),
     // mov64 r3, 6: a byte more than the value has
     (
@@ -202,7 +202,7 @@ static TWO_PIECES: [(&[u64], &str); 3] = [
             EMIT,
             EXIT,
         ],
-        "K12 after 6",
+        "HelperArgument after 6",
     ),
 ];
 
@@ -283,7 +283,7 @@ static ROOM_FOR_A_PART: [(&[u64], &str); 12] = [
             DOUBLE,
             EXIT,
         ],
-        "K9 after 5",
+        "StackUnset after 5",
     ),
     // mov64 r3, 9 passes the end; mov64 r3, 0 is no byte; mov64 r3, -1 is more than there are
     (
@@ -295,7 +295,7 @@ static ROOM_FOR_A_PART: [(&[u64], &str); 12] = [
             LOAD_KEY,
             EXIT,
         ],
-        "K12 after 4",
+        "HelperArgument after 4",
     ),
     (
         &[
@@ -306,7 +306,7 @@ static ROOM_FOR_A_PART: [(&[u64], &str); 12] = [
             LOAD_KEY,
             EXIT,
         ],
-        "K12 after 4",
+        "HelperArgument after 4",
     ),
     (
         &[
@@ -317,7 +317,7 @@ static ROOM_FOR_A_PART: [(&[u64], &str); 12] = [
             LOAD_KEY,
             EXIT,
         ],
-        "K12 after 4",
+        "HelperArgument after 4",
     ),
     // add64 r1, -520: before the stack
     (
@@ -329,19 +329,22 @@ static ROOM_FOR_A_PART: [(&[u64], &str); 12] = [
             LOAD_KEY,
             EXIT,
         ],
-        "K12 after 4",
+        "HelperArgument after 4",
     ),
     // the value is no room
-    (&[FROM_START, EIGHT, LOAD_KEY, EXIT], "K12 after 2"),
+    (
+        &[FROM_START, EIGHT, LOAD_KEY, EXIT],
+        "HelperArgument after 2",
+    ),
     // nor is a number: mov64 r1, 0
     (
         &[TO_FIRST, FROM_START, EIGHT, LOAD_KEY, EXIT],
-        "K12 after 3",
+        "HelperArgument after 3",
     ),
     // an address as the place; as the length: mov64 r3, r10
     (
         &[STACK_END, EIGHT_BELOW, STACK_BYTES, EIGHT, LOAD_KEY, EXIT],
-        "K12 after 4",
+        "HelperArgument after 4",
     ),
     (
         &[
@@ -352,12 +355,12 @@ static ROOM_FOR_A_PART: [(&[u64], &str); 12] = [
             LOAD_KEY,
             EXIT,
         ],
-        "K12 after 4",
+        "HelperArgument after 4",
     ),
     // nothing as the length, where r1 is no address either
     (
         &[OFFSET, TO_FIRST, FROM_START, LOAD_KEY, EXIT],
-        "K4 after 3",
+        "Unset after 3",
     ),
 ];
 

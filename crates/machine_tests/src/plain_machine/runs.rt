@@ -1,26 +1,8 @@
 //! Runs as text.
 
 use crate::runs::{image_of, place_of, record_of};
-use bpf_machine::{End, Outcome, Table, Trap, trace};
+use bpf_machine::{End, Outcome, Table, trace};
 use std::alloc::{AllocError, Global};
-
-fn trap_name(trap: Trap) -> &'static str {
-    match trap {
-        Trap::Form => "K1",
-        Trap::Jump => "K2",
-        Trap::RanOff => "K3",
-        Trap::Unset => "K4",
-        Trap::WrongType => "K5",
-        Trap::Frame => "K6",
-        Trap::RecordBounds => "K7",
-        Trap::StackBounds => "K8",
-        Trap::StackUnset => "K9",
-        Trap::ReadOnly => "K10",
-        Trap::Helper => "K11",
-        Trap::HelperArgument => "K12",
-        Trap::Exit => "K13",
-    }
-}
 
 /// An end, and after how many instructions.
 fn end_text(alloc: Global, end: End, count: u64) -> Result<String, AllocError> {
@@ -29,7 +11,7 @@ fn end_text(alloc: Global, end: End, count: u64) -> Result<String, AllocError> {
             format!(in alloc; "kept {} after {count}", emissions.list.len())
         }
         End::Out(Outcome::Rejected(code)) => format!(in alloc; "rejected {code} after {count}"),
-        End::Trap(trap) => format!(in alloc; "{} after {count}", trap_name(trap)),
+        End::Trap(trap) => format!(in alloc; "{trap:?} after {count}"),
     }
 }
 
