@@ -1,7 +1,8 @@
 //! Instructions with two faults at once: the first trap in the order is reported.
 //!
-//! The order is Frame, Helper, Unset, WrongType, ReadOnly, RecordBounds, StackBounds, StackUnset, HelperArgument, Exit, Jump. Pairs that no instruction can have
-//! both are left out: a call has no trap of a register's type, of bounds or of bytes, and an access is of one region.
+//! The order is Frame, Helper, Unset, WrongType, ReadOnly, RecordBounds, StackBounds, StackUnset, HelperArgument, Exit,
+//! Jump. Pairs that no instruction can have both are left out: a call has none of Frame, WrongType and RecordBounds to
+//! ReadOnly, and an access is of one region.
 
 use crate::plain_machine::runs::first_other_on;
 use crate::slots::{EMIT_RECORD, EXIT, TO_FIRST};
