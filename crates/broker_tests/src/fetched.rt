@@ -15,16 +15,9 @@ use wire_spec::{Batch, Record, Records};
 /// Adds the key `k` and the value `v`, `timestamp_delta` milliseconds later than the batch's base
 /// timestamp; whether it could.
 fn is_added(alloc: Global, list: &mut Vec<Record>, timestamp_delta: i64) -> bool {
-    match (
-        Bytes::copy_from_slice(alloc, b"k"),
-        Bytes::copy_from_slice(alloc, b"v"),
-    ) {
-        (Ok(key), Ok(value)) => {
-            let record = record_of(alloc, timestamp_delta, Some(key), Some(value));
-            list.push(record).is_ok()
-        }
-        _ => false,
-    }
+    let (key, value) = (Bytes::from_static(b"k"), Bytes::from_static(b"v"));
+    let record = record_of(alloc, timestamp_delta, Some(key), Some(value));
+    list.push(record).is_ok()
 }
 
 fn two_records(alloc: Global) -> Option<Records> {

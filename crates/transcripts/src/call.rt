@@ -49,14 +49,18 @@ fn input_of<'a>(line: &'a str) -> Option<&'a str> {
     }
 }
 
+/// Adds a line to a text.
+fn push_line(to: &mut String, line: &str) -> Result<(), AllocError> {
+    to.push_str(line)?;
+    to.push('\n')
+}
+
 /// Adds a line of a call to its input or its answer.
 fn add_line(call: &mut Call, line: &str) -> Result<(), AllocError> {
-    let (to, text) = match input_of(line) {
-        Some(text) => (&mut call.input, text),
-        None => (&mut call.answer, line),
-    };
-    to.push_str(text)?;
-    to.push('\n')
+    match input_of(line) {
+        Some(text) => push_line(&mut call.input, text),
+        None => push_line(&mut call.answer, line),
+    }
 }
 
 /// The calls of a transcript, in order.

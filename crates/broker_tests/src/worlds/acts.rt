@@ -8,7 +8,7 @@ use crate::schedules::making::load_of;
 use bytes::Bytes;
 use fixtures::batch_at;
 use machine_spec::Table;
-use std::alloc::Global;
+use std::alloc::{AllocError, Global};
 use wire_spec::{Batch, Header, Headers, Record, Records};
 use world::{Event, Name};
 
@@ -25,84 +25,63 @@ pub(crate) enum Act {
     Restart(usize),
 }
 
-/// One header with the key `h` and this value, which may be null.
-fn header_of(alloc: Global, value: Option<&[u8]>) -> Option<Header> {
-    match value {
-        Some(bytes) => header_with(alloc, bytes),
-        None => header_without(alloc),
+/// A header with the key `h` and this value, which may be null.
+fn header_of(value: Option<&'static [u8]>) -> Header {
+    let value = match value {
+        Some(bytes) => Some(Bytes::from_static(bytes)),
+        None => None,
+    };
+    Header {
+        key: Bytes::from_static(b"h"),
+        value,
     }
 }
 
-fn header_with(alloc: Global, bytes: &[u8]) -> Option<Header> {
-    let key = Bytes::copy_from_slice(alloc, b"h");
-    match (key, Bytes::copy_from_slice(alloc, bytes)) {
-        (Ok(key), Ok(value)) => Some(Header {
-            key,
-            value: Some(value),
-        }),
-        _ => None,
-    }
-}
-
-fn header_without(alloc: Global) -> Option<Header> {
-    match Bytes::copy_from_slice(alloc, b"h") {
-        Ok(key) => Some(Header { key, value: None }),
-        Err(_) => None,
-    }
-}
-
-/// No header, or that one; none where memory ran out.
-fn headers_of(alloc: Global, header: Option<Option<&[u8]>>) -> Option<Headers> {
+/// No header, or that one.
+fn headers_of(alloc: Global, header: Option<Option<&'static [u8]>>) -> Result<Headers, AllocError> {
     let mut list = Vec::new(alloc);
     if let Some(value) = header {
-        let Ok(()) = list.push(header_of(alloc, value)?) else {
-            return None;
-        };
+        list.push(header_of(value))?;
     }
-    Some(Headers { list })
+    Ok(Headers { list })
 }
 
 /// A record with the key `k`, one byte as its value, and these headers.
-fn record_of(alloc: Global, value: u8, headers: Headers) -> Option<Record> {
-    let key = Bytes::copy_from_slice(alloc, b"k");
-    match (key, Bytes::copy_from_slice(alloc, &[value])) {
-        (Ok(key), Ok(value)) => Some(Record {
-            timestamp_delta: 0,
-            key: Some(key),
-            value: Some(value),
-            headers,
-        }),
-        _ => None,
-    }
+fn record_of(alloc: Global, value: u8, headers: Headers) -> Result<Record, AllocError> {
+    let value = Bytes::copy_from_slice(alloc, &[value])?;
+    Ok(Record {
+        timestamp_delta: 0,
+        key: Some(Bytes::from_static(b"k")),
+        value: Some(value),
+        headers,
+    })
 }
 
 fn push_record(
     alloc: Global,
     list: &mut Vec<Record>,
     value: u8,
-    header: Option<Option<&[u8]>>,
-) -> bool {
-    let Some(headers) = headers_of(alloc, header) else {
-        return false;
-    };
-    match record_of(alloc, value, headers) {
-        Some(record) => list.push(record).is_ok(),
-        None => false,
-    }
+    header: Option<Option<&'static [u8]>>,
+) -> Result<(), AllocError> {
+    let headers = headers_of(alloc, header)?;
+    list.push(record_of(alloc, value, headers)?)?;
+    Ok(())
 }
 
-fn records_of(alloc: Global, values: &str, header: Option<Option<&[u8]>>) -> Option<Records> {
+fn records_of(
+    alloc: Global,
+    values: &str,
+    header: Option<Option<&'static [u8]>>,
+) -> Option<Records> {
     let mut list = Vec::new(alloc);
     for value in values.as_bytes() {
-        if !push_record(alloc, &mut list, *value, header) {
-            return None;
-        }
+        push_record(alloc, &mut list, *value, header).ok()?;
     }
     Some(Records { list })
 }
 
 /// A batch at 1000 milliseconds; none where it doesn't fit or memory ran out.
-fn batch_of(alloc: Global, values: &str, header: Option<Option<&[u8]>>) -> Option<Batch>
+fn batch_of(alloc: Global, values: &str, header: Option<Option<&'static [u8]>>) -> Option<Batch>
     ensures { IfSome result (λ batch. FitsLog batch) }
 {
     match records_of(alloc, values, header) {
@@ -115,7 +94,7 @@ pub(crate) fn put_of(
     alloc: Global,
     input: usize,
     values: &str,
-    header: Option<Option<&[u8]>>,
+    header: Option<Option<&'static [u8]>>,
 ) -> Option<Event>
     ensures { IfSome result (λ event. FitsEvent event) }
 {
