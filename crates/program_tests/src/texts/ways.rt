@@ -1,4 +1,4 @@
-use crate::images::has_lines;
+use crate::texts::images::has_lines;
 use crate::verdicts::all_hold;
 use explain::Extent;
 use machine_spec::Table;

@@ -1,8 +1,10 @@
 //! Which helpers a program may call under each helper table, and what is known after a call of those
 //! that read headers.
 
-use crate::images::{EXIT, ZERO, first_wrong, have_answer, known_of, regions_of, seen_in};
 use crate::verdicts::all_hold;
+use crate::verifier::images::{
+    EXIT, ZERO, first_wrong, have_answer, known_of, regions_of, seen_in,
+};
 use machine_spec::{Region, Table};
 use std::alloc::Global;
 use std::test::*;

@@ -1,6 +1,6 @@
-use crate::images::{is_text, regions_in};
-use crate::states::{first_kinds, no_bytes};
 use crate::verdicts::all_hold;
+use crate::verifier::images::{is_text, regions_in};
+use crate::verifier::states::{first_kinds, no_bytes};
 use abstract_regs::State;
 use bpf_isa::decode;
 use machine_spec::{Region, Table};

@@ -1,5 +1,5 @@
-use crate::images::{EXIT, ZERO, first_wrong, known_of, regions_of};
 use crate::verdicts::all_hold;
+use crate::verifier::images::{EXIT, ZERO, first_wrong, known_of, regions_of};
 use machine_spec::{Region, Table};
 use std::test::*;
 use verifier_spec::Abs;

@@ -1,7 +1,7 @@
 //! Room on the stack that helpers write.
 
-use crate::images::{EXIT, ZERO, first_wrong, known_of, regions_of};
 use crate::verdicts::all_hold;
+use crate::verifier::images::{EXIT, ZERO, first_wrong, known_of, regions_of};
 use machine_spec::{Region, Table};
 use std::alloc::Global;
 use std::test::*;

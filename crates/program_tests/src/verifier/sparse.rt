@@ -1,7 +1,7 @@
 //! Programs by the states of some instructions: what is kept, what follows, and what is refused.
 
-use crate::images::{is_text, joined, regions, seen};
 use crate::verdicts::all_hold;
+use crate::verifier::images::{is_text, joined, regions, seen};
 use abstract_regs::State;
 use bpf_isa::{Code, decode};
 use machine_spec::{Region, Table};

@@ -1,4 +1,4 @@
-use crate::images::has_reason;
+use crate::texts::images::has_reason;
 use crate::verdicts::all_hold;
 use std::alloc::Global;
 use std::test::*;

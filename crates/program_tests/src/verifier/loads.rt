@@ -1,5 +1,5 @@
-use crate::images::{EXIT, ZERO, first_wrong, has_answer};
 use crate::verdicts::all_hold;
+use crate::verifier::images::{EXIT, ZERO, first_wrong, has_answer};
 use machine_spec::Table;
 use std::test::*;
 

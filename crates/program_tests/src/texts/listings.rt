@@ -1,4 +1,4 @@
-use crate::images::{has_lines, has_reason};
+use crate::texts::images::{has_lines, has_reason};
 use crate::verdicts::all_hold;
 use explain::{Extent, explain_image};
 use machine_spec::{IsaFault, Table};

@@ -1,7 +1,7 @@
 //! Calls of helpers, and what they answer.
 
-use crate::images::{EXIT, first_wrong, known_of};
 use crate::verdicts::all_hold;
+use crate::verifier::images::{EXIT, first_wrong, known_of};
 use machine_spec::Table;
 use std::alloc::Global;
 use std::test::*;

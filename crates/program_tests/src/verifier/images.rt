@@ -1,6 +1,6 @@
 //! Programs of the tests, and what loads answer of them.
 
-use crate::states::kind_of;
+use crate::verifier::states::kind_of;
 use abstract_regs::State;
 use annotate::{joined_states, load};
 use bpf_isa::{Code, decode};

@@ -1,7 +1,7 @@
 //! Instructions as the interpreter takes them.
 
-use crate::images::{EXIT, ZERO, image_of, seen_in};
 use crate::verdicts::all_hold;
+use crate::verifier::images::{EXIT, ZERO, image_of, seen_in};
 use annotate::load;
 use machine_spec::{Distance, Instruction, Source, Table, Test, Width};
 use notes::Verified;

@@ -1,7 +1,9 @@
 //! What is known at the next instruction and at the target of a jump.
 
-use crate::states::{Lengths, are_same, edges, has_kinds, is_entry, kind_of, of_lengths, with_two};
 use crate::verdicts::all_hold;
+use crate::verifier::states::{
+    Lengths, are_same, edges, has_kinds, is_entry, kind_of, of_lengths, with_two,
+};
 use abstract_regs::{Abs, State};
 use machine_spec::{
     Distance, Extension, Instruction, Operation, Region, Size, Source, Test, Width,

@@ -1,8 +1,8 @@
 //! Which check of an instruction fails first.
 
-use crate::results::SUM;
-use crate::states::{edges, with_bytes, with_lengths, with_two};
 use crate::verdicts::all_hold;
+use crate::verifier::results::SUM;
+use crate::verifier::states::{edges, with_bytes, with_lengths, with_two};
 use abstract_regs::{Abs, Check, State};
 use machine_spec::{Extension, Instruction, Operation, Region, Size, Source, Table, Test, Width};
 use std::test::*;

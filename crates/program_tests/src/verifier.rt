@@ -1,0 +1,15 @@
+//! Abstract states and annotations, which programs are accepted and why others are refused, and programs by the
+//! states of some of their instructions.
+
+mod addresses;
+mod annotations;
+mod calls;
+mod checks;
+mod forms;
+mod images;
+mod loads;
+mod results;
+mod rooms;
+mod sparse;
+mod states;
+mod tables;
