@@ -63,13 +63,18 @@ fn add_line(call: &mut Call, line: &str) -> Result<(), AllocError> {
     }
 }
 
+/// Whether a line is no part of a call.
+fn is_remark(line: &str) -> bool {
+    line.is_empty() || line.starts_with('#')
+}
+
 /// The calls of a transcript, in order.
 pub(crate) fn calls_of(alloc: Global, text: &str) -> Result<Vec<Call>, AllocError> {
     let mut calls = Vec::new(alloc);
-    for (at, line) in text.lines().enumerate() {
+    for (at, line) in text.split('\n').enumerate() {
         if let Some(words) = line.strip_prefix("$ klog ") {
             calls.push(call_of(alloc, at.wrapping_add(1), words)?)?;
-        } else if let (false, Some(call)) = (line.starts_with('#'), calls.last_mut()) {
+        } else if let (false, Some(call)) = (is_remark(line), calls.last_mut()) {
             add_line(call, line)?;
         }
     }

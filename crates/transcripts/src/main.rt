@@ -4,7 +4,7 @@
 //! A line `$ klog WORDS` is a call. Of the lines after it, those that begin with `|` are its standard input and
 //! the file `input`. The others are what it answers: standard output, then standard error, then the status in
 //! brackets unless that is 0. A call whose line ends with ` > /dev/null` answers without standard output. Lines that
-//! begin with `#` are remarks. Files lie beside the transcripts.
+//! are empty or begin with `#` are remarks. Files lie beside the transcripts.
 #![tactic(auto)]
 
 mod call;
