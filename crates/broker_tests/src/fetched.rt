@@ -5,39 +5,11 @@ ghost use Rattle.log_spec.specs.Logs.{FitsLog};
 
 use batch::decode;
 use broker::Broker;
-use bytes::Bytes;
 use fixtures::{batch_at, batch_of, batch_of_copies, record_of};
 use part_log::Names;
 use std::alloc::{AllocError, Global};
 use std::sync::Wait;
 use wire_spec::{Batch, Record, Records};
-
-/// Adds the key `k` and the value `v`, `timestamp_delta` milliseconds later than the batch's base
-/// timestamp; whether it could.
-fn is_added(alloc: Global, list: &mut Vec<Record>, timestamp_delta: i64) -> bool {
-    let (key, value) = (Bytes::from_static(b"k"), Bytes::from_static(b"v"));
-    let record = record_of(alloc, timestamp_delta, Some(key), Some(value));
-    list.push(record).is_ok()
-}
-
-fn two_records(alloc: Global) -> Option<Records> {
-    let mut list = Vec::new(alloc);
-    if is_added(alloc, &mut list, 0) && is_added(alloc, &mut list, -100) {
-        Some(Records { list })
-    } else {
-        None
-    }
-}
-
-/// Two records with the timestamps 1000 and 900. None where memory ran out.
-pub(crate) fn two_stamped(alloc: Global) -> Option<Batch>
-    ensures { IfSome result (λ batch. FitsLog batch) }
-{
-    match two_records(alloc) {
-        Some(records) => batch_at(1000, records),
-        None => None,
-    }
-}
 
 /// Records with no key and a value of this many bytes. None where they are too long or memory ran out.
 fn batch_of_long(alloc: Global, count: usize, bytes: usize) -> Option<Batch>

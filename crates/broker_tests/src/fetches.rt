@@ -1,7 +1,7 @@
 use crate::calls::append;
-use crate::fetched::{batch_with, sizes, two_stamped};
+use crate::fetched::{batch_with, sizes};
 use crate::play::{Drained, Scene, play};
-use broker::{Broker, BrokerFault, Ended, Until};
+use broker::{Broker, Ended, Until};
 use broker_fixtures::{deploy, ends};
 use catalogue::Catalogue;
 use fixtures::FORWARD;
@@ -12,82 +12,8 @@ use std::test::*;
 use std::thread::Threads;
 use worker::Open;
 
-/// The batch of two rows with the key `k`, the value `v` and the timestamps 1000 and 900, spelled by
-/// another implementation.
-static TWO: [u8; 80] = [
-    0, 0, 0, 0, 0, 0, 0, 0, 0, 0, 0, 68, 0, 0, 0, 0, 2, 0x84, 0x67, 0x45, 0xca, 0, 0, 0, 0, 0, 1,
-    0, 0, 0, 0, 0, 0, 3, 0xe8, 0, 0, 0, 0, 0, 0, 3, 0xe8, 0xff, 0xff, 0xff, 0xff, 0xff, 0xff, 0xff,
-    0xff, 0xff, 0xff, 0xff, 0xff, 0xff, 0xff, 0, 0, 0, 2, 0x10, 0, 0, 0, 2, 0x6b, 2, 0x76, 0, 0x12,
-    0, 0xc7, 1, 2, 2, 0x6b, 2, 0x76, 0,
-];
-
-#[test]
-fn rows_are_fetched_as_a_batch(rt: HostRuntime) {
-    play(&rt, rt.alloc(), 1, 2, 8, Scene::Drained(Drained::FetchTwo));
-}
-
-/// An output partition, a place and a number of rows, and whether the batch of both rows is fetched, or none,
-/// or why the fetch is refused.
-type Fetch = (usize, usize, usize, Result<bool, BrokerFault>);
-
-/// Before the rows are there.
-static EARLY: [Fetch; 1] = [(0, 0, 10, Ok(false))];
-
-/// The same batch is fetched again, none past the last row or of no rows, and none of another output.
-static FETCHES: [Fetch; 7] = [
-    (0, 0, 10, Ok(true)),
-    (0, 0, 2, Ok(true)),
-    (0, 0, 2, Ok(true)),
-    (0, 2, 10, Ok(false)),
-    (0, 0, 0, Ok(false)),
-    (1, 0, 10, Ok(false)),
-    (2, 0, 10, Err(BrokerFault::Partition)),
-];
-
 /// A place and a number of rows, and the bytes and the records of the batch that is fetched.
 type Size = (usize, usize, (usize, usize));
-
-static ONE_ROW: [Size; 2] = [(1, 10, (70, 1)), (0, 1, (70, 1))];
-
-/// How the worker ends.
-static TWO_ENDS: [Ended; 1] = [Ended::Done(2)];
-
-pub(crate) fn fetch_two<Id: Names + Send + Sync, H: Wait + Drop + Send, R: Threads + Wait + Sync>(
-    rt: &R,
-    alloc: Global,
-    broker: &Broker<Id, Catalogue<H>>,
-) -> bool {
-    deploy(rt, alloc, broker, 0, &FORWARD) == Some(0)
-        && append_two(rt, alloc, broker)
-        && are_fetched(rt, broker, &EARLY)
-        && ends(rt, alloc, broker, Until::Drained, &Open, &TWO_ENDS)
-        && are_fetched(rt, broker, &FETCHES)
-        && have_sizes(rt, alloc, broker, &ONE_ROW)
-}
-
-/// Appends the batch whose rows `TWO` has; whether it could.
-fn append_two<Id: Names, C, R: Wait>(rt: &R, alloc: Global, broker: &Broker<Id, C>) -> bool {
-    append(rt, alloc, broker, 0, two_stamped(alloc)).is_ok()
-}
-
-/// Whether a fetch has this answer.
-fn is_fetched<Id: Names, C, R: Wait>(rt: &R, broker: &Broker<Id, C>, fetch: &Fetch) -> bool {
-    let (output, place, max, want) = *fetch;
-    match broker.fetch(rt, output, place, max) {
-        Ok(Some(bytes)) => want == Ok(true) && bytes.as_slice() == TWO.as_slice(),
-        Ok(None) => want == Ok(false),
-        Err(fault) => want == Err(fault),
-    }
-}
-
-fn are_fetched<Id: Names, C, R: Wait>(rt: &R, broker: &Broker<Id, C>, rows: &[Fetch]) -> bool {
-    for fetch in rows {
-        if !is_fetched(rt, broker, fetch) {
-            return false;
-        }
-    }
-    true
-}
 
 /// Whether the batches that are fetched from output 0 have these sizes.
 fn have_sizes<Id: Names, C, R: Wait>(

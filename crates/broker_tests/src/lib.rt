@@ -23,6 +23,8 @@ mod gates;
 #[cfg(test)]
 mod heads;
 #[cfg(test)]
+mod interrupted;
+#[cfg(test)]
 mod loads;
 #[cfg(test)]
 mod logs;
@@ -30,8 +32,6 @@ mod logs;
 mod memory;
 #[cfg(test)]
 mod names;
-#[cfg(test)]
-mod narrow;
 #[cfg(test)]
 mod offers;
 #[cfg(test)]

@@ -5,12 +5,11 @@ ghost use Rattle.broker.specs.Layouts.{IsNamed};
 
 use crate::audits::{audit_beside, audit_five};
 use crate::deploys::deploy_some;
-use crate::fetches::{fetch_many, fetch_two};
+use crate::fetches::fetch_many;
 use crate::loads::chase;
 use crate::logs::fill_one;
-use crate::reports::counts::{deploy_late, keep_one, reject_some};
-use crate::reports::places::{fill_two, step_apart};
-use crate::reports::writers::cut_short;
+use crate::reports::counts::keep_one;
+use crate::reports::places::step_apart;
 use crate::since::look_up;
 use crate::steps::step_two;
 use crate::streams::{append_in_pieces, meet_faults};
@@ -42,14 +41,9 @@ pub(crate) enum Alone {
 /// What workers do with a broker, and what is fetched or reported then.
 #[derive(Clone, Copy)]
 pub(crate) enum Drained {
-    CutShort,
-    DeployLate,
     FetchMany,
-    FetchTwo,
-    FillTwo,
     KeepOne,
     LookUp,
-    RejectSome,
 }
 
 /// What workers or other threads do with a broker beside each other.
@@ -97,14 +91,9 @@ fn act_drained<Id: Names + Send + Sync, H: Wait + Drop + Send, R: Threads + Wait
     scene: Drained,
 ) -> bool {
     match scene {
-        Drained::CutShort => cut_short(rt, alloc, broker),
-        Drained::DeployLate => deploy_late(rt, alloc, broker),
         Drained::FetchMany => fetch_many(rt, alloc, broker),
-        Drained::FetchTwo => fetch_two(rt, alloc, broker),
-        Drained::FillTwo => fill_two(rt, alloc, broker),
         Drained::KeepOne => keep_one(rt, alloc, broker),
         Drained::LookUp => look_up(rt, alloc, broker),
-        Drained::RejectSome => reject_some(rt, alloc, broker),
     }
 }
 

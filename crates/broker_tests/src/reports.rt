@@ -4,4 +4,3 @@ mod calls;
 pub(crate) mod counts;
 pub(crate) mod places;
 mod refusals;
-pub(crate) mod writers;

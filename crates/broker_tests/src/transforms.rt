@@ -4,4 +4,3 @@ mod batches;
 mod in_memory;
 mod making;
 mod streams;
-mod writers;

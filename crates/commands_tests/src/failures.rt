@@ -1,6 +1,6 @@
-//! Readers that fail at each of their calls, and writers that fail after each number of bytes.
+//! Readers that give a byte at each call and fail at one of them, and writers that fail after a number of bytes.
 
-use crate::shelf::{BATCHES, Called, FORWARD, input_of, words_of};
+use crate::shelf::{BATCHES, FORWARD, input_of, words_of};
 use crate::verdicts::all_hold;
 use commands::{Files, command};
 use std::alloc::Global;
@@ -40,11 +40,13 @@ fn reader_of(alloc: Global, bytes: &[u8], fails: usize) -> io::Result<Breaking> 
     }
 }
 
-/// Files of two batches, an image and a list of images, each of whose readers fails at that call.
+/// Files of scripts, of two batches, of an image and of a list of images. Each of their readers but those of scripts
+/// fails at that call, if that is not 0. A file that is created takes `room` bytes.
 #[derive(Drop)]
 struct Torn {
     alloc: Global,
     fails: usize,
+    room: usize,
 }
 
 impl Files for Torn {
@@ -54,6 +56,8 @@ impl Files for Torn {
 
     fn open(&mut self, name: &str) -> io::Result<Breaking> {
         match name {
+            "script" => reader_of(self.alloc, SCRIPT.as_bytes(), 0),
+            "appending" => reader_of(self.alloc, APPENDING.as_bytes(), 0),
             "batches" => reader_of(self.alloc, &BATCHES, self.fails),
             "image" => reader_of(self.alloc, &FORWARD, self.fails),
             "list" => reader_of(self.alloc, b"image\nimage 2\n", self.fails),
@@ -66,11 +70,14 @@ impl Files for Torn {
     }
 
     fn create(&mut self, _name: &str) -> io::Result<Narrow> {
-        Err(io::Error::from(io::ErrorKind::PermissionDenied))
+        Ok(Narrow {
+            taken: Vec::new(self.alloc),
+            room: self.room,
+        })
     }
 
     fn close(&mut self, _name: &str, _writer: Narrow) -> io::Result<()> {
-        Err(io::Error::from(io::ErrorKind::PermissionDenied))
+        Ok(())
     }
 }
 
@@ -97,6 +104,9 @@ impl Write for Narrow {
     }
 }
 
+/// What a call answers: its status, and what it writes to standard output and error.
+type Called = (u8, Vec<u8>, Vec<u8>);
+
 /// A call with a standard output that takes so many bytes.
 fn bytes_of<R: Threads + Wait + Sync>(
     rt: &R,
@@ -115,31 +125,23 @@ fn bytes_of<R: Threads + Wait + Sync>(
     (status, stdout.taken, stderr)
 }
 
-/// A call with files that fail at one call and a standard output that takes so many bytes.
-fn called<R: Threads + Wait + Sync>(
+/// Whether a call with these files and a standard output that takes so many bytes answers this.
+fn answers<R: Threads + Wait + Sync>(
     rt: &R,
-    alloc: Global,
+    mut files: Torn,
     words: &[&str],
-    script: &str,
-    fails: usize,
     room: usize,
-) -> Option<Called> {
-    let mut files = Torn { alloc, fails };
-    match (words_of(alloc, words), input_of(alloc, script.as_bytes())) {
+    want: (u8, &[u8], &str),
+) -> bool {
+    match (
+        words_of(files.alloc, words),
+        input_of(files.alloc, &BATCHES),
+    ) {
         (Some(words), Some(mut stdin)) => {
-            Some(bytes_of(rt, &mut files, &words, &mut stdin, room))
+            let got = bytes_of(rt, &mut files, &words, &mut stdin, room);
+            got.0 == want.0 && got.1.as_slice() == want.1 && got.2.as_slice() == want.2.as_bytes()
         }
-        _ => None,
-    }
-}
-
-/// Whether this is what a call answers.
-fn is_called(got: Option<Called>, status: u8, out: &[u8], err: &str) -> bool {
-    match got {
-        Some(got) => got.0 == status
-            && got.1.as_slice() == out
-            && got.2.as_slice() == err.as_bytes(),
-        None => false,
+        _ => false,
     }
 }
 
@@ -151,10 +153,25 @@ const SCRIPT: &str =
     "partitions 1 2 8\nload f image\ndeploy 0 f\nput 0 1000 6b 76\ngo\nfetch 0 0 9\n\
     fetch 1 0 9\n";
 
-/// What calls with files that don't fail write to standard output.
-static TEXTS: [(&[&str], &str); 5] = [
+/// Appends two batches.
+const APPENDING: &str = "partitions 1 1 8\nappend 0 batches\n";
+
+/// The lines of the first batch, and of both.
+const LISTED_ONE: &str = "position: 0 baseOffset: 0 count: 1 size: 70 baseTimestamp: 1700000000000 \
+    maxTimestamp: 1700000000000 partitionLeaderEpoch: 0 producerId: -1 producerEpoch: -1 \
+    baseSequence: -1\n";
+
+const LISTED: &str = "position: 0 baseOffset: 0 count: 1 size: 70 baseTimestamp: 1700000000000 \
+    maxTimestamp: 1700000000000 partitionLeaderEpoch: 0 producerId: -1 producerEpoch: -1 \
+    baseSequence: -1\n\
+    position: 70 baseOffset: 0 count: 4 size: 193 baseTimestamp: 1700000000000 \
+    maxTimestamp: 1700000000005 partitionLeaderEpoch: 0 producerId: 4711 producerEpoch: 3 \
+    baseSequence: 12\n";
+
+/// What calls with files that don't fail write to standard output; standard input has the batches.
+static TEXTS: [(&[&str], &str); 7] = [
     (
-        &["run", "stdin"],
+        &["run", "script"],
         "load f version 1\ndeploy 0 index 0 f version 1\nappend 0 index 1 base 0\n\
         row 0 0 0 0 1000 6b 76 0\nout 0 in 0 done 2 rows 1\nout 1 in 0 done 2 rows 0\n\
         in 0 items 2 records 1 unprogrammed 0 kept 1\n\
@@ -175,7 +192,29 @@ static TEXTS: [(&[&str], &str); 5] = [
         r4: length of key  r5: 0 to 3  r10: stack+512\n2 slot 2: exit\n\x20 r0: 0 to 3  r10: stack+512\n\
         ok\n",
     ),
+    (&["batches", "stdin"], LISTED),
+    (
+        &["records", "batches"],
+        "put 0 1700000000000 6b 76\n\
+        put 0 1700000000000 6b 76\n\
+        append 0 hex:000000000000000000000041000000000201d24fef0000000000000000018bcfe56805\
+        0000018bcfe56805ffffffffffffffffffffffffffff000000011e00000001000402680104c3a4047800\n\
+        put 0 1699999999999 . -\n\
+        append 0 hex:0000000000000000000000950000000002dec90be40000000000000000018bcfe56805\
+        0000018bcfe56805ffffffffffffffffffffffffffff00000001c401000000146c6f6e676572206b657994\
+        01612076616c7565206f66206d6f7265207468616e2073697874792d7468726565206279746573\
+        2c20736f207468617420697473206c656e6774682074616b65732074776f206279746573020a656d70747900\n",
+    ),
 ];
+
+/// Files of which no reader fails.
+fn whole(alloc: Global) -> Torn {
+    Torn {
+        alloc,
+        fails: 0,
+        room: ALL,
+    }
+}
 
 /// Whether a call whose standard output takes so many bytes writes those of the text, and fails where
 /// they are not all.
@@ -186,10 +225,11 @@ fn has_beginning<R: Threads + Wait + Sync>(
     text: &[u8],
     room: usize,
 ) -> bool {
-    let called = called(rt, alloc, words, SCRIPT, 0, room);
     match text.get(..room) {
-        Some(begin) if room < text.len() => is_called(called, 3, begin, "file stdout\n"),
-        _ => is_called(called, 0, text, ""),
+        Some(begin) if room < text.len() => {
+            answers(rt, whole(alloc), words, room, (3, begin, "file stdout\n"))
+        }
+        _ => answers(rt, whole(alloc), words, room, (0, text, "")),
     }
 }
 
@@ -227,49 +267,139 @@ fn a_failed_output_has_a_beginning(rt: HostRuntime) {
     all_hold(&rt, first_other(&rt, rt.alloc(), &TEXTS));
 }
 
-/// What is printed of batches whose reader fails at a call.
-fn appended_before(fails: usize) -> &'static str {
-    match fails {
-        1..=70 => "",
-        71..=263 => "append 0 index 0 base 0\n",
-        _ => "append 0 index 0 base 0\nappend 0 index 1 base 1\n",
+/// What is said of the batches that go through a program.
+const REPORT: &str = "out 0 in 0 done 3 rows 5\nin 0 items 3 records 5 unprogrammed 0 kept 5\n";
+
+/// The same where their file takes too little.
+const CUT_REPORT: &str =
+    "out 0 in 0 done 3 rows 5\nin 0 items 3 records 5 unprogrammed 0 kept 5\nfile out\n";
+
+/// How many bytes the batch of these rows has.
+const SIZE: usize = 202;
+
+/// Whether batches go through a program into a file that takes so many bytes, or this is said where
+/// these are too few.
+fn is_transformed<R: Threads + Wait + Sync>(rt: &R, alloc: Global, room: usize) -> bool {
+    let words = ["transform", "image", "batches", "out"];
+    let (status, said) = if room < SIZE {
+        (3, CUT_REPORT)
+    } else {
+        (0, REPORT)
+    };
+    let files = Torn {
+        alloc,
+        fails: 0,
+        room,
+    };
+    answers(rt, files, &words, ALL, (status, &[], said))
+}
+
+/// The first room of a file of rows with another answer.
+fn first_wrong_room<R: Threads + Wait + Sync>(rt: &R, alloc: Global) -> Option<usize> {
+    for room in 0..=SIZE {
+        if !is_transformed(rt, alloc, room) {
+            return Some(room);
+        }
     }
+    None
 }
 
-const APPENDING: &str = "partitions 1 1 8\nappend 0 batches\n";
-
-/// Whether a reader that fails at this call leaves the batches before it.
-fn is_appended<R: Threads + Wait + Sync>(rt: &R, alloc: Global, fails: usize) -> bool {
-    let called = called(rt, alloc, &["run", "stdin"], APPENDING, fails, ALL);
-    let before = appended_before(fails).as_bytes();
-    is_called(called, 3, before, "file batches\n")
+#[test]
+fn a_failed_file_of_rows_is_reported(rt: HostRuntime) {
+    all_hold(&rt, first_wrong_room(&rt, rt.alloc()));
 }
 
-/// The first call of a reader of batches whose failure leaves something else.
-fn first_wrong_read<R: Threads + Wait + Sync>(rt: &R, alloc: Global) -> Option<usize> {
-    for fails in 1..=264 {
-        if !is_appended(rt, alloc, fails) {
+/// Words of a call, the first and the last call of a reader of which each ends it, and what it has written to standard
+/// output and error then.
+type Cut = (
+    &'static [&'static str],
+    usize,
+    usize,
+    &'static str,
+    &'static str,
+);
+
+static CUTS: [Cut; 13] = [
+    (&["run", "appending"], 1, 70, "", "file batches\n"),
+    (
+        &["run", "appending"],
+        71,
+        263,
+        "append 0 index 0 base 0\n",
+        "file batches\n",
+    ),
+    (
+        &["run", "appending"],
+        264,
+        264,
+        "append 0 index 0 base 0\nappend 0 index 1 base 1\n",
+        "file batches\n",
+    ),
+    (&["check", "image"], 1, 25, "", "file image\n"),
+    (&["dis", "image"], 1, 25, "", "file image\n"),
+    (&["explain", "image"], 1, 25, "", "file image\n"),
+    (&["recheck", "list"], 1, 15, "", "file list\n"),
+    (&["batches", "batches"], 1, 70, "", "file batches\n"),
+    (
+        &["batches", "batches"],
+        71,
+        263,
+        LISTED_ONE,
+        "file batches\n",
+    ),
+    (&["batches", "batches"], 264, 264, LISTED, "file batches\n"),
+    (
+        &["transform", "image", "batches", "out"],
+        1,
+        25,
+        "",
+        "file image\n",
+    ),
+    (
+        &["transform", "image", "batches", "out"],
+        26,
+        70,
+        "",
+        "out 0 in 0 done 1 rows 0\nin 0 items 1 records 0 unprogrammed 0 kept 0\nfile batches\n",
+    ),
+    (
+        &["transform", "image", "batches", "out"],
+        71,
+        263,
+        "",
+        "out 0 in 0 done 2 rows 1\nin 0 items 2 records 1 unprogrammed 0 kept 1\nfile batches\n",
+    ),
+];
+
+/// Whether a call answers so where readers fail at that call.
+fn is_cut<R: Threads + Wait + Sync>(rt: &R, alloc: Global, row: &Cut, fails: usize) -> bool {
+    let files = Torn {
+        alloc,
+        fails,
+        room: ALL,
+    };
+    answers(rt, files, row.0, ALL, (3, row.3.as_bytes(), row.4))
+}
+
+/// The first call of a reader after whose failure a call answers something else.
+fn first_wrong_read<R: Threads + Wait + Sync>(rt: &R, alloc: Global, row: &Cut) -> Option<usize> {
+    for fails in row.1..=row.2 {
+        if !is_cut(rt, alloc, row, fails) {
             return Some(fails);
         }
     }
     None
 }
 
-/// Whether nothing is said of an image whose reader fails at this call.
-fn is_unread<R: Threads + Wait + Sync>(rt: &R, alloc: Global, word: &str, fails: usize) -> bool {
-    let called = called(rt, alloc, &[word, "image"], "", fails, ALL);
-    is_called(called, 3, &[], "file image\n")
-}
-
-/// The first call of a reader of an image after whose failure something else is said.
-fn first_wrong_image_read<R: Threads + Wait + Sync>(
+/// The number of the first row with such a call, and the call.
+fn first_wrong_row<R: Threads + Wait + Sync>(
     rt: &R,
     alloc: Global,
-    word: &str,
-) -> Option<usize> {
-    for fails in 1..=25 {
-        if !is_unread(rt, alloc, word, fails) {
-            return Some(fails);
+    rows: &[Cut],
+) -> Option<(usize, usize)> {
+    for (k, row) in rows.iter().enumerate() {
+        if let Some(fails) = first_wrong_read(rt, alloc, row) {
+            return Some((k, fails));
         }
     }
     None
@@ -277,8 +407,6 @@ fn first_wrong_image_read<R: Threads + Wait + Sync>(
 
 #[test]
 fn a_failed_input_leaves_what_was_read_before(rt: HostRuntime) {
-    all_hold(&rt, first_wrong_read(&rt, rt.alloc()));
-    all_hold(&rt, first_wrong_image_read(&rt, rt.alloc(), "check"));
-    all_hold(&rt, first_wrong_image_read(&rt, rt.alloc(), "dis"));
-    all_hold(&rt, first_wrong_image_read(&rt, rt.alloc(), "explain"));
+    let wrong = first_wrong_row(&rt, rt.alloc(), &CUTS);
+    assert!(rt; wrong.is_none(), "row and call {wrong:?}");
 }

@@ -7,7 +7,6 @@ ghost use Rattle.commands.specs.Rechecks.{RechecksAs};
 ghost use Rattle.commands_tests.specs.Shelves.{bytes_in, left_of, with_file};
 
 use crate::shelf::{BATCHES, FORWARD, Shelf, input_of, shelf_of};
-use crate::transforms::len_of;
 use commands::{Files, recheck, transform};
 use machine_spec::Table;
 use std::alloc::Global;
@@ -33,7 +32,7 @@ fn recheck_list(
 
 /// Whether this is the status of a list, and this is printed of it.
 fn is_rechecked(alloc: Global, list: &[u8], status: u8, printed: &[u8]) -> bool {
-    let Some(mut files) = shelf_of(alloc, &[("forward.bin", &FORWARD)]) else {
+    let Some(mut files) = shelf_of(alloc, "forward.bin", &FORWARD) else {
         return false;
     };
     let mut stdout = Vec::new(alloc);
@@ -63,9 +62,17 @@ fn transform_to(
     transform(alloc, files, stdin, stderr, Table::One, words)
 }
 
+/// How many bytes a file has; 0 where it is not there.
+fn len_of(files: &Shelf, name: &str) -> usize {
+    match files.files.get(name) {
+        Some(bytes) => bytes.len(),
+        None => 0,
+    }
+}
+
 /// Whether the rows of all batches are in the file.
 fn is_transformed(alloc: Global, words: &[String; 3]) -> bool {
-    let files = shelf_of(alloc, &[("forward.bin", &FORWARD)]);
+    let files = shelf_of(alloc, "forward.bin", &FORWARD);
     let (Some(mut files), Some(mut stdin)) = (files, input_of(alloc, &BATCHES)) else {
         return false;
     };

@@ -1,29 +1,16 @@
-//! Tests of the calls of the program, with files in memory, and of whole scripts.
+//! Tests of the calls of the program with files in memory: files of known bytes, readers and writers that fail, a
+//! session's lines. What calls answer over the system's files is in `transcripts`.
 #![tactic(auto)]
 
 #[cfg(test)]
-mod batches;
-#[cfg(test)]
-mod causes;
-#[cfg(test)]
 mod failures;
-#[cfg(test)]
-mod images;
 #[cfg(test)]
 mod known;
 #[cfg(test)]
-mod listings;
-#[cfg(test)]
 mod receipts;
-#[cfg(test)]
-mod scripts;
 #[cfg(test)]
 mod shelf;
 #[cfg(test)]
-mod texts;
-#[cfg(test)]
-mod transforms;
+mod unread_words;
 #[cfg(test)]
 mod verdicts;
-#[cfg(test)]
-mod words;

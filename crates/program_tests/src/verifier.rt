@@ -1,7 +1,6 @@
 //! Abstract states and annotations, which programs are accepted and why others are refused, and programs by the
 //! states of some of their instructions.
 
-mod addresses;
 mod annotations;
 mod calls;
 mod checks;
@@ -9,7 +8,5 @@ mod forms;
 mod images;
 mod loads;
 mod results;
-mod rooms;
 mod sparse;
 mod states;
-mod tables;

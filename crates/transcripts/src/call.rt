@@ -12,21 +12,24 @@ pub(crate) struct Call {
     pub(crate) input: String,
     /// Whether the answer has what it writes to standard output.
     pub(crate) has_output: bool,
+    /// Whether the answer has what it writes to standard error.
+    pub(crate) has_error: bool,
     /// What it writes to standard output, then to standard error, and its status unless that is 0.
     pub(crate) answer: String,
 }
 
-/// The words of a call, and whether its standard output is looked at.
-fn words_of<'a>(text: &'a str) -> (&'a str, bool) {
-    match text.strip_suffix(" > /dev/null") {
-        Some(words) => (words, false),
-        None => (text, true),
+/// A text without this end, and whether it had it.
+fn without<'a>(text: &'a str, end: &str) -> (&'a str, bool) {
+    match text.strip_suffix(end) {
+        Some(begin) => (begin, true),
+        None => (text, false),
     }
 }
 
 /// A call of a line, which has no input and answers nothing.
 fn call_of(alloc: Global, line: usize, text: &str) -> Result<Call, AllocError> {
-    let (text, has_output) = words_of(text);
+    let (text, drops_error) = without(text, " 2> /dev/null");
+    let (text, drops_output) = without(text, " > /dev/null");
     let mut words = Vec::new(alloc);
     for word in text.split(' ') {
         words.push(String::from_str(alloc, word)?)?;
@@ -34,7 +37,8 @@ fn call_of(alloc: Global, line: usize, text: &str) -> Result<Call, AllocError> {
     Ok(Call {
         line,
         words,
-        has_output,
+        has_output: !drops_output,
+        has_error: !drops_error,
         input: String::new(alloc),
         answer: String::new(alloc),
     })
@@ -72,7 +76,7 @@ fn is_remark(line: &str) -> bool {
 pub(crate) fn calls_of(alloc: Global, text: &str) -> Result<Vec<Call>, AllocError> {
     let mut calls = Vec::new(alloc);
     for (at, line) in text.split('\n').enumerate() {
-        if let Some(words) = line.strip_prefix("$ klog ") {
+        if let Some(words) = line.strip_prefix("$ ") {
             calls.push(call_of(alloc, at.wrapping_add(1), words)?)?;
         } else if let (false, Some(call)) = (is_remark(line), calls.last_mut()) {
             add_line(call, line)?;

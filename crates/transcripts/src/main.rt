@@ -3,79 +3,22 @@
 //!
 //! A line `$ klog WORDS` is a call. Of the lines after it, those that begin with `|` are its standard input and
 //! the file `input`. The others are what it answers: standard output, then standard error, then the status in
-//! brackets unless that is 0. A call whose line ends with ` > /dev/null` answers without standard output. Lines that
-//! are empty or begin with `#` are remarks. Files lie beside the transcripts.
+//! brackets unless that is 0. A call whose line ends with ` > /dev/null` answers without standard output, one with
+//! ` 2> /dev/null` without standard error. `$ make FILE PIECE ..` makes a file of bytes in hexadecimal, of which
+//! `*COUNT` repeats those of a piece, and `$ bytes FILE` answers them, eight on a line. Lines that are empty or begin
+//! with `#` are remarks. Files lie beside the transcripts.
 #![tactic(auto)]
 
+mod act;
 mod call;
 
+use crate::act::answer_of;
 use crate::call::{Call, calls_of};
-use commands::{Files, command};
-use std::io::{Cursor, Write};
+use std::io::Write;
 use std::process::ExitCode;
 use std::sync::Wait;
 use std::thread::Threads;
 use std::{env, fs, io};
-
-/// The files of the folder that the program is run in.
-#[derive(Drop)]
-struct Folder<'a> {
-    rt: &'a HostRuntime,
-}
-
-impl Files for Folder<'_> {
-    type Reader = <HostRuntime as fs::Files>::File;
-
-    type Writer = <HostRuntime as fs::Files>::File;
-
-    fn open(&mut self, name: &str) -> io::Result<Self::Reader> {
-        fs::open(self.rt, name)
-    }
-
-    fn write(&mut self, name: &str, content: &[u8]) -> io::Result<()> {
-        fs::write(self.rt, name, content)
-    }
-
-    fn create(&mut self, name: &str) -> io::Result<Self::Writer> {
-        fs::create(self.rt, name)
-    }
-
-    fn close(&mut self, _name: &str, mut writer: Self::Writer) -> io::Result<()> {
-        writer.flush()
-    }
-}
-
-/// What a call answers.
-fn answer_of<T: Threads + Wait + Sync>(
-    threads: &T,
-    rt: &HostRuntime,
-    call: &Call,
-) -> io::Result<Vec<u8>> {
-    let alloc = rt.alloc();
-    fs::write(rt, "input", call.input.as_bytes())?;
-    let mut stdin = Cursor::new(Vec::from_slice(alloc, call.input.as_bytes())?);
-    let mut stdout = Vec::new(alloc);
-    let mut stderr = Vec::new(alloc);
-    let status = command(
-        threads,
-        alloc,
-        &call.words,
-        &mut Folder { rt },
-        &mut stdin,
-        &mut stdout,
-        &mut stderr,
-    );
-    let mut answer = if call.has_output {
-        stdout
-    } else {
-        Vec::new(alloc)
-    };
-    answer.extend_from_slice(&stderr)?;
-    if status != 0 {
-        writeln!(answer, "[{status}]")?;
-    }
-    Ok(answer)
-}
 
 /// How many calls were done, and how many of them answered otherwise.
 #[derive(Clone, Copy)]

@@ -1,48 +1,14 @@
-use crate::play::{Alone, Drained, Scene, play};
+use crate::play::{Alone, Scene, play};
 use crate::reports::calls::{Given, puts, reports};
 use broker::Broker;
-use broker_fixtures::{deploy, drain, step};
+use broker_fixtures::{deploy, step};
 use catalogue::Catalogue;
-use fixtures::{BOTH, FORWARD};
+use fixtures::FORWARD;
 use part_log::Names;
 use report::{Snapshot, gather};
 use std::alloc::Global;
 use std::sync::Wait;
 use std::test::*;
-use std::thread::Threads;
-
-#[test]
-fn lines_are_in_the_order_of_partitions(rt: HostRuntime) {
-    play(&rt, rt.alloc(), 2, 2, 4, Scene::Drained(Drained::FillTwo));
-}
-
-const FILLED: &str = "row 0 0 0 0 1000 6b 41 0\n\
-    row 0 1 0 0 1000 6b 42 0\n\
-    row 1 0 0 1 1000 6b 41 0\n\
-    row 1 1 0 1 1000 6b 42 0\n\
-    out 0 in 0 done 2 rows 1\n\
-    out 0 in 1 done 2 rows 1\n\
-    out 1 in 0 done 2 rows 1\n\
-    out 1 in 1 done 2 rows 1\n\
-    in 0 items 2 records 1 unprogrammed 0 kept 1\n\
-    in 1 items 2 records 1 unprogrammed 0 kept 1\n";
-
-static SECOND: [Given; 1] = [(1, 1000, Some(b"k"), Some(b"B"))];
-
-static FIRST: [Given; 1] = [(0, 1000, Some(b"k"), Some(b"A"))];
-
-pub(crate) fn fill_two<Id: Names + Send + Sync, H: Wait + Drop + Send, R: Threads + Wait + Sync>(
-    rt: &R,
-    alloc: Global,
-    broker: &Broker<Id, Catalogue<H>>,
-) -> bool {
-    deploy(rt, alloc, broker, 1, &BOTH) == Some(0)
-        && puts(rt, alloc, broker, &SECOND)
-        && deploy(rt, alloc, broker, 0, &BOTH) == Some(0)
-        && puts(rt, alloc, broker, &FIRST)
-        && drain(rt, alloc, broker)
-        && reports(rt, alloc, broker, FILLED)
-}
 
 #[test]
 fn items_that_are_done_everywhere_are_counted(rt: HostRuntime) {

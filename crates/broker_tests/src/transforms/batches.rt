@@ -1,5 +1,5 @@
-use crate::narrow::Narrow;
-use crate::transforms::making::{WIDE, has, is_pushed, stream_of};
+use crate::interrupted::Interrupted;
+use crate::transforms::making::{has, is_pushed, stream_of};
 use crate::verdicts::all_hold;
 use broker_fixtures::program_of;
 use fixtures::FORWARD;
@@ -18,7 +18,7 @@ static SECOND: [u8; 24] = [
 fn are_pushed(
     alloc: Global,
     program: &Program,
-    stream: &mut Transform<Narrow>,
+    stream: &mut Transform<Interrupted>,
     given: &[(usize, usize)],
 ) -> bool {
     for (count, bytes) in given {
@@ -59,7 +59,7 @@ static FILLINGS: [Filling<'static>; 7] = [
 fn is_filled(
     alloc: Global,
     program: &Program,
-    stream: &mut Transform<Narrow>,
+    stream: &mut Transform<Interrupted>,
     filling: &Filling<'_>,
 ) -> bool {
     let (given, early, all) = *filling;
@@ -70,13 +70,13 @@ fn is_filled(
         && has(alloc, stream, 1, all)
 }
 
-fn ends(stream: &mut Transform<Narrow>) -> bool {
+fn ends(stream: &mut Transform<Interrupted>) -> bool {
     stream.end().is_ok()
 }
 
 /// Whether the batches of rows are these.
 fn fills(alloc: Global, program: &Program, filling: &Filling<'_>) -> bool {
-    match stream_of(alloc, 0, 0, 2, WIDE) {
+    match stream_of(alloc, 0, 0, 2) {
         Some(mut stream) => is_filled(alloc, program, &mut stream, filling),
         None => false,
     }
@@ -101,14 +101,14 @@ fn batches_fill_up_to_their_limits(rt: HostRuntime) {
 }
 
 /// Whether a batch of two records is taken, and the offset after it.
-fn take_two(alloc: Global, program: &Program, stream: &mut Transform<Narrow>) -> (bool, u64) {
+fn take_two(alloc: Global, program: &Program, stream: &mut Transform<Interrupted>) -> (bool, u64) {
     let is_taken = is_pushed(alloc, program, stream, 2, 0);
     (is_taken, stream.offset())
 }
 
 /// The same at an offset. None where there is no such stream or memory ran out.
 fn taken_at(alloc: Global, program: &Program, offset: u64) -> Option<(bool, u64)> {
-    match stream_of(alloc, 63, offset, 2, WIDE) {
+    match stream_of(alloc, 63, offset, 2) {
         Some(mut stream) => Some(take_two(alloc, program, &mut stream)),
         None => None,
     }

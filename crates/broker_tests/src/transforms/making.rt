@@ -1,40 +1,22 @@
 //! Streams and batches of the tests, and what is seen of an output.
 
 use crate::fetched::batch_with;
-use crate::narrow::Narrow;
+use crate::interrupted::Interrupted;
 use batch::{Feed, encode};
 use fixtures::{batch_of, batch_of_value};
 use log_item::Program;
 use std::alloc::{AllocError, Global};
-use std::io;
 use transform::{Outlet, Transform};
 use wire_spec::{Batch, TIMESTAMP_END};
 
-/// How many bytes a writer takes, and how many at once.
-pub(crate) type Room = (usize, usize);
-
-/// As many as there are.
-pub(crate) const WIDE: Room = (usize::MAX, usize::MAX);
-
-fn outlet_of(alloc: Global, room: Room) -> Outlet<Narrow> {
-    let writer = Narrow {
-        taken: Vec::new(alloc),
-        room: room.0,
-        step: room.1,
-        kind: io::ErrorKind::StorageFull,
-        is_interrupted: false,
-    };
-    Outlet::new(alloc, writer)
-}
-
-fn outlets_of(
-    alloc: Global,
-    outputs: usize,
-    room: Room,
-) -> Result<Vec<Outlet<Narrow>>, AllocError> {
+fn outlets_of(alloc: Global, outputs: usize) -> Result<Vec<Outlet<Interrupted>>, AllocError> {
     let mut outlets = Vec::new(alloc);
     for _ in 0..outputs {
-        outlets.push(outlet_of(alloc, room))?;
+        let writer = Interrupted {
+            taken: Vec::new(alloc),
+            is_interrupted: false,
+        };
+        outlets.push(Outlet::new(alloc, writer))?;
     }
     Ok(outlets)
 }
@@ -46,9 +28,8 @@ pub(crate) fn stream_of(
     input: usize,
     offset: u64,
     outputs: usize,
-    room: Room,
-) -> Option<Transform<Narrow>> {
-    let Ok(outlets) = outlets_of(alloc, outputs, room) else {
+) -> Option<Transform<Interrupted>> {
+    let Ok(outlets) = outlets_of(alloc, outputs) else {
         return None;
     };
     if input >= 64 || offset > TIMESTAMP_END || outlets.is_empty() || outlets.len() > 64 {
@@ -61,7 +42,7 @@ pub(crate) fn stream_of(
 pub(crate) fn is_pushed(
     alloc: Global,
     program: &Program,
-    stream: &mut Transform<Narrow>,
+    stream: &mut Transform<Interrupted>,
     count: usize,
     bytes: usize,
 ) -> bool {
@@ -105,7 +86,7 @@ fn are_batches(alloc: Global, bytes: &[u8], want: &[(i64, usize)]) -> bool {
 /// Whether an output has these batches.
 pub(crate) fn has(
     alloc: Global,
-    stream: &Transform<Narrow>,
+    stream: &Transform<Interrupted>,
     output: usize,
     want: &[(i64, usize)],
 ) -> bool {

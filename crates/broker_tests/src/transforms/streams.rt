@@ -1,8 +1,8 @@
 ghost use Rattle.batch_reader.specs.Readings.{IsOpen};
 
-use crate::narrow::Narrow;
+use crate::interrupted::Interrupted;
 use crate::streams::{Pieces, STEADY, reader_of};
-use crate::transforms::making::{WIDE, damaged, has, stream_of};
+use crate::transforms::making::{damaged, has, stream_of};
 use crate::verdicts::all_hold;
 use batch_reader::{BatchReader, Position, ReadFault};
 use broker_fixtures::program_of;
@@ -46,7 +46,7 @@ fn end_of(damage: &Damage) -> Result<(), StreamFault> {
 fn ended(
     program: &Program,
     reader: &mut BatchReader<Pieces<'_>>,
-    stream: &mut Transform<Narrow>,
+    stream: &mut Transform<Interrupted>,
 ) -> Result<(), StreamFault>
     requires { IsOpen reader.old }
 {
@@ -63,7 +63,7 @@ fn is_at(reader: &BatchReader<Pieces<'_>>, damage: &Damage) -> bool {
 fn is_end(
     program: &Program,
     reader: &mut BatchReader<Pieces<'_>>,
-    stream: &mut Transform<Narrow>,
+    stream: &mut Transform<Interrupted>,
     damage: &Damage,
 ) -> bool
     requires { IsOpen reader.old }
@@ -77,7 +77,7 @@ fn is_end_of(
     program: &Program,
     bytes: &[u8],
     piece: usize,
-    stream: &mut Transform<Narrow>,
+    stream: &mut Transform<Interrupted>,
     damage: &Damage,
 ) -> bool {
     if piece == 0 || piece > 65_536 {
@@ -91,7 +91,7 @@ fn is_end_of(
 
 /// Whether a stream that is read in pieces of this size ends so, and has written the rows.
 fn ends_so(alloc: Global, program: &Program, bytes: &[u8], piece: usize, damage: &Damage) -> bool {
-    match stream_of(alloc, 0, 0, 1, WIDE) {
+    match stream_of(alloc, 0, 0, 1) {
         Some(mut stream) => is_end_of(alloc, program, bytes, piece, &mut stream, damage)
             && has(alloc, &stream, 0, damage.5),
         None => false,
