@@ -1,4 +1,4 @@
-// Prints the rows of crates/machine_tests/src/operations.rt and changes.rt: what C makes of each operation, change and test of a jump.
+// Prints the rows of crates/program_tests/src/operations.rt and changes.rt: what C makes of each operation, change and test of a jump.
 //
 //     cc -O1 -fsanitize=undefined -fno-sanitize-recover -o /tmp/arithmetic_vectors tools/arithmetic_vectors.c && /tmp/arithmetic_vectors
 //

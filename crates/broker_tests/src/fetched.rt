@@ -5,6 +5,7 @@ ghost use Rattle.log_spec.specs.Logs.{FitsLog};
 
 use batch::decode;
 use broker::Broker;
+use bytes::Bytes;
 use fixtures::{batch_at, batch_of, batch_of_copies, record_of};
 use part_log::Names;
 use std::alloc::{AllocError, Global};

@@ -3,7 +3,7 @@ use Rattle.wire_spec.specs.declared.record.Record.{Record}
 use Rattle.machine_spec.specs.declared.outcome.Place.{Place}
 use Rattle.machine_spec.specs.Meaning.{IsPlace}
 use Rattle.exec.specs.Records.{IsShortRecord}
-use Rattle.machine_tests.proofs.abreast.are_given.Given as goal
+use Rattle.program_tests.proofs.abreast.are_given.Given as goal
 
 abbrev pub invariant-loop-i : goal.invariant-loop-i
 invariant-loop-i l = record {
