@@ -169,7 +169,7 @@ const LISTED: &str = "position: 0 baseOffset: 0 count: 1 size: 70 baseTimestamp:
     baseSequence: 12\n";
 
 /// What calls with files that don't fail write to standard output; standard input has the batches.
-static TEXTS: [(&[&str], &str); 7] = [
+static TEXTS: [(&[&str], &str); 6] = [
     (
         &["run", "script"],
         "load f version 1\ndeploy 0 index 0 f version 1\nappend 0 index 1 base 0\n\
@@ -193,18 +193,6 @@ static TEXTS: [(&[&str], &str); 7] = [
         ok\n",
     ),
     (&["batches", "stdin"], LISTED),
-    (
-        &["records", "batches"],
-        "put 0 1700000000000 6b 76\n\
-        put 0 1700000000000 6b 76\n\
-        append 0 hex:000000000000000000000041000000000201d24fef0000000000000000018bcfe56805\
-        0000018bcfe56805ffffffffffffffffffffffffffff000000011e00000001000402680104c3a4047800\n\
-        put 0 1699999999999 . -\n\
-        append 0 hex:0000000000000000000000950000000002dec90be40000000000000000018bcfe56805\
-        0000018bcfe56805ffffffffffffffffffffffffffff00000001c401000000146c6f6e676572206b657994\
-        01612076616c7565206f66206d6f7265207468616e2073697874792d7468726565206279746573\
-        2c20736f207468617420697473206c656e6774682074616b65732074776f206279746573020a656d70747900\n",
-    ),
 ];
 
 /// Files of which no reader fails.

@@ -3,7 +3,6 @@
 use crate::call::Call;
 use commands::{Files, command};
 use std::alloc::Global;
-use std::fs::Files as _;
 use std::io::{Cursor, Write};
 use std::sync::Wait;
 use std::thread::Threads;
