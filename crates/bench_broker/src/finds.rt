@@ -24,8 +24,8 @@ const FINDS: u64 = 200_000;
 const LOADS: u64 = 4_000;
 
 /// Finds the name; how many programs were found.
-fn find(alloc: Global, finder: &mut Finder, known: &Known) -> Option<u64> {
-    let found = finder.find(alloc, known.name(), known).ok()?;
+fn find(finder: &mut Finder, known: &Known) -> Option<u64> {
+    let found = finder.find(known.name(), known).ok()?;
     Some(found.is_some() as u64)
 }
 
@@ -38,7 +38,7 @@ fn find_all<Id: Names, H: Wait + Drop, R: Wait + Clock>(
     ended: &AtomicU64,
 ) -> Option<f64> {
     let work = match broker.finder(rt, alloc) {
-        Ok(mut finder) => find_by(rt, alloc, &mut finder, known),
+        Ok(mut finder) => find_by(rt, &mut finder, known),
         Err(_) => None,
     };
     ended.fetch_add(1, Ordering::SeqCst);
@@ -46,11 +46,11 @@ fn find_all<Id: Names, H: Wait + Drop, R: Wait + Clock>(
 }
 
 /// Finds the name by one finder again and again; how often a second.
-fn find_by<R: Clock>(rt: &R, alloc: Global, finder: &mut Finder, known: &Known) -> Option<f64> {
+fn find_by<R: Clock>(rt: &R, finder: &mut Finder, known: &Known) -> Option<f64> {
     let start = Instant::now(rt).ok()?;
     let mut count = 0u64;
     for _ in 0..FINDS {
-        count = count.wrapping_add(find(alloc, finder, known)?);
+        count = count.wrapping_add(find(finder, known)?);
     }
     let seconds = start.elapsed(rt).ok()?.as_secs_f64();
     Some(nearest_u64_to_f64(count) / seconds)

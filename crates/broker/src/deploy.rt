@@ -32,7 +32,7 @@ impl<Id: Names, C> Broker<Id, C> {
         ensures never_back { (other : List ℕ) → IsNoOlder (among finder.old.versions other) (among finder.new.versions other) }
     {
         let log = self.log(input)?;
-        let (version, program) = match finder.find(alloc, name, known) {
+        let (version, program) = match finder.find(name, known) {
             Err(fault) => return Err(BrokerFault::Catalogue(fault)),
             Ok(None) => return Err(BrokerFault::NoProgram),
             Ok(Some(found)) => found,

@@ -8,16 +8,11 @@ use std::sync::{Arc, Wait};
 use std::test::*;
 
 /// The version of a name that is found.
-fn find(
-    alloc: Global,
-    finder: &mut Finder,
-    name: &str,
-    known: &Known,
-) -> Result<Option<u32>, CatFault> {
+fn find(finder: &mut Finder, name: &str, known: &Known) -> Result<Option<u32>, CatFault> {
     let Some(name) = Name::new(name) else {
         return Ok(None);
     };
-    match finder.find(alloc, &name, known) {
+    match finder.find(&name, known) {
         Ok(Some((version, _program))) => Ok(Some(version)),
         Ok(None) => Ok(None),
         Err(fault) => Err(fault),
@@ -46,9 +41,9 @@ static TWO: [Found; 1] = [("fwd", Ok(Some(2)))];
 static GONE: [Found; 1] = [("fwd", Err(CatFault::NoReader))];
 
 /// Whether a finder finds this.
-fn finds(alloc: Global, finder: &mut Finder, known: &Known, rows: &[Found]) -> bool {
+fn finds(finder: &mut Finder, known: &Known, rows: &[Found]) -> bool {
     for (name, want) in rows {
-        if find(alloc, finder, name, known) != *want {
+        if find(finder, name, known) != *want {
             return false;
         }
     }
@@ -62,11 +57,11 @@ fn load_newer<R: Wait + Drop>(
     finder: &mut Finder,
     known: &Known,
 ) -> Option<Known> {
-    if !finds(alloc, finder, known, &ONE) {
+    if !finds(finder, known, &ONE) {
         return None;
     }
     match load(alloc, catalogue) {
-        Ok(newer) if finds(alloc, finder, known, &TWO) => Some(newer),
+        Ok(newer) if finds(finder, known, &TWO) => Some(newer),
         _ => None,
     }
 }
@@ -97,7 +92,7 @@ fn left_over<R: Wait + Drop>(
 /// Whether a finder finds what it must, and nothing in a catalogue that is gone.
 fn finds_last<R: Wait + Drop>(alloc: Global, catalogue: Catalogue<R>, finder: &mut Finder) -> bool {
     match left_over(alloc, catalogue, finder) {
-        Some(newer) => finds(alloc, finder, &newer, &GONE),
+        Some(newer) => finds(finder, &newer, &GONE),
         None => false,
     }
 }
@@ -197,8 +192,7 @@ fn is_replaced<R: Wait + Drop>(
     version: u32,
 ) -> bool {
     match load(alloc, catalogue) {
-        Ok(newer) => newer.version() == version
-            && find(alloc, finder, "fwd", known) == Ok(Some(version)),
+        Ok(newer) => newer.version() == version && find(finder, "fwd", known) == Ok(Some(version)),
         Err(_) => false,
     }
 }
@@ -224,7 +218,7 @@ fn is_given_up<R: Wait + Drop>(
     finder: &mut Finder,
 ) -> bool {
     match load(alloc, catalogue) {
-        Ok(known) => find(alloc, finder, "fwd", &known) == Ok(Some(1))
+        Ok(known) => find(finder, "fwd", &known) == Ok(Some(1))
             && are_replaced(alloc, catalogue, finder, &known),
         Err(_) => false,
     }

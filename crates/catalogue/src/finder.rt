@@ -174,7 +174,6 @@ impl Finder {
     /// has then seen no more versions than before.
     pub fn find(
         &mut self,
-        alloc: Global,
         name: &Name,
         known: &Known,
     ) -> Result<Option<(u32, Arc<Program>)>, CatFault>

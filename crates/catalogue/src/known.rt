@@ -5,7 +5,7 @@ ghost use Rattle.catalogue.specs.declared.fault.CatFault.TheVariants.{Memory};
 use crate::fault::CatFault;
 use log_item::Program;
 use log_spec::Name;
-use std::alloc::{AllocError, Global};
+use std::alloc::AllocError;
 use std::marker::Model;
 use std::sync::Arc;
 
@@ -60,7 +60,7 @@ impl Known {
 
     /// A second one, as for another thread. Fails only where its program has no room for one more
     /// owner.
-    pub fn again(&self, alloc: Global) -> Result<Known, CatFault>
+    pub fn again(&self) -> Result<Known, CatFault>
         ensures ok { IfOk result (λ known. known ≡ self.now) }
         ensures err { IfErr result (λ fault. fault ≡ Memory) }
     {

@@ -104,13 +104,13 @@ fn is_newest<Id: Names, H: Wait + Drop, R: Wait>(
         return true;
     };
     match broker.finder(rt, alloc) {
-        Ok(mut finder) => find_once(alloc, &mut finder, known) == Ok(Some(known.version())),
+        Ok(mut finder) => find_once(&mut finder, known) == Ok(Some(known.version())),
         Err(_) => false,
     }
 }
 
-fn find_once(alloc: Global, finder: &mut Finder, known: &Known) -> Result<Option<u32>, CatFault> {
-    match finder.find(alloc, known.name(), known) {
+fn find_once(finder: &mut Finder, known: &Known) -> Result<Option<u32>, CatFault> {
+    match finder.find(known.name(), known) {
         Ok(Some((version, _program))) => Ok(Some(version)),
         Ok(None) => Ok(None),
         Err(fault) => Err(fault),
@@ -118,20 +118,15 @@ fn find_once(alloc: Global, finder: &mut Finder, known: &Known) -> Result<Option
 }
 
 /// The version that is found.
-pub(crate) fn find<R: Print>(
-    rt: &R,
-    alloc: Global,
-    finder: &mut Finder,
-    known: &Known,
-) -> Option<u32> {
-    match find_once(alloc, finder, known) {
+pub(crate) fn find<R: Print>(rt: &R, finder: &mut Finder, known: &Known) -> Option<u32> {
+    match find_once(finder, known) {
         Ok(found) => found,
         Err(fault) => {
             say(rt, "find", BrokerFault::Catalogue(fault));
             if fault != CatFault::Memory {
                 return None;
             }
-            find_once(alloc, finder, known).ok()?
+            find_once(finder, known).ok()?
         }
     }
 }

@@ -78,13 +78,13 @@ fn load_again<Id: Names, H: Wait + Drop, R: Wait + Print>(
     finder: &mut Finder,
     known: &Known,
 ) -> Result<(), Ending> {
-    if find(rt, alloc, finder, known) != Some(1) {
+    if find(rt, finder, known) != Some(1) {
         return Err(Ending::Wrong("find"));
     }
     if load(rt, alloc, broker, Some(known)).is_none() {
         return Err(Ending::Wrong("load again"));
     }
-    if find(rt, alloc, finder, known) == Some(2) {
+    if find(rt, finder, known) == Some(2) {
         Ok(())
     } else {
         Err(Ending::Wrong("find again"))

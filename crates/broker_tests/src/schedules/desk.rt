@@ -108,12 +108,8 @@ fn mark_found<Id: Names, W: Wait>(
 }
 
 /// The version that a finder finds.
-fn found<R: Wait + Drop>(
-    alloc: Global,
-    desk: &mut Desk<R>,
-    name: &Name,
-) -> Option<(u32, Arc<Program>)> {
-    match desk.finder.find(alloc, name, &desk.known) {
+fn found<R: Wait + Drop>(desk: &mut Desk<R>, name: &Name) -> Option<(u32, Arc<Program>)> {
+    match desk.finder.find(name, &desk.known) {
         Ok(found) => found,
         Err(_) => None,
     }
@@ -130,7 +126,7 @@ pub(crate) fn mark<Id: Names, R: Wait + Drop, W: Wait>(
     let Some(name) = Name::new(NAME) else {
         return false;
     };
-    match found(alloc, desk, &name) {
+    match found(desk, &name) {
         Some(found) => mark_found(rt, alloc, lane, name, found, core),
         None => false,
     }
