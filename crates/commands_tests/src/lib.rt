@@ -11,6 +11,8 @@ mod receipts;
 #[cfg(test)]
 mod shelf;
 #[cfg(test)]
+mod torn;
+#[cfg(test)]
 mod unread_words;
 #[cfg(test)]
 mod verdicts;
