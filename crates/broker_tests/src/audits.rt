@@ -171,12 +171,14 @@ fn is_audit(audit: Audit<'_>, want: &Option<Seen>) -> bool {
 /// Whether there is one row, and this one.
 fn is_one(rows: AuditedRows<'_>, want: &Seen) -> bool {
     let (offset, number, value) = want;
-    let mut left = rows;
-    let is_first = match left.next() {
-        Some(row) => is_row(row, *offset, *number, *value),
-        None => false,
-    };
-    is_first && left.next().is_none()
+    let mut count = 0usize;
+    for row in rows {
+        if count > 0 || !is_row(row, *offset, *number, *value) {
+            return false;
+        }
+        count = 1;
+    }
+    count == 1
 }
 
 /// The values of the records whose receipts another thread audits, in order.

@@ -2,7 +2,7 @@
 //! beside them the core: each call here and in `desk` does one step of both, and says whether the answers
 //! are the same. They are not where memory ran out.
 
-ghost use Rattle.std.specs.Prelude.{◌≡◌};
+ghost use Rattle.std.specs.Prelude.{◌≡◌, ◌<◌};
 ghost use Rattle.log_spec.specs.Worlds.{FitsEvent};
 
 use crate::schedules::making::put_of;
@@ -57,11 +57,20 @@ impl<Id: Names> Pair<Id> {
         requires inputs { Id.inputs ≡ 2 }
         requires outputs { Id.outputs ≡ 2 }
     {
-        match (Book::new(alloc, 2, 0), Book::new(alloc, 2, 1)) {
-            (Ok(first), Ok(second)) => Some(Pair { first, second }),
+        match (book(alloc, 0), book(alloc, 1)) {
+            (Some(first), Some(second)) => Some(Pair { first, second }),
             _ => None,
         }
     }
+}
+
+/// The book of an output partition.
+fn book<Id: Names>(alloc: Global, output: usize) -> Option<Book<Id>>
+    requires inputs { Id.inputs ≡ 2 }
+    requires within { output < 2 }
+    requires outputs { Id.outputs ≡ 2 }
+{
+    Book::new(alloc, 2, output).ok()
 }
 
 /// Whether a log answers what the core does.
