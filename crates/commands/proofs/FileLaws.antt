@@ -26,6 +26,8 @@ use Rattle.transform.specs.Transforms.{FillsSome, StopsFilling, Finished, Broken
 use Rattle.script.specs.Words.{word_at}
 use Rattle.commands.specs.declared.halts.Halt.{Halt}
 use Rattle.commands.specs.declared.halts.Halt.TheVariants as halt
+use Rattle.commands.specs.declared.status.Status.{Status}
+use Rattle.commands.specs.declared.status.Status.TheVariants.{Failed}
 use Rattle.command_line.specs.Calls.{names_of, AreDistinct}
 use Rattle.commands.specs.FileTransforms.{KeepsOthers, HasRows, IsFresh, HasWritten, HaveWritten, StreamsAs}
 use Rattle.commands.specs.FileTransforms.{TransformsAs, CallTransforms, IsUnloaded, status_of, status_of_halt}
@@ -298,18 +300,18 @@ wrote_files program bytes names count fresh outs reader start result now files i
     (λ q lt. held_now q (omega (arith, lt, long)) (omega (arith, lt, many, of_names))))
 
 -- the status of a stream whose files were ended, or 3
-pub ended_as : {Held : Type 0} (program : Program) (bytes : List ℕ) (count status ended : ℕ)
-    (files : ℕ → Option (List ℕ)) → (status ≡ 3) ⊎ ((status ≡ ended) × Held) →
+pub ended_as : {Held : Type 0} (program : Program) (bytes : List ℕ) (count : ℕ) (status ended : Status)
+    (files : ℕ → Option (List ℕ)) → (status ≡ Failed) ⊎ ((status ≡ ended) × Held) →
     (Held → StreamsAs program bytes count ended files) → StreamsAs program bytes count status files
-ended_as program bytes count status ended files (inl three) streams = inl three
+ended_as program bytes count status ended files (inl is_failed) streams = inl is_failed
 ended_as program bytes count status ended files (inr (same, held)) streams =
-    subst (λ (s : ℕ). StreamsAs program bytes count s files) (sym same) (streams held)
+    subst (λ (s : Status). StreamsAs program bytes count s files) (sym same) (streams held)
 
 -- ---- The call
 
 -- the image has a program, which is run on the bytes
 pub called : (table : Table) (names : List (List ℕ)) (stdin : Option (List ℕ))
-    (before mid after : List ℕ → Option (List ℕ)) (status : ℕ) (program : Program) (first : List ℕ) →
+    (before mid after : List ℕ → Option (List ℕ)) (status : Status) (program : Program) (first : List ℕ) →
     first ≡ word_at names 0 →
     ((image : List ℕ) → before first ≡ Some image → program ≡ program_of (first_bytes image) table) →
     ((other : List ℕ) → mid other ≡ before other) →
@@ -346,10 +348,10 @@ uncalled table names stdin before after halted first is refused distinct image b
 
 -- the status that is answered may be that there was no memory to say why
 pub told_as : (table : Table) (names : List (List ℕ)) (stdin : Option (List ℕ))
-    (before after : List ℕ → Option (List ℕ)) (status told : ℕ) →
-    CallTransforms table names stdin before after status → (told ≡ status) ⊎ (told ≡ 3) →
+    (before after : List ℕ → Option (List ℕ)) (status told : Status) →
+    CallTransforms table names stdin before after status → (told ≡ status) ⊎ (told ≡ Failed) →
     CallTransforms table names stdin before after told
 told_as table names stdin before after status told does (inl same) =
-    subst (λ (s : ℕ). CallTransforms table names stdin before after s) (sym same) does
-told_as table names stdin before after status told does (inr three) =
-    λ distinct image bytes known source. inr (inl three)
+    subst (λ (s : Status). CallTransforms table names stdin before after s) (sym same) does
+told_as table names stdin before after status told does (inr is_failed) =
+    λ distinct image bytes known source. inr (inl is_failed)

@@ -9,6 +9,8 @@ use Rattle.wire_spec.specs.declared.record.Batch.{Batch}
 use Rattle.batch_text.specs.declared.listing.{Listing.Listing, ListFault.ListFault}
 use Rattle.batch_text.specs.declared.listing.ListFault.TheVariants as fault
 use Rattle.batch_text.specs.Listings.{Listed, Lists, ListsKnown, texts_of}
+use Rattle.commands.specs.declared.status.Status.{Status}
+use Rattle.commands.specs.declared.status.Status.TheVariants.{Failed}
 use Rattle.commands.specs.Listings.{status_of_listed, ListsAs}
 
 listed_kept : (listing : Listing) (bytes : List ℕ) (batches : List Batch) (rest : List ℕ)
@@ -32,19 +34,19 @@ kept listing bytes before mid after (Err fault.Memory) is keeps = tt
 
 -- a listing whose text was flushed, with its status
 pub listed_as : (listing : Listing) (known before mid after : Option (List ℕ)) (result : Result (Unit {0}) ListFault)
-    (status : ℕ) → Lists listing known before result mid → Keeps mid after →
-    (status ≡ status_of_listed result) ⊎ (status ≡ 3) → ListsAs listing known status before after
+    (status : Status) → Lists listing known before result mid → Keeps mid after →
+    (status ≡ status_of_listed result) ⊎ (status ≡ Failed) → ListsAs listing known status before after
 listed_as listing known before mid after result status lists keeps told bytes known_is =
     elim told [
       | inl is ↦ inr (result, is, kept listing bytes before mid after result (lists bytes known_is) keeps)
-      | inr three ↦ inl three
+      | inr is_failed ↦ inl is_failed
     ]
 
-pub failed_as : (listing : Listing) (known before after : Option (List ℕ)) (status : ℕ) → status ≡ 3 →
+pub failed_as : (listing : Listing) (known before after : Option (List ℕ)) (status : Status) → status ≡ Failed →
     ListsAs listing known status before after
-failed_as listing known before after status three bytes known_is = inl three
+failed_as listing known before after status is_failed bytes known_is = inl is_failed
 
-pub same_source : (listing : Listing) (given known before after : Option (List ℕ)) (status : ℕ) → given ≡ known →
+pub same_source : (listing : Listing) (given known before after : Option (List ℕ)) (status : Status) → given ≡ known →
     ListsAs listing given status before after → ListsAs listing known status before after
 same_source listing given known before after status same lists =
     subst (λ (k : Option (List ℕ)). ListsAs listing k status before after) same lists

@@ -15,6 +15,8 @@ use Rattle.verifier_spec.specs.declared.fault.LoadFault.{LoadFault}
 use Rattle.script.specs.declared.command.Source.TheVariants.{File}
 use Rattle.script.specs.Words.{word_at}
 use Rattle.commands.specs.declared.{run.Ended.Ended, stop.Stop.Stop}
+use Rattle.commands.specs.declared.status.Status.{Status}
+use Rattle.commands.specs.declared.status.Status.TheVariants.{Failed}
 use Rattle.commands.specs.declared.stop.Stop.TheVariants as stop
 use Rattle.commands.specs.Appends.{Prints}
 use Rattle.commands.specs.Images.{accepted_line}
@@ -181,9 +183,9 @@ stopped files now lines index line refused before between after number reason so
 
 -- What was told of the lines of a text is told of the list that it is, where the known files are the same.
 pub of_list : (files now : List ℕ → Option (List ℕ)) → ((name : List ℕ) → now name ≡ files name) →
-    (list text : List ℕ) → text ≡ list → (before after : Option (List ℕ)) (result : Result Bool Ended) (status : ℕ) →
-    Rechecks now (lines_of text) before after result →
-    (status ≡ status_of_list result) ⊎ (status ≡ 3) → RechecksAs files list status before after
+    (list text : List ℕ) → text ≡ list → (before after : Option (List ℕ)) (result : Result Bool Ended)
+    (status : Status) → Rechecks now (lines_of text) before after result →
+    (status ≡ status_of_list result) ⊎ (status ≡ Failed) → RechecksAs files list status before after
 of_list files now kept list text same before after result status is status_is =
     let of_text = subst (λ (t : List ℕ). Rechecks now (lines_of t) before after result) same is in
     inr (

@@ -23,6 +23,8 @@ use Rattle.transform.specs.Transforms.{log_of, output_at}
 use Rattle.script.specs.Words.{word_at}
 use Rattle.commands.specs.declared.halts.Halt.{Halt}
 use Rattle.commands.specs.declared.halts.Halt.TheVariants as halt
+use Rattle.commands.specs.declared.status.Status.{Status}
+use Rattle.commands.specs.declared.status.Status.TheVariants.{Done, Refused, Failed}
 use Rattle.command_line.specs.Calls.{AreDistinct}
 use Rattle.commands.specs.Images.{first_bytes}
 use Rattle.commands.specs.Listings.{source_of}
@@ -73,49 +75,50 @@ pub record Transformed (program : Program) (bytes : List ℕ) (outputs : ℕ) (r
 -- ---- the status
 
 -- the status of bytes that begin with no batch, which is that of a script's line with them
-abbrev pub status_of_batch : BatchFault → ℕ
+abbrev pub status_of_batch : BatchFault → Status
 status_of_batch why = stops.status_of (stops.stop_of_fault why)
 
--- the status of a transform that ends so: 1 at bytes that begin with no batch, and where offsets are used up
-abbrev pub status_of : Result (Unit {0}) StreamFault → ℕ
-status_of (Ok done) = 0
+-- the status of a transform that ends so: `Refused` at bytes that begin with no batch, and where offsets are used up
+abbrev pub status_of : Result (Unit {0}) StreamFault → Status
+status_of (Ok done) = Done
 status_of (Err (fault.Read (read.Batch why))) = status_of_batch why
-status_of (Err (fault.Read read.Read)) = 3
-status_of (Err (fault.Read read.Memory)) = 3
-status_of (Err (fault.Transform stop.Full)) = 1
-status_of (Err (fault.Transform stop.Memory)) = 3
-status_of (Err (fault.Transform (stop.Output output outlet.Full))) = 1
-status_of (Err (fault.Transform (stop.Output output outlet.Memory))) = 3
-status_of (Err (fault.Transform (stop.Output output outlet.Write))) = 3
+status_of (Err (fault.Read read.Read)) = Failed
+status_of (Err (fault.Read read.Memory)) = Failed
+status_of (Err (fault.Transform stop.Full)) = Refused
+status_of (Err (fault.Transform stop.Memory)) = Failed
+status_of (Err (fault.Transform (stop.Output output outlet.Full))) = Refused
+status_of (Err (fault.Transform (stop.Output output outlet.Memory))) = Failed
+status_of (Err (fault.Transform (stop.Output output outlet.Write))) = Failed
 
 -- the status by what is reported
-abbrev pub status_of_halt : Halt → ℕ
-status_of_halt (halt.Image _) = 1
-status_of_halt (halt.Batch _ _) = 1
-status_of_halt halt.Full = 1
-status_of_halt (halt.File _) = 3
-status_of_halt halt.Memory = 3
+abbrev pub status_of_halt : Halt → Status
+status_of_halt (halt.Image _) = Refused
+status_of_halt (halt.Batch _ _) = Refused
+status_of_halt halt.Full = Refused
+status_of_halt (halt.File _) = Failed
+status_of_halt halt.Memory = Failed
 
 -- the status of a call that ends so
-abbrev pub status_of_ended : Result (Unit {0}) Halt → ℕ
-status_of_ended (Ok done) = 0
+abbrev pub status_of_ended : Result (Unit {0}) Halt → Status
+status_of_ended (Ok done) = Done
 status_of_ended (Err halted) = status_of_halt halted
 
--- A transform of known bytes ends with this status: 0 all was done, 1 the bytes before a fault were transformed; or it is
--- 3, where a file or memory failed.
-abbrev pub StreamsAs : Program → List ℕ → ℕ → ℕ → (ℕ → Option (List ℕ)) → Type 0
-StreamsAs program bytes outputs status files = (status ≡ 3) ⊎ ((result : Result (Unit {0}) StreamFault)
+-- A transform of known bytes ends with this status: all was done, or the bytes before a fault were transformed; or it
+-- is `Failed`, where a file or memory failed.
+abbrev pub StreamsAs : Program → List ℕ → ℕ → Status → (ℕ → Option (List ℕ)) → Type 0
+StreamsAs program bytes outputs status files = (status ≡ Failed) ⊎ ((result : Result (Unit {0}) StreamFault)
     × (status ≡ status_of result) × Transformed program bytes outputs result files)
 
 -- The same of a program that may be refused.
-abbrev pub TransformsAs : Program → List ℕ → ℕ → ℕ → (ℕ → Option (List ℕ)) → Type 0
-TransformsAs program bytes outputs status files = ((fault : LoadFault) × IsRefusedWith program fault × (status ≡ 1))
+abbrev pub TransformsAs : Program → List ℕ → ℕ → Status → (ℕ → Option (List ℕ)) → Type 0
+TransformsAs program bytes outputs status files =
+    ((fault : LoadFault) × IsRefusedWith program fault × (status ≡ Refused))
     ⊎ StreamsAs program bytes outputs status files
 
 -- What a call does whose words name an image, a file of batches and a file for each output partition: files had these
 -- bytes before and have those after, and standard input these.
 abbrev pub CallWrites : Table → List (List ℕ) → Option (List ℕ) → (List ℕ → Option (List ℕ)) →
-    (List ℕ → Option (List ℕ)) → ℕ → Type 0
+    (List ℕ → Option (List ℕ)) → Status → Type 0
 CallWrites table names stdin before after status = (image bytes : List ℕ) → before (word_at names 0) ≡ Some image →
     source_of (word_at names 1) stdin (before (word_at names 1)) ≡ Some bytes →
     TransformsAs (program_of (first_bytes image) table) bytes (length names - 2) status
@@ -123,7 +126,7 @@ CallWrites table names stdin before after status = (image bytes : List ℕ) → 
 
 -- the same where no two of the names are the same; else nothing is said of the files
 abbrev pub CallTransforms : Table → List (List ℕ) → Option (List ℕ) → (List ℕ → Option (List ℕ)) →
-    (List ℕ → Option (List ℕ)) → ℕ → Type 0
+    (List ℕ → Option (List ℕ)) → Status → Type 0
 CallTransforms table names stdin before after status = AreDistinct names →
     CallWrites table names stdin before after status
 

@@ -8,6 +8,8 @@ use Rattle.verifier_spec.specs.Loading.{IsAccepted, IsRefusedWith}
 use Rattle.verifier_spec.specs.declared.fault.LoadFault.{LoadFault}
 use Rattle.commands.specs.declared.image.Refused.{Refused}
 use Rattle.commands.specs.declared.image.Refused.TheVariants as refused
+use Rattle.commands.specs.declared.status.Status.{Status}
+use Rattle.commands.specs.declared.status.Status.TheVariants as exit
 
 -- as much of a file as is read of an image: one byte more than the greatest image has
 abbrev pub first_bytes : List ℕ → List ℕ
@@ -29,19 +31,20 @@ ChecksAs program view (Ok text) = (accepted : IsAccepted program)
 ChecksAs program view (Err reported) = IsRefusal program reported
 
 -- a program is accepted, and standard output gets its line
-pub record PrintsAccepted (program : Program) (status : ℕ) (before after : Option (List ℕ)) : Type 0 where
+pub record PrintsAccepted (program : Program) (status : Status) (before after : Option (List ℕ)) : Type 0 where
   pub accepted : IsAccepted program
-  pub status_is : status ≡ 0
+  pub status_is : status ≡ exit.Done
   pub printed : Appends before after (accepted_line (length accepted.code))
 
 -- a program is refused with its fault, and standard output gets nothing
-pub record PrintsNone (program : Program) (status : ℕ) (before after : Option (List ℕ)) : Type 0 where
+pub record PrintsNone (program : Program) (status : Status) (before after : Option (List ℕ)) : Type 0 where
   pub fault : LoadFault
   pub refused : IsRefusedWith program fault
-  pub status_is : status ≡ 1
+  pub status_is : status ≡ exit.Refused
   pub kept : after ≡ before
 
--- A call that verifies a program ends with this status, which is 3 where a file, standard output or memory failed.
-abbrev pub PrintsCheck : Program → ℕ → Option (List ℕ) → Option (List ℕ) → Type 0
+-- A call that verifies a program ends with this status, which is `Failed` where a file, standard output or memory
+-- failed.
+abbrev pub PrintsCheck : Program → Status → Option (List ℕ) → Option (List ℕ) → Type 0
 PrintsCheck program status before after =
-    (status ≡ 3) ⊎ (PrintsAccepted program status before after ⊎ PrintsNone program status before after)
+    (status ≡ exit.Failed) ⊎ (PrintsAccepted program status before after ⊎ PrintsNone program status before after)

@@ -6,5 +6,6 @@ pub mod Listings
 pub mod Puts
 pub mod Rechecks
 pub mod Sessions
+pub mod Statuses
 pub mod Stops
 pub mod Texts

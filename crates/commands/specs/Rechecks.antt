@@ -12,6 +12,8 @@ use Rattle.script.specs.declared.command.Source.TheVariants.{File}
 use Rattle.script.specs.declared.fault.ScriptFault.TheVariants.{Syntax}
 use Rattle.script.specs.Words.{words_of, word_at}
 use Rattle.commands.specs.declared.{run.Ended.Ended, stop.Stop.Stop}
+use Rattle.commands.specs.declared.status.Status.{Status}
+use Rattle.commands.specs.declared.status.Status.TheVariants.{Done, Refused, Failed}
 use Rattle.commands.specs.declared.stop.Stop.TheVariants as stop
 use Rattle.commands.specs.Appends.{Prints}
 use Rattle.commands.specs.Images.{accepted_line}
@@ -125,16 +127,16 @@ pub record Rechecks (files : List ℕ → Option (List ℕ)) (lines : List (List
   pub ends : ListEnds rest told result
   pub printed : Prints before after (told_lines told) (stop_of result)
 
--- the status of a list: 1 where a program was refused or a line names none, 0 where all were accepted, 3 where a file,
--- standard output or memory failed
-abbrev pub status_of_list : Result Bool Ended → ℕ
-status_of_list (Ok false) = 0
-status_of_list (Ok true) = 1
+-- the status of a list: refused where a program was or a line names none, done where all were accepted, failed where a
+-- file, standard output or memory did
+abbrev pub status_of_list : Result Bool Ended → Status
+status_of_list (Ok false) = Done
+status_of_list (Ok true) = Refused
 status_of_list (Err ended) = status_of ended.stop
 
 -- A call that rechecks the programs of a list ends with this status. The list may be one that could not be read, and
--- then nothing was printed. Where there is no memory to say why a list was stopped, the status is 3.
-abbrev pub RechecksAs : (List ℕ → Option (List ℕ)) → List ℕ → ℕ → Option (List ℕ) → Option (List ℕ) → Type 0
-RechecksAs files list status before after = ((status ≡ 3) × (after ≡ before))
+-- then nothing was printed. Where there is no memory to say why a list was stopped, the status is `Failed`.
+abbrev pub RechecksAs : (List ℕ → Option (List ℕ)) → List ℕ → Status → Option (List ℕ) → Option (List ℕ) → Type 0
+RechecksAs files list status before after = ((status ≡ Failed) × (after ≡ before))
     ⊎ ((result : Result Bool Ended) × Rechecks files (lines_of list) before after result
-    × ((status ≡ status_of_list result) ⊎ (status ≡ 3)))
+    × ((status ≡ status_of_list result) ⊎ (status ≡ Failed)))

@@ -13,6 +13,8 @@ use Rattle.broker.specs.declared.ended.Ended.TheVariants as ended
 use Rattle.report.specs.declared.fault.ReportFault.{ReportFault}
 use Rattle.report.specs.declared.fault.ReportFault.TheVariants as report
 use Rattle.commands.specs.declared.{reading.Unread.Unread, stop.Stop.Stop, image.Refused.Refused}
+use Rattle.commands.specs.declared.status.Status.{Status}
+use Rattle.commands.specs.declared.status.Status.TheVariants as exit
 use Rattle.commands.specs.declared.reading.Unread.TheVariants as unread
 use Rattle.commands.specs.declared.stop.Stop.TheVariants as stop
 use Rattle.commands.specs.declared.image.Refused.TheVariants as refused
@@ -121,18 +123,17 @@ IsNoLine stop.Output = ⊤
 IsNoLine stop.Thread = ⊤
 IsNoLine stop.Memory = ⊤
 
--- the status of a script that ends so: 1 where the line is refused, 3 where a file, standard output, a thread or memory
--- fails
-abbrev pub status_of : Stop → ℕ
-status_of (stop.Line _) = 1
-status_of (stop.Broker _) = 1
-status_of (stop.Batch _) = 1
-status_of (stop.File _) = 3
-status_of stop.Output = 3
-status_of stop.Thread = 3
-status_of stop.Memory = 3
+-- the status of a script that ends so: the line is refused, or a file, standard output, a thread or memory fails
+abbrev pub status_of : Stop → Status
+status_of (stop.Line _) = exit.Refused
+status_of (stop.Broker _) = exit.Refused
+status_of (stop.Batch _) = exit.Refused
+status_of (stop.File _) = exit.Failed
+status_of stop.Output = exit.Failed
+status_of stop.Thread = exit.Failed
+status_of stop.Memory = exit.Failed
 
 -- the status of a call on an image that is refused, or for which memory ran out
-abbrev pub status_of_refused : Refused → ℕ
-status_of_refused (refused.Image _) = 1
-status_of_refused refused.Memory = 3
+abbrev pub status_of_refused : Refused → Status
+status_of_refused (refused.Image _) = exit.Refused
+status_of_refused refused.Memory = exit.Failed

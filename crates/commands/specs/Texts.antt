@@ -10,6 +10,8 @@ use Rattle.bpf_asm.specs.declared.fault.AsmFault.{AsmFault}
 use Rattle.bpf_asm.specs.declared.fault.AsmFault.TheVariants as asm
 use Rattle.commands.specs.declared.image.Refused.{Refused}
 use Rattle.commands.specs.declared.image.Refused.TheVariants as refused
+use Rattle.commands.specs.declared.status.Status.{Status}
+use Rattle.commands.specs.declared.status.Status.TheVariants as exit
 use Rattle.commands.specs.Stops.{status_of_refused}
 
 -- the refusal of an image that has no code; that memory ran out is a refusal of its own
@@ -33,24 +35,27 @@ disassembly image = disassembly_of (read_image image)
 
 -- A call that prints an answer, seen by view, ends with this status: standard output got all of the text, or it got
 -- nothing and the refusal was reported, unless a file, standard output or memory failed.
-abbrev pub PrintsAs : {X : Type 0} → (X → List ℕ) → Result X Refused → ℕ → Option (List ℕ) → Option (List ℕ) → Type 0
-PrintsAs view (Ok text) status before after = (status ≡ 3) ⊎ ((status ≡ 0) × Appends before after (view text))
+abbrev pub PrintsAs : {X : Type 0} → (X → List ℕ) → Result X Refused → Status → Option (List ℕ) → Option (List ℕ) →
+    Type 0
+PrintsAs view (Ok text) status before after =
+    (status ≡ exit.Failed) ⊎ ((status ≡ exit.Done) × Appends before after (view text))
 PrintsAs view (Err reported) status before after =
-    (status ≡ 3) ⊎ ((status ≡ status_of_refused reported) × (after ≡ before))
+    (status ≡ exit.Failed) ⊎ ((status ≡ status_of_refused reported) × (after ≡ before))
 
--- the status of a text's fault: 1 where a line is refused, 3 where memory ran out
-abbrev pub status_of_fault : AsmFault → ℕ
-status_of_fault (asm.Word _) = 1
-status_of_fault (asm.Operand _) = 1
-status_of_fault (asm.Number _) = 1
-status_of_fault (asm.Register _) = 1
-status_of_fault (asm.Size _) = 1
-status_of_fault asm.Memory = 3
+-- the status of a text's fault: a line is refused, or memory ran out
+abbrev pub status_of_fault : AsmFault → Status
+status_of_fault (asm.Word _) = exit.Refused
+status_of_fault (asm.Operand _) = exit.Refused
+status_of_fault (asm.Number _) = exit.Refused
+status_of_fault (asm.Register _) = exit.Refused
+status_of_fault (asm.Size _) = exit.Refused
+status_of_fault asm.Memory = exit.Failed
 
 -- A call that writes the image of a text ends with this status: the file has the image, or the text's fault was
 -- reported, unless a file or memory failed. A refused text writes no file: what the file had before it has after, also
 -- where memory failed.
-abbrev pub WritesAs : Result (List ℕ) AsmFault → ℕ → (before after : Option (List ℕ)) → Type 0
-WritesAs (Ok image) status before after = (status ≡ 3) ⊎ ((status ≡ 0) × IfSome after (λ bytes. bytes ≡ image))
+abbrev pub WritesAs : Result (List ℕ) AsmFault → Status → (before after : Option (List ℕ)) → Type 0
+WritesAs (Ok image) status before after =
+    (status ≡ exit.Failed) ⊎ ((status ≡ exit.Done) × IfSome after (λ bytes. bytes ≡ image))
 WritesAs (Err reported) status before after =
-    ((status ≡ 3) ⊎ (status ≡ status_of_fault reported)) × (after ≡ before)
+    ((status ≡ exit.Failed) ⊎ (status ≡ status_of_fault reported)) × (after ≡ before)

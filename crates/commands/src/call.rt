@@ -1,8 +1,9 @@
 //! Calls of the program.
 
-ghost use Rattle.std.specs.Prelude.{◌≡◌, ◌≢◌, ◌≤◌, ◌⊎◌, ℕ, List, Some, Ok, string_bytes};
+ghost use Rattle.std.specs.Prelude.{◌≡◌, ◌≢◌, ◌⊎◌, ℕ, List, Some, Ok, string_bytes};
 ghost use Rattle.std.specs.Io.KnownBytes.{Appends};
 ghost use Rattle.bpf_asm.specs.Images.{image_of};
+ghost use Rattle.commands.specs.declared.status.Status.TheVariants as exit;
 ghost use Rattle.commands.specs.Explanations as explanations;
 ghost use Rattle.commands.specs.Explanations.{PrintsExplanation};
 ghost use Rattle.machine_spec.specs.Image.{program_of};
@@ -20,8 +21,9 @@ use crate::listing::list;
 use crate::reading::{Unread, read_file, read_whole};
 use crate::rechecking::recheck;
 use crate::run::run_script;
+use crate::status::Status;
 use crate::telling::{
-    DONE, REFUSED, print_text, tell, tell_memory, tell_refused, tell_text, tell_unread, tell_usage,
+    print_text, tell, tell_memory, tell_refused, tell_text, tell_unread, tell_usage,
 };
 use bpf_asm::{AsmFault, assemble};
 use command_line::{Call, ImageCall, Misuse, call_of};
@@ -56,15 +58,13 @@ fn run<R: Threads + Wait + Sync, F: Files, I: Read, O: Write, E: Write>(
     stdout: &mut O,
     stderr: &mut E,
     name: &str,
-) -> u8
-    ensures { result ≤ 3 }
-{
+) -> Status {
     let script = match script_text(alloc, files, stdin, name) {
         Ok(script) => script,
         Err(unread) => return tell_unread(alloc, stderr, name, unread),
     };
     match run_script(rt, alloc, files, stdout, script.as_str()) {
-        Ok(()) => DONE,
+        Ok(()) => Status::Done,
         Err(ended) => tell(alloc, stderr, &ended),
     }
 }
@@ -75,7 +75,7 @@ fn print_answer<O: Write, E: Write>(
     stdout: &mut O,
     stderr: &mut E,
     answer: Result<String, Refused>,
-) -> u8
+) -> Status
     ensures { texts.PrintsAs string_bytes answer result (O.contents stdout.old) (O.contents stdout.new) }
 {
     match answer {
@@ -92,7 +92,7 @@ fn check_bytes<O: Write, E: Write>(
     stderr: &mut E,
     image: &[u8],
     table: Table,
-) -> u8
+) -> Status
     ensures { PrintsCheck (program_of image.now table) result (O.contents stdout.old) (O.contents stdout.new) }
 {
     print_answer(alloc, stdout, stderr, check(alloc, image, table))
@@ -106,8 +106,7 @@ fn check_file<F: Files, O: Write, E: Write>(
     stderr: &mut E,
     name: &str,
     table: Table,
-) -> u8
-    ensures small { result ≤ 3 }
+) -> Status
     ensures printed { (bytes : List ℕ) → F.bytes files.old name.now ≡ Some bytes
         → PrintsCheck (program_of (first_bytes bytes) table) result (O.contents stdout.old) (O.contents stdout.new) }
     ensures kept { (other : List ℕ) → F.bytes files.new other ≡ F.bytes files.old other }
@@ -124,7 +123,7 @@ fn disassemble_bytes<O: Write, E: Write>(
     stdout: &mut O,
     stderr: &mut E,
     image: &[u8],
-) -> u8
+) -> Status
     ensures { texts.PrintsAs (λ text. text) (texts.disassembly image.now) result (O.contents stdout.old) (O.contents stdout.new) }
 {
     print_answer(alloc, stdout, stderr, disassembly(alloc, image))
@@ -137,8 +136,7 @@ fn disassemble_file<F: Files, O: Write, E: Write>(
     stdout: &mut O,
     stderr: &mut E,
     name: &str,
-) -> u8
-    ensures small { result ≤ 3 }
+) -> Status
     ensures printed { (bytes : List ℕ) → F.bytes files.old name.now ≡ Some bytes → texts.PrintsAs (λ text. text) (texts.disassembly (first_bytes bytes)) result (O.contents stdout.old) (O.contents stdout.new) }
     ensures kept { (other : List ℕ) → F.bytes files.new other ≡ F.bytes files.old other }
 {
@@ -149,8 +147,8 @@ fn disassemble_file<F: Files, O: Write, E: Write>(
 }
 
 /// Says why a program is refused, if it is, and answers the status.
-fn tell_refusal<E: Write>(alloc: Global, stderr: &mut E, explanation: &Explanation) -> u8
-    ensures { (result ≡ explanations.status_of_explained explanation.now) ⊎ (result ≡ 3) }
+fn tell_refusal<E: Write>(alloc: Global, stderr: &mut E, explanation: &Explanation) -> Status
+    ensures { (result ≡ explanations.status_of_explained explanation.now) ⊎ (result ≡ exit.Failed) }
 {
     match &explanation.refusal {
         Some(refusal) => {
@@ -168,12 +166,12 @@ fn print_explanation<O: Write, E: Write>(
     stdout: &mut O,
     stderr: &mut E,
     explanation: &Explanation,
-) -> u8
-    ensures status { (result ≡ explanations.status_of_explained explanation.now) ⊎ (result ≡ 3) }
-    ensures printed { result ≢ 3 → Appends (O.contents stdout.old) (O.contents stdout.new) (string_bytes explanation.now.lines) }
+) -> Status
+    ensures status { (result ≡ explanations.status_of_explained explanation.now) ⊎ (result ≡ exit.Failed) }
+    ensures printed { result ≢ exit.Failed → Appends (O.contents stdout.old) (O.contents stdout.new) (string_bytes explanation.now.lines) }
 {
     let status = print_text(alloc, stdout, stderr, explanation.lines.as_str());
-    if status == DONE {
+    if status == Status::Done {
         tell_refusal(alloc, stderr, explanation)
     } else {
         status
@@ -181,13 +179,13 @@ fn print_explanation<O: Write, E: Write>(
 }
 
 /// Says why an image has no code, and answers the status.
-fn tell_no_code<E: Write>(alloc: Global, stderr: &mut E, image: &[u8], fault: IsaFault) -> u8
-    ensures refused { fault ≢ isa.Memory → (result ≡ 1) ⊎ (result ≡ 3) }
-    ensures memory { fault ≡ isa.Memory → result ≡ 3 }
+fn tell_no_code<E: Write>(alloc: Global, stderr: &mut E, image: &[u8], fault: IsaFault) -> Status
+    ensures refused { fault ≢ isa.Memory → (result ≡ exit.Refused) ⊎ (result ≡ exit.Failed) }
+    ensures memory { fault ≡ isa.Memory → result ≡ exit.Failed }
 {
     match fault {
         IsaFault::Memory => tell_memory(stderr),
-        _ => tell_text(stderr, no_code_text(alloc, image, fault), REFUSED),
+        _ => tell_text(stderr, no_code_text(alloc, image, fault), Status::Refused),
     }
 }
 
@@ -200,7 +198,7 @@ fn explain_bytes<O: Write, E: Write>(
     image: &[u8],
     table: Table,
     extent: Extent,
-) -> u8
+) -> Status
     ensures { PrintsExplanation extent (program_of image.now table) result (O.contents stdout.old) (O.contents stdout.new) }
 {
     match explain_image(alloc, image, table, extent) {
@@ -218,8 +216,7 @@ fn explain_file<F: Files, O: Write, E: Write>(
     name: &str,
     table: Table,
     extent: Extent,
-) -> u8
-    ensures small { result ≤ 3 }
+) -> Status
     ensures printed { (bytes : List ℕ) → F.bytes files.old name.now ≡ Some bytes
         → PrintsExplanation extent (program_of (first_bytes bytes) table) result (O.contents stdout.old) (O.contents stdout.new) }
     ensures kept { (other : List ℕ) → F.bytes files.new other ≡ F.bytes files.old other }
@@ -231,11 +228,15 @@ fn explain_file<F: Files, O: Write, E: Write>(
 }
 
 /// Says at which line a text is refused and why, and answers the status.
-fn tell_fault<E: Write>(alloc: Global, stderr: &mut E, fault: AsmFault) -> u8
-    ensures { (result ≡ texts.status_of_fault fault) ⊎ (result ≡ 3) }
+fn tell_fault<E: Write>(alloc: Global, stderr: &mut E, fault: AsmFault) -> Status
+    ensures { (result ≡ texts.status_of_fault fault) ⊎ (result ≡ exit.Failed) }
 {
     match fault.line() {
-        Some(line) => tell_text(stderr, format!(in alloc; "line {line}: {fault}\n"), REFUSED),
+        Some(line) => tell_text(
+            stderr,
+            format!(in alloc; "line {line}: {fault}\n"),
+            Status::Refused,
+        ),
         None => tell_memory(stderr),
     }
 }
@@ -247,12 +248,12 @@ fn put_image<F: Files, E: Write>(
     stderr: &mut E,
     name: &str,
     image: &[u8],
-) -> u8
+) -> Status
     ensures written { texts.WritesAs (Ok image.now) result (F.bytes files.old name.now) (F.bytes files.new name.now) }
     ensures kept { (other : List ℕ) → other ≢ name.now → F.bytes files.new other ≡ F.bytes files.old other }
 {
     match write_image(files, name, image) {
-        Ok(()) => DONE,
+        Ok(()) => Status::Done,
         Err(unread) => tell_unread(alloc, stderr, name, unread),
     }
 }
@@ -265,10 +266,9 @@ fn assemble_text<F: Files, E: Write>(
     stderr: &mut E,
     text: &str,
     image: &str,
-) -> u8
-    ensures small { result ≤ 3 }
+) -> Status
     ensures written { texts.WritesAs (image_of text.now) result (F.bytes files.old image.now) (F.bytes files.new image.now) }
-    ensures refused { result ≡ 1 → (other : List ℕ) → F.bytes files.new other ≡ F.bytes files.old other }
+    ensures refused { result ≡ exit.Refused → (other : List ℕ) → F.bytes files.new other ≡ F.bytes files.old other }
     ensures kept { (other : List ℕ) → other ≢ image.now → F.bytes files.new other ≡ F.bytes files.old other }
 {
     match assemble(alloc, text) {
@@ -285,11 +285,10 @@ fn assemble_file<F: Files, E: Write>(
     stderr: &mut E,
     text: &str,
     image: &str,
-) -> u8
-    ensures small { result ≤ 3 }
+) -> Status
     ensures written { (bytes : List ℕ) → F.bytes files.old text.now ≡ Some bytes
         → texts.WritesAs (image_of bytes) result (F.bytes files.old image.now) (F.bytes files.new image.now) }
-    ensures refused { result ≡ 1 → (other : List ℕ) → F.bytes files.new other ≡ F.bytes files.old other }
+    ensures refused { result ≡ exit.Refused → (other : List ℕ) → F.bytes files.new other ≡ F.bytes files.old other }
     ensures kept { (other : List ℕ) → other ≢ image.now → F.bytes files.new other ≡ F.bytes files.old other }
 {
     match read_text(alloc, files, text) {
@@ -305,9 +304,7 @@ fn image_command<F: Files, O: Write, E: Write>(
     stdout: &mut O,
     stderr: &mut E,
     call: ImageCall<'_>,
-) -> u8
-    ensures { result ≤ 3 }
-{
+) -> Status {
     match call {
         ImageCall::Assemble(text, image) => assemble_file(alloc, files, stderr, text, image),
         ImageCall::Check(image, table) => check_file(alloc, files, stdout, stderr, image, table),
@@ -318,10 +315,8 @@ fn image_command<F: Files, O: Write, E: Write>(
     }
 }
 
-/// Does what the words after the program's name ask for, and answers the status: 0 it is done, 1 an
-/// image, a text or a line of the script is refused, 2 the words are no call, 3 a file can't be read or
-/// written, a worker has no thread or memory ran out. All but what was asked for goes to standard
-/// error. Only the call that runs a script starts threads and may wait.
+/// Does what the words after the program's name ask for, and answers the status. All but what was asked
+/// for goes to standard error. Only the call that runs a script starts threads and may wait.
 pub fn command<R: Threads + Wait + Sync, F: Files, I: Read, O: Write, E: Write>(
     rt: &R,
     alloc: Global,
@@ -330,9 +325,7 @@ pub fn command<R: Threads + Wait + Sync, F: Files, I: Read, O: Write, E: Write>(
     stdin: &mut I,
     stdout: &mut O,
     stderr: &mut E,
-) -> u8
-    ensures { result ≤ 3 }
-{
+) -> Status {
     match call_of(alloc, words) {
         Ok(Call::Image(asked)) => image_command(alloc, files, stdout, stderr, asked),
         Ok(Call::List(listing, file)) => {

@@ -1,11 +1,12 @@
 //! A transform whose files have different names.
 
-ghost use Rattle.std.specs.Prelude.{◌≡◌, ◌≤◌, ◌<◌, ℕ, true};
+ghost use Rattle.std.specs.Prelude.{◌≡◌, ◌<◌, ℕ, true};
 ghost use Rattle.script.specs.Words.{word_at};
 ghost use Rattle.command_line.specs.Calls.{names_of, AreFiles};
 ghost use Rattle.commands.specs.FileTransforms.{CallWrites, KeepsOthers};
 
 use crate::files::Files;
+use crate::status::Status;
 use crate::transforming::transform;
 use machine_spec::Table;
 use std::alloc::Global;
@@ -21,9 +22,8 @@ pub(crate) fn transform_distinct<F: Files, I: Read, E: Write>(
     stderr: &mut E,
     table: Table,
     words: &[String],
-) -> u8
+) -> Status
     requires { AreFiles words.now }
-    ensures small { result ≤ 3 }
     ensures written { F.tells ≡ true → CallWrites table (names_of words.now) (I.remaining stdin.old) (F.bytes files.old) (F.bytes files.new) result }
     ensures kept { KeepsOthers (names_of words.now) (F.bytes files.old) (F.bytes files.new) }
     ensures sources { (word : ℕ) → word < 2 → F.bytes files.new (word_at (names_of words.now) word) ≡ F.bytes files.old (word_at (names_of words.now) word) }

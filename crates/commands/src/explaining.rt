@@ -3,6 +3,7 @@
 ghost use Rattle.std.specs.Prelude.{◌≡◌};
 ghost use Rattle.commands.specs.Explanations as definitions;
 
+use crate::status::Status;
 use explain::{Explanation, Refusal, image_fault_text};
 use machine_spec::IsaFault;
 use std::alloc::{AllocError, Global};
@@ -19,11 +20,11 @@ pub fn no_code_text(alloc: Global, image: &[u8], fault: IsaFault) -> Result<Stri
 }
 
 /// The status that reports whether a program is refused.
-pub fn status_of_explained(explanation: &Explanation) -> u8
+pub fn status_of_explained(explanation: &Explanation) -> Status
     ensures { result ≡ definitions.status_of_explained explanation.now }
 {
     match explanation.refusal {
-        None => 0,
-        Some(_) => 1,
+        None => Status::Done,
+        Some(_) => Status::Refused,
     }
 }

@@ -1,10 +1,12 @@
 //! Why a transform ends early.
 
-ghost use Rattle.std.specs.Prelude.{◌≡◌, ◌≤◌, ◌⊎◌, Err};
+ghost use Rattle.std.specs.Prelude.{◌≡◌, ◌⊎◌, Err};
+ghost use Rattle.commands.specs.declared.status.Status.TheVariants.{Failed};
 ghost use Rattle.commands.specs.FileTransforms.{status_of, status_of_batch, status_of_halt, status_of_ended};
 
 use crate::reading::{Unread, cause_of};
-use crate::telling::{FAILED, MEMORY, REFUSED, file_text, tell_text};
+use crate::status::Status;
+use crate::telling::{MEMORY, file_text, tell_text};
 use batch::BatchFault;
 use batch_reader::{Position, ReadFault};
 use std::alloc::{AllocError, Global};
@@ -46,7 +48,7 @@ impl From<AllocError> for Halt {
 
 /// Why a transform ends whose file can't be used.
 pub(crate) fn unused(word: usize, error: &io::Error) -> Halt
-    ensures { status_of_halt result ≡ 3 }
+    ensures { status_of_halt result ≡ Failed }
 {
     match cause_of(error) {
         Unread::File => Halt::File(word),
@@ -118,21 +120,25 @@ fn name_or_none(words: &[String], place: usize) -> &str {
     }
 }
 
-/// The status that reports why a transform ended early: 1, its image or a batch is refused, or offsets
-/// are used up; 3, a file or memory fails.
-fn status_of(halt: Halt) -> u8
+/// The status that reports why a transform ended early: its image or a batch is refused, or offsets are
+/// used up; or a file or memory fails.
+fn status_of(halt: Halt) -> Status
     ensures { result ≡ status_of_halt halt }
 {
     match halt {
-        Halt::Image(_) | Halt::Batch(..) | Halt::Full => REFUSED,
-        Halt::File(_) | Halt::Memory => FAILED,
+        Halt::Image(_) | Halt::Batch(..) | Halt::Full => Status::Refused,
+        Halt::File(_) | Halt::Memory => Status::Failed,
     }
 }
 
 /// Says why a transform ended early, and answers the status.
-pub(crate) fn tell_halt<E: Write>(alloc: Global, stderr: &mut E, words: &[String], halt: Halt) -> u8
-    ensures small { result ≤ 3 }
-    ensures told { (result ≡ status_of_halt halt) ⊎ (result ≡ 3) }
+pub(crate) fn tell_halt<E: Write>(
+    alloc: Global,
+    stderr: &mut E,
+    words: &[String],
+    halt: Halt,
+) -> Status
+    ensures { (result ≡ status_of_halt halt) ⊎ (result ≡ Failed) }
 {
     tell_text(stderr, halt_text(alloc, words, halt), status_of(halt))
 }

@@ -1,12 +1,14 @@
 //! The batches or the records of a file, listed.
 
-ghost use Rattle.std.specs.Prelude.{◌≡◌, ◌≤◌, ◌⊎◌, ℕ, List};
+ghost use Rattle.std.specs.Prelude.{◌≡◌, ◌⊎◌, ℕ, List};
 ghost use Rattle.std.specs.Io.KnownBytes.{Keeps};
+ghost use Rattle.commands.specs.declared.status.Status.TheVariants.{Failed};
 ghost use Rattle.commands.specs.Listings.{ListsAs, source_of, status_of, status_of_listed};
 
 use crate::files::Files;
 use crate::reading::cause_of;
-use crate::telling::{DONE, FAILED, REFUSED, file_text, tell_memory, tell_text, tell_unread};
+use crate::status::Status;
+use crate::telling::{file_text, tell_memory, tell_text, tell_unread};
 use batch_text::{ListFault, Listing, Refusal, cause_text, list_all};
 use std::alloc::{AllocError, Global};
 use std::io::{BufReader, Read, Write};
@@ -25,20 +27,23 @@ fn refusal_text(alloc: Global, refusal: &Refusal) -> Result<String, AllocError> 
 }
 
 /// Says that standard output can't be written, and answers the status.
-fn tell_unwritten<E: Write>(alloc: Global, stderr: &mut E) -> u8
-    ensures { result ≡ 3 }
+fn tell_unwritten<E: Write>(alloc: Global, stderr: &mut E) -> Status
+    ensures { result ≡ Failed }
 {
-    tell_text(stderr, file_text(alloc, "stdout"), FAILED)
+    tell_text(stderr, file_text(alloc, "stdout"), Status::Failed)
 }
 
 /// Says why no further batch of a file is listed, and answers the status.
-fn tell_fault<E: Write>(alloc: Global, stderr: &mut E, name: &str, fault: &ListFault) -> u8
-    ensures small { result ≤ 3 }
-    ensures told { (result ≡ status_of fault.now) ⊎ (result ≡ 3) }
+fn tell_fault<E: Write>(alloc: Global, stderr: &mut E, name: &str, fault: &ListFault) -> Status
+    ensures { (result ≡ status_of fault.now) ⊎ (result ≡ Failed) }
 {
     match fault {
-        ListFault::Batch(refusal) => tell_text(stderr, refusal_text(alloc, refusal), REFUSED),
-        ListFault::Read => tell_text(stderr, file_text(alloc, name), FAILED),
+        ListFault::Batch(refusal) => tell_text(
+            stderr,
+            refusal_text(alloc, refusal),
+            Status::Refused,
+        ),
+        ListFault::Read => tell_text(stderr, file_text(alloc, name), Status::Failed),
         ListFault::Write => tell_unwritten(alloc, stderr),
         ListFault::Memory => tell_memory(stderr),
     }
@@ -58,15 +63,14 @@ fn finish<O: Write, E: Write>(
     stdout: &mut O,
     stderr: &mut E,
     name: &str,
-) -> u8
-    ensures small { result ≤ 3 }
+) -> Status
     ensures kept { Keeps (O.contents stdout.old) (O.contents stdout.new) }
-    ensures told { (result ≡ status_of_listed listed.now) ⊎ (result ≡ 3) }
+    ensures told { (result ≡ status_of_listed listed.now) ⊎ (result ≡ Failed) }
 {
     let is_flushed = is_flushed(stdout);
     match listed {
         Err(fault) => tell_fault(alloc, stderr, name, fault),
-        Ok(()) if is_flushed => DONE,
+        Ok(()) if is_flushed => Status::Done,
         Ok(()) => tell_unwritten(alloc, stderr),
     }
 }
@@ -79,9 +83,8 @@ fn list_buffered<R: Read, O: Write, E: Write>(
     stdout: &mut O,
     stderr: &mut E,
     name: &str,
-) -> u8
-    ensures small { result ≤ 3 }
-    ensures listed { ListsAs listing (R.remaining reader.old) result (O.contents stdout.old) (O.contents stdout.new) }
+) -> Status
+    ensures { ListsAs listing (R.remaining reader.old) result (O.contents stdout.old) (O.contents stdout.new) }
 {
     let listed = list_all(alloc, listing, reader, stdout);
     finish(alloc, &listed, stdout, stderr, name)
@@ -95,9 +98,8 @@ fn list_reader<R: Read + Drop, O: Write, E: Write>(
     stdout: &mut O,
     stderr: &mut E,
     name: &str,
-) -> u8
-    ensures small { result ≤ 3 }
-    ensures listed { ListsAs listing (R.remaining reader) result (O.contents stdout.old) (O.contents stdout.new) }
+) -> Status
+    ensures { ListsAs listing (R.remaining reader) result (O.contents stdout.old) (O.contents stdout.new) }
 {
     match BufReader::with_capacity(alloc, MAX_PIECE, reader) {
         Ok(mut reader) => list_buffered(alloc, listing, &mut reader, stdout, stderr, name),
@@ -113,8 +115,7 @@ fn list_file<F: Files, O: Write, E: Write>(
     stdout: &mut O,
     stderr: &mut E,
     name: &str,
-) -> u8
-    ensures small { result ≤ 3 }
+) -> Status
     ensures listed { ListsAs listing (F.bytes files.old name.now) result (O.contents stdout.old) (O.contents stdout.new) }
     ensures kept { (other : List ℕ) → F.bytes files.new other ≡ F.bytes files.old other }
 {
@@ -124,9 +125,9 @@ fn list_file<F: Files, O: Write, E: Write>(
     }
 }
 
-/// Lists the batches, or the records, of a file; the name `stdin` is standard input. Answers the status: 0
-/// all are listed, 1 the bytes that follow begin with no batch, 3 a file, standard output or memory failed. No
-/// file changes.
+/// Lists the batches, or the records, of a file; the name `stdin` is standard input. Answers the status:
+/// `Done`, all are listed; `Refused`, the bytes that follow begin with no batch; `Failed`, a file, standard
+/// output or memory failed. No file changes.
 pub fn list<F: Files, I: Read, O: Write, E: Write>(
     alloc: Global,
     listing: Listing,
@@ -135,8 +136,7 @@ pub fn list<F: Files, I: Read, O: Write, E: Write>(
     stdout: &mut O,
     stderr: &mut E,
     name: &str,
-) -> u8
-    ensures small { result ≤ 3 }
+) -> Status
     ensures listed { ListsAs listing (source_of name.now (I.remaining stdin.old) (F.bytes files.old name.now)) result (O.contents stdout.old) (O.contents stdout.new) }
     ensures kept { (other : List ℕ) → F.bytes files.new other ≡ F.bytes files.old other }
 {

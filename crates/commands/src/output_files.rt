@@ -3,6 +3,7 @@
 ghost use Rattle.std.specs.Prelude.{◌≡◌, ◌≢◌, ◌<◌, ◌≤◌, ◌+◌, ℕ, List, [], Some, true, length, All, IfOk, IfErr, OnOk};
 ghost use Rattle.script.specs.Words.{word_at};
 ghost use Rattle.command_line.specs.Calls.{names_of, AreDistinct};
+ghost use Rattle.commands.specs.declared.status.Status.TheVariants.{Failed};
 ghost use Rattle.commands.specs.FileTransforms.{KeepsOthers, IsFresh, HasWritten, HaveWritten, status_of_halt};
 
 use crate::files::Files;
@@ -24,7 +25,7 @@ fn create_one<F: Files>(files: &mut F, words: &[String], output: usize) -> Resul
     requires { output + 2 < length words.now }
     ensures fresh { F.tells ≡ true → IfOk result (λ writer. F.Writer.contents writer ≡ Some []) }
     ensures kept { KeepsOthers (names_of words.now) (F.bytes files.old) (F.bytes files.new) }
-    ensures err { IfErr result (λ halt. status_of_halt halt ≡ 3) }
+    ensures err { IfErr result (λ halt. status_of_halt halt ≡ Failed) }
 {
     let place = output + FIRST_OUTPUT;
     match files.create(name_at(words, place)) {
@@ -43,7 +44,7 @@ pub(crate) fn create_all<F: Files>(
     ensures count { IfOk result (λ outlets. length outlets.items + 2 ≡ length words.now) }
     ensures fresh { F.tells ≡ true → IfOk result (λ outlets. All IsFresh outlets.items) }
     ensures kept { KeepsOthers (names_of words.now) (F.bytes files.old) (F.bytes files.new) }
-    ensures err { IfErr result (λ halt. status_of_halt halt ≡ 3) }
+    ensures err { IfErr result (λ halt. status_of_halt halt ≡ Failed) }
 {
     let count = words.len() - FIRST_OUTPUT;
     let mut outlets = Vec::with_capacity(alloc, count)?;
@@ -65,7 +66,7 @@ fn close_one<F: Files>(
 ) -> Result<(), Halt>
     ensures held { OnOk result (output + 2 < length words.now → HasWritten outlet (F.bytes files.new (word_at (names_of words.now) (output + 2)))) }
     ensures kept { (other : List ℕ) → (output + 2 < length words.now → other ≢ word_at (names_of words.now) (output + 2)) → F.bytes files.new other ≡ F.bytes files.old other }
-    ensures err { IfErr result (λ halt. status_of_halt halt ≡ 3) }
+    ensures err { IfErr result (λ halt. status_of_halt halt ≡ Failed) }
 {
     if words.len() < FIRST_OUTPUT || output >= words.len() - FIRST_OUTPUT {
         return Ok(());
@@ -85,7 +86,7 @@ pub(crate) fn close_all<F: Files>(
 ) -> Result<(), Halt>
     ensures held { AreDistinct (names_of words.now) → OnOk result (HaveWritten (names_of words.now) outlets.items (F.bytes files.new)) }
     ensures kept { KeepsOthers (names_of words.now) (F.bytes files.old) (F.bytes files.new) }
-    ensures err { IfErr result (λ halt. status_of_halt halt ≡ 3) }
+    ensures err { IfErr result (λ halt. status_of_halt halt ≡ Failed) }
 {
     let mut output = 0;
     for outlet in outlets {

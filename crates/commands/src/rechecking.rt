@@ -15,8 +15,9 @@ use crate::files::Files;
 use crate::image::{Refused, check, read_image};
 use crate::reading::Unread;
 use crate::run::Ended;
+use crate::status::Status;
 use crate::stop::{Stop, stop_of_unread};
-use crate::telling::{DONE, REFUSED, say, tell, tell_unread, write_out};
+use crate::telling::{say, tell, tell_unread, write_out};
 use machine_spec::Table;
 use script::{FileName, ScriptFault};
 use std::alloc::{AllocError, Global};
@@ -201,16 +202,15 @@ fn recheck_text<F: Files, O: Write, E: Write>(
 
 /// Verifies the programs that a list names anew, in order: says of each that it is accepted or why it
 /// is refused, and goes on. A line that names no program ends it, and a file that can't be read does.
-/// Answers the status: 0 all are accepted, 1 one is refused or a line names none, 3 a file, standard
-/// output or memory failed. No file changes.
+/// Answers the status: `Done`, all are accepted; `Refused`, one is refused or a line names none; `Failed`, a
+/// file, standard output or memory failed. No file changes.
 pub fn recheck<F: Files, O: Write, E: Write>(
     alloc: Global,
     files: &mut F,
     stdout: &mut O,
     stderr: &mut E,
     name: &str,
-) -> u8
-    ensures small { result ≤ 3 }
+) -> Status
     ensures kept { (other : List ℕ) → F.bytes files.new other ≡ F.bytes files.old other }
     ensures told { (list : List ℕ) → F.bytes files.old name.now ≡ Some list
         → RechecksAs (F.bytes files.old) list result (O.contents stdout.old) (O.contents stdout.new) }
@@ -220,8 +220,8 @@ pub fn recheck<F: Files, O: Write, E: Write>(
         Err(cause) => return tell_unread(alloc, stderr, name, cause),
     };
     match recheck_text(alloc, files, stdout, stderr, list.as_str()) {
-        Ok(false) => DONE,
-        Ok(true) => REFUSED,
+        Ok(false) => Status::Done,
+        Ok(true) => Status::Refused,
         Err(ended) => tell(alloc, stderr, &ended),
     }
 }

@@ -4,9 +4,11 @@ ghost use Rattle.std.specs.Prelude.{◌≡◌, ◌≢◌};
 ghost use Rattle.std.specs.IoError.{error_kind};
 ghost use Rattle.std.specs.declared.io.ErrorKind.TheVariants.{OutOfMemory};
 ghost use Rattle.commands.specs.declared.stop.Stop.TheVariants as stop;
+ghost use Rattle.commands.specs.declared.status.Status.TheVariants.{Failed};
 ghost use Rattle.commands.specs.Stops.{stop_of_fault, stop_of_broker, stop_of_report, stop_of_unread, stop_of_stream, end_of_stream, status_of, end_of, end_of_all, IsUnwritten};
 
 use crate::reading::Unread;
+use crate::status::Status;
 use batch::BatchFault;
 use broker::{BrokerFault, Ended, StreamFault};
 use catalogue::CatFault;
@@ -136,14 +138,14 @@ pub fn end_of_all(ended: &[Ended]) -> Result<(), Stop>
     Ok(())
 }
 
-/// The status that reports why a script ended: 1, its line is refused; 3, a file, standard output,
-/// a thread or memory fails.
-pub fn status_of(stop: &Stop) -> u8
+/// The status that reports why a script ended: its line is refused; or a file, standard output, a thread
+/// or memory fails.
+pub fn status_of(stop: &Stop) -> Status
     ensures { result ≡ status_of stop.now }
 {
     match stop {
-        Stop::Line(_) | Stop::Broker(_) | Stop::Batch(_) => 1,
-        Stop::File(_) | Stop::Output | Stop::Thread | Stop::Memory => 3,
+        Stop::Line(_) | Stop::Broker(_) | Stop::Batch(_) => Status::Refused,
+        Stop::File(_) | Stop::Output | Stop::Thread | Stop::Memory => Status::Failed,
     }
 }
 
@@ -151,7 +153,7 @@ pub fn status_of(stop: &Stop) -> u8
 pub fn unwritten(error: &io::Error) -> Stop
     ensures memory { error_kind error.now ≡ OutOfMemory → result ≡ stop.Memory }
     ensures output { error_kind error.now ≢ OutOfMemory → result ≡ stop.Output }
-    ensures status { status_of result ≡ 3 }
+    ensures status { status_of result ≡ Failed }
     ensures is { IsUnwritten result }
 {
     match error.kind() {

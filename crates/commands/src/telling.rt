@@ -4,28 +4,18 @@ ghost use Rattle.std.specs.Prelude.{◌≡◌, ◌≢◌, ◌⊎◌, OnOk, IfErr
 ghost use Rattle.std.specs.IoError.{error_kind};
 ghost use Rattle.std.specs.Io.KnownBytes.{Appends};
 ghost use Rattle.std.specs.declared.io.ErrorKind.TheVariants.{OutOfMemory};
+ghost use Rattle.commands.specs.declared.status.Status.TheVariants.{Done, Usage, Failed};
 ghost use Rattle.commands.specs.Stops.{status_of, status_of_refused, IsUnwritten};
 
 use crate::image::Refused;
 use crate::reading::Unread;
 use crate::run::Ended;
+use crate::status::Status;
 use crate::stop::{Stop, status_of, unwritten};
 use std::alloc::{AllocError, Global};
 use std::fmt::Display;
 use std::io;
 use std::io::Write;
-
-/// Everything was done.
-pub(crate) const DONE: u8 = 0;
-
-/// What the call names is refused.
-pub(crate) const REFUSED: u8 = 1;
-
-/// The words are no call of the program.
-const USAGE: u8 = 2;
-
-/// A file can't be read or written, there is no thread for a worker, or memory ran out.
-pub(crate) const FAILED: u8 = 3;
 
 /// What is reported where memory ran out.
 pub(crate) const MEMORY: &str = "memory\n";
@@ -44,26 +34,26 @@ pub(crate) fn say<E: Write>(stderr: &mut E, text: &str) {
 }
 
 /// Says which calls there are, and answers the status.
-pub(crate) fn tell_usage<E: Write>(stderr: &mut E) -> u8
-    ensures { result ≡ 2 }
+pub(crate) fn tell_usage<E: Write>(stderr: &mut E) -> Status
+    ensures { result ≡ Usage }
 {
     say(stderr, CALLS);
-    USAGE
+    Status::Usage
 }
 
 /// Says that memory ran out, and answers the status.
-pub(crate) fn tell_memory<E: Write>(stderr: &mut E) -> u8
-    ensures { result ≡ 3 }
+pub(crate) fn tell_memory<E: Write>(stderr: &mut E) -> Status
+    ensures { result ≡ Failed }
 {
     say(stderr, MEMORY);
-    FAILED
+    Status::Failed
 }
 
 /// Reports why the words of a call could not be had, and answers the status: memory ran out, or a
 /// word is not UTF-8, which no call has.
-pub fn tell_no_words<E: Write>(stderr: &mut E, error: &io::Error) -> u8
-    ensures memory { error_kind error.now ≡ OutOfMemory → result ≡ 3 }
-    ensures no_text { error_kind error.now ≢ OutOfMemory → result ≡ 2 }
+pub fn tell_no_words<E: Write>(stderr: &mut E, error: &io::Error) -> Status
+    ensures memory { error_kind error.now ≡ OutOfMemory → result ≡ Failed }
+    ensures no_text { error_kind error.now ≢ OutOfMemory → result ≡ Usage }
 {
     match error.kind() {
         io::ErrorKind::OutOfMemory => tell_memory(stderr),
@@ -75,9 +65,9 @@ pub fn tell_no_words<E: Write>(stderr: &mut E, error: &io::Error) -> u8
 pub(crate) fn tell_text<E: Write>(
     stderr: &mut E,
     text: Result<String, AllocError>,
-    status: u8,
-) -> u8
-    ensures { (result ≡ status) ⊎ (result ≡ 3) }
+    status: Status,
+) -> Status
+    ensures { (result ≡ status) ⊎ (result ≡ Failed) }
 {
     match text {
         Ok(text) => {
@@ -112,18 +102,23 @@ pub(crate) fn file_text(alloc: Global, name: &str) -> Result<String, AllocError>
 
 /// Reports why a script ended early, and answers the status. Where there is no memory for the text,
 /// that is reported.
-pub(crate) fn tell<E: Write>(alloc: Global, stderr: &mut E, ended: &Ended) -> u8
-    ensures { (result ≡ status_of ended.now.stop) ⊎ (result ≡ 3) }
+pub(crate) fn tell<E: Write>(alloc: Global, stderr: &mut E, ended: &Ended) -> Status
+    ensures { (result ≡ status_of ended.now.stop) ⊎ (result ≡ Failed) }
 {
     tell_text(stderr, end_text(alloc, ended), status_of(&ended.stop))
 }
 
 /// Reports that a file can't be read or written, and answers the status.
-pub(crate) fn tell_unread<E: Write>(alloc: Global, stderr: &mut E, name: &str, unread: Unread) -> u8
-    ensures { result ≡ 3 }
+pub(crate) fn tell_unread<E: Write>(
+    alloc: Global,
+    stderr: &mut E,
+    name: &str,
+    unread: Unread,
+) -> Status
+    ensures { result ≡ Failed }
 {
     match unread {
-        Unread::File => tell_text(stderr, file_text(alloc, name), FAILED),
+        Unread::File => tell_text(stderr, file_text(alloc, name), Status::Failed),
         Unread::Memory => tell_memory(stderr),
     }
 }
@@ -132,7 +127,7 @@ pub(crate) fn tell_unread<E: Write>(alloc: Global, stderr: &mut E, name: &str, u
 #[tactic(auto, using(crate::proofs::Written::appended_and_kept))]
 pub(crate) fn write_out<O: Write>(stdout: &mut O, text: &str) -> Result<(), Stop>
     ensures written { OnOk result (Appends (O.contents stdout.old) (O.contents stdout.new) text.now) }
-    ensures failed { IfErr result (λ stop. status_of stop ≡ 3) }
+    ensures failed { IfErr result (λ stop. status_of stop ≡ Failed) }
     ensures is { IfErr result IsUnwritten }
 {
     match stdout.write_all(text.as_bytes()) {
@@ -144,29 +139,29 @@ pub(crate) fn write_out<O: Write>(stdout: &mut O, text: &str) -> Result<(), Stop
     }
 }
 
-/// Prints a text, and answers the status: 0 where all of it was written, and else 3.
+/// Prints a text, and answers the status: `Done` where all of it was written, and else `Failed`.
 pub(crate) fn print_text<O: Write, E: Write>(
     alloc: Global,
     stdout: &mut O,
     stderr: &mut E,
     text: &str,
-) -> u8
-    ensures status { (result ≡ 0) ⊎ (result ≡ 3) }
-    ensures printed { result ≡ 0 → Appends (O.contents stdout.old) (O.contents stdout.new) text.now }
+) -> Status
+    ensures status { (result ≡ Done) ⊎ (result ≡ Failed) }
+    ensures printed { result ≡ Done → Appends (O.contents stdout.old) (O.contents stdout.new) text.now }
 {
     match write_out(stdout, text) {
-        Ok(()) => DONE,
+        Ok(()) => Status::Done,
         Err(stop) => tell(alloc, stderr, &Ended { line: 0, stop }),
     }
 }
 
 /// Says why a call on an image prints nothing, and answers the status. Where there is no memory for
 /// the text, it says that.
-pub(crate) fn tell_refused<E: Write>(alloc: Global, stderr: &mut E, refused: Refused) -> u8
-    ensures { (result ≡ status_of_refused refused) ⊎ (result ≡ 3) }
+pub(crate) fn tell_refused<E: Write>(alloc: Global, stderr: &mut E, refused: Refused) -> Status
+    ensures { (result ≡ status_of_refused refused) ⊎ (result ≡ Failed) }
 {
     match refused {
-        Refused::Image(fault) => tell_text(stderr, format!(in alloc; "{fault}\n"), REFUSED),
+        Refused::Image(fault) => tell_text(stderr, format!(in alloc; "{fault}\n"), Status::Refused),
         Refused::Memory => tell_memory(stderr),
     }
 }

@@ -8,6 +8,7 @@ ghost use Rattle.batch_reader.specs.Readings.{IsOpen, inlet, none_given};
 ghost use Rattle.transform.specs.Streams.{TransformsAll};
 ghost use Rattle.script.specs.Words.{word_at};
 ghost use Rattle.command_line.specs.Calls.{names_of, AreDistinct};
+ghost use Rattle.commands.specs.declared.status.Status.TheVariants.{Failed};
 ghost use Rattle.commands.specs.FileTransforms.{KeepsOthers, StreamsAs, CallTransforms, IsLoaded, IsUnloaded, HaveWritten, status_of, status_of_ended};
 ghost use Rattle.commands.specs.Images.{first_bytes};
 ghost use Rattle.commands.specs.Listings.{source_of};
@@ -19,7 +20,8 @@ use crate::image::{Refused, read_image, refusal_of};
 use crate::output_files::{close_all, create_all, name_at};
 use crate::progress::Progress;
 use crate::reading::Unread;
-use crate::telling::{DONE, tell_usage};
+use crate::status::Status;
+use crate::telling::tell_usage;
 use batch_reader::{BatchReader, Position};
 use bytes::Bytes;
 use log_item::Program;
@@ -98,7 +100,7 @@ fn finish<F: Files, E: Write>(
     ended: Result<(), StreamFault>,
     position: Position,
 ) -> Result<(), Halt>
-    ensures held { (status_of_ended result ≡ 3) ⊎ ((status_of_ended result ≡ status_of ended)
+    ensures held { (status_of_ended result ≡ Failed) ⊎ ((status_of_ended result ≡ status_of ended)
         × (AreDistinct (names_of words.now) → HaveWritten (names_of words.now) stream.outputs (F.bytes files.new))) }
     ensures kept { KeepsOthers (names_of words.now) (F.bytes files.old) (F.bytes files.new) }
 {
@@ -218,8 +220,7 @@ pub fn transform<F: Files, I: Read, E: Write>(
     stderr: &mut E,
     table: Table,
     words: &[String],
-) -> u8
-    ensures small { result ≤ 3 }
+) -> Status
     ensures transformed { F.tells ≡ true → 3 ≤ length words.now → length words.now ≤ MAX_PARTITIONS + 2
         → CallTransforms table (names_of words.now) (I.remaining stdin.old) (F.bytes files.old) (F.bytes files.new) result }
     ensures kept { KeepsOthers (names_of words.now) (F.bytes files.old) (F.bytes files.new) }
@@ -228,7 +229,7 @@ pub fn transform<F: Files, I: Read, E: Write>(
         return tell_usage(stderr);
     }
     match transform_files(alloc, files, stdin, stderr, table, words) {
-        Ok(()) => DONE,
+        Ok(()) => Status::Done,
         Err(halt) => tell_halt(alloc, stderr, words, halt),
     }
 }

@@ -7,7 +7,7 @@ ghost use Rattle.commands.specs.Rechecks.{RechecksAs};
 ghost use Rattle.commands_tests.specs.Shelves.{bytes_in, left_of, with_file};
 
 use crate::shelf::{BATCHES, FORWARD, Shelf, input_of, shelf_of};
-use commands::{Files, recheck, transform};
+use commands::{Files, Status, recheck, transform};
 use machine_spec::Table;
 use std::alloc::Global;
 use std::io::Cursor;
@@ -20,7 +20,7 @@ fn recheck_list(
     list: &[u8],
     stdout: &mut Vec<u8>,
     stderr: &mut Vec<u8>,
-) -> Option<u8>
+) -> Option<Status>
     ensures { IfSome result (λ status. RechecksAs (with_file (bytes_in files.old.files) (codes "list") list.now)
         list.now status (Some stdout.old.items) (Some stdout.new.items)) }
 {
@@ -31,7 +31,7 @@ fn recheck_list(
 }
 
 /// Whether this is the status of a list, and this is printed of it.
-fn is_rechecked(alloc: Global, list: &[u8], status: u8, printed: &[u8]) -> bool {
+fn is_rechecked(alloc: Global, list: &[u8], status: Status, printed: &[u8]) -> bool {
     let Some(mut files) = shelf_of(alloc, "forward.bin", &FORWARD) else {
         return false;
     };
@@ -44,7 +44,7 @@ fn is_rechecked(alloc: Global, list: &[u8], status: u8, printed: &[u8]) -> bool 
 #[test]
 fn a_list_on_a_shelf_is_rechecked(rt: HostRuntime) {
     let printed = b"forward.bin accepted 3 instructions\n";
-    assert!(rt; is_rechecked(rt.alloc(), b"forward.bin\n\n", 1, printed));
+    assert!(rt; is_rechecked(rt.alloc(), b"forward.bin\n\n", Status::Refused, printed));
 }
 
 /// Runs a program of the first helper table on batches. The words are the image, the batches and the file of the one
@@ -55,7 +55,7 @@ fn transform_to(
     stdin: &mut Cursor<Vec<u8>>,
     stderr: &mut Vec<u8>,
     words: &[String; 3],
-) -> u8
+) -> Status
     ensures { CallTransforms Table.One (names_of words.now) (left_of stdin.old) (bytes_in files.old.files)
         (bytes_in files.new.files) result }
 {
@@ -78,7 +78,7 @@ fn is_transformed(alloc: Global, words: &[String; 3]) -> bool {
     };
     let mut stderr = Vec::new(alloc);
     let status = transform_to(alloc, &mut files, &mut stdin, &mut stderr, words);
-    status == 0 && len_of(&files, words[2].as_str()) == 202
+    status == Status::Done && len_of(&files, words[2].as_str()) == 202
 }
 
 /// The same with the names of the files.

@@ -120,7 +120,7 @@ fn bytes_of<R: Threads + Wait + Sync>(
     };
     let mut stderr = Vec::new(alloc);
     let status = command(rt, alloc, words, files, stdin, &mut stdout, &mut stderr);
-    (status, stdout.taken, stderr)
+    (status.code(), stdout.taken, stderr)
 }
 
 /// Whether a call with these files and a standard output that takes so many bytes answers this.

@@ -7,7 +7,7 @@ use std::test::*;
 fn is_told(alloc: Global, reason: io::ErrorKind, text: &str, status: u8) -> bool {
     let mut stderr = Vec::new(alloc);
     let told = tell_no_words(&mut stderr, &io::Error::from(reason));
-    told == status && stderr.as_slice() == text.as_bytes()
+    told.code() == status && stderr.as_slice() == text.as_bytes()
 }
 
 /// What is said where words are no text.

@@ -6,7 +6,7 @@
 //! records FILE` list those of a file.
 #![tactic(auto)]
 
-use commands::{Files, command, tell_no_words};
+use commands::{Files, Status, command, tell_no_words};
 use std::alloc::Global;
 use std::io::{BufWriter, IsTerminal, Stdout, Write};
 use std::path::PathBuf;
@@ -169,7 +169,7 @@ fn keep_freed_memory(alloc: Global) {
 
 /// The call that the system's words ask for, with leave to start threads. It fails before it begins
 /// where memory runs out or a word is not UTF-8.
-fn called<T: Threads + Wait + Sync>(threads: &T, rt: &HostRuntime) -> io::Result<u8> {
+fn called<T: Threads + Wait + Sync>(threads: &T, rt: &HostRuntime) -> io::Result<Status> {
     let alloc = rt.alloc();
     keep_freed_memory(alloc);
     let mut words = Vec::new(alloc);
@@ -197,5 +197,5 @@ fn main(rt: HostRuntime) -> ExitCode {
         Ok(status) => status,
         Err(error) => tell_no_words(&mut rt.stderr(), &error),
     };
-    ExitCode::from(status)
+    ExitCode::from(status.code())
 }

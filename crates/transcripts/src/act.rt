@@ -65,8 +65,9 @@ fn answer_of_klog<T: Threads + Wait + Sync>(
     if call.has_error {
         answer.extend_from_slice(&stderr)?;
     }
-    if status != 0 {
-        writeln!(answer, "[{status}]")?;
+    let code = status.code();
+    if code != 0 {
+        writeln!(answer, "[{code}]")?;
     }
     Ok(answer)
 }

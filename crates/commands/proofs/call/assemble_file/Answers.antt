@@ -12,8 +12,8 @@ returns-in-Ok-clause-written g c = λ bytes known.
     c.assemble_text.ensures.written
 
 pub returns-in-Ok-clause-refused : goal.returns-in-Ok-clause-refused
-returns-in-Ok-clause-refused g c = λ one other.
-    c.assemble_text.ensures.refused one other ∙ c.in-Ok.ensures.kept other
+returns-in-Ok-clause-refused g c = λ is_refused other.
+    c.assemble_text.ensures.refused is_refused other ∙ c.in-Ok.ensures.kept other
 
 pub returns-in-Ok-clause-kept : goal.returns-in-Ok-clause-kept
 returns-in-Ok-clause-kept g c = λ other not. c.assemble_text.ensures.kept other not ∙ c.in-Ok.ensures.kept other
@@ -25,7 +25,8 @@ returns-in-Err-clause-written g c = λ bytes known.
     (c.in-Err.ensures.kept c.args.image.now)
 
 pub returns-in-Err-clause-refused : goal.returns-in-Err-clause-refused
-returns-in-Err-clause-refused g c = λ one other. absurd (failed c.tell_unread.result c.tell_unread.ensures one)
+returns-in-Err-clause-refused g c = λ is_refused other.
+    absurd (failed c.tell_unread.result c.tell_unread.ensures is_refused)
 
 pub returns-in-Err-clause-kept : goal.returns-in-Err-clause-kept
 returns-in-Err-clause-kept g c = λ other not. c.in-Err.ensures.kept other

@@ -9,8 +9,8 @@ returns-in-Ok-clause-written g c =
     c.in-Ok.ensures.exact c.deref.ensures.value c.put_image.ensures.written
 
 pub returns-in-Ok-clause-refused : goal.returns-in-Ok-clause-refused
-returns-in-Ok-clause-refused g c = λ one other.
-    absurd (not_refused c.put_image.result c.put_image.ensures.written one)
+returns-in-Ok-clause-refused g c = λ is_refused other.
+    absurd (not_refused c.put_image.result c.put_image.ensures.written is_refused)
 
 pub returns-in-Err-clause-written : goal.returns-in-Err-clause-written
 returns-in-Err-clause-written g c =

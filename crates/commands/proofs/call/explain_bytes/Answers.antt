@@ -1,9 +1,10 @@
 use Rattle.std.proofs.Common.{◌≢◌, Option, Some, None, sym, ◌∙◌, inl, inr}
 use Rattle.explain.specs.declared.explanation.Refusal.{Refusal}
+use Rattle.commands.specs.declared.status.Status.TheVariants.{Failed}
 use Rattle.commands.specs.Explanations.{status_of_refusal}
 use Rattle.commands.proofs.call.explain_bytes.Goals as goal
 
-not_failed : (refusal : Option Refusal) → status_of_refusal refusal ≢ 3
+not_failed : (refusal : Option Refusal) → status_of_refusal refusal ≢ Failed
 not_failed None e = cc
 not_failed (Some refusal) e = cc
 
@@ -13,7 +14,8 @@ returns-in-Ok g c = elim c.print_explanation.ensures.status [
     explanation = c.in-Ok.explanation;
     explained = c.in-Ok.ensures;
     status_is = same;
-    printed = c.print_explanation.ensures.printed (λ three. not_failed c.in-Ok.explanation.refusal (sym same ∙ three));
+    printed = c.print_explanation.ensures.printed
+        (λ is_failed. not_failed c.in-Ok.explanation.refusal (sym same ∙ is_failed));
   }))
-  | inr three ↦ inl three
+  | inr is_failed ↦ inl is_failed
 ]

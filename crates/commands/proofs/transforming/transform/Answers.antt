@@ -10,4 +10,4 @@ pub returns-in-Err-clause-transformed : goal.returns-in-Err-clause-transformed
 returns-in-Err-clause-transformed g c = λ tells some few.
     told_as c.args.table (names_of c.args.words.now) (g.I.Read.remaining c.args.stdin.now)
     (g.F.Files.bytes c.args.files.now) (g.F.Files.bytes c.transform_files.new.files) (status_of_halt c.in-Err.halt)
-    c.tell_halt.result (c.in-Err.ensures.transformed tells) c.tell_halt.ensures.told
+    c.tell_halt.result (c.in-Err.ensures.transformed tells) c.tell_halt.ensures
