@@ -12,28 +12,6 @@ use std::alloc::{AllocError, Global};
 use std::sync::Wait;
 use wire_spec::{Batch, Record, Records};
 
-/// Records with no key and a value of this many bytes. None where they are too long or memory ran out.
-fn batch_of_long(alloc: Global, count: usize, bytes: usize) -> Option<Batch>
-    ensures { IfSome result (λ batch. FitsLog batch) }
-{
-    let Ok(value) = vec![in alloc; 0x76; bytes] else {
-        return None;
-    };
-    batch_of_copies(alloc, 1000, count, None, Some(value.as_slice()))
-}
-
-/// A batch of records with values of this many bytes, or with none. None where it is too long or memory
-/// ran out.
-pub(crate) fn batch_with(alloc: Global, count: usize, bytes: usize) -> Option<Batch>
-    ensures { IfSome result (λ batch. FitsLog batch) }
-{
-    if bytes == 0 {
-        batch_of(alloc, count, 1000)
-    } else {
-        batch_of_long(alloc, count, bytes)
-    }
-}
-
 fn stamped_records(alloc: Global, count: usize) -> Result<Records, AllocError> {
     let mut list = Vec::new(alloc);
     for place in 0..count {

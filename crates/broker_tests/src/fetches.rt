@@ -1,10 +1,10 @@
 use crate::calls::append;
-use crate::fetched::{batch_with, sizes};
+use crate::fetched::sizes;
 use crate::play::{Drained, Scene, play};
 use broker::{Broker, Ended, Until};
 use broker_fixtures::{deploy, ends};
 use catalogue::Catalogue;
-use fixtures::FORWARD;
+use fixtures::{FORWARD, batch_with};
 use part_log::Names;
 use std::alloc::Global;
 use std::sync::Wait;

@@ -1,7 +1,6 @@
-//! Tests of records through programs by public calls. Most are of a broker: logs, the catalogue, workers, books
-//! and fetches; in `reports` of reports, in `memory` of what calls leave where memory runs out, and in
-//! `schedules` of what threads do in many orders. Those of `worlds` are of the core, and those of `transforms`
-//! of batches without a broker.
+//! Tests of a broker by public calls: logs, the catalogue, workers, books and fetches; in `reports` of reports, in
+//! `memory` of what calls leave where memory runs out, and in `schedules` of workers that are stopped and threads that
+//! meet.
 #![tactic(auto)]
 
 #[cfg(test)]
@@ -22,8 +21,6 @@ mod fetches;
 mod gates;
 #[cfg(test)]
 mod heads;
-#[cfg(test)]
-mod interrupted;
 #[cfg(test)]
 mod loads;
 #[cfg(test)]
@@ -49,12 +46,8 @@ mod streams;
 #[cfg(test)]
 mod threads;
 #[cfg(test)]
-mod transforms;
-#[cfg(test)]
 mod verdicts;
 #[cfg(test)]
 mod waits;
 #[cfg(test)]
 mod workers;
-#[cfg(test)]
-mod worlds;

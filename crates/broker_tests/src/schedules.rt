@@ -1,12 +1,6 @@
-//! Tests of schedules by public calls: lists of the core's events, interleavings of what threads do with
-//! logs, books and the catalogue, workers that a gate stops at each offer, and threads that meet.
+//! Tests of schedules that are forced: workers that a gate stops at each offer, and threads that meet. Those of lists of
+//! the core's events and of interleavings are in `core_tests`.
 
 mod books;
-mod core_lists;
-mod desk;
 mod gates;
-mod interleavings;
-pub(crate) mod making;
-mod play;
-mod rows;
 mod threads;

@@ -1,10 +1,14 @@
 //! What is seen of the books of a broker whose log has two programs with a record after each.
 
-use crate::schedules::rows::{Seen, is_row};
 use broker::Broker;
+use broker_fixtures::is_row;
+use log_spec::Row;
 use out_book::Book;
 use part_log::Names;
 use std::sync::Wait;
+
+/// An offset, the number of an emission and the byte that is the value, if it is not null.
+type Seen = (u64, usize, Option<u8>);
 
 /// The rows of both records in an output partition.
 static ROWS: [[Seen; 2]; 2] = [
@@ -26,6 +30,15 @@ pub(crate) fn has_first<Id: Names, C, R: Wait>(
     has_rows(&book, done, &ROWS[output][..done / 2])
 }
 
+/// Whether this is a row of such a value.
+fn is_seen(row: &Row, want: &Seen) -> bool {
+    let (offset, number, value) = *want;
+    match value {
+        Some(value) => is_row(row, offset, number, value),
+        None => row.offset == offset && row.number as usize == number && row.value.is_none(),
+    }
+}
+
 fn has_rows<Id: Names>(book: &Book<Id>, done: usize, want: &[Seen]) -> bool {
     if book.inputs() == 0 || book.done(0) != done {
         return false;
@@ -33,7 +46,7 @@ fn has_rows<Id: Names>(book: &Book<Id>, done: usize, want: &[Seen]) -> bool {
     let mut rest = want;
     for row in book.rows_from(0) {
         match rest.split_first() {
-            Some((first, others)) if is_row(row, first) => rest = others,
+            Some((first, others)) if is_seen(row, first) => rest = others,
             _ => return false,
         }
     }

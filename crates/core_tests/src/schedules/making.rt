@@ -9,12 +9,6 @@ use log_spec::{Event, Name};
 use machine_spec::Table;
 use std::alloc::Global;
 
-/// Each record's key goes to output 0 with a null value, and then to output 1.
-pub(crate) const NULLS: [u8; 40] = [
-    0xb7, 1, 0, 0, 0, 0, 0, 0, 0x85, 0, 0, 0, 6, 0, 0, 0, 0xb7, 1, 0, 0, 1, 0, 0, 0, 0x85, 0, 0, 0,
-    6, 0, 0, 0, 0x95, 0, 0, 0, 0, 0, 0, 0,
-];
-
 /// The core's event that appends a batch of one record with this value.
 pub(crate) fn put_of(alloc: Global, input: usize, value: u8) -> Option<Event>
     ensures { IfSome result (λ event. FitsEvent event) }

@@ -1,7 +1,6 @@
 ghost use Rattle.batch_reader.specs.Readings.{IsOpen};
 
 use crate::interrupted::Interrupted;
-use crate::streams::{Pieces, STEADY, reader_of};
 use crate::transforms::making::{damaged, has, stream_of};
 use crate::verdicts::all_hold;
 use batch_reader::{BatchReader, Position, ReadFault};
@@ -45,7 +44,7 @@ fn end_of(damage: &Damage) -> Result<(), StreamFault> {
 /// How a stream of a reader ends.
 fn ended(
     program: &Program,
-    reader: &mut BatchReader<Pieces<'_>>,
+    reader: &mut BatchReader<&[u8]>,
     stream: &mut Transform<Interrupted>,
 ) -> Result<(), StreamFault>
     requires { IsOpen reader.old }
@@ -54,7 +53,7 @@ fn ended(
 }
 
 /// Whether so much of a reader was given.
-fn is_at(reader: &BatchReader<Pieces<'_>>, damage: &Damage) -> bool {
+fn is_at(reader: &BatchReader<&[u8]>, damage: &Damage) -> bool {
     let (batches, bytes) = (damage.3, damage.4);
     reader.position() == Position { batches, bytes }
 }
@@ -62,7 +61,7 @@ fn is_at(reader: &BatchReader<Pieces<'_>>, damage: &Damage) -> bool {
 /// Whether a stream of a reader ends as it should, and so much of the reader was given.
 fn is_end(
     program: &Program,
-    reader: &mut BatchReader<Pieces<'_>>,
+    reader: &mut BatchReader<&[u8]>,
     stream: &mut Transform<Interrupted>,
     damage: &Damage,
 ) -> bool
@@ -83,7 +82,7 @@ fn is_end_of(
     if piece == 0 || piece > 65_536 {
         return false;
     }
-    match BatchReader::new(alloc, reader_of(bytes, STEADY), piece) {
+    match BatchReader::new(alloc, bytes, piece) {
         Ok(mut reader) => is_end(program, &mut reader, stream, damage),
         Err(_) => false,
     }

@@ -1,5 +1,5 @@
 use Rattle.std.proofs.Common.{[], ◌∷◌, get_or}
-use Rattle.broker_tests.proofs.schedules.interleavings.is_right.Given as goal
+use Rattle.core_tests.proofs.schedules.interleavings.is_right.Given as goal
 
 -- the names of the cells that were just made
 abbrev pub ghosts-played : goal.ghosts-played

@@ -1,9 +1,8 @@
 //! Streams and batches of the tests, and what is seen of an output.
 
-use crate::fetched::batch_with;
 use crate::interrupted::Interrupted;
 use batch::{Feed, encode};
-use fixtures::{batch_of, batch_of_value};
+use fixtures::{batch_of, batch_of_value, batch_with};
 use log_item::Program;
 use std::alloc::{AllocError, Global};
 use transform::{Outlet, Transform};

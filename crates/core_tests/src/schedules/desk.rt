@@ -1,10 +1,10 @@
 //! The catalogue beside the core.
 
-use crate::schedules::making::{NULLS, load_of};
+use crate::schedules::making::load_of;
 use crate::schedules::play::{Lane, asked, is_same_append};
 use bytes::Bytes;
 use catalogue::{Catalogue, Finder, Known};
-use fixtures::BOTH;
+use fixtures::{BOTH, NULLS};
 use log_spec::{Event, Name, Reply};
 use machine_spec::Table;
 use part_log::{Names, Program};

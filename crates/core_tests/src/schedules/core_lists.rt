@@ -3,10 +3,10 @@
 ghost use Rattle.std.specs.Prelude.{IfSome};
 ghost use Rattle.log_spec.specs.Worlds.{FitsEvent};
 
-use crate::schedules::making::{NULLS, load_of, mark_of, put_of};
+use crate::schedules::making::{load_of, mark_of, put_of};
 use crate::schedules::rows::{Seen, is_row};
 use crate::verdicts::all_hold;
-use fixtures::BOTH;
+use fixtures::{BOTH, NULLS};
 use log_spec::{Event, Refusal, Reply, Row};
 use machine_spec::Table;
 use std::alloc::{AllocError, Global};
