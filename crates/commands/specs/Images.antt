@@ -2,10 +2,13 @@
 use Rattle.std.specs.Prelude.{◌≡◌, ◌⊎◌, ℕ, ◌+◌, ◌*◌, take, List, [], ◌∷◌, ◌++◌, length, Option, Result, Ok, Err, codes}
 use Rattle.std.specs.Prelude.{decimal}
 use Rattle.std.specs.Io.KnownBytes.{Appends}
+use Rattle.machine_spec.specs.declared.instruction.IsaFault.TheVariants as isa
 use Rattle.machine_spec.specs.declared.limits.TheConstants.{MAX_SLOTS}
 use Rattle.machine_spec.specs.Image.{Program}
 use Rattle.verifier_spec.specs.Loading.{IsAccepted, IsRefusedWith}
+use Rattle.verifier_spec.specs.declared.fault.Check.TheVariants as check
 use Rattle.verifier_spec.specs.declared.fault.LoadFault.{LoadFault}
+use Rattle.verifier_spec.specs.declared.fault.LoadFault.TheVariants.{Isa, Verify}
 use Rattle.commands.specs.declared.image.Refused.{Refused}
 use Rattle.commands.specs.declared.image.Refused.TheVariants as refused
 use Rattle.commands.specs.declared.status.Status.{Status}
@@ -18,6 +21,11 @@ first_bytes bytes = take (MAX_SLOTS * 8 + 1) bytes
 -- `accepted N instructions`
 abbrev pub accepted_line : ℕ → List ℕ
 accepted_line count = codes "accepted " ++ (decimal count ++ (codes " instructions" ++ 10 ∷ []))
+
+-- a program is not loaded since memory ran out
+abbrev pub RanOut : LoadFault → Type 0
+RanOut (Isa fault) = fault ≡ isa.Memory
+RanOut (Verify reported) = reported.kind ≡ check.Memory
 
 -- A program is refused with its fault; nothing is said where memory ran out.
 abbrev pub IsRefusal : Program → Refused → Type 0

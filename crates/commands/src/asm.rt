@@ -1,6 +1,7 @@
 //! The files of `asm`: the text that it reads and the image that it writes.
 
-ghost use Rattle.std.specs.Prelude.{◌≡◌, ◌≢◌, ℕ, List, Some, IfOk, OnOk, IfSome, string_bytes};
+ghost use Rattle.std.specs.Prelude.{◌≡◌, ◌≢◌, ℕ, List, Some, IfOk, IfErr, IsOk, OnOk, IfSome, IsUtf8, string_bytes};
+ghost use Rattle.commands.specs.declared.reading.Unread.TheVariants as unread;
 
 use crate::files::Files;
 use crate::reading::{Unread, cause_of, read_file};
@@ -8,7 +9,9 @@ use std::alloc::Global;
 
 /// The bytes of a text, which are UTF-8.
 pub fn utf8(bytes: Vec<u8>) -> Result<String, Unread>
-    ensures { IfOk result (λ text. string_bytes text ≡ bytes.items) }
+    ensures text { IfOk result (λ text. string_bytes text ≡ bytes.items) }
+    ensures valid { IsUtf8 bytes.items → IsOk result }
+    ensures err { IfErr result (λ cause. cause ≡ unread.File) }
 {
     match String::from_utf8(bytes) {
         Ok(text) => Ok(text),

@@ -1,9 +1,10 @@
 //! Images of programs: how much of a file is read as one, and what `check` prints.
 
 ghost use Rattle.std.specs.Prelude.{◌≡◌, List, ℕ, Some, IfOk, string_bytes};
+ghost use Rattle.commands.specs.declared.image.Refused.TheVariants as refused;
 ghost use Rattle.machine_spec.specs.Image.{Program, program_of};
 ghost use Rattle.annotate.specs.Loads.{FaultIs};
-ghost use Rattle.commands.specs.Images.{first_bytes, accepted_line, IsRefusal, ChecksAs};
+ghost use Rattle.commands.specs.Images.{first_bytes, accepted_line, IsRefusal, ChecksAs, RanOut};
 
 use crate::files::Files;
 use crate::reading::{Unread, cause_of, read_whole};
@@ -46,7 +47,9 @@ pub fn read_image<F: Files>(alloc: Global, files: &mut F, name: &str) -> Result<
 
 /// The refusal of a program that is not loaded.
 pub fn refusal_of(fault: LoadFault) -> Refused
-    ensures { (program : Program) → FaultIs program fault → IsRefusal program result }
+    ensures refusal { (program : Program) → FaultIs program fault → IsRefusal program result }
+    ensures memory { RanOut fault → result ≡ refused.Memory }
+    ensures image { ¬ RanOut fault → result ≡ refused.Image fault }
 {
     match fault {
         LoadFault::Isa(IsaFault::Memory) => Refused::Memory,

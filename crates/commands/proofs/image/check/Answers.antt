@@ -4,7 +4,7 @@ use Rattle.commands.specs.Images.{accepted_line}
 use Rattle.commands.proofs.image.check.Goals as goal
 
 pub returns-in-Err : goal.returns-in-Err
-returns-in-Err c = c.refusal_of.ensures (program_of c.args.image.now c.args.table) c.in-Err.ensures.answer
+returns-in-Err c = c.refusal_of.ensures.refusal (program_of c.args.image.now c.args.table) c.in-Err.ensures.answer
 
 pub returns-in-Ok-accepted : goal.returns-in-Ok-accepted
 returns-in-Ok-accepted c =
