@@ -72,7 +72,7 @@ class Function:
 
 def known_functions(obj):
     names = [f"`{s.name}`" for s in obj.functions()]
-    return "it has " + ", ".join(names[:10]) + (", .." if len(names) > 10 else "") if names else ""
+    return "it has " + ", ".join(names[:10]) + (", .." if len(names) > 10 else "") + "; name one by --function" if names else ""
 
 
 def end_of(obj, symbol, section):
@@ -203,7 +203,7 @@ def loop_text(function, ring):
                 lines[line.file].add(line.line)
     source = "; ".join(f"{name}:{spans((n, n) for n in numbers)}" for name, numbers in sorted(lines.items()))
     return (f"has a loop, slots {slots}" + (f" ({source})" if source else "") + ": klog runs no loops; give it a constant number of"
-            " rounds, and UNROLLED before it (klog.h)")
+            " rounds, UNROLLED before it, and at_least where a length ends it too (klog.h)")
 
 
 # ---- what no image can have
@@ -267,7 +267,7 @@ def data_fault(function, i, relocation):
     if section is not None and "maps" in section.name:
         return f"reads the map `{name or section.name}`: klog has no maps"
     if section is None or section.flags & WRITABLE or section.kind == NO_BYTES:
-        return f"reads the global `{name or section.name}`: klog has no memory between records"
+        return f"reads the global `{name or section.name}`: klog has no memory between records; make it a variable of the function"
     what = f"`{name}`" if name else f"of {section.name}"
     return (f"reads the constant {what}{shown_bytes(section.data[at:])}: klog has no constants in memory; copy a text to a variable"
             ' of the function (`u8 text[] = "..";`), and write a table as tests or shifts')

@@ -381,13 +381,13 @@ def object_faults(rng, good):
     yield text(machine=62), "is of machine 62, not of BPF (247): compile with `-target bpf`"
     yield text()[:16] + b"\2\0" + text()[18:], "is linked: give the object that `-c` writes"
     yield text()[:40] + bytes(8) + text()[48:], "has no sections"
-    yield text(name="main"), "has no function `transform`: it has `main`"
+    yield text(name="main"), "has no function `transform`: it has `main`; name one by --function"
     yield text(padding=b"\0\0\0"), "`transform` is no whole number of slots: 16 bytes at byte "
     yield packed(rng, slot(0x05, 0, 0, 4) + slot(0x95)), "slot 0 jumps to slot 5, where no instruction of `transform` begins"
     yield packed(rng, slot(0x05, 0, 0, 1) + wide(1, 1) + slot(0x95)), "slot 0 jumps to slot 2, where no instruction of `transform` begins"
     yield packed(rng, slot(0xB7) + slot(0xB7, 1)), ("slot 1 is the last of `transform` and no end: the compiler takes what follows for impossible"
                                                     " (__builtin_unreachable, or what C leaves undefined)")
-    yield packed(rng, slot(0x05, 0, 0, -1)), "has a loop, slots 0: klog runs no loops; give it a constant number of rounds, and UNROLLED before it (klog.h)"
+    yield packed(rng, slot(0x05, 0, 0, -1)), "has a loop, slots 0: klog runs no loops; give it a constant number of rounds, UNROLLED before it, and at_least where a length ends it too (klog.h)"
 
 
 def test_faults(rng):
@@ -470,8 +470,8 @@ SOURCES = [
     (CALL_SHORT.format(how="inline __attribute__((always_inline))"), "made"),
     (around("__attribute__((noinline)) u64 other(u64 n) { return n * n; }\n", "return other(value_length);"),
      "slot N (it.c:5) calls `other`: make it `static inline` with `__attribute__((always_inline))`"),
-    (around("u64 count;\n", "return ++count;"), "slot N (it.c:5) reads the global `count`: klog has no memory between records"),
-    (around("static volatile u64 seen;\n", "return seen;"), "slot N (it.c:5) reads the global `seen`: klog has no memory between records"),
+    (around("u64 count;\n", "return ++count;"), "slot N (it.c:5) reads the global `count`: klog has no memory between records; make it a variable of the function"),
+    (around("static volatile u64 seen;\n", "return seen;"), "slot N (it.c:5) reads the global `seen`: klog has no memory between records; make it a variable of the function"),
     (around("extern u64 limit;\n", "return limit;"), "slot N (it.c:5) reads `limit`, which is not here: klog has no memory but the record and the stack"),
     (around("", "if (value_length < 40 || key_length < 40)", "\treturn 0;", "return __builtin_memcmp(value, key, key_length);"),
      "slot N (it.c:6) calls `memcmp`: not inlined; give it a small constant length, or write a loop with UNROLLED before it (klog.h)"),
@@ -481,7 +481,7 @@ SOURCES = [
      ' (`u8 text[] = "..";`), and write a table as tests or shifts'),
     (around("", 'static const u8 name[] = "seven or more";', "return value_length < sizeof name ? name[value_length] : 0;"), 'reads the constant'),
     (around("", "u64 sum = 0;", "for (u64 k = 0; k < value_length; k++)", "\tsum += value[k];", "return sum;"),
-     "has a loop, slots N (it.c:5 to 6): klog runs no loops; give it a constant number of rounds, and UNROLLED before it (klog.h)"),
+     "has a loop, slots N (it.c:5 to 6): klog runs no loops; give it a constant number of rounds, UNROLLED before it, and at_least where a length ends it too (klog.h)"),
 ]
 
 

@@ -229,6 +229,13 @@ if (value_length < 6)
 	return 4;
 return emit_value(0, value + 5, value_length - 5);
 """),
+    Form('emit_rest from a place that is no constant', """
+if (value_length < 1)
+	return 1;
+return emit_rest(0, value_length, value[0] - 1ull);
+""",
+         [(b'k', b'\x03abcd', [(0, b'k', b'bcd')]), (b'k', b'\x05abcd', [(0, b'k', b'd')]), (b'k', b'\x06abcd', 4), (b'k', b'\xffabcd', 4),
+          (b'k', b'\x01abcd', [(0, b'k', b'\x01abcd')]), (b'k', b'\x00abcd', 4)]),
     Form('memcmp', """
 if (value_length < 5)
 	return 1;

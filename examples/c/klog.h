@@ -166,8 +166,8 @@ INLINED u64 emit_cut(u64 output, const u8 *value, u64 value_length, u64 most)
 	return emit_value(output, value, value_length);
 }
 
-/* Emits the record's key with the value from a place on, of which 1 to REST_MOST bytes follow. The result is that of
- * emit_record, or 4 where there are fewer or more. It takes REST_MOST bytes of the stack. */
+/* Emits the record's key with the value from a place on, which may be any number, and of which 1 to REST_MOST bytes
+ * follow. The result is that of emit_record, or 4 where there are fewer or more. It takes REST_MOST bytes of the stack. */
 #ifndef REST_MOST
 #define REST_MOST 400
 #endif
@@ -175,11 +175,8 @@ INLINED u64 emit_cut(u64 output, const u8 *value, u64 value_length, u64 most)
 INLINED u64 emit_rest(u64 output, u64 value_length, u64 at)
 {
 	u8 rest[REST_MOST] = {0};
-	u64 length;
+	u64 length = value_length - at;
 
-	if (!at_least(value_length, at))
-		return 4;
-	length = length_minus(value_length, at);
 	if (copy_value(rest, at, &length, sizeof rest))
 		return 4;
 	return emit_value(output, rest, length);

@@ -2,7 +2,7 @@
 """Runs a klog program on the records of a Kafka topic, each exactly once, as a member of a consumer group.
 
     transform_group.py --servers HOST:PORT --group GROUP --name NAME --library libklog.so --image IMAGE
-                       --input TOPIC --outputs TOPIC [TOPIC ..] [--records N] [--seconds S]
+                       --input TOPIC --outputs TOPIC [TOPIC ..] [--table 2] [--records N] [--seconds S]
                        [--set KEY=VALUE ..] [--set-consumer KEY=VALUE ..] [--set-producer KEY=VALUE ..]
 
 It needs confluent-kafka (Debian: python3-confluent-kafka) and libklog.so (tools/build_library.sh). Start as many
@@ -61,8 +61,8 @@ def until_done(call, *words):
 class Image:
     """A program that stands in a file, which may be replaced."""
 
-    def __init__(self, engine, name):
-        self.engine, self.name, self.stamp, self.program = engine, name, None, None
+    def __init__(self, engine, name, table):
+        self.engine, self.name, self.table, self.stamp, self.program = engine, name, table, None, None
 
     def renew(self):
         """Loads the file where it has changed. Before the first program is there, a refused one is a fault."""
@@ -74,7 +74,7 @@ class Image:
             image = file.read()
         self.stamp = stamp
         try:
-            program = Program(self.engine, image)
+            program = Program(self.engine, image, self.table)
         except Fault as fault:
             if self.program is None:
                 raise
@@ -88,7 +88,7 @@ class Image:
 class Member:
     def __init__(self, given):
         self.input, self.outputs, self.records, self.seconds = given.input, given.outputs, given.records, given.seconds
-        self.image, self.counts, self.said = Image(Engine(given.library), given.image), Counter(), {}
+        self.image, self.counts, self.said = Image(Engine(given.library), given.image, given.table), Counter(), {}
         settings = {"bootstrap.servers": given.servers, **pairs(given.set)}
         self.consumer = Consumer({"group.id": given.group, "auto.offset.reset": "earliest", "enable.auto.commit": False,
                                   "isolation.level": "read_committed", **settings, **pairs(given.set_consumer)})
@@ -196,6 +196,7 @@ def main():
     for word in ("servers", "group", "name", "library", "image", "input"):
         words.add_argument(f"--{word}", required=True)
     words.add_argument("--outputs", required=True, nargs="+", metavar="TOPIC", help="1 to 64, the first for output 0")
+    words.add_argument("--table", type=int, default=1, choices=(1, 2), help="the helper table; 2 has the helpers of headers")
     words.add_argument("--records", type=int, default=5000, help="the most of one transaction")
     words.add_argument("--seconds", type=float, default=0.5, help="the longest wait for as many")
     for word, client in (("--set", "clients"), ("--set-consumer", "consumer"), ("--set-producer", "producer")):
