@@ -9,7 +9,8 @@ use std::alloc::Global;
 use std::sync::Wait;
 use std::thread;
 
-const TURNS: usize = 10_000_000;
+/// How often an auditor looks before it gives up: workers that are stopped again and again leave it behind for seconds.
+const TURNS: usize = 1_000_000_000;
 
 /// How many records an auditor appends beside that number of records, each as a batch of its own.
 pub(crate) fn audited_beside(records: usize) -> usize {
