@@ -6,8 +6,8 @@ Not part of the build. From the top of the repository:
     tools/refuse_each.py [CRATE [WORD]]       or a path, as `out/tests`, of its built tests in place of CRATE
 
 `rt test` proves the crate and builds its tests. Then each test runs once with no request refused, and once for each request that
-it made in that run, with that one refused. With a word only the tests run whose names begin with it, as `tools/refuse_each.py
-broker_tests reports::refusals`; if no crate is named, those of broker_tests whose names begin with `memory::`. A run passes where
+it made in that run, with that one refused. With a word only the tests run whose names have it, as `tools/refuse_each.py
+broker_tests reports::refusals`; if no crate is named, those of broker_tests whose names have `memory::`. A run passes where
 the test ends with status 0.
 For each test it prints how many requests and runs there were and how many runs passed, how often each call was refused and with
 which fault (the lines `refused CALL: FAULT` that the tests print), and in full each run that did not pass. It ends with status 1
@@ -75,7 +75,7 @@ def main(words):
     crate, word = {0: ["broker_tests", "memory::"], 1: [*words, ""], 2: words}[len(words)]
     program = os.path.abspath(crate) if "/" in crate else built(f"{TOP}/crates/{crate}")
     listed = subprocess.run([program, "--list"], stdout=subprocess.PIPE, text=True, check=True).stdout
-    tests = [it.removesuffix(": test") for it in listed.splitlines() if it.endswith(": test") and it.startswith(word)]
+    tests = [it.removesuffix(": test") for it in listed.splitlines() if it.endswith(": test") and word in it]
     start = time.monotonic()
     with tempfile.TemporaryDirectory() as folder:
         words = ["cc", "-O2", "-fPIC", "-shared", "-o", f"{folder}/refuse.so", f"{TOOLS}/refuse_memory.c"]
