@@ -1,6 +1,8 @@
 -- What a run of the plain machine has at hand, and its state, as the definitions of the machine name them.
 use Rattle.machine_spec.specs.Image.{Program, program_of}
 use Rattle.machine_spec.specs.Machine.{Input, State}
+use Rattle.wire_spec.specs.declared.record.Record.{Record}
+use Rattle.helpers.specs.Emitted.{emissions_in}
 use Rattle.bpf_machine.specs.declared.{memory.Run.Run, machine.Machine.Machine}
 use Rattle.bpf_machine.specs.Views.{registers_of, stack_of}
 
@@ -12,11 +14,15 @@ program_run run = program_of run.image.now run.table
 abbrev pub input_of : Run → Input
 input_of run = record { given = run.given.now; place = run.place.now }
 
--- the state that the machine is in
-abbrev pub state_of : Machine → State
-state_of m = record {
+-- the state that the machine is in, which runs on this record
+abbrev pub state_in : Record → Machine → State
+state_in given m = record {
   slot = m.slot;
   registers = registers_of m.registers;
   stack = stack_of m.stack;
-  emitted = m.emitter;
+  emitted = emissions_in given m.emitter;
 }
+
+-- the same of a run
+abbrev pub state_of : Run → Machine → State
+state_of run m = state_in run.given.now m

@@ -47,7 +47,7 @@ fn entry_registers(run: &Run) -> [Tagged; REGISTERS]
 impl Machine {
     /// The state at the entry of a run. It fails only where memory runs out.
     pub fn new(run: &Run) -> Result<Machine, AllocError>
-        ensures { IfOk result (λ m. state_of m ≡ entry (input_of run.now)) }
+        ensures { IfOk result (λ m. state_of run.now m ≡ entry (input_of run.now)) }
     {
         let registers = entry_registers(run);
         let stack = Stack::new(run.alloc)?;

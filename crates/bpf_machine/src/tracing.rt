@@ -3,6 +3,7 @@ ghost use Rattle.std.specs.Prelude.{◌≡◌, ℕ, ◌<◌, ◌≤◌, ◌^◌,
 ghost use Rattle.machine_spec.specs.Image.{program_of, slot_count};
 ghost use Rattle.machine_spec.specs.Meaning.{outcome_of};
 ghost use Rattle.machine_spec.specs.Traps.{trap_at};
+ghost use Rattle.helpers.specs.Emitted.{emissions_in};
 ghost use Rattle.bpf_machine.specs.Views.{value_of, registers_of, AreFirstSlots, IsNear};
 ghost use Rattle.bpf_machine.specs.States.{program_run, input_of, state_of};
 ghost use Rattle.bpf_machine.specs.Ends.{EndsOnlyIn};
@@ -34,16 +35,18 @@ pub enum Advance {
     Ended,
 }
 
-/// What r0 at the exit makes of the emissions.
-fn outcome_of(answer: Tagged, machine: Machine) -> Outcome
-    ensures { result ≡ outcome_of (value_of answer) machine.emitter }
+/// What r0 at the exit makes of what was emitted for a record. It fails only where memory runs out.
+fn outcome_of(run: &Run, answer: Tagged, machine: Machine) -> Result<Outcome, AllocError>
+    ensures { IfOk result (λ outcome. outcome
+        ≡ outcome_of (value_of answer) (emissions_in run.now.given.now machine.emitter)) }
 {
     let Machine { emitter, .. } = machine;
+    let mut emitted = emitter.into_emitted();
     match answer {
-        Tagged::Number(0) => Outcome::Kept(emitter.into_emissions()),
-        Tagged::Number(code) => Outcome::Rejected(code),
-        Tagged::Nothing => Outcome::Rejected(0),
-        Tagged::Address(_, _) => Outcome::Rejected(0),
+        Tagged::Number(0) => Ok(Outcome::Kept(emitted.make_emissions(run.alloc, run.given)?)),
+        Tagged::Number(code) => Ok(Outcome::Rejected(code)),
+        Tagged::Nothing => Ok(Outcome::Rejected(0)),
+        Tagged::Address(_, _) => Ok(Outcome::Rejected(0)),
     }
 }
 
@@ -53,7 +56,7 @@ impl Machine {
         requires firsts { AreFirstSlots run.now.image.now run.now.firsts.now }
         requires slot { self.now.slot < 2 ^ 62 }
         requires near { (r : ℕ) → IsNear (registers_of self.now.registers r) }
-        ensures { IsFetched (program_run run.now) (input_of run.now) (state_of self.now) result }
+        ensures { IsFetched (program_run run.now) (input_of run.now) (state_of run.now self.now) result }
     {
         if self.slot >= slot_count(run.image) {
             return Err(Trap::RanOff);
@@ -72,7 +75,8 @@ impl Machine {
         requires firsts { AreFirstSlots run.now.image.now run.now.firsts.now }
         requires slot { self.old.slot < 2 ^ 62 }
         requires near { (r : ℕ) → IsNear (registers_of self.old.registers r) }
-        ensures { IfOk result (Advances (program_run run.now) (input_of run.now) (state_of self.old) (state_of self.new)) }
+        ensures { IfOk result (Advances (program_run run.now) (input_of run.now) (state_of run.now self.old)
+            (state_of run.now self.new)) }
     {
         match self.fetched(run) {
             Err(trap) => Ok(Advance::Trapped(trap)),
@@ -119,7 +123,8 @@ pub fn trace(
             Advance::Trapped(trap) => return Ok((End::Trap(trap), count)),
             Advance::Ended => {
                 let answer = get(&machine.registers, 0);
-                return Ok((End::Out(outcome_of(answer, machine)), count + 1));
+                let outcome = outcome_of(&run, answer, machine)?;
+                return Ok((End::Out(outcome), count + 1));
             }
         }
     }

@@ -258,7 +258,7 @@ fn is_wrong_room(span: Option<Span>) -> bool
 }
 
 fn is_wrong_argument(run: &Run, machine: &Machine, argument: Argument) -> bool
-    ensures { result ≡ definitions.is_wrong_argument (input_of run.now) (state_of machine.now) argument }
+    ensures { result ≡ definitions.is_wrong_argument (input_of run.now) (state_of run.now machine.now) argument }
 {
     let registers = &machine.registers;
     match argument {
@@ -277,7 +277,8 @@ fn is_wrong_argument(run: &Run, machine: &Machine, argument: Argument) -> bool
 }
 
 fn has_wrong_argument(run: &Run, machine: &Machine, arguments: &[Argument]) -> bool
-    ensures { result ≡ list_any (definitions.is_wrong_argument (input_of run.now) (state_of machine.now)) arguments.now }
+    ensures { result ≡ list_any (definitions.is_wrong_argument (input_of run.now) (state_of run.now machine.now))
+        arguments.now }
 {
     for argument in arguments {
         if is_wrong_argument(run, machine, *argument) {
@@ -288,7 +289,7 @@ fn has_wrong_argument(run: &Run, machine: &Machine, arguments: &[Argument]) -> b
 }
 
 fn calls_wrongly(run: &Run, machine: &Machine, helper: Option<Helper>) -> bool
-    ensures { result ≡ list_any (definitions.is_wrong_argument (input_of run.now) (state_of machine.now))
+    ensures { result ≡ list_any (definitions.is_wrong_argument (input_of run.now) (state_of run.now machine.now))
         (arguments_of helper) }
 {
     match helper {
@@ -346,7 +347,7 @@ fn jumps_wrongly(
 ) -> bool
     requires firsts { AreFirstSlots run.now.image.now run.now.firsts.now }
     requires slot { machine.now.slot < 2 ^ 62 }
-    ensures { result ≡ definitions.jumps_wrongly (program_run run.now) condition jump (state_of machine.now) }
+    ensures { result ≡ definitions.jumps_wrongly (program_run run.now) condition jump (state_of run.now machine.now) }
 {
     match jump {
         Some(distance) => {
@@ -364,7 +365,8 @@ pub fn trap_of(run: &Run, summary: Summary, machine: &Machine) -> Option<Trap>
     requires firsts { AreFirstSlots run.now.image.now run.now.firsts.now }
     requires slot { machine.now.slot < 2 ^ 62 }
     requires near { (r : ℕ) → IsNear (registers_of machine.now.registers r) }
-    ensures { result ≡ first_of (traps (program_run run.now) (input_of run.now) summary (state_of machine.now)) }
+    ensures { result
+        ≡ first_of (traps (program_run run.now) (input_of run.now) summary (state_of run.now machine.now)) }
 {
     let registers = &machine.registers;
     let span = span_of(summary.memory, registers);

@@ -2,6 +2,7 @@
 //! programs.
 #![tactic(auto)]
 
+mod emitted;
 mod emitter;
 mod headers;
 mod parts;
@@ -9,6 +10,7 @@ mod pieces;
 mod place;
 mod room;
 
+pub use emitted::{Emitted, EmittedList};
 pub use emitter::Emitter;
 pub use headers::{HeaderPart, header_count, header_key, header_value};
 pub use machine_spec::{Emission, Emissions, Helper, Outcome, Place};

@@ -1,7 +1,8 @@
 ghost use Rattle.std.specs.Prelude.{◌≡◌, ◌≤◌, ℕ, length, IfOk, OnOk};
 ghost use Rattle.exec.specs.declared.block.TheConstants.{BLOCK};
 ghost use Rattle.exec.specs.Abreast.{AreGiven};
-ghost use Rattle.exec.specs.Endings.{outcome_with};
+ghost use Rattle.exec.specs.Endings.{outcome_with, outcomes_of};
+ghost use Rattle.helpers.specs.Emitted.{emissions_in};
 ghost use Rattle.log_item.specs.Programs.{ProgramIs, RunsSafely, RunsSafelyOnEach};
 ghost use Rattle.machine_spec.specs.Image.{program_of, IsCodeOf};
 ghost use Rattle.machine_spec.specs.Meaning.{IsPlace, Means};
@@ -9,8 +10,8 @@ ghost use Rattle.machine_spec.specs.declared.outcome.Outcome.{Outcome};
 ghost use Rattle.verifier_spec.specs.StandsFor.{IsWithinLimits};
 
 use bytes::Bytes;
-use exec::{Block, Ending};
-use machine_spec::{Emissions, IsaFault, Outcome, Place, Table};
+use exec::{Block, EmittedList, Ending};
+use machine_spec::{IsaFault, Outcome, Place, Table};
 use notes::Verified;
 use std::alloc::{AllocError, Global};
 use std::marker::Model;
@@ -71,27 +72,29 @@ impl Program {
         exec::run(alloc, &self.verified, given, place)
     }
 
-    /// The same, with the room of a list for the emissions. What is in the list before is dropped.
-    /// Returns how the run ends; where it keeps its emissions, they are in the list. The list keeps
-    /// its room however the run ends.
+    /// The same, with the room of a list for what the program emits. What is in the list before is
+    /// dropped. Returns how the run ends; where it keeps its emissions, the list says what they are. The
+    /// list keeps its room however the run ends.
     pub fn run_into(
         &self,
         alloc: Global,
         given: &Record,
         place: &Place,
-        emissions: &mut Emissions,
+        emitted: &mut EmittedList,
     ) -> Result<Ending, AllocError>
         requires limits { IsWithinLimits (record { given = given.now; place = place.now }) }
         requires place { IsPlace place.now }
-        ensures means { IfOk result (λ ending. (n : ℕ) × Means self.now (record { given = given.now; place = place.now }) (outcome_with ending emissions.new) n) }
+        ensures means { IfOk result (λ ending. (n : ℕ)
+            × Means self.now (record { given = given.now; place = place.now })
+            (outcome_with ending (emissions_in given.now emitted.new)) n) }
         ensures safe { (outcome : Outcome)
             × RunsSafely self.now (record { given = given.now; place = place.now }) outcome
-            × IfOk result (λ ending. outcome_with ending emissions.new ≡ outcome) }
+            × IfOk result (λ ending. outcome_with ending (emissions_in given.now emitted.new) ≡ outcome) }
     {
-        exec::run_into(alloc, &self.verified, given, place, emissions)
+        exec::run_into(alloc, &self.verified, given, place, emitted)
     }
 
-    /// Runs the program on at most `BLOCK` records, each at its place. The block has their outcomes then.
+    /// Runs the program on at most `BLOCK` records, each at its place. The block has what they ended with then.
     /// It fails only where memory runs out; the block may be run again then.
     pub fn run_block(
         &self,
@@ -101,7 +104,8 @@ impl Program {
     ) -> Result<(), AllocError>
         requires given { AreGiven given.now places.now }
         requires few { length given.now ≤ BLOCK }
-        ensures { OnOk result (RunsSafelyOnEach self.now given.now places.now block.new) }
+        ensures long { OnOk result (length block.new ≡ length given.now) }
+        ensures safe { OnOk result (RunsSafelyOnEach self.now given.now places.now (outcomes_of given.now block.new)) }
     {
         block.run(&self.verified, given, places)
     }

@@ -3,7 +3,8 @@ use Rattle.machine_spec.specs.Image.{Program, program_of, slot_count}
 use Rattle.machine_spec.specs.Values.{Value}
 use Rattle.machine_spec.specs.Machine.{Input, State}
 use Rattle.machine_spec.specs.Meaning.{outcome_of}
-use Rattle.bpf_machine.specs.States.{state_of}
+use Rattle.helpers.specs.Emitted.{emissions_in}
+use Rattle.bpf_machine.specs.States.{state_in}
 use Rattle.bpf_machine.proofs.Bounds.{near_of, step_further}
 use Rattle.bpf_machine.proofs.Going.{ends_trapped, ends_out, small_slot, small_count}
 use Rattle.bpf_machine.proofs.tracing.trace.Goals as goal
@@ -13,27 +14,32 @@ advance-requires-clause-slot c =
     let program : Program = program_of c.args.image.now c.args.table in
     let input : Input = record { given = c.args.given.now; place = c.args.place.now } in
     let small : slot_count c.args.image.now < 2 ^ 61 = omega arith in
-    small_slot program input (state_of c.steps.machine) c.steps.count c.steps.invariant small
+    small_slot program input (state_in c.args.given.now c.steps.machine) c.steps.count c.steps.invariant small
 
 pub advance-requires-clause-near : goal.advance-requires-clause-near
 advance-requires-clause-near c =
     let program : Program = program_of c.args.image.now c.args.table in
     let input : Input = record { given = c.args.given.now; place = c.args.place.now } in
     let small : slot_count c.args.image.now < 2 ^ 61 = omega arith in
-    near_of program input c.steps.count (state_of c.steps.machine) c.steps.invariant small
+    near_of program input c.steps.count (state_in c.args.given.now c.steps.machine) c.steps.invariant small
 
 pub overflow_add-count : goal.overflow_add-count
 overflow_add-count c =
     let program : Program = program_of c.args.image.now c.args.table in
     let input : Input = record { given = c.args.given.now; place = c.args.place.now } in
     let small : slot_count c.args.image.now < 2 ^ 61 = omega arith in
-    omega (arith, small_count program input (state_of c.steps.machine) c.steps.count c.steps.invariant small)
+    omega (
+      arith,
+      small_count program input (state_in c.args.given.now c.steps.machine) c.steps.count c.steps.invariant
+          small,
+    )
 
 pub steps-smaller : goal.steps-smaller
 steps-smaller c =
     let program : Program = program_of c.args.image.now c.args.table in
     let input : Input = record { given = c.args.given.now; place = c.args.place.now } in
-    let ahead = step_further program input (state_of c.steps.machine) (state_of c.advance.new.self)
+    let ahead = step_further program input (state_in c.args.given.now c.steps.machine)
+    (state_in c.args.given.now c.advance.new.self)
     (rw c.in-Stepped.is at c.in_ok-advance.ensures) in
     omega (arith, ahead.0, ahead.1)
 
@@ -41,7 +47,8 @@ pub returns-in-Trapped : goal.returns-in-Trapped
 returns-in-Trapped c =
     let program : Program = program_of c.args.image.now c.args.table in
     let input : Input = record { given = c.args.given.now; place = c.args.place.now } in
-    ends_trapped program input (state_of c.steps.machine) c.steps.count c.in-Trapped.trap c.steps.invariant
+    ends_trapped program input (state_in c.args.given.now c.steps.machine) c.steps.count c.in-Trapped.trap
+    c.steps.invariant
     (rw c.in-Trapped.is at c.in_ok-advance.ensures)
 
 pub overflow_add-result : goal.overflow_add-result
@@ -49,13 +56,19 @@ overflow_add-result c =
     let program : Program = program_of c.args.image.now c.args.table in
     let input : Input = record { given = c.args.given.now; place = c.args.place.now } in
     let small : slot_count c.args.image.now < 2 ^ 61 = omega arith in
-    omega (arith, small_count program input (state_of c.steps.machine) c.steps.count c.steps.invariant small)
+    omega (
+      arith,
+      small_count program input (state_in c.args.given.now c.steps.machine) c.steps.count c.steps.invariant
+          small,
+    )
 
 pub returns-in-Ended : goal.returns-in-Ended
 returns-in-Ended c =
     let program : Program = program_of c.args.image.now c.args.table in
     let input : Input = record { given = c.args.given.now; place = c.args.place.now } in
     let exit = rw c.in-Ended.is at c.in_ok-advance.ensures in
-    ends_out program input (state_of c.steps.machine) c.steps.count c.outcome_of.result c.steps.invariant exit.0
-    (c.outcome_of.ensures ∙ ap (λ (v : Value). outcome_of v c.advance.new.self.emitter) c.get-answer.ensures
+    ends_out program input (state_in c.args.given.now c.steps.machine) c.steps.count c.in_ok-outcome-in-Ended.outcome
+    c.steps.invariant exit.0
+    (c.in_ok-outcome-in-Ended.ensures ∙ ap (λ (v : Value). outcome_of v
+    (emissions_in c.args.given.now c.advance.new.self.emitter)) c.get-answer.ensures
     ∙ ap (λ (u : State). outcome_of (u.registers 0) u.emitted) exit.1)

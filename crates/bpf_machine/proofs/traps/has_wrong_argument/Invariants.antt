@@ -6,5 +6,5 @@ use Rattle.bpf_machine.proofs.traps.has_wrong_argument.Given as goal
 
 abbrev pub invariant-loop-argument : goal.invariant-loop-argument
 invariant-loop-argument l =
-    list_any (is_wrong_argument (input_of l.run) (state_of l.machine)) l.arguments
-    ≡ list_any (is_wrong_argument (input_of l.run) (state_of l.machine)) (drop l.argument-index l.arguments)
+    list_any (is_wrong_argument (input_of l.run) (state_of l.run l.machine)) l.arguments
+    ≡ list_any (is_wrong_argument (input_of l.run) (state_of l.run l.machine)) (drop l.argument-index l.arguments)

@@ -3,6 +3,7 @@ use Rattle.machine_spec.specs.declared.outcome.Outcome.{Outcome}
 use Rattle.machine_spec.specs.Image.{Program, program_of}
 use Rattle.machine_spec.specs.Machine.{Input}
 use Rattle.machine_spec.specs.Meaning.{Means}
+use Rattle.helpers.specs.Emitted.{emissions_in}
 use Rattle.exec.specs.declared.ending.Ending.{Ending}
 use Rattle.exec.specs.Endings.{outcome_with}
 use Rattle.log_item.specs.Programs.{RunsSafely}
@@ -14,7 +15,8 @@ returns-clause-means c =
     let program : Program = program_of c.self.inside.image c.self.inside.verified.table in
     let input : Input = record { given = c.args.given.now; place = c.args.place.now } in
     let ran = c.run_into.ensures c.self.inside.image c.self.invariant in
-    let outcome_in : Ending → Outcome = λ ending. outcome_with ending c.run_into.new.emissions in
+    let outcome_in : Ending → Outcome = λ ending. outcome_with ending
+    (emissions_in c.args.given.now c.run_into.new.emitted) in
     let means = run_means program input c.self.inside.verified.code c.self.inside.verified.claims ran.0 ran.1
     outcome_in c.run_into.result ran.2 in
     subst (λ (p : Program). IfOk c.run_into.result (λ (ending : Ending). (n : ℕ) × Means p input (outcome_in ending) n))
