@@ -55,7 +55,7 @@ fn pass_one(
     ensures { PassesOne program.now rest.old stream.old result rest.new stream.new }
 {
     let (batch, used) = read(alloc, rest)?;
-    push(alloc, program, batch, stream)?;
+    push(program, batch, stream)?;
     rest.advance(used);
     Ok(())
 }

@@ -8,9 +8,8 @@ ghost use Rattle.batch_transform.specs.Passes.{IsStream, StartsAt, PushesBatch, 
 
 use crate::fault::Stop;
 use fates::Counts;
-use item_rows::{Blocks, ItemRows, Origin, item_rows_in};
+use item_rows::{Blocks, ItemRefs, Origin, RowRefs, item_refs_in};
 use log_item::{Item, LoggedBatch, Program};
-use log_spec::Row;
 use std::alloc::{AllocError, Global};
 use transform::Outlet;
 use wire_spec::{Batch, MAX_RECORDS, TIMESTAMP_END};
@@ -51,10 +50,10 @@ pub(crate) fn start(alloc: Global, origin: &Origin) -> Result<Stream, AllocError
 
 /// Puts rows into an output partition. It fails only where memory runs out: nobody has the memory for
 /// 2^63 rows.
-fn put_one(output: usize, rows: Vec<Row>, outlets: &mut [Outlet<Vec<u8>>]) -> Result<(), AllocError>
+fn put_one(output: usize, rows: &RowRefs, outlets: &mut [Outlet<Vec<u8>>]) -> Result<(), AllocError>
     requires within { output < length outlets.old }
-    requires fit { All RowFits rows.items }
-    ensures { OnOk result (InOne outlets.old outlets.new output (Fills rows.items) (λ other. Stays)) }
+    requires fit { All RowFits rows.now }
+    ensures { OnOk result (InOne outlets.old outlets.new output (Fills rows.now) (λ other. Stays)) }
 {
     match outlets[output].put(rows) {
         Ok(()) => Ok(()),
@@ -63,28 +62,19 @@ fn put_one(output: usize, rows: Vec<Row>, outlets: &mut [Outlet<Vec<u8>>]) -> Re
 }
 
 /// Puts the rows of a batch into each output partition.
-fn put_each(
-    alloc: Global,
-    mut rows: ItemRows,
-    outlets: &mut [Outlet<Vec<u8>>],
-) -> Result<(), AllocError>
-    requires count { length rows.rows ≡ length outlets.old }
-    requires fit { (output : ℕ) → output < length outlets.old → All RowFits (rows_in rows.rows output) }
-    ensures { OnOk result (InEach outlets.old outlets.new (λ output. Fills (rows_in rows.rows output))) }
+fn put_each(rows: &ItemRefs, outlets: &mut [Outlet<Vec<u8>>]) -> Result<(), AllocError>
+    requires count { length rows.now.rows ≡ length outlets.old }
+    requires fit { (output : ℕ) → output < length outlets.old → All RowFits (rows_in rows.now.rows output) }
+    ensures { OnOk result (InEach outlets.old outlets.new (λ output. Fills (rows_in rows.now.rows output))) }
 {
     for output in 0..outlets.len() {
-        put_one(output, rows.take(alloc, output), outlets)?;
+        put_one(output, rows.rows(output), outlets)?;
     }
     Ok(())
 }
 
 /// Runs a program on the records of the next batch and puts the rows into the output partitions.
-pub(crate) fn push(
-    alloc: Global,
-    program: &Program,
-    batch: Batch,
-    stream: &mut Stream,
-) -> Result<(), Stop>
+pub(crate) fn push(program: &Program, batch: Batch, stream: &mut Stream) -> Result<(), Stop>
     requires fits { FitsLog batch }
     requires stream { IsStream stream.old }
     ensures { PushesBatch program.now batch stream.old result stream.new }
@@ -98,9 +88,9 @@ pub(crate) fn push(
         outputs: stream.outlets.len(),
     };
     let item = Item::Batch(LoggedBatch::new(batch));
-    let rows = item_rows_in(&mut stream.blocks, &origin, Some(program), &item)?;
+    let rows = item_refs_in(&mut stream.blocks, &origin, Some(program), &item)?;
     stream.counts.add_all(rows.counts())?;
-    put_each(alloc, rows, &mut stream.outlets)?;
+    put_each(&rows, &mut stream.outlets)?;
     stream.offset += item.records();
     Ok(())
 }

@@ -1,6 +1,7 @@
 -- Some records of a batch after others.
 use Rattle.std.proofs.Common.{◌≡◌, ℕ, zero, suc, ◌+◌, ◌<◌, ◌≤◌, ℤ, pos, negsuc, ◌≤ℤ◌, ◌<ℤ◌, unsigned_abs}
-use Rattle.std.proofs.Common.{List, [], ◌∷◌, ◌++◌, length, take, get_or, map, Option, Some, refl, sym, ap, subst, ◌∙◌}
+use Rattle.std.proofs.Common.{List, [], ◌∷◌, ◌++◌, length, take, get_or, slice_get, map, Option, Some, None, option_map}
+use Rattle.std.proofs.Common.{refl, sym, ap, subst, ◌∙◌}
 use Rattle.std.proofs.Common.{append_assoc, arith, Result, Ok, Err}
 use Rattle.std.specs.Prelude.{OnOk}
 use Rattle.std.specs.List.{AllByRecursion}
@@ -12,6 +13,7 @@ use Rattle.machine_spec.specs.Image.{Program}
 use Rattle.machine_spec.specs.Meaning.{IsPlace}
 use Rattle.verifier_spec.proofs.Whole.{negative}
 use Rattle.exec.specs.Abreast.{AreGiven}
+use Rattle.exec.specs.Endings.{Ended, outcome_in, outcomes_of}
 use Rattle.log_item.specs.Programs.{RunsSafelyOnEach}
 use Rattle.log_spec.specs.declared.row.Row.{Row}
 use Rattle.log_spec.specs.Logs.{timestamp_of, place_of, rows_of, FitsRecord, IsRecordRows, IsRecordsRows}
@@ -304,6 +306,25 @@ meant_run run offset program given outcomes old new were are same meant adds mor
           (sym same) (fates_meant input outputs program batch offset given outcomes meant);
       counts = more;
     }
+
+-- ---- the outcomes of a block's records
+
+pub outcomes_long : (records : List Record) (ended : List Ended) → length records ≡ length ended →
+    length (outcomes_of records ended) ≡ length records
+outcomes_long [] ended long = refl
+outcomes_long (given ∷ records) [] long = absurd (omega (arith, long))
+outcomes_long (given ∷ records) (first ∷ ended) long =
+    ap suc (outcomes_long records ended (omega (arith, long)))
+
+pub outcome_here : (records : List Record) (ended : List Ended) (k : ℕ) (g : Record) (e : Ended) →
+    k < length records → k < length ended → g ≡ get_or records k g → slice_get ended k ≡ Some e →
+    slice_get (outcomes_of records ended) k ≡ Some (outcome_in g e)
+outcome_here [] ended k g e lt within is at = absurd (omega arith)
+outcome_here (given ∷ records) [] k g e lt within is at = absurd (omega arith)
+outcome_here (given ∷ records) (first ∷ ended) zero g e lt within is at =
+    ap (λ (r : Record). Some (outcome_in r first)) (sym is) ∙ ap (option_map (outcome_in g)) at
+outcome_here (given ∷ records) (first ∷ ended) (suc k) g e lt within is at =
+    outcome_here records ended k g e (omega arith) (omega arith) is at
 
 -- ---- parts of lists
 

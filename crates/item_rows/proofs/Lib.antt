@@ -1,2 +1,3 @@
 pub mod BlockLaws
+pub mod RefLaws
 pub mod RowLaws

@@ -6,6 +6,7 @@ ghost use Rattle.wire_spec.specs.declared.limits.TheConstants.{TIMESTAMP_END};
 ghost use Rattle.machine_spec.specs.Meaning.{IsPlace};
 ghost use Rattle.verifier_spec.specs.StandsFor.{IsWithinLimits};
 ghost use Rattle.exec.specs.declared.block.TheConstants.{BLOCK};
+ghost use Rattle.exec.specs.Endings.{outcomes_of};
 ghost use Rattle.log_item.specs.Programs.{RunsSafelyOnEach};
 ghost use Rattle.log_spec.specs.Logs.{timestamp_of, place_of, FitsRecord, IsRecordRows};
 ghost use Rattle.fates.specs.Fates.{IsFate};
@@ -16,21 +17,12 @@ use crate::blocks::Blocks;
 use crate::origin::Origin;
 use crate::outcomes::{push_outcome, push_outcomes};
 use crate::records::timestamp;
-use crate::rows::OutputRows;
+use crate::refs::RowRefs;
 use fates::{Counts, Fate};
-use log_item::{BLOCK, Block, LEAST, MANY, Program};
-use machine_spec::{Emissions, Place};
+use log_item::{BLOCK, Block, EmittedList, LEAST, MANY, Program};
+use machine_spec::Place;
 use std::alloc::{AllocError, Global};
 use wire_spec::{Batch, Record};
-
-/// A list with no emissions and no room.
-fn no_emissions(alloc: Global) -> Emissions
-    ensures { result ≡ [] }
-{
-    Emissions {
-        list: Vec::new(alloc),
-    }
-}
 
 /// What the records of a batch are run by, and the outputs that their rows go to, from `first` on.
 #[derive(Drop)]
@@ -72,14 +64,14 @@ impl<'a> BatchRun<'a> {
         Ok(places)
     }
 
-    /// Runs the program in force on a record, if there is one, and adds the rows that it gives. Its
-    /// emissions go through a list, whose room is used again.
+    /// Runs the program in force on a record, if there is one, and adds the rows that it gives. What it
+    /// emits goes through a list, whose room is used again.
     fn push_record(
         &self,
         place: &Place,
-        given: &Record,
-        emissions: &mut Emissions,
-        all: &mut [OutputRows],
+        given: &'a Record,
+        emitted: &mut EmittedList,
+        all: &mut [RowRefs<'a>],
     ) -> Result<Fate, AllocError>
         requires limits { IsWithinLimits (record { given = given.now; place = place.now }) }
         requires place { IsPlace place.now }
@@ -89,8 +81,8 @@ impl<'a> BatchRun<'a> {
         match self.program {
             None => Ok(Fate::Unprogrammed),
             Some(program) => {
-                let ending = program.run_into(self.alloc, given, place, emissions)?;
-                push_outcome(all, self.first, place, ending, emissions)
+                let ending = program.run_into(self.alloc, given, place, emitted)?;
+                push_outcome(all, self.first, place, given, ending, emitted)
             }
         }
     }
@@ -100,9 +92,9 @@ impl<'a> BatchRun<'a> {
     fn push_each(
         &self,
         offset: u64,
-        records: &[Record],
-        emissions: &mut Emissions,
-        all: &mut [OutputRows],
+        records: &'a [Record],
+        emitted: &mut EmittedList,
+        all: &mut [RowRefs<'a>],
         counts: &mut Counts,
     ) -> Result<(), AllocError>
         requires { CanRun self.now offset records.now counts.old }
@@ -111,7 +103,7 @@ impl<'a> BatchRun<'a> {
         let mut next = offset;
         for given in records {
             let at = self.place(next, given);
-            let fate = self.push_record(&at, given, emissions, all)?;
+            let fate = self.push_record(&at, given, emitted, all)?;
             counts.add(fate)?;
             next += 1;
         }
@@ -132,7 +124,8 @@ impl<'a> BatchRun<'a> {
         requires few { offset + length records.now ≤ TIMESTAMP_END }
         requires block { length records.now ≤ BLOCK }
         ensures places { IfOk result (λ places. places.items ≡ places_from self.now.origin.now.input self.now.origin.now.outputs self.now.batch.now offset records.now) }
-        ensures outcomes { IfOk result (λ places. RunsSafelyOnEach program.now records.now places.items block.new) }
+        ensures long { OnOk result (length block.new ≡ length records.now) }
+        ensures outcomes { IfOk result (λ places. RunsSafelyOnEach program.now records.now places.items (outcomes_of records.now block.new)) }
     {
         let places = self.places(offset, records)?;
         program.run_block(block, records, places.as_slice())?;
@@ -145,16 +138,16 @@ impl<'a> BatchRun<'a> {
         &self,
         program: &Program,
         first_offset: u64,
-        records: &[Record],
+        records: &'a [Record],
         blocks: &mut Blocks,
-        all: &mut [OutputRows],
+        all: &mut [RowRefs<'a>],
         counts: &mut Counts,
     ) -> Result<(), AllocError>
         requires program { program_in self.now ≡ Some program.now }
         requires run { CanRun self.now first_offset records.now counts.old }
         ensures { OnOk result (HaveRun self.now first_offset records.now all.old all.new counts.old counts.new) }
     {
-        let mut emissions = no_emissions(self.alloc);
+        let mut emitted = EmittedList::new(self.alloc);
         let mut offset = first_offset;
         let mut rest = records;
         while rest.len() >= LEAST {
@@ -163,12 +156,12 @@ impl<'a> BatchRun<'a> {
             let mut block = blocks.take(count)?;
             let places = self.run_block(program, offset, here, &mut block)?;
             let at = places.as_slice();
-            push_outcomes(self.first, at, &mut block, &mut emissions, all, counts)?;
+            push_outcomes(self.first, at, here, &mut block, &mut emitted, all, counts)?;
             blocks.keep(count, block);
             offset += count as u64;
             rest = later;
         }
-        self.push_each(offset, rest, &mut emissions, all, counts)
+        self.push_each(offset, rest, &mut emitted, all, counts)
     }
 
     /// The program in force, where so many records take less time abreast than one by one.
@@ -185,9 +178,9 @@ impl<'a> BatchRun<'a> {
     pub(crate) fn push_all(
         &self,
         offset: u64,
-        records: &[Record],
+        records: &'a [Record],
         blocks: &mut Blocks,
-        all: &mut [OutputRows],
+        all: &mut [RowRefs<'a>],
         counts: &mut Counts,
     ) -> Result<(), AllocError>
         requires { CanRun self.now offset records.now counts.old }
@@ -196,8 +189,8 @@ impl<'a> BatchRun<'a> {
         match self.program_abreast(records.len()) {
             Some(program) => self.push_blocks(program, offset, records, blocks, all, counts),
             None => {
-                let mut emissions = no_emissions(self.alloc);
-                self.push_each(offset, records, &mut emissions, all, counts)
+                let mut emitted = EmittedList::new(self.alloc);
+                self.push_each(offset, records, &mut emitted, all, counts)
             }
         }
     }

@@ -8,7 +8,8 @@ ghost use Rattle.item_rows.specs.ItemRows.{IsOrigin, GivesRows, AreItemRows, Are
 use crate::blocks::Blocks;
 use crate::origin::Origin;
 use crate::records::push_records;
-use crate::rows::{ItemRows, OutputRows, empty};
+use crate::refs::RowRefs;
+use crate::rows::{ItemRefs, ItemRows, empty};
 use fates::Counts;
 use log_item::{Item, Program};
 use log_spec::Row;
@@ -26,13 +27,13 @@ pub struct OneOutput {
 
 /// Adds the rows of an item: none of a mark or the end, and none of a batch with no mark before it.
 /// Returns the counts of its records.
-fn push_item(
+fn push_item<'a>(
     blocks: &mut Blocks,
-    origin: &Origin,
-    program: Option<&Program>,
-    item: &Item,
+    origin: &'a Origin,
+    program: Option<&'a Program>,
+    item: &'a Item,
     first: usize,
-    all: &mut [OutputRows],
+    all: &mut [RowRefs<'a>],
 ) -> Result<Counts, AllocError>
     requires { IsOrigin origin.now }
     ensures { IfOk result (λ counts. AreItemCounts origin.now.input origin.now.outputs (option_map (λ p. p.now) program.entry) origin.now.offset (item_view item.now) counts
@@ -60,14 +61,14 @@ fn rows_expected(program: Option<&Program>, item: &Item, count: usize) -> usize
 }
 
 /// The rows of an item in `count` output partitions from `first` on, and the counts of its records.
-fn rows_from(
+fn rows_from<'a>(
     blocks: &mut Blocks,
-    origin: &Origin,
-    program: Option<&Program>,
-    item: &Item,
+    origin: &'a Origin,
+    program: Option<&'a Program>,
+    item: &'a Item,
     first: usize,
     count: usize,
-) -> Result<ItemRows, AllocError>
+) -> Result<ItemRefs<'a>, AllocError>
     requires origin { IsOrigin origin.now }
     requires some { 0 < count }
     ensures { IfOk result (λ made. AreItemCounts origin.now.input origin.now.outputs (option_map (λ p. p.now) program.entry) origin.now.offset (item_view item.now) made.counts
@@ -76,7 +77,7 @@ fn rows_from(
     let alloc = blocks.alloc;
     let mut all = empty(alloc, count, rows_expected(program, item, count))?;
     let counts = push_item(blocks, origin, program, item, first, all.as_mut_slice())?;
-    ItemRows::new(alloc, all, counts)
+    Ok(ItemRefs::new(all, counts))
 }
 
 /// The rows of an item in each output, by the program in force before it: none of a mark or the
@@ -95,7 +96,21 @@ pub fn item_rows(
     item_rows_in(&mut Blocks::new(alloc), origin, program, item)
 }
 
-/// The same, in blocks that are used again.
+/// The same, in blocks that are used again. The rows refer to the item's records.
+pub fn item_refs_in<'a>(
+    blocks: &mut Blocks,
+    origin: &'a Origin,
+    program: Option<&'a Program>,
+    item: &'a Item,
+) -> Result<ItemRefs<'a>, AllocError>
+    requires { IsOrigin origin.now }
+    ensures rows { IfOk result (λ made. AreItemRows origin.now (option_map (λ p. p.now) program.entry) (item_view item.now) made.rows) }
+    ensures counts { IfOk result (λ made. AreItemCounts origin.now.input origin.now.outputs (option_map (λ p. p.now) program.entry) origin.now.offset (item_view item.now) made.counts) }
+{
+    rows_from(blocks, origin, program, item, 0, origin.outputs)
+}
+
+/// The same, as values.
 pub fn item_rows_in(
     blocks: &mut Blocks,
     origin: &Origin,
@@ -106,7 +121,8 @@ pub fn item_rows_in(
     ensures rows { IfOk result (λ made. AreItemRows origin.now (option_map (λ p. p.now) program.entry) (item_view item.now) made.rows) }
     ensures counts { IfOk result (λ made. AreItemCounts origin.now.input origin.now.outputs (option_map (λ p. p.now) program.entry) origin.now.offset (item_view item.now) made.counts) }
 {
-    rows_from(blocks, origin, program, item, 0, origin.outputs)
+    let refs = item_refs_in(blocks, origin, program, item)?;
+    refs.into_rows(blocks.alloc)
 }
 
 /// The rows of an item in one output alone, and the counts of its records. Each record is run once. It
@@ -122,10 +138,11 @@ pub fn output_rows(
     ensures rows { IfOk result (λ made. GivesRows origin.now (option_map (λ p. p.now) program.entry) (item_view item.now) output made.rows.items) }
     ensures counts { IfOk result (λ made. AreItemCounts origin.now.input origin.now.outputs (option_map (λ p. p.now) program.entry) origin.now.offset (item_view item.now) (arc_value made.counts)) }
 {
-    let mut made = rows_from(&mut Blocks::new(alloc), origin, program, item, output, 1)?;
-    let counts = Arc::try_clone(made.counts())?;
+    let made = rows_from(&mut Blocks::new(alloc), origin, program, item, output, 1)?;
+    let mut rows = made.into_rows(alloc)?;
+    let counts = Arc::try_clone(rows.counts())?;
     Ok(OneOutput {
-        rows: made.take(alloc, 0),
+        rows: rows.take(alloc, 0),
         counts,
     })
 }

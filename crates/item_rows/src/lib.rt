@@ -9,11 +9,13 @@ mod laws;
 mod origin;
 mod outcomes;
 mod records;
+mod refs;
 mod rows;
 
 pub use crate::blocks::Blocks;
-pub use crate::item::{OneOutput, item_rows, item_rows_in, output_rows};
+pub use crate::item::{OneOutput, item_refs_in, item_rows, item_rows_in, output_rows};
 pub use crate::laws::one_list_of_rows;
 pub use crate::origin::Origin;
 pub use crate::records::timestamp;
-pub use crate::rows::ItemRows;
+pub use crate::refs::RowRefs;
+pub use crate::rows::{ItemRefs, ItemRows};

@@ -7,7 +7,7 @@ ghost use Rattle.item_rows.specs.ItemRows.{IsOrigin, Adds};
 use crate::batch_run::BatchRun;
 use crate::blocks::Blocks;
 use crate::origin::Origin;
-use crate::rows::OutputRows;
+use crate::refs::RowRefs;
 use fates::Counts;
 use log_item::Program;
 use std::alloc::AllocError;
@@ -25,13 +25,13 @@ pub fn timestamp(batch: &Batch, given: &Record) -> u64
 
 /// Runs the program in force on a batch's records, in order, and adds the rows that they give. Returns
 /// the counts of the records.
-pub(crate) fn push_records(
+pub(crate) fn push_records<'a>(
     blocks: &mut Blocks,
-    program: Option<&Program>,
-    origin: &Origin,
-    batch: &Batch,
+    program: Option<&'a Program>,
+    origin: &'a Origin,
+    batch: &'a Batch,
     first: usize,
-    all: &mut [OutputRows],
+    all: &mut [RowRefs<'a>],
 ) -> Result<Counts, AllocError>
     requires fits { FitsLog batch.now }
     requires origin { IsOrigin origin.now }

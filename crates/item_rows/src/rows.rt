@@ -2,6 +2,7 @@ ghost use Rattle.std.specs.Prelude.{◌≡◌, ◌<◌, ◌++◌, ◌∷◌, [],
 ghost use Rattle.std.specs.Arc.{arc_value};
 ghost use Rattle.item_rows.specs.ItemRows.{AreEmpty, item_yield};
 
+use crate::refs::RowRefs;
 use fates::Counts;
 use log_spec::Row;
 use std::alloc::{AllocError, Global};
@@ -11,7 +12,7 @@ use std::sync::Arc;
 
 /// Rows in one output partition. Contracts see the list of them.
 #[derive(Drop)]
-pub struct OutputRows {
+struct OutputRows {
     list: Vec<Row>,
 }
 
@@ -34,25 +35,8 @@ impl OutputRows {
         }
     }
 
-    /// No rows, and room for so many.
-    fn with_capacity(alloc: Global, rows: usize) -> Result<OutputRows, AllocError>
-        ensures { IfOk result (λ made. made ≡ []) }
-    {
-        Ok(OutputRows {
-            list: Vec::with_capacity(alloc, rows)?,
-        })
-    }
-
-    /// Adds a row.
-    pub(crate) fn push(&mut self, row: Row) -> Result<(), AllocError>
-        ensures { OnOk result (self.new ≡ self.old ++ row ∷ []) }
-    {
-        self.list.push(row)?;
-        Ok(())
-    }
-
     /// The rows.
-    pub(crate) fn as_slice(&self) -> &[Row]
+    fn as_slice(&self) -> &[Row]
         ensures { result.now ≡ self.now }
     {
         self.list.as_slice()
@@ -69,19 +53,90 @@ impl OutputRows {
 
 /// No rows in each of `outputs` output partitions, and room for so many in each.
 #[tactic(auto, using(crate::proofs::RowLaws::empty_more, crate::proofs::RowLaws::empty_none))]
-pub(crate) fn empty(
+pub(crate) fn empty<'a>(
     alloc: Global,
     outputs: usize,
     room: usize,
-) -> Result<Vec<OutputRows>, AllocError>
+) -> Result<Vec<RowRefs<'a>>, AllocError>
     ensures { IfOk result (λ all. AreEmpty outputs all.items) }
 {
     let mut all = Vec::with_capacity(alloc, outputs)?;
     for _ in 0..outputs {
-        let none = OutputRows::with_capacity(alloc, room)?;
+        let none = RowRefs::with_capacity(alloc, room)?;
         all.push(none)?;
     }
     Ok(all)
+}
+
+/// The rows of each output partition as values.
+fn rows_of_each(alloc: Global, mut outputs: Vec<RowRefs>) -> Result<Vec<OutputRows>, AllocError>
+    ensures { IfOk result (λ made. made.items ≡ outputs.entry.items) }
+{
+    let mut made = Vec::with_capacity(alloc, outputs.len())?;
+    for rows in outputs.drain(..) {
+        let list = rows.into_rows(alloc)?;
+        made.push(OutputRows { list })?;
+    }
+    Ok(made)
+}
+
+/// The rows of an item, output by output, which refer to the item's records, and what became of these.
+/// Contracts see a list for each output partition, and the counts.
+#[derive(Drop)]
+pub struct ItemRefs<'a> {
+    outputs: Vec<RowRefs<'a>>,
+    counts: Counts,
+}
+
+impl<'a> Model for ItemRefs<'a> {
+    ghost use Rattle.item_rows.specs.ItemRows.{ItemYield, item_yield};
+
+    ghost Value = { ItemYield };
+
+    ghost view = { λ r. item_yield r.outputs.items r.counts };
+}
+
+impl<'a> ItemRefs<'a> {
+    /// These rows and counts.
+    pub(crate) fn new(outputs: Vec<RowRefs<'a>>, counts: Counts) -> ItemRefs<'a>
+        ensures { result ≡ item_yield outputs.entry.items counts }
+    {
+        ItemRefs { outputs, counts }
+    }
+
+    /// How many output partitions there are.
+    pub fn outputs(&self) -> usize
+        ensures { result ≡ length self.now.rows }
+    {
+        self.outputs.len()
+    }
+
+    /// The item's rows in an output partition.
+    pub fn rows(&self, output: usize) -> &RowRefs<'a>
+        requires { output < length self.now.rows }
+        ensures { slice_get self.now.rows output ≡ Some result.now }
+    {
+        &self.outputs[output]
+    }
+
+    /// What became of the item's records.
+    pub fn counts(&self) -> &Counts
+        ensures { result.now ≡ self.now.counts }
+    {
+        &self.counts
+    }
+
+    /// The rows as values, other owners of their parts. It fails only where memory runs out.
+    pub(crate) fn into_rows(self, alloc: Global) -> Result<ItemRows, AllocError>
+        ensures { IfOk result (λ made. made ≡ self.entry) }
+    {
+        let ItemRefs { outputs, counts } = self;
+        let outputs = rows_of_each(alloc, outputs)?;
+        Ok(ItemRows {
+            outputs,
+            counts: Arc::new(alloc, counts)?,
+        })
+    }
 }
 
 /// The rows of an item, output by output, and what became of its records. Contracts see a list for
@@ -102,20 +157,6 @@ impl Model for ItemRows {
 }
 
 impl ItemRows {
-    /// These rows and counts. It fails only where memory runs out.
-    pub(crate) fn new(
-        alloc: Global,
-        outputs: Vec<OutputRows>,
-        counts: Counts,
-    ) -> Result<ItemRows, AllocError>
-        ensures { IfOk result (λ made. made ≡ item_yield outputs.items counts) }
-    {
-        Ok(ItemRows {
-            outputs,
-            counts: Arc::new(alloc, counts)?,
-        })
-    }
-
     /// How many output partitions there are.
     pub fn outputs(&self) -> usize
         ensures { result ≡ length self.now.rows }

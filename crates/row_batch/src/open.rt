@@ -10,7 +10,7 @@ use crate::front::{pad, with_front};
 use crate::records::put_if_room;
 use crate::rows::head;
 use batch::{HEADER, MAX_RECORDS, begin, finish};
-use log_spec::Row;
+use log_spec::RowRef;
 use std::alloc::{AllocError, Global};
 use std::marker::Model;
 use std::mem;
@@ -71,7 +71,7 @@ impl OpenBatch {
 
     /// Adds a row at the end, where the batch has room for it, and returns whether it has. The first always
     /// has. It fails only where memory runs out; then nothing changes.
-    pub fn push(&mut self, row: &Row) -> Result<bool, AllocError>
+    pub fn push(&mut self, row: &RowRef) -> Result<bool, AllocError>
         requires { RowFits row.now }
         ensures ok { IfOk result (λ added. AddsIfRoom added self.old row.now self.new) }
         ensures few { IfOk result (λ added. length self.new ≤ MAX_RECORDS) }
@@ -127,7 +127,7 @@ impl OpenBatch {
 }
 
 /// The base timestamp with one row more.
-fn base_for(base: u64, count: usize, row: &Row) -> u64
+fn base_for(base: u64, count: usize, row: &RowRef) -> u64
     ensures { result ≡ base_with base count row.now }
 {
     if count == 0 { row.timestamp } else { base }

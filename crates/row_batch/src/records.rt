@@ -9,7 +9,7 @@ ghost use Rattle.row_batch.specs.FirstRows.{PutsIfRoom, HasPut};
 use crate::list::RowList;
 use batch::{HEADER, MAX_BATCH, MAX_RECORDS};
 use kafka_record::{size_of_parts, write_parts};
-use log_spec::Row;
+use log_spec::RowRef;
 use std::alloc::AllocError;
 use wire_spec::TIMESTAMP_END;
 
@@ -40,7 +40,7 @@ fn delta(base: u64, timestamp: u64) -> i64
 
 /// Writes a row at the end, as the record with this place in a batch with this base timestamp. An `Err`
 /// changes nothing.
-fn put_row(base: u64, row: &Row, place: usize, out: &mut Vec<u8>) -> Result<(), AllocError>
+fn put_row(base: u64, row: &RowRef, place: usize, out: &mut Vec<u8>) -> Result<(), AllocError>
     requires base { base < TIMESTAMP_END }
     requires place { place < MAX_RECORDS }
     requires row { RowFits row.now }
@@ -48,23 +48,23 @@ fn put_row(base: u64, row: &Row, place: usize, out: &mut Vec<u8>) -> Result<(), 
     ensures err { OnErr result (out.new.items ≡ out.old.items) }
 {
     let delta = delta(base, row.timestamp);
-    write_parts(delta, &row.key, &row.value, &row.headers, place as i32, out)
+    write_parts(delta, row.key, row.value, row.headers, place as i32, out)
 }
 
 /// How many bytes a row takes as the record with this place in a batch with this base timestamp.
-fn row_size(base: u64, row: &Row, place: usize) -> usize
+fn row_size(base: u64, row: &RowRef, place: usize) -> usize
     requires base { base < TIMESTAMP_END }
     requires place { place < MAX_RECORDS }
     requires row { RowFits row.now }
     ensures { result ≡ length (record_spelling (pos place) (record_of base row.now)) }
 {
     let delta = delta(base, row.timestamp);
-    size_of_parts(delta, &row.key, &row.value, &row.headers, place as i32)
+    size_of_parts(delta, row.key, row.value, row.headers, place as i32)
 }
 
 /// Whether a batch of this size may have no room for a row. Where it returns false, the headers may still
 /// be too much for it.
-fn may_be_full(size: usize, row: &Row) -> bool {
+fn may_be_full(size: usize, row: &RowRef) -> bool {
     size.saturating_add(likely_parts(row)) > NEARLY_FULL
 }
 
@@ -73,7 +73,7 @@ fn may_be_full(size: usize, row: &Row) -> bool {
 #[tactic(auto, using(crate::proofs::RoomLaws::cut_back, crate::proofs::RoomLaws::no_room))]
 pub fn put_if_room(
     base: u64,
-    row: &Row,
+    row: &RowRef,
     place: usize,
     out: &mut Vec<u8>,
 ) -> Result<bool, AllocError>
@@ -120,7 +120,7 @@ pub fn put_most<L: RowList>(
     let mut latest = 0;
     for count in 0..most {
         let row = rows.row(first + count);
-        let put = put_if_room(base, row, count, out)?;
+        let put = put_if_room(base, &row.by_ref(), count, out)?;
         if !put {
             return Ok(Extent { count, latest });
         }
@@ -133,16 +133,17 @@ pub fn put_most<L: RowList>(
 }
 
 /// About how many bytes a row takes in a batch without its headers.
-fn likely_parts(row: &Row) -> usize {
+fn likely_parts(row: &RowRef) -> usize {
     let key = row.key.as_ref().map_or(0, |key| key.len());
     let value = row.value.as_ref().map_or(0, |value| value.len());
     LIKELY_RECORD.saturating_add(key).saturating_add(value)
 }
 
 /// About how many bytes a batch of `most` rows like this one has, and no more than a batch may have.
-pub fn likely_size(row: &Row, most: usize) -> usize {
+pub fn likely_size(row: &RowRef, most: usize) -> usize {
     let mut bytes = likely_parts(row);
-    for header in &row.headers.list {
+    let headers = row.headers;
+    for header in &headers.list {
         let value = header.value.as_ref().map_or(0, |value| value.len());
         bytes = bytes
             .saturating_add(LIKELY_HEADER)

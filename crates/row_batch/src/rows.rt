@@ -59,7 +59,7 @@ pub fn first_batch<L: RowList>(
     ensures { IfOk result (λ made. IsFirst place (take most (drop first (L.rows rows.now))) made.count made.bytes.items) }
 {
     let base = rows.row(first).timestamp;
-    let mut bytes = blank(alloc, likely_size(rows.row(first), most))?;
+    let mut bytes = blank(alloc, likely_size(&rows.row(first).by_ref(), most))?;
     let put = put_most(base, rows, first, most, &mut bytes)?;
     let size = bytes.len();
     let head = head(alloc, place, base);

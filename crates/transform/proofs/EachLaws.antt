@@ -1,9 +1,8 @@
 -- One output partition after the other.
-use Rattle.std.proofs.Common.{◌≡◌, ℕ, ◌+◌, ◌<◌, ◌≤◌, List, [], length, Some, slice_get, slice_set, refl, sym, ap, subst, ◌∙◌}
+use Rattle.std.proofs.Common.{◌≡◌, ℕ, ◌+◌, ◌<◌, ◌≤◌, List, [], length, Some, slice_get, refl, sym, subst, ◌∙◌}
 use Rattle.std.proofs.Common.{⊎_elim, arith}
 use Rattle.std.proofs.lemmas.Bool.{cases_lt}
 use Rattle.std.proofs.lemmas.Option.{get_or_from_slice_get}
-use Rattle.std.proofs.lemmas.List.{get_or-set_other, length-set}
 use Rattle.log_spec.specs.declared.row.Row.{Row}
 use Rattle.item_rows.specs.ItemRows.{rows_in}
 use Rattle.transform.specs.Outlets.{Outflow}
@@ -60,24 +59,6 @@ module _ (Holds : ℕ → Outflow → Outflow → Type 0) where
         (λ le. subst (Partly q (output_at old q)) (sym (first.left q lt le)) (none q (output_at old q))) (cases_lt q n));
   }
 
--- the rows of the first output partitions were taken out, and those of the others are left
-pub record AreLeft (n : ℕ) (all left : List (List Row)) : Type 0 where
-  pub count : length left ≡ length all
-  pub left_are : (q : ℕ) → n ≤ q → rows_in left q ≡ rows_in all q
-
-pub all_left : (all : List (List Row)) → AreLeft 0 all all
-all_left all = record { count = refl; left_are = λ q le. refl }
-
-pub rows_taken : (n : ℕ) (all left : List (List Row)) (rows : List Row) → AreLeft n all left →
-    slice_get left n ≡ Some rows → rows ≡ rows_in all n
-rows_taken n all left rows are at =
-    sym (get_or_from_slice_get left n rows [] at) ∙ are.left_are n (omega arith)
-
-pub fewer_left : (n : ℕ) (all left after : List (List Row)) → AreLeft n all left → after ≡ slice_set left n [] →
-    AreLeft (n + 1) all after
-fewer_left n all left after are set = record {
-  count = ap length set ∙ (length-set left n [] ∙ are.count);
-  left_are = λ q le.
-      ap (λ (rs : List (List Row)). rows_in rs q) set
-      ∙ (get_or-set_other left n q [] [] (λ e. omega (arith, e, le)) ∙ are.left_are q (omega arith));
-}
+-- the rows of an output partition
+pub rows_at : (n : ℕ) (all : List (List Row)) (rows : List Row) → slice_get all n ≡ Some rows → rows ≡ rows_in all n
+rows_at n all rows at = sym (get_or_from_slice_get all n rows [] at)

@@ -1,8 +1,9 @@
 -- The rows that wait are one batch that is being filled: what adding a row and writing the batch do.
 use Rattle.std.proofs.Common.{◌≡◌, ℕ, suc, ◌+◌, ◌<◌, ◌≤◌, ◌^◌, Bool, true, false, List, [], ◌∷◌, length, drop, Option}
-use Rattle.std.proofs.Common.{Result, Ok, Err, map, slice_index_or, refl, sym, ap, subst, ◌∙◌, append-nil, drop-cons, arith}
+use Rattle.std.proofs.Common.{Result, Ok, Err, map, slice_get, slice_index_or, Some, refl, sym, ap, subst, ◌∙◌, append-nil, drop-cons, arith}
 use Rattle.std.specs.Io.KnownBytes.{Appends}
 use Rattle.std.proofs.lemmas.List.{drop_at, drop_all, length-append, length-drop}
+use Rattle.std.proofs.lemmas.Option.{get_or_from_slice_get}
 use Rattle.log_spec.specs.declared.row.Row.{Row}
 use Rattle.row_batch.specs.OpenBatches.{shown}
 use Rattle.transform.specs.declared.{outlet.OutletFault.OutletFault}
@@ -127,6 +128,11 @@ room_for old mid rows index before after wrote more room =
       more,
       room,
     )
+
+-- a row of a list
+pub row_is : (rows : List Row) (index : ℕ) (row : Row) → slice_get rows index ≡ Some row →
+    row ≡ slice_index_or rows index row
+row_is rows index row at = sym (get_or_from_slice_get rows index row row at)
 
 -- the first of the rows that are left, and the others
 first_left : (rows : List Row) (index : ℕ) (row : Row) → index < length rows → row ≡ slice_index_or rows index row →

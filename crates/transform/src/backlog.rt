@@ -4,7 +4,7 @@ ghost use Rattle.std.specs.Prelude.{◌≡◌, ◌<◌, ◌≤◌, ◌+◌, ◌^
 ghost use Rattle.log_spec.specs.Logs.{RowFits};
 ghost use Rattle.transform.specs.Backlogs.{waiting, TakesRow, GivesAll};
 
-use log_spec::Row;
+use log_spec::RowRef;
 use row_batch::OpenBatch;
 use std::alloc::{AllocError, Global};
 use std::marker::Model;
@@ -74,7 +74,7 @@ impl Backlog {
     /// Adds a row at the end, where one batch has room for it and those that wait, and returns whether
     /// it has; it always has where none waits. It fails only where memory runs out; then nothing
     /// changes.
-    pub fn push(&mut self, row: &Row) -> Result<bool, AllocError>
+    pub fn push(&mut self, row: &RowRef) -> Result<bool, AllocError>
         requires fits { RowFits row.now }
         requires room { self.old.place + length self.old.rows < 2 ^ 63 }
         ensures takes { IfOk result (λ added. TakesRow added self.old row.now self.new) }

@@ -8,9 +8,8 @@ ghost use Rattle.transform.specs.Transforms.{flow, none_counted, Pushes, PutsEac
 
 use crate::outlet::{Outlet, OutletFault};
 use fates::Counts;
-use item_rows::{Blocks, ItemRows, Origin, item_rows_in};
+use item_rows::{Blocks, ItemRefs, Origin, RowRefs, item_refs_in};
 use log_item::{Item, LoggedBatch, Program};
-use log_spec::Row;
 use std::alloc::{AllocError, Global};
 use std::io::Write;
 use std::marker::Model;
@@ -45,7 +44,6 @@ impl From<AllocError> for TransformFault {
 /// offset of the next record, the output partitions, and the counts of the records.
 #[derive(Drop)]
 pub struct Transform<W: Write> {
-    alloc: Global,
     input: usize,
     offset: u64,
     outlets: Vec<Outlet<W>>,
@@ -74,7 +72,6 @@ impl<W: Write> Transform<W> {
         ensures { result ≡ flow input offset outlets.items none_counted }
     {
         Transform {
-            alloc,
             input,
             offset,
             outlets,
@@ -140,10 +137,10 @@ impl<W: Write> Transform<W> {
             outputs: self.outlets.len(),
         };
         let item = Item::Batch(LoggedBatch::new(batch));
-        let rows = item_rows_in(&mut self.blocks, &origin, Some(program), &item)?;
+        let rows = item_refs_in(&mut self.blocks, &origin, Some(program), &item)?;
         self.counts.add_all(rows.counts())?;
         self.offset += item.records();
-        put_each(self.alloc, rows, &mut self.outlets)
+        put_each(&rows, &mut self.outlets)
     }
 
     /// Writes the batches of all rows that wait. It fails with an output partition as `Outlet::end`
@@ -157,17 +154,13 @@ impl<W: Write> Transform<W> {
 }
 
 // Puts the rows of an item into each output partition.
-fn put_each<W: Write>(
-    alloc: Global,
-    mut rows: ItemRows,
-    outlets: &mut [Outlet<W>],
-) -> Result<(), TransformFault>
-    requires count { length rows.rows ≡ length outlets.old }
-    requires fit { (output : ℕ) → output < length outlets.old → All RowFits (rows_in rows.rows output) }
-    ensures { PutsEach rows.rows outlets.old result outlets.new }
+fn put_each<W: Write>(rows: &ItemRefs, outlets: &mut [Outlet<W>]) -> Result<(), TransformFault>
+    requires count { length rows.now.rows ≡ length outlets.old }
+    requires fit { (output : ℕ) → output < length outlets.old → All RowFits (rows_in rows.now.rows output) }
+    ensures { PutsEach rows.now.rows outlets.old result outlets.new }
 {
     for output in 0..outlets.len() {
-        put_one(output, rows.take(alloc, output), outlets)?;
+        put_one(output, rows.rows(output), outlets)?;
     }
     Ok(())
 }
@@ -175,12 +168,12 @@ fn put_each<W: Write>(
 // Puts rows into an output partition.
 fn put_one<W: Write>(
     output: usize,
-    rows: Vec<Row>,
+    rows: &RowRefs,
     outlets: &mut [Outlet<W>],
 ) -> Result<(), TransformFault>
     requires within { output < length outlets.old }
-    requires fit { All RowFits rows.items }
-    ensures { PutsOne output rows.items outlets.old result outlets.new }
+    requires fit { All RowFits rows.now }
+    ensures { PutsOne output rows.now outlets.old result outlets.new }
 {
     match outlets[output].put(rows) {
         Ok(()) => Ok(()),

@@ -8,7 +8,8 @@ ghost use Rattle.transform.specs.Outlets.{outflow, Writes, WritesSome, PutsRows,
 ghost use Rattle.transform.specs.declared.outlet.OutletFault.TheVariants.{Write as Unwritten};
 
 use crate::backlog::Backlog;
-use log_spec::Row;
+use item_rows::RowRefs;
+use log_spec::RowRef;
 use std::alloc::{AllocError, Global};
 use std::io;
 use std::io::Write;
@@ -94,14 +95,14 @@ impl<W: Write> Outlet<W> {
     /// and where the writer fails or takes no byte. Then whole batches were written of the rows that
     /// waited and of these, and where the writer failed, a beginning of one more; what waits is not
     /// said.
-    pub fn put(&mut self, rows: Vec<Row>) -> Result<(), OutletFault>
-        requires { All RowFits rows.items }
-        ensures { PutsRows self.old rows.items result self.new }
+    pub fn put(&mut self, rows: &RowRefs) -> Result<(), OutletFault>
+        requires { All RowFits rows.now }
+        ensures { PutsRows self.old rows.now result self.new }
     {
         if rows.len() as u64 > self.backlog.room() {
             return Err(OutletFault::Full);
         }
-        put_rows(&rows, &mut self.backlog, &mut self.writer)
+        put_rows(rows, &mut self.backlog, &mut self.writer)
     }
 
     /// Writes the batch of all rows that wait; none waits then. It fails where memory runs out, and
@@ -119,7 +120,7 @@ impl<W: Write> Outlet<W> {
 
 // Adds rows, and writes each batch that has no room for the next one.
 fn put_rows<W: Write>(
-    rows: &[Row],
+    rows: &RowRefs,
     backlog: &mut Backlog,
     writer: &mut W,
 ) -> Result<(), OutletFault>
@@ -128,14 +129,14 @@ fn put_rows<W: Write>(
     ensures { PutsFull (with_rows backlog.old rows.now) (W.contents writer.old) result backlog.new (W.contents writer.new) }
 {
     for index in 0..rows.len() {
-        put_row(&rows[index], backlog, writer)?;
+        put_row(&rows.row(index), backlog, writer)?;
     }
     Ok(())
 }
 
 // Adds a row, after the batch of those that wait was written where it has no room for it. Rows may come
 // after it.
-fn put_row<W: Write>(row: &Row, backlog: &mut Backlog, writer: &mut W) -> Result<(), OutletFault>
+fn put_row<W: Write>(row: &RowRef, backlog: &mut Backlog, writer: &mut W) -> Result<(), OutletFault>
     requires fits { RowFits row.now }
     requires room { backlog.old.place + length backlog.old.rows < 2 ^ 63 }
     ensures { (others : List Row) → PutsFirst (outflow (W.contents writer.old) backlog.old) (row.now ∷ others) result (outflow (W.contents writer.new) backlog.new) others }

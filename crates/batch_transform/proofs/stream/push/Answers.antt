@@ -16,7 +16,7 @@ use Rattle.batch_transform.proofs.stream.push.Goals as goal
 pub add_all-requires : goal.add_all-requires
 add_all-requires c =
     let old : Stream = c.args.stream.now in
-    let here : Totals = c.deref.result.now in let outputs = length old.outlets.items in
+    let here : Totals = c.counts.result.now in let outputs = length old.outlets.items in
     let counts : AreItemCounts old.input outputs (Some c.args.program.now) old.offset (Records c.args.batch) here =
     search rules in
     let counted = batch_counted old.input outputs (Some c.args.program.now) old.offset c.args.batch here counts in
@@ -25,7 +25,7 @@ add_all-requires c =
 pub returns : goal.returns
 returns c =
     let old : Stream = c.args.stream.now in
-    let here : Totals = c.deref.result.now in
+    let here : Totals = c.counts.result.now in
     let all : List (List Row) = c.in_ok-rows.rows.rows in
     let counts : AreItemCounts old.input (length old.outlets.items) (Some c.args.program.now) old.offset
     (Records c.args.batch) here = search rules in

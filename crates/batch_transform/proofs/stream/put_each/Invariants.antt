@@ -1,8 +1,7 @@
 use Rattle.item_rows.specs.ItemRows.{rows_in}
 use Rattle.transform.specs.Transforms.{Fills}
-use Rattle.transform.proofs.EachLaws.{InFirst, AreLeft}
+use Rattle.transform.proofs.EachLaws.{InFirst}
 use Rattle.batch_transform.proofs.stream.put_each.Given as goal
 
 abbrev pub invariant-loop-output : goal.invariant-loop-output
-invariant-loop-output l = InFirst l.output l.fn.outlets l.outlets (λ q. Fills (rows_in l.fn.rows.rows q))
-    × AreLeft l.output l.fn.rows.rows l.rows.rows
+invariant-loop-output l = InFirst l.output l.fn.outlets l.outlets (λ q. Fills (rows_in l.rows.rows q))

@@ -3,7 +3,7 @@ use Rattle.log_spec.specs.declared.row.Row.{Row}
 use Rattle.log_item.specs.Items.{item_view}
 use Rattle.fates.specs.Totals.{AreItemCounts}
 use Rattle.item_rows.specs.ItemRows.{ItemYield, item_yield, AreRowsFrom, AreEmpty}
-use Rattle.item_rows.proofs.RowLaws.{rows_are_from, whole, if_ok}
+use Rattle.item_rows.proofs.RowLaws.{rows_are_from, whole}
 use Rattle.item_rows.proofs.item.rows_from.Goals as goal
 
 pub returns : goal.returns
@@ -17,9 +17,6 @@ returns c =
     let are = rows_are_from first count origin program kept c.as_mut_slice.result.now new none made.1 in
     let written = whole c.in_ok-all.all.len new old (omega (arith, made.1.count, a.len))
     (omega (arith, ap length a.value, a.len)) in
-    if_ok c.new.result _ (λ (m : ItemYield).
-    AreItemCounts origin.input origin.outputs program origin.offset kept m.counts
-    × AreRowsFrom first count origin program kept m.rows) c.new.ensures
-    (λ m e. subst (λ (y : ItemYield). AreItemCounts origin.input origin.outputs program origin.offset kept y.counts
+    subst (λ (y : ItemYield). AreItemCounts origin.input origin.outputs program origin.offset kept y.counts
     × AreRowsFrom first count origin program kept y.rows)
-    (sym (e ∙ ap (λ (rs : List (List Row)). item_yield rs counts) written)) (made.0, are))
+    (sym (c.new.ensures ∙ ap (λ (rs : List (List Row)). item_yield rs counts) written)) (made.0, are)

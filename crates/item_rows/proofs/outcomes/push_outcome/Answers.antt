@@ -1,5 +1,6 @@
 use Rattle.std.proofs.Common.{◌≡◌, List, refl, sym, subst}
-use Rattle.machine_spec.specs.declared.outcome.Emission.{Emission}
+use Rattle.helpers.specs.declared.emitted.Emitted.{Emitted}
+use Rattle.helpers.specs.Emitted.{emissions_in}
 use Rattle.exec.specs.declared.ending.Ending.{Ending}
 use Rattle.exec.specs.declared.ending.Ending.TheVariants.{Rejected}
 use Rattle.exec.specs.Endings.{outcome_with}
@@ -13,9 +14,10 @@ use Rattle.item_rows.proofs.outcomes.push_outcome.Goals as goal
 pub returns-in_ok-push_rows-in-Kept : goal.returns-in_ok-push_rows-in-Kept
 returns-in_ok-push_rows-in-Kept c =
     let first = c.args.first in let place = c.args.place.now in let one = c.args.all.now in let two =
-    c.push_rows.new.all in let emissions = c.args.emissions.now in
-    let adds = subst (λ (es : List Emission). Adds first one two (λ q here. here ≡ rows_to q place 0 es))
-    c.emissions.view_is c.in_ok-push_rows-in-Kept.ensures.rows in
+    c.push_rows.new.all in let given = c.args.given.now in let emissions =
+    emissions_in given c.args.emitted.now in
+    let adds = subst (λ (es : List Emitted). Adds first one two (λ q here. here ≡ rows_to q place 0 (emissions_in given es)))
+    c.emitted.view_is c.in_ok-push_rows-in-Kept.ensures.rows in
     subst (λ (e : Ending). (fate.Kept ≡ fate_of (outcome_with e emissions))
     × Adds first one two (λ q here. here ≡ rows_of q place (outcome_with e emissions)))
     (sym c.in-Kept.is) (refl, adds)
@@ -23,7 +25,7 @@ returns-in_ok-push_rows-in-Kept c =
 pub returns-in-Rejected : goal.returns-in-Rejected
 returns-in-Rejected c =
     let first = c.args.first in let place = c.args.place.now in let all = c.args.all.now in let code =
-    c.in-Rejected.code in let emissions = c.args.emissions.now in
+    c.in-Rejected.code in let emissions = emissions_in c.args.given.now c.args.emitted.now in
     subst (λ (e : Ending). (fate.Rejected code ≡ fate_of (outcome_with e emissions))
     × Adds first all all (λ q here. here ≡ rows_of q place (outcome_with e emissions)))
     (sym c.in-Rejected.is)

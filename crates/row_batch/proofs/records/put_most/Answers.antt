@@ -1,5 +1,6 @@
 use Rattle.std.proofs.Common.{◌≡◌, ℕ, ◌+◌, ◌<◌, pos, Bool, true, false, length, sym, subst, arith, rules}
 use Rattle.wire_spec.specs.RecordSpelling.{record_spelling}
+use Rattle.log_spec.specs.declared.row.Row.{Row}
 use Rattle.row_batch.specs.RowBatches.{record_of}
 use Rattle.row_batch.specs.FirstRows.{PutsIfRoom}
 use Rattle.row_batch.proofs.Places.{part, part_at, part_length, fits_at}
@@ -19,7 +20,8 @@ returns-then-not-put g c =
     let no : c.in_ok-put.put ≡ false = search rules in
     no_more_put c.args.base rows l.count l.latest c.args.out.now.items l.out.items new row l.invariant lt is
     (subst (λ (p : Bool). PutsIfRoom p l.out.items new (record_spelling (pos l.count) (record_of c.args.base row))) no
-    c.in_ok-put.ensures.ok)
+    (subst (λ (r : Row). PutsIfRoom c.in_ok-put.put l.out.items new
+    (record_spelling (pos l.count) (record_of c.args.base r))) c.by_ref.ensures c.in_ok-put.ensures.ok))
 
 pub loop-count-preserved : goal.loop-count-preserved
 loop-count-preserved g c =
@@ -36,5 +38,6 @@ loop-count-preserved g c =
     let yes : c.in_ok-put.put ≡ true = search rules in
     let next = one_more_put c.args.base rows l.count l.latest c.args.out.now.items l.out.items new row l.invariant lt is
     (subst (λ (p : Bool). PutsIfRoom p l.out.items new (record_spelling (pos l.count) (record_of c.args.base row))) yes
-    c.in_ok-put.ensures.ok) fits.time in
+    (subst (λ (r : Row). PutsIfRoom c.in_ok-put.put l.out.items new
+    (record_spelling (pos l.count) (record_of c.args.base r))) c.by_ref.ensures c.in_ok-put.ensures.ok)) fits.time in
     subst (λ (n : ℕ). SoFar c.args.base rows (l.count + 1) n c.args.out.now.items new) (sym c.max-latest.ensures) next

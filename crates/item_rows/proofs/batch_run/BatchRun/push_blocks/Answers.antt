@@ -3,6 +3,7 @@ use Rattle.std.proofs.lemmas.List.{length-append}
 use Rattle.wire_spec.specs.declared.record.Record.{Record}
 use Rattle.machine_spec.specs.declared.outcome.Place.{Place}
 use Rattle.machine_spec.specs.Meaning.{IsPlace}
+use Rattle.exec.specs.Endings.{outcomes_of}
 use Rattle.log_item.specs.Programs.{RunsSafelyOnEach}
 use Rattle.item_rows.specs.ItemRows.{Adds}
 use Rattle.item_rows.specs.Blocks.{rows_of_each, CanRun, HaveRun}
@@ -35,7 +36,6 @@ push_outcomes-requires-clause-places c =
       arith,
       ap length (c.as_slice-at.ensures.value ∙ c.in_ok-places.ensures.places),
       places_long run.origin.now.input run.origin.now.outputs run.batch.now c.loop-rest.offset c.split_at.result.0.now,
-      c.in_ok-places.ensures.outcomes.long,
     )
 
 pub push_outcomes-requires-clause-ranges : goal.push_outcomes-requires-clause-ranges
@@ -61,7 +61,7 @@ push_outcomes-requires-clause-few c =
       can.counted,
       c.split_at.ensures.front_len,
       c.split_at.ensures.back_len,
-      c.in_ok-places.ensures.outcomes.long,
+      c.in_ok-places.ensures.long,
     )
 
 pub overflow_add-offset : goal.overflow_add-offset
@@ -77,7 +77,7 @@ loop-rest-preserved c =
     c.loop-rest.invariant in let done = inv.0 in let here = c.split_at.result.0.now in let later =
     c.split_at.result.1.now in
     let old = c.loop-rest.all in let new = c.push_outcomes.new.all in let were = c.loop-rest.counts in let are =
-    c.push_outcomes.new.counts in let outcomes = c.run_block.new.block in
+    c.push_outcomes.new.counts in let outcomes = outcomes_of here c.run_block.new.block in
     let at = c.in_ok-places.ensures.places in
     let meant = subst (λ (ps : List Place). RunsSafelyOnEach program here ps outcomes) at
     c.in_ok-places.ensures.outcomes in

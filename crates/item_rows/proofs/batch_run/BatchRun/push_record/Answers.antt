@@ -1,4 +1,5 @@
 use Rattle.std.proofs.Common.{◌≡◌, Some, sym, ap, option_map}
+use Rattle.helpers.specs.Emitted.{emissions_in}
 use Rattle.exec.specs.Endings.{outcome_with}
 use Rattle.log_spec.specs.Logs.{rows_of, IsRecordRows}
 use Rattle.fates.specs.declared.fate.Fate.{Fate}
@@ -13,7 +14,7 @@ returns-in_ok-ending-in-Some c =
     let run = c.args.self.now in let first = run.first in let program = c.in-Some.program.now in let place =
     c.args.place.now in let given = c.args.given.now in
     let one = c.args.all.now in let two = c.push_outcome.new.all in let outcome =
-    outcome_with c.in_ok-ending-in-Some.ending c.run_into.new.emissions in
+    outcome_with c.in_ok-ending-in-Some.ending (emissions_in given c.run_into.new.emitted) in
     let in_force = program_in run in
     let ran = c.in_ok-ending-in-Some.ensures.means in
     if_ok c.push_outcome.result (λ (f : Fate). (f ≡ fate_of outcome)

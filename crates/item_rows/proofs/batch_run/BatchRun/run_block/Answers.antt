@@ -1,6 +1,7 @@
 use Rattle.std.proofs.Common.{◌≡◌, List, sym, subst, ◌∙◌}
 use Rattle.machine_spec.specs.declared.outcome.Place.{Place}
 use Rattle.exec.specs.Abreast.{AreGiven}
+use Rattle.exec.specs.Endings.{outcomes_of}
 use Rattle.log_item.specs.Programs.{RunsSafelyOnEach}
 use Rattle.item_rows.proofs.BlockLaws.{places_given}
 use Rattle.item_rows.proofs.batch_run.BatchRun.run_block.Goals as goal
@@ -15,5 +16,5 @@ run_block-requires-clause-given c =
 
 pub returns-clause-outcomes : goal.returns-clause-outcomes
 returns-clause-outcomes c =
-    subst (λ (ps : List Place). RunsSafelyOnEach c.args.program.now c.args.records.now ps c.run_block.new.block)
-    c.as_slice.ensures.value c.in_ok-run_block.ensures
+    subst (λ (ps : List Place). RunsSafelyOnEach c.args.program.now c.args.records.now ps
+    (outcomes_of c.args.records.now c.run_block.new.block)) c.as_slice.ensures.value c.in_ok-run_block.ensures.safe

@@ -1,5 +1,6 @@
-use Rattle.std.proofs.Common.{Result, Ok, Err}
+use Rattle.std.proofs.Common.{◌≡◌, max, Result, Ok, Err, subst}
 use Rattle.std.specs.Prelude.{OnErr}
+use Rattle.log_spec.specs.declared.row.Row.{Row}
 use Rattle.row_batch.proofs.OpenLaws.{none_changed, left_out, left_few, not_first, added_rows, added_few, added_open}
 use Rattle.row_batch.proofs.open.OpenBatch.push.Goals as goal
 
@@ -45,7 +46,9 @@ invariant_of-self-2 c =
     added_open inside.base c.base_for-base.result inside.count inside.latest inside.bytes.items
     c.pad.new.bytes.items c.put_if_room.new.out.items c.args.self.now c.args.row.now c.self.invariant c.self.view_is
     c.in_ok-pad.ensures.ok c.base_for-base.ensures c.in_ok-put.put c.in_ok-put.ensures.ok c.requires
-    c.if-not-put.false c.if-self.false c.max-self-inside.result c.max-self-inside.ensures
+    c.if-not-put.false c.if-self.false c.max-self-inside.result
+    (subst (λ (r : Row). c.max-self-inside.result ≡ max inside.latest r.timestamp) c.row.view_is
+    c.max-self-inside.ensures)
 
 pub returns-clause-ok : goal.returns-clause-ok
 returns-clause-ok c =

@@ -14,7 +14,7 @@ use Rattle.transform.proofs.flow.Transform.push.Goals as goal
 
 pub add_all-requires : goal.add_all-requires
 add_all-requires g c =
-    let old = c.self.inside in let batch = c.args.batch in let here : Totals = c.deref.result.now in
+    let old = c.self.inside in let batch = c.args.batch in let here : Totals = c.counts.result.now in
     let outputs = length old.outlets.items in
     let counts : AreItemCounts old.input outputs (Some c.args.program.now) old.offset (Records batch) here =
     search rules in
@@ -31,7 +31,7 @@ put_each-requires-clause-fit g c output lt =
 
 pub invariant_of-self-2 : goal.invariant_of-self-2
 invariant_of-self-2 g c =
-    let old = c.self.inside in let batch = c.args.batch in let here : Totals = c.deref.result.now in
+    let old = c.self.inside in let batch = c.args.batch in let here : Totals = c.counts.result.now in
     let before : Flow = flow old.input old.offset old.outlets.items old.counts in
     let outputs = length old.outlets.items in
     let counts : AreItemCounts old.input outputs (Some c.args.program.now) old.offset (Records batch) here =
@@ -50,7 +50,7 @@ invariant_of-self-2 g c =
 
 pub returns : goal.returns
 returns g c =
-    let old = c.self.inside in let batch = c.args.batch in let here : Totals = c.deref.result.now in
+    let old = c.self.inside in let batch = c.args.batch in let here : Totals = c.counts.result.now in
     let before : Flow = flow old.input old.offset old.outlets.items old.counts in
     let after : Flow = flow old.input (old.offset + c.records.result)
     (with_items old.outlets c.put_each.new.outlets).items c.add_all.new.self in

@@ -3,7 +3,7 @@ use Rattle.log_item.specs.Items.{item_view}
 use Rattle.fates.specs.Totals.{AreItemCounts}
 use Rattle.item_rows.specs.ItemRows.{ItemYield, AreItemRows, AreRowsFrom}
 use Rattle.item_rows.proofs.RowLaws.{item_rows_are, if_ok}
-use Rattle.item_rows.proofs.item.item_rows_in.Goals as goal
+use Rattle.item_rows.proofs.item.item_refs_in.Goals as goal
 
 pub returns-clause-rows : goal.returns-clause-rows
 returns-clause-rows c =

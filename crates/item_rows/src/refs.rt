@@ -1,0 +1,302 @@
+//! Rows whose parts stay where they are.
+
+ghost use Rattle.std.specs.Prelude.{◌≡◌, ◌≢◌, ℕ, ◌<◌, ◌++◌, ◌∷◌, [], length, get_or, slice_get, Some, IfOk, OnOk};
+ghost use Rattle.machine_spec.specs.declared.outcome.Emission.{Emission};
+ghost use Rattle.machine_spec.specs.declared.limits.TheConstants.{MAX_EMISSIONS};
+ghost use Rattle.machine_spec.specs.Meaning.{IsPlace};
+ghost use Rattle.helpers.specs.Emitted.{emission_in};
+ghost use Rattle.log_spec.specs.Logs.{row_of};
+ghost use Rattle.item_rows.specs.RowRefs.{row_with, row_in, whole, no_emission, IsWithin};
+
+use bytes::Bytes;
+use kafka_record::{share_bytes, share_headers};
+use log_item::Emitted;
+use log_spec::{Row, RowRef};
+use machine_spec::{Emission, Place};
+use std::alloc::{AllocError, Global};
+use std::marker::Model;
+use std::mem;
+use wire_spec::{Headers, Record};
+
+/// A row but for its parts.
+#[derive(Drop)]
+struct Slot<'a> {
+    input: u32,
+    number: u32,
+    offset: u64,
+    timestamp: u64,
+    // The record that the row came from.
+    given: &'a Record,
+    // Which of the made records has the parts; none where the given record has them.
+    made: Option<usize>,
+}
+
+/// A row but for its parts, which a made record has or the given one.
+fn slot_for<'a>(place: &Place, number: usize, given: &'a Record, made: Option<usize>) -> Slot<'a>
+    requires place { IsPlace place.now }
+    requires few { number < MAX_EMISSIONS }
+    ensures row { (e : Emission) → row_with result e ≡ row_of place.now number e }
+    ensures parts { (result.given.now ≡ given.now) × (result.made ≡ made) }
+{
+    Slot {
+        input: place.partition as u32,
+        number: number as u32,
+        offset: place.offset,
+        timestamp: place.timestamp,
+        given,
+        made,
+    }
+}
+
+impl<'a> Slot<'a> {
+    /// The row with these parts.
+    #[inline(always)]
+    fn with_parts<'r>(
+        &self,
+        key: &'r Option<Bytes>,
+        value: &'r Option<Bytes>,
+        headers: &'r Headers,
+    ) -> RowRef<'r>
+        ensures { result ≡ row_with self.now (record { out = 0; key = key.now; value = value.now; headers = headers.now }) }
+    {
+        RowRef {
+            input: self.input,
+            number: self.number,
+            offset: self.offset,
+            timestamp: self.timestamp,
+            key,
+            value,
+            headers,
+        }
+    }
+}
+
+/// The row of a slot whose parts are a made record's.
+#[inline(always)]
+fn made_row<'r>(made: &'r [Emission], slot: &Slot, number: usize) -> RowRef<'r>
+    requires { number < length made.now }
+    ensures { result ≡ row_with slot.now (get_or made.now number no_emission) }
+{
+    let emission = &made[number];
+    slot.with_parts(&emission.key, &emission.value, &emission.headers)
+}
+
+/// The row of a slot whose parts are the given record's.
+#[inline(always)]
+fn given_row<'r>(slot: &'r Slot) -> RowRef<'r>
+    ensures { result ≡ row_with slot.now (whole slot.now.given.now) }
+{
+    let given = slot.given;
+    slot.with_parts(&given.key, &given.value, &given.headers)
+}
+
+/// The row of a slot.
+#[inline(always)]
+fn row_of_slot<'r>(made: &'r [Emission], slot: &'r Slot) -> RowRef<'r>
+    requires { IsWithin (length made.now) slot.now.made }
+    ensures { result ≡ row_in made.now slot.now }
+{
+    match slot.made {
+        None => given_row(slot),
+        Some(number) => made_row(made, slot, number),
+    }
+}
+
+/// Makes room for the made records of so many rows, where there are none yet.
+fn make_room(made: &mut Vec<Emission>, rows: usize) -> Result<(), AllocError>
+    ensures { made.new.items ≡ made.old.items }
+{
+    if made.is_empty() {
+        made.reserve_exact(rows)?;
+    }
+    Ok(())
+}
+
+/// The row of a slot as a value with another owner of the given record's parts.
+fn share_given(alloc: Global, slot: &Slot) -> Result<Row, AllocError>
+    ensures { IfOk result (λ row. row ≡ row_with slot.now (whole slot.now.given.now)) }
+{
+    let given = slot.given;
+    Ok(Row {
+        input: slot.input,
+        number: slot.number,
+        offset: slot.offset,
+        timestamp: slot.timestamp,
+        key: share_bytes(&given.key)?,
+        value: share_bytes(&given.value)?,
+        headers: share_headers(alloc, &given.headers)?,
+    })
+}
+
+/// The row of a slot as a value with these parts.
+fn row_with_parts(slot: &Slot, parts: Emission) -> Row
+    ensures { result ≡ row_with slot.now parts }
+{
+    let Emission {
+        out: _,
+        key,
+        value,
+        headers,
+    } = parts;
+    Row {
+        input: slot.input,
+        number: slot.number,
+        offset: slot.offset,
+        timestamp: slot.timestamp,
+        key,
+        value,
+        headers,
+    }
+}
+
+/// What stays of a made record whose parts are taken.
+fn nothing(alloc: Global) -> Emission {
+    Emission {
+        out: 0,
+        key: None,
+        value: None,
+        headers: Headers {
+            list: Vec::new(alloc),
+        },
+    }
+}
+
+/// A made record, of which nothing is left in the list.
+fn take_made(alloc: Global, made: &mut [Emission], number: usize) -> Emission
+    requires { number < length made.old }
+    ensures taken { result ≡ get_or made.old number no_emission }
+    ensures others { (other : ℕ) → other ≢ number → get_or made.new other no_emission ≡ get_or made.old other no_emission }
+    ensures long { length made.new ≡ length made.old }
+{
+    mem::replace(&mut made[number], nothing(alloc))
+}
+
+/// The row of a slot as a value. A made record's parts are taken.
+fn take_row(alloc: Global, slot: &Slot, made: &mut [Emission]) -> Result<Row, AllocError>
+    requires { IsWithin (length made.old) slot.now.made }
+    ensures row { IfOk result (λ row. row ≡ row_in made.old slot.now) }
+    ensures others { OnOk result ((other : ℕ) → slot.now.made ≢ Some other → get_or made.new other no_emission ≡ get_or made.old other no_emission) }
+    ensures long { OnOk result (length made.new ≡ length made.old) }
+{
+    match slot.made {
+        None => share_given(alloc, slot),
+        Some(number) => Ok(row_with_parts(slot, take_made(alloc, made, number))),
+    }
+}
+
+/// The rows of an item in one output partition. A row of a record as it is has that record's parts; the
+/// parts of other rows are here. Contracts see the list of the rows.
+#[derive(Drop)]
+pub struct RowRefs<'a> {
+    slots: Vec<Slot<'a>>,
+    // The records that programs made, in the order of their rows.
+    made: Vec<Emission>,
+}
+
+impl<'a> Model for RowRefs<'a> {
+    ghost use Rattle.std.specs.Prelude.{List, length};
+    ghost use Rattle.log_spec.specs.declared.row.Row.{Row};
+    ghost use Rattle.item_rows.specs.RowRefs.{rows_by, AreInOrder};
+
+    ghost Value = { List Row };
+
+    ghost view = { λ r. rows_by r.made.items r.slots.items };
+
+    ghost invariant = { λ r. AreInOrder 0 r.slots.items (length r.made.items) };
+}
+
+impl<'a> RowRefs<'a> {
+    /// No rows, and room for so many.
+    pub(crate) fn with_capacity(alloc: Global, rows: usize) -> Result<RowRefs<'a>, AllocError>
+        ensures { IfOk result (λ made. made ≡ []) }
+    {
+        Ok(RowRefs {
+            slots: Vec::with_capacity(alloc, rows)?,
+            made: Vec::new(alloc),
+        })
+    }
+
+    /// Adds the row of what a program emitted for a record.
+    #[inline(always)]
+    pub(crate) fn push(
+        &mut self,
+        place: &Place,
+        number: usize,
+        given: &'a Record,
+        emitted: Emitted,
+    ) -> Result<(), AllocError>
+        requires place { IsPlace place.now }
+        requires few { number < MAX_EMISSIONS }
+        ensures { OnOk result (self.new ≡ self.old ++ row_of place.now number (emission_in given.now emitted) ∷ []) }
+    {
+        match emitted {
+            Emitted::Given { .. } => self.push_given(place, number, given),
+            Emitted::Made(emission) => self.push_made(place, number, given, emission),
+        }
+    }
+
+    /// Adds the row of a record as it is.
+    fn push_given(
+        &mut self,
+        place: &Place,
+        number: usize,
+        given: &'a Record,
+    ) -> Result<(), AllocError>
+        requires place { IsPlace place.now }
+        requires few { number < MAX_EMISSIONS }
+        ensures { OnOk result (self.new ≡ self.old ++ row_of place.now number (whole given.now) ∷ []) }
+    {
+        self.slots.push(slot_for(place, number, given, None))?;
+        Ok(())
+    }
+
+    /// Adds the row of a record that a program made.
+    fn push_made(
+        &mut self,
+        place: &Place,
+        number: usize,
+        given: &'a Record,
+        emission: Emission,
+    ) -> Result<(), AllocError>
+        requires place { IsPlace place.now }
+        requires few { number < MAX_EMISSIONS }
+        ensures { OnOk result (self.new ≡ self.old ++ row_of place.now number emission ∷ []) }
+    {
+        let made = self.made.len();
+        make_room(&mut self.made, self.slots.capacity())?;
+        self.made.push(emission)?;
+        self.slots.push(slot_for(place, number, given, Some(made)))?;
+        Ok(())
+    }
+
+    /// How many rows there are.
+    pub fn len(&self) -> usize
+        ensures { result ≡ length self.now }
+    {
+        self.slots.len()
+    }
+
+    /// The row with a number, from 0.
+    #[inline(always)]
+    pub fn row(&self, index: usize) -> RowRef<'_>
+        requires { index < length self.now }
+        ensures { slice_get self.now index ≡ Some result }
+    {
+        let slot = &self.slots[index];
+        row_of_slot(&self.made, slot)
+    }
+
+    /// The rows as values. Those of records as they are become other owners of their parts. It fails only
+    /// where memory runs out.
+    pub(crate) fn into_rows(self, alloc: Global) -> Result<Vec<Row>, AllocError>
+        ensures { IfOk result (λ rows. rows.items ≡ self.entry) }
+    {
+        let RowRefs { slots, mut made } = self;
+        let mut rows = Vec::with_capacity(alloc, slots.len())?;
+        for index in 0..slots.len() {
+            let row = take_row(alloc, &slots[index], &mut made)?;
+            rows.push(row)?;
+        }
+        Ok(rows)
+    }
+}
