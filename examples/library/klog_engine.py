@@ -69,7 +69,7 @@ class BatchFault(Fault):
 
     def __init__(self, text, stop):
         super().__init__(f"batch {stop.batch} at byte {stop.byte}: {text}")
-        self.batch, self.byte = stop.batch, stop.byte
+        self.text, self.batch, self.byte = text, stop.batch, stop.byte
 
 
 class Engine:

@@ -118,7 +118,7 @@ static int run(klog_handle *program, klog_handle *headers, klog_handle *outcome,
 
 int main(int argc, char **argv)
 {
-	static char line[LONGEST_VALUE];
+	static char line[LONGEST_VALUE + 2]; /* with its end, and a zero byte */
 	klog_handle program = KLOG_NOTHING, headers = KLOG_NOTHING, outcome = KLOG_NOTHING;
 	if (argc != 2) {
 		fprintf(stderr, "usage: lines IMAGE < TEXT\n");

@@ -14,7 +14,7 @@ def shown(part):
 
 def main(library, image):
     with open(image, "rb") as file, Program(Engine(library), file.read()) as program:
-        for offset, line in enumerate(sys.stdin.buffer.read().splitlines()):
+        for offset, line in enumerate(line.removesuffix(b"\n") for line in sys.stdin.buffer):
             code, emissions = program.run(None, line, offset, outputs=2, headers=[(b"line", b"%d" % (offset + 1))])
             print(f"{shown(line)}: " + (f"rejected with code {code}" if code else f"kept, emissions {len(emissions)}"))
             for output, key, value, headers in emissions:
@@ -28,5 +28,5 @@ if __name__ == "__main__":
         sys.exit("usage: lines.py LIBRARY IMAGE < TEXT")
     try:
         main(*sys.argv[1:])
-    except Fault as fault:
+    except (Fault, OSError) as fault:
         sys.exit(f"{sys.argv[2]}: {fault}")

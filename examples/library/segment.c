@@ -14,7 +14,13 @@ struct output {
 	uint64_t next;
 };
 
-static uint8_t bytes[ROOM], copied[2 * ROOM];
+/* What is read: where the next record and the next batch are. */
+struct input {
+	klog_source source;
+	uint64_t batch, byte;
+};
+
+static uint8_t bytes[ROOM];
 
 /* Prints the text of a fault, and is the program's status. */
 static int print_fault(const char *call, uint32_t fault, size_t place)
@@ -71,16 +77,18 @@ static int write_output(klog_handle *batches, size_t number, struct output *to)
 {
 	klog_output told;
 	uint32_t fault = klog_output_at(batches, number, &told);
-	if (!fault)
-		fault = klog_output_batches(batches, number, copied, sizeof copied);
 	if (fault)
 		return print_fault("output", fault, 0);
-	renumber(copied, told.length, &to->next);
-	if (fwrite(copied, 1, told.length, to->file) != told.length) {
-		perror("output");
-		return 1;
+	uint8_t *copied = malloc(told.length + 1);
+	int is_done = copied && klog_output_batches(batches, number, copied, told.length) == KLOG_OK;
+	if (is_done) {
+		renumber(copied, told.length, &to->next);
+		is_done = fwrite(copied, 1, told.length, to->file) == told.length;
 	}
-	return 0;
+	free(copied);
+	if (!is_done)
+		perror("output");
+	return !is_done;
 }
 
 static void print_rejects(klog_handle *batches, size_t codes)
@@ -90,29 +98,45 @@ static void print_rejects(klog_handle *batches, size_t codes)
 		printf("rejected by %llu: %llu\n", (unsigned long long)reject.code, (unsigned long long)reject.records);
 }
 
-/* Transforms the whole batches of a piece of the file. */
-static int transform(klog_handle *program, klog_handle *batches, size_t length, klog_source *source,
-		     struct output *outputs)
+/* Prints what was made of batches, and writes it. */
+static int write_outputs(klog_handle *batches, struct input *input, struct output *outputs)
 {
-	klog_stop stop;
 	klog_counts counts;
-	uint32_t fault = klog_transform(program, source, bytes, length, batches, &stop);
-	if (fault)
-		return print_fault("batch", fault, stop.record);
-	fault = klog_counts_of(batches, &counts);
+	uint32_t fault = klog_counts_of(batches, &counts);
 	if (fault)
 		return print_fault("counts", fault, 0);
 	printf("batches %zu records %llu kept %llu\n", counts.batches, (unsigned long long)counts.records,
 	       (unsigned long long)counts.kept);
 	print_rejects(batches, counts.codes);
-	source->offset += counts.records;
-	for (size_t k = 0; k < source->outputs; k++)
+	input->source.offset += counts.records;
+	input->batch += counts.batches;
+	for (size_t k = 0; k < input->source.outputs; k++)
 		if (write_output(batches, k, &outputs[k]))
 			return 1;
 	return 0;
 }
 
-static int transform_file(klog_handle *program, const char *name, klog_source *source, struct output *outputs)
+/* Transforms a piece of the file: whole batches, or what is left of it. A call is all or nothing, so the batches before
+ * a faulty one get a call of their own. */
+static int transform(klog_handle *program, klog_handle *batches, size_t length, struct input *input,
+		     struct output *outputs)
+{
+	klog_stop stop;
+	char call[64] = "transform";
+	uint32_t fault = klog_transform(program, &input->source, bytes, length, batches, &stop);
+	if (fault > KLOG_BATCH || fault == KLOG_FULL) {
+		if (stop.byte > 0 && transform(program, batches, stop.byte, input, outputs))
+			return 1;
+		snprintf(call, sizeof call, "batch %llu at byte %llu", (unsigned long long)input->batch,
+			 (unsigned long long)input->byte);
+	}
+	if (fault)
+		return print_fault(call, fault, stop.record);
+	input->byte += length;
+	return write_outputs(batches, input, outputs);
+}
+
+static int transform_file(klog_handle *program, const char *name, struct input *input, struct output *outputs)
 {
 	klog_handle batches = KLOG_NOTHING;
 	FILE *file = fopen(name, "rb");
@@ -125,12 +149,16 @@ static int transform_file(klog_handle *program, const char *name, klog_source *s
 	while (!status && (read = fread(bytes + length, 1, ROOM - length, file)) > 0) {
 		length += read;
 		used = whole(length);
-		status = transform(program, &batches, used ? used : length, source, outputs);
+		status = transform(program, &batches, used ? used : length, input, outputs);
 		memmove(bytes, bytes + used, length - used);
 		length -= used;
 	}
 	if (!status && length)
-		status = transform(program, &batches, length, source, outputs);
+		status = transform(program, &batches, length, input, outputs);
+	if (ferror(file)) {
+		perror(name);
+		status = 1;
+	}
 	fclose(file);
 	klog_free(&batches);
 	return status;
@@ -144,9 +172,9 @@ int main(int argc, char **argv)
 		fprintf(stderr, "usage: segment IMAGE FILE OUT ..\n");
 		return 2;
 	}
-	klog_source source = {.outputs = (size_t)argc - 3};
+	struct input input = {.source = {.outputs = (size_t)argc - 3}};
 	int status = load(argv[1], &program);
-	for (size_t k = 0; !status && k < source.outputs; k++) {
+	for (size_t k = 0; !status && k < input.source.outputs; k++) {
 		outputs[k].file = fopen(argv[3 + k], "wb");
 		if (!outputs[k].file) {
 			perror(argv[3 + k]);
@@ -154,8 +182,8 @@ int main(int argc, char **argv)
 		}
 	}
 	if (!status)
-		status = transform_file(&program, argv[2], &source, outputs);
-	for (size_t k = 0; k < source.outputs; k++)
+		status = transform_file(&program, argv[2], &input, outputs);
+	for (size_t k = 0; k < input.source.outputs; k++)
 		if (outputs[k].file && fclose(outputs[k].file))
 			status = 1;
 	klog_free(&program);

@@ -6,13 +6,15 @@ segment.py LIBRARY IMAGE FILE OUT .., where LIBRARY is libklog.so; the batches o
 import contextlib
 import sys
 
-from klog_engine import Engine, Fault, Program
+from klog_engine import BatchFault, Engine, Fault, Program
+
+MOST_BYTES = 4194304  # of a batch
 
 
 def batches(file):
     """The batches of a file, one after the other: the length of each is in its bytes 8 to 11."""
     while front := file.read(12):
-        yield front + file.read(int.from_bytes(front[8:12], "big"))
+        yield front + file.read(min(int.from_bytes(front[8:12], "big"), MOST_BYTES))
 
 
 def renumbered(written, offset):
@@ -26,13 +28,16 @@ def renumbered(written, offset):
 
 
 def main(library, image, name, *outs):
-    offset, kept, rows, rejects = 0, 0, [0] * len(outs), {}
+    offset, kept, rows, rejects, byte = 0, 0, [0] * len(outs), {}, 0
     with contextlib.ExitStack() as files, open(image, "rb") as code, open(name, "rb") as file:
-        files_out = [files.enter_context(open(out, "wb")) for out in outs]
         program = files.enter_context(Program(Engine(library), code.read()))
-        for batch in batches(file):
-            made = program.transform(batch, offset, outputs=len(outs))
-            offset, kept = offset + made.records, kept + made.kept
+        files_out = [files.enter_context(open(out, "wb")) for out in outs]
+        for number, batch in enumerate(batches(file)):
+            try:
+                made = program.transform(batch, offset, outputs=len(outs))
+            except BatchFault as fault:
+                raise Fault(f"batch {number} at byte {byte}: {fault.text}") from None
+            offset, kept, byte = offset + made.records, kept + made.kept, byte + len(batch)
             for code, count in made.rejects:
                 rejects[code] = rejects.get(code, 0) + count
             for k, (count, _, written) in enumerate(made.outputs):
@@ -46,5 +51,5 @@ if __name__ == "__main__":
         sys.exit(__doc__)
     try:
         main(*sys.argv[1:])
-    except Fault as fault:
+    except (Fault, OSError) as fault:
         sys.exit(f"{sys.argv[2]}: {fault}")

@@ -3,7 +3,9 @@ package main
 
 import (
 	"bufio"
+	"bytes"
 	"fmt"
+	"io"
 	"os"
 )
 
@@ -24,17 +26,19 @@ func run() error {
 	if err := program.Load(image); err != nil {
 		return err
 	}
-	lines := bufio.NewScanner(os.Stdin)
-	for offset := uint64(0); lines.Scan(); offset++ {
+	lines := bufio.NewReader(os.Stdin)
+	line, end := lines.ReadBytes('\n')
+	for offset := uint64(0); len(line) > 0; offset++ {
+		line = bytes.TrimSuffix(line, []byte("\n"))
 		header := Header{"line", fmt.Appendf(nil, "%d", offset+1)}
-		code, emissions, err := program.Run(lines.Bytes(), offset, 2, header)
+		code, emissions, err := program.Run(line, offset, 2, header)
 		if err != nil {
 			return err
 		}
 		if code != 0 {
-			fmt.Printf("%s: rejected with code %d\n", lines.Text(), code)
+			fmt.Printf("%s: rejected with code %d\n", line, code)
 		} else {
-			fmt.Printf("%s: kept, emissions %d\n", lines.Text(), len(emissions))
+			fmt.Printf("%s: kept, emissions %d\n", line, len(emissions))
 		}
 		for _, e := range emissions {
 			fmt.Printf("  to %d key %s value %s\n", e.Output, shown(e.Key), shown(e.Value))
@@ -42,8 +46,12 @@ func run() error {
 				fmt.Printf("    header %s %s\n", h.Key, shown(h.Value))
 			}
 		}
+		line, end = lines.ReadBytes('\n')
 	}
-	return lines.Err()
+	if end == io.EOF {
+		return nil
+	}
+	return end
 }
 
 func main() {

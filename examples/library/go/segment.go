@@ -11,18 +11,25 @@ import (
 	"os"
 )
 
-// next reads a batch; nil at the end.
+const mostBytes = 4194304 // of a batch
+
+// upTo reads this many bytes, or those that are left.
+func upTo(in io.Reader, count int64) ([]byte, error) {
+	return io.ReadAll(io.LimitReader(in, count))
+}
+
+// next reads a batch, of a cut one what is there; no bytes at the end.
 func next(in io.Reader) ([]byte, error) {
-	front := make([]byte, 12)
-	if _, err := io.ReadFull(in, front); errors.Is(err, io.EOF) {
-		return nil, nil
-	} else if err != nil {
-		return nil, err
+	front, err := upTo(in, 12)
+	if err != nil || len(front) < 12 {
+		return front, err
 	}
-	batch := make([]byte, 12+binary.BigEndian.Uint32(front[8:]))
-	copy(batch, front)
-	_, err := io.ReadFull(in, batch[12:])
-	return batch, err
+	length := int64(binary.BigEndian.Uint32(front[8:]))
+	if length > mostBytes {
+		length = mostBytes
+	}
+	rest, err := upTo(in, length)
+	return append(front, rest...), err
 }
 
 // renumber gives the rows of batches offsets from one on, as a broker does: the checksum of a batch does not cover its
@@ -37,13 +44,18 @@ func renumber(batches []byte, offset uint64) {
 
 func transformFile(program *Program, in io.Reader, outs []*bufio.Writer) error {
 	offset, rows, rejected := uint64(0), make([]uint64, len(outs)), uint64(0)
+	batches, bytes := 0, 0
 	batch, err := next(in)
-	for ; batch != nil && err == nil; batch, err = next(in) {
+	for ; len(batch) > 0 && err == nil; batch, err = next(in) {
 		made, err := program.Transform(batch, offset, len(outs))
-		if err != nil {
+		var refused *BatchFault
+		if errors.As(err, &refused) {
+			return &BatchFault{batches, bytes, refused.Text}
+		} else if err != nil {
 			return err
 		}
 		offset, rejected = offset+made.Records, rejected+made.Records-made.Kept
+		batches, bytes = batches+1, bytes+len(batch)
 		for k, output := range made.Outputs {
 			renumber(output.Batches, rows[k])
 			rows[k] += output.Rows
@@ -79,15 +91,13 @@ func run() error {
 		defer file.Close()
 		outs = append(outs, bufio.NewWriterSize(file, 1<<20))
 	}
-	if err := transformFile(&program, bufio.NewReaderSize(in, 1<<20), outs); err != nil {
-		return err
-	}
+	err = transformFile(&program, bufio.NewReaderSize(in, 1<<20), outs)
 	for _, out := range outs {
-		if err := out.Flush(); err != nil {
-			return err
+		if failed := out.Flush(); err == nil {
+			err = failed
 		}
 	}
-	return nil
+	return err
 }
 
 func main() {
