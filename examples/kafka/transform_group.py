@@ -15,7 +15,8 @@ members as there are cores to use, on one machine or on many: the group shares t
 - Each member has a NAME of its own, and the same one after a restart: by it Kafka ends the transaction that a killed
   member left open, and refuses one that only seemed dead.
 - IMAGE is looked at between two polls. A new one is taken up, and each partition's first offset that it is run on is
-  said. One that the verifier refuses is said too, and the program before it goes on. Replace the file by a rename.
+  said. One that the verifier refuses, or that is gone, is said too, and the program before it goes on. Replace the file
+  by a rename.
 - A program sees the number of the partition modulo 64. A record that klog does not take (a key above 4,096 bytes, a
   value above 1,048,576, more than 16 headers, no timestamp) ends the member, with its place.
 
@@ -36,6 +37,7 @@ sys.path.insert(0, os.path.join(os.path.dirname(os.path.abspath(__file__)), ".."
 from klog_engine import Engine, Fault, Program  # noqa: E402
 
 PARTITIONS = 64  # of klog; a topic may have more
+OUTPUTS = 64
 WAIT = 30  # seconds for one answer of the cluster
 REPORT = 5  # seconds between two reports
 
@@ -44,8 +46,11 @@ def say(text):
     print(f"{time.time():.6f} {text}", flush=True)
 
 
-def pairs(words):
-    return dict(word.split("=", 1) for word in words)
+def pair(word):
+    key, sign, value = word.partition("=")
+    if not sign:
+        raise argparse.ArgumentTypeError(f"{word} is no KEY=VALUE")
+    return key, value
 
 
 def until_done(call, *words):
@@ -65,35 +70,37 @@ class Image:
         self.engine, self.name, self.table, self.stamp, self.program = engine, name, table, None, None
 
     def renew(self):
-        """Loads the file where it has changed. Before the first program is there, a refused one is a fault."""
-        found = os.stat(self.name)
-        stamp = found.st_mtime_ns, found.st_size, found.st_ino
-        if stamp == self.stamp:
-            return
-        with open(self.name, "rb") as file:
-            image = file.read()
-        self.stamp = stamp
+        """Loads the file where it has changed. One that is refused or gone is a fault while there is no program."""
+        stamp = None
         try:
+            found = os.stat(self.name)
+            stamp = found.st_mtime_ns, found.st_size, found.st_ino
+            if stamp == self.stamp:
+                return
+            with open(self.name, "rb") as file:
+                image = file.read()
             program = Program(self.engine, image, self.table)
-        except Fault as fault:
+        except (Fault, OSError) as fault:
             if self.program is None:
                 raise
-            say(f"{self.name} refused: {fault}; program {self.digest} goes on")
+            if stamp != self.stamp:
+                say(f"{self.name} refused: {fault}; program {self.digest} goes on")
+            self.stamp = stamp
             return
         if self.program is not None:
             self.program.free()
-        self.program, self.digest = program, hashlib.sha256(image).hexdigest()[:16]
+        self.stamp, self.program, self.digest = stamp, program, hashlib.sha256(image).hexdigest()[:16]
 
 
 class Member:
     def __init__(self, given):
         self.input, self.outputs, self.records, self.seconds = given.input, given.outputs, given.records, given.seconds
         self.image, self.counts, self.said = Image(Engine(given.library), given.image, given.table), Counter(), {}
-        settings = {"bootstrap.servers": given.servers, **pairs(given.set)}
+        settings = {"bootstrap.servers": given.servers, **dict(given.set)}
         self.consumer = Consumer({"group.id": given.group, "auto.offset.reset": "earliest", "enable.auto.commit": False,
-                                  "isolation.level": "read_committed", **settings, **pairs(given.set_consumer)})
+                                  "isolation.level": "read_committed", **settings, **dict(given.set_consumer)})
         self.producer = Producer({"transactional.id": f"{given.group}-{given.name}", "linger.ms": 20,
-                                  **settings, **pairs(given.set_producer)})
+                                  **settings, **dict(given.set_producer)})
         self.is_ended = self.is_shared_anew = False
 
     def run(self):
@@ -200,11 +207,14 @@ def main():
     words.add_argument("--records", type=int, default=5000, help="the most of one transaction")
     words.add_argument("--seconds", type=float, default=0.5, help="the longest wait for as many")
     for word, client in (("--set", "clients"), ("--set-consumer", "consumer"), ("--set-producer", "producer")):
-        words.add_argument(word, action="append", default=[], metavar="KEY=VALUE", help=f"a setting of the {client}")
-    member = Member(words.parse_args())
-    for number in (signal.SIGTERM, signal.SIGINT):
-        signal.signal(number, member.end)
+        words.add_argument(word, action="append", default=[], type=pair, metavar="KEY=VALUE", help=f"a setting of the {client}")
+    given = words.parse_args()
+    if len(given.outputs) > OUTPUTS:
+        words.error(f"there are {len(given.outputs)} outputs, and {OUTPUTS} is the most")
     try:
+        member = Member(given)
+        for number in (signal.SIGTERM, signal.SIGINT):
+            signal.signal(number, member.end)
         member.run()
     except (Fault, KafkaException, OSError) as fault:
         sys.exit(f"ended: {fault}")

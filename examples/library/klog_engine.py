@@ -159,8 +159,10 @@ class Program:
     def added(self, headers):
         """The handle of these headers alone, each a key and a value."""
         self.library.klog_free(self.headers_at)
-        for key, value in headers:
-            self.engine.check(self.library.klog_add_header(self.headers_at, key, len(key), value, len(value or b"")))
+        for number, (key, value) in enumerate(headers):
+            fault = self.library.klog_add_header(self.headers_at, key, len(key), value, len(value or b""))
+            if fault:
+                raise Fault(f"header {number}: {self.engine.text(fault)}")
         return self.headers_at
 
     def emitted(self, number):
