@@ -37,12 +37,12 @@ func main() {
 	seconds, err := strconv.ParseFloat(os.Args[4], 64)
 	check(err)
 	var program Program
-	check(program.Load(image))
+	check(program.Load(image, 1))
 	records, start := uint64(0), processorSeconds()
 	for processorSeconds() < start+seconds {
 		for rest := bytes; len(rest) > 0; {
 			size := 12 + binary.BigEndian.Uint32(rest[8:])
-			made, err := program.Transform(rest[:size], records, outputs)
+			made, err := program.Transform(rest[:size], records, 0, outputs)
 			check(err)
 			records, rest = records+made.Records, rest[size:]
 		}

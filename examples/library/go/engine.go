@@ -7,15 +7,13 @@ package main
 
 static const uint8_t no_bytes[1];
 
-// A record is made here, since cgo passes C no Go memory with addresses of Go memory in it.
-static uint32_t run(klog_handle *program, const uint8_t *value, size_t length, uint64_t offset, size_t outputs,
+// A record gets its addresses here, since cgo passes C no Go memory with addresses of Go memory in it.
+static uint32_t run(klog_handle *program, klog_record record, const uint8_t *key, const uint8_t *value, int nulls,
 		    klog_handle *headers, klog_handle *outcome)
 {
-	klog_record record = {.value = value ? value : no_bytes,
-			      .value_length = length,
-			      .offset = offset,
-			      .outputs = outputs,
-			      .headers = headers};
+	record.key = key || nulls & KLOG_NULL_KEY ? key : no_bytes;
+	record.value = value || nulls & KLOG_NULL_VALUE ? value : no_bytes;
+	record.headers = headers;
 	return klog_run(program, &record, outcome);
 }
 
@@ -56,6 +54,14 @@ type Header struct {
 	Value []byte
 }
 
+// Record is a record, and where it is; a nil slice is null.
+type Record struct {
+	Key, Value        []byte
+	Offset, Timestamp uint64
+	Partition         int
+	Headers           []Header
+}
+
 // Emission is what a program gives to an output partition; a nil slice is null.
 type Emission struct {
 	Output     int
@@ -68,9 +74,11 @@ type Program struct {
 	program, headers, outcome, batches C.klog_handle
 }
 
-func (p *Program) Load(image []byte) error {
+// Load loads an image by helper table 1 or 2.
+func (p *Program) Load(image []byte, table int) error {
 	var place C.size_t
-	return fault(C.klog_load(bytesAt(image), C.size_t(len(image)), C.KLOG_TABLE_ONE, &p.program, &place), place)
+	number := C.klog_load(bytesAt(image), C.size_t(len(image)), C.uint32_t(table), &p.program, &place)
+	return fault(number, place)
 }
 
 func (p *Program) Free() {
@@ -97,13 +105,22 @@ func (p *Program) addHeaders(headers []Header) error {
 	return nil
 }
 
-// Run runs the program on a value that is not null, with a null key.
-func (p *Program) Run(value []byte, offset uint64, outputs int, headers ...Header) (uint64, []Emission, error) {
-	if err := p.addHeaders(headers); err != nil {
+// Run runs the program on a record: the reject code, 0 where it is kept, and the emissions.
+func (p *Program) Run(record *Record, outputs int) (uint64, []Emission, error) {
+	if err := p.addHeaders(record.Headers); err != nil {
 		return 0, nil, err
 	}
-	length, at := C.size_t(len(value)), C.uint64_t(offset)
-	number := C.run(&p.program, bytesAt(value), length, at, C.size_t(outputs), &p.headers, &p.outcome)
+	given := C.klog_record{key_length: C.size_t(len(record.Key)), value_length: C.size_t(len(record.Value)),
+		offset: C.uint64_t(record.Offset), timestamp: C.uint64_t(record.Timestamp),
+		partition: C.size_t(record.Partition), outputs: C.size_t(outputs)}
+	nulls := C.int(0)
+	if record.Key == nil {
+		nulls |= C.KLOG_NULL_KEY
+	}
+	if record.Value == nil {
+		nulls |= C.KLOG_NULL_VALUE
+	}
+	number := C.run(&p.program, given, bytesAt(record.Key), bytesAt(record.Value), nulls, &p.headers, &p.outcome)
 	if err := fault(number, 0); err != nil {
 		return 0, nil, err
 	}
@@ -194,9 +211,10 @@ func (f *BatchFault) Error() string {
 	return fmt.Sprintf("batch %d at byte %d: %s", f.Batches, f.Bytes, f.Text)
 }
 
-// Transform runs the program on all records of some record batches, of which the first has this offset.
-func (p *Program) Transform(batches []byte, offset uint64, outputs int) (*Transformed, error) {
-	source := C.klog_source{offset: C.uint64_t(offset), outputs: C.size_t(outputs)}
+// Transform runs the program on all records of some record batches, of which the first has this offset in its input
+// partition.
+func (p *Program) Transform(batches []byte, offset uint64, partition, outputs int) (*Transformed, error) {
+	source := C.klog_source{offset: C.uint64_t(offset), partition: C.size_t(partition), outputs: C.size_t(outputs)}
 	var stop C.klog_stop
 	number := C.klog_transform(&p.program, &source, bytesAt(batches), C.size_t(len(batches)), &p.batches, &stop)
 	if err := fault(number, C.size_t(stop.record)); err != nil {

@@ -23,7 +23,7 @@ func run() error {
 	}
 	var program Program
 	defer program.Free()
-	if err := program.Load(image); err != nil {
+	if err := program.Load(image, 1); err != nil {
 		return err
 	}
 	lines := bufio.NewReader(os.Stdin)
@@ -31,7 +31,7 @@ func run() error {
 	for offset := uint64(0); len(line) > 0; offset++ {
 		line = bytes.TrimSuffix(line, []byte("\n"))
 		header := Header{"line", fmt.Appendf(nil, "%d", offset+1)}
-		code, emissions, err := program.Run(line, offset, 2, header)
+		code, emissions, err := program.Run(&Record{Value: line, Offset: offset, Headers: []Header{header}}, 2)
 		if err != nil {
 			return err
 		}

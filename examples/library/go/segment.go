@@ -47,7 +47,7 @@ func transformFile(program *Program, in io.Reader, outs []*bufio.Writer) error {
 	batches, bytes := 0, 0
 	batch, err := next(in)
 	for ; len(batch) > 0 && err == nil; batch, err = next(in) {
-		made, err := program.Transform(batch, offset, len(outs))
+		made, err := program.Transform(batch, offset, 0, len(outs))
 		var refused *BatchFault
 		if errors.As(err, &refused) {
 			return &BatchFault{batches, bytes, refused.Text}
@@ -75,7 +75,7 @@ func run() error {
 	}
 	var program Program
 	defer program.Free()
-	if err := program.Load(image); err != nil {
+	if err := program.Load(image, 1); err != nil {
 		return err
 	}
 	in, err := os.Open(os.Args[2])
