@@ -12,6 +12,12 @@ fi
 top=$(cd "$(dirname "$0")/.." && pwd)
 mkdir -p "$1"
 folder=$(cd "$1" && pwd)
+case $folder in
+*" "*)
+	echo "$folder has a space, which klog.pc and Go's flags can't have" >&2
+	exit 2
+	;;
+esac
 cc=${CC:-cc}
 kit=$(dirname "$(rt doc)")
 if [ $# -eq 2 ]; then
