@@ -3,9 +3,8 @@ use Rattle.std.proofs.Common.{◌≡◌, ℕ, zero, suc, ◌-◌, ◌<◌, ◌==
 use Rattle.std.specs.Prelude.{Option, Some, None, codes}
 use Rattle.std.proofs.lemmas.List.{take_all, length-drop}
 use Rattle.wire_spec.specs.BatchReading.{record_count}
-use Rattle.batch_text.specs.declared.sizes.Sizes.{Sizes}
 use Rattle.batch_text.specs.Lines.{count_field}
-use Rattle.batch_text.specs.Causes.{after_record, after_records, sizes_in, sizes_cause, record_cause}
+use Rattle.batch_text.specs.Causes.{after_record, after_records, fault_cause, record_cause}
 
 pub after_none : (number : ℕ) (bytes : List ℕ) → 0 < number → after_record bytes ≡ None →
     after_records number bytes ≡ None
@@ -26,12 +25,12 @@ unfolding after_records
 after_all zero bytes none = refl
 after_all (suc n) bytes none = absurd (omega (arith, none))
 
-pub record_is : (number count : ℕ) (bytes text : List ℕ) (sizes : Option Sizes) → count ≡ record_count bytes →
-    (number == count) ≡ false → sizes ≡ sizes_in (after_records number (drop 61 bytes)) →
-    text ≡ count_field (codes "record ") number ++ sizes_cause sizes → text ≡ record_cause number bytes
-record_is number count bytes text sizes count_is other sizes_is text_is =
+pub record_is : (number count : ℕ) (bytes text : List ℕ) (left : Option (List ℕ)) → count ≡ record_count bytes →
+    (number == count) ≡ false → left ≡ after_records number (drop 61 bytes) →
+    text ≡ count_field (codes "record ") number ++ fault_cause left → text ≡ record_cause number bytes
+record_is number count bytes text left count_is other left_is text_is =
     let test : (number == record_count bytes) ≡ false = subst (λ (n : ℕ). (number == n) ≡ false) count_is other in
-    rw test (text_is ∙ ap (λ (s : Option Sizes). count_field (codes "record ") number ++ sizes_cause s) sizes_is)
+    rw test (text_is ∙ ap (λ (l : Option (List ℕ)). count_field (codes "record ") number ++ fault_cause l) left_is)
 
 -- the bytes from a place on
 pub rest_is : (bytes : List ℕ) → take (length bytes - 61) (drop 61 bytes) ≡ drop 61 bytes

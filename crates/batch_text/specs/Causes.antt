@@ -1,15 +1,19 @@
 -- Why bytes begin with no batch, in words. The bytes are the first of those, as many as show that: a batch by its length,
 -- or its header where that is refused by its length.
-use Rattle.std.specs.Prelude.{ℕ, zero, suc, ◌/◌, ◌%◌, ℤ, pos, negsuc, Bool, ◌==◌, ◌&&◌, nat_lt, if◌then◌else◌}
-use Rattle.std.specs.Prelude.{List, ◌++◌, length, drop, Option, Some, None, codes, decimal}
+use Rattle.std.specs.Prelude.{ℕ, zero, suc, ◌-◌, ◌/◌, ◌%◌, ℤ, pos, negsuc, Bool, true, false, ◌==◌, ◌&&◌, nat_lt}
+use Rattle.std.specs.Prelude.{if◌then◌else◌, List, ◌++◌, length, drop, Option, Some, None, Result, Ok, Err, codes}
+use Rattle.std.specs.Prelude.{decimal}
+use Rattle.std.specs.Int.{w32, cast_signed}
 use Rattle.std.specs.List.{list_all}
 use Rattle.std.specs.Fmt.{signed_decimal}
 use Rattle.batch_text.specs.Lines.{count_field, field}
 use Rattle.batch_text.specs.declared.sizes.{Sizes.Sizes, Past.Past}
-use Rattle.wire_spec.specs.declared.fault.BatchFault.{BatchFault}
+use Rattle.wire_spec.specs.declared.fault.{BatchFault.BatchFault, VarintFault.VarintFault}
 use Rattle.wire_spec.specs.declared.fault.BatchFault.TheVariants as fault
+use Rattle.wire_spec.specs.declared.fault.VarintFault.TheVariants as varint
 use Rattle.wire_spec.specs.declared.limits.TheConstants.{MAX_KEY, MAX_VALUE, MAX_HEADERS}
 use Rattle.wire_spec.specs.Checksum.{checksum}
+use Rattle.wire_spec.specs.Varint.{read_varint}
 use Rattle.wire_spec.specs.RecordReading.{◌>>=◌, varint_at, varlong_at}
 use Rattle.wire_spec.specs.BatchReading.{batch_length, magic, crc, attributes, last_offset_delta, base_timestamp}
 use Rattle.wire_spec.specs.BatchReading.{max_timestamp, record_count}
@@ -73,14 +77,10 @@ attribute_cause n =
     if n / 32 % 2 == 1 then codes "a control batch" else
     if n / 64 % 2 == 1 then codes "has a delete horizon" else codes "has unknown attributes"
 
--- a number of records and a lastOffsetDelta, in words
-abbrev pub count_words : ℕ → ℕ → List ℕ
-count_words count delta =
-    codes "the number of records is " ++ (decimal count ++ (codes ", and lastOffsetDelta " ++ decimal delta))
-
--- the number of records and the lastOffsetDelta that the header states, in words
+-- the number of records and the lastOffsetDelta that the header states, read as signed, in words
 abbrev pub count_cause : List ℕ → List ℕ
-count_cause bytes = count_words (record_count bytes) (last_offset_delta bytes)
+count_cause bytes = field (codes "the number of records is ") (cast_signed w32 (record_count bytes))
+    ++ field (codes ", and lastOffsetDelta ") (cast_signed w32 (last_offset_delta bytes))
 
 -- the baseTimestamp and the maxTimestamp that the header states, in words
 abbrev pub timestamp_cause : List ℕ → List ℕ
@@ -145,20 +145,33 @@ past_cause sizes Past.Value = count_field (codes " has a value of ") sizes.value
 past_cause sizes Past.Headers = count_field (codes " has ") sizes.headers ++ codes " headers, 16 at most"
 past_cause sizes Past.Other = codes " has another form"
 
+-- the same of sizes that a record may not state
 unfoldable pub sizes_cause : Option Sizes → List ℕ
-sizes_cause None = codes " is cut"
+sizes_cause None = codes " has another form"
 sizes_cause (Some sizes) = past_cause sizes (past_of sizes)
 
--- the sizes that the record at the front of these bytes states; none where the bytes are missing or state no sizes
-abbrev pub sizes_in : Option (List ℕ) → Option Sizes
-sizes_in None = None
-sizes_in (Some bytes) = sizes_at bytes
+-- bytes of this number end inside the record at their front, by how its length reads: inside the length, or before as
+-- many bytes as it says
+abbrev pub ends_inside : ℕ → Result (ℤ × ℕ) VarintFault → Bool
+ends_inside size (Ok x) = nat_lt (size - x.1) (at_least_0 x.0)
+ends_inside size (Err varint.Short) = true
+ends_inside size (Err varint.Long) = false
+ends_inside size (Err varint.NotShortest) = false
+
+-- the record at the front is cut
+abbrev pub is_cut : List ℕ → Bool
+is_cut bytes = ends_inside (length bytes) (read_varint bytes)
+
+-- what is wrong with the record at the front of these bytes, which there are unless a length before it can't be read
+abbrev pub fault_cause : Option (List ℕ) → List ℕ
+fault_cause None = codes " has another form"
+fault_cause (Some bytes) = if is_cut bytes then codes " is cut" else sizes_cause (sizes_at bytes)
 
 -- the record with this number, from 0
 abbrev pub record_cause : ℕ → List ℕ → List ℕ
 record_cause number bytes =
     if number == record_count bytes then codes "bytes follow the last record" else
-    count_field (codes "record ") number ++ sizes_cause (sizes_in (after_records number (drop 61 bytes)))
+    count_field (codes "record ") number ++ fault_cause (after_records number (drop 61 bytes))
 
 -- ---- all
 

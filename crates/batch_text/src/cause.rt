@@ -4,7 +4,7 @@ ghost use Rattle.std.specs.Prelude.{◌≡◌, ◌≤◌, length, IfOk, string_b
 ghost use Rattle.batch_text.specs.Causes as definitions;
 ghost use Rattle.batch_text.specs.Causes.{are_zeros, is_old, attribute_cause};
 
-use crate::fields::{i32_at, push_long, u16_at, u32_at};
+use crate::fields::{i32_at, push_int, push_long, u16_at, u32_at};
 use crate::sizes::record_cause;
 use std::alloc::{AllocError, Global};
 use wire_spec::BatchFault;
@@ -117,17 +117,14 @@ fn attribute_words(attributes: u16) -> &'static str
     }
 }
 
-fn count_words(alloc: Global, count: u32, delta: u32) -> Result<String, AllocError>
-    ensures { IfOk result (λ text. string_bytes text ≡ definitions.count_words count delta) }
-{
-    format!(in alloc; "the number of records is {count}, and lastOffsetDelta {delta}")
-}
-
 fn count_cause(alloc: Global, bytes: &[u8]) -> Result<String, AllocError>
     requires { 61 ≤ length bytes.now }
     ensures { IfOk result (λ text. string_bytes text ≡ definitions.count_cause bytes.now) }
 {
-    count_words(alloc, u32_at(bytes, 57), u32_at(bytes, 23))
+    let mut text = String::new(alloc);
+    push_int(&mut text, "the number of records is ", bytes, 57)?;
+    push_int(&mut text, ", and lastOffsetDelta ", bytes, 23)?;
+    Ok(text)
 }
 
 fn timestamp_cause(alloc: Global, bytes: &[u8]) -> Result<String, AllocError>

@@ -81,7 +81,12 @@ pub(crate) fn push_long(
 
 /// The same of a signed number of 32 bits.
 #[tactic(auto, unfolding(crate::specs::Lines::field))]
-fn push_int(text: &mut String, name: &str, bytes: &[u8], at: usize) -> Result<(), AllocError>
+pub(crate) fn push_int(
+    text: &mut String,
+    name: &str,
+    bytes: &[u8],
+    at: usize,
+) -> Result<(), AllocError>
     requires { at + 4 ≤ length bytes.now }
     ensures { OnOk result (string_bytes text.new ≡ string_bytes text.old ++ field name.now (signed_at w32 at bytes.now)) }
 {

@@ -1,14 +1,14 @@
-//! The part of a record that is past its limit.
+//! What is wrong with a record: that it is cut, the part that is past its limit, or that it has another form.
 
 ghost use Rattle.std.specs.Prelude.{◌≡◌, ◌≤◌, ◌++◌, length, IfOk, OnOk, option_map, string_bytes};
 ghost use Rattle.wire_spec.specs.RecordReading.{varint_at, varlong_at};
 ghost use Rattle.batch_text.specs.Causes as definitions;
-ghost use Rattle.batch_text.specs.Causes.{at_least_0, after_part, after_record, after_records, sizes_at};
+ghost use Rattle.batch_text.specs.Causes.{at_least_0, after_part, after_record, after_records, sizes_at, is_cut};
 
 use crate::fields::{push_count, u32_at};
 use std::alloc::{AllocError, Global};
 use varint::{read32, read64};
-use wire_spec::{MAX_HEADERS, MAX_KEY, MAX_VALUE};
+use wire_spec::{MAX_HEADERS, MAX_KEY, MAX_VALUE, VarintFault};
 
 /// The bytes of a batch's header.
 const HEADER: usize = 61;
@@ -146,18 +146,32 @@ fn push_sizes(text: &mut String, sizes: Option<Sizes>) -> Result<(), AllocError>
     ensures { OnOk result (string_bytes text.new ≡ string_bytes text.old ++ definitions.sizes_cause sizes) }
 {
     match sizes {
-        None => text.push_str(" is cut"),
+        None => text.push_str(" has another form"),
         Some(sizes) => push_past(text, sizes, past_of(sizes)),
     }
 }
 
-/// The sizes that the record with this number states, from 0.
-fn sizes_in(number: u32, records: &[u8]) -> Option<Sizes>
-    ensures { result ≡ definitions.sizes_in (after_records number records.now) }
+/// Whether the bytes end inside the record at their front: inside its length, or before as many bytes as it says.
+fn is_cut(bytes: &[u8]) -> bool
+    ensures { result ≡ is_cut bytes.now }
 {
-    match after_records(number, records) {
-        Some(rest) => sizes_of(rest),
-        None => None,
+    match read32(bytes) {
+        Ok((size, used)) => at_least_0(size) as usize > bytes.len() - used,
+        Err(VarintFault::Short) => true,
+        Err(VarintFault::Long | VarintFault::NotShortest) => false,
+    }
+}
+
+/// Appends what is wrong with the record at the front of these bytes, which there are unless a length before it
+/// can't be read.
+fn push_fault(text: &mut String, bytes: Option<&[u8]>) -> Result<(), AllocError>
+    ensures { OnOk result (string_bytes text.new
+        ≡ string_bytes text.old ++ definitions.fault_cause (option_map (λ rest. rest.now) bytes.entry)) }
+{
+    match bytes {
+        None => text.push_str(" has another form"),
+        Some(bytes) if is_cut(bytes) => text.push_str(" is cut"),
+        Some(bytes) => push_sizes(text, sizes_of(bytes)),
     }
 }
 
@@ -171,6 +185,6 @@ pub fn record_cause(alloc: Global, number: u32, bytes: &[u8]) -> Result<String, 
     }
     let mut text = String::new(alloc);
     push_count(&mut text, "record ", number as u64)?;
-    push_sizes(&mut text, sizes_in(number, &bytes[HEADER..]))?;
+    push_fault(&mut text, after_records(number, &bytes[HEADER..]))?;
     Ok(text)
 }
