@@ -42,6 +42,14 @@ pub trait Files {
         ensures held { (held : List ℕ) → Self.Writer.contents writer ≡ Some held → OnOk result (IfSome (bytes self.new name.now) (λ known. known ≡ held)) }
         ensures kept { (other : List ℕ) → other ≢ name.now → bytes self.new other ≡ bytes self.old other };
 
+    /// Takes note that standard input is read, so that `create` may refuse the file behind it. It changes no file, and
+    /// fails only where memory runs out.
+    fn take_stdin(&mut self) -> io::Result<()>
+        ensures kept { (other : List ℕ) → bytes self.new other ≡ bytes self.old other }
+    {
+        Ok(())
+    }
+
     /// Milliseconds since some time, where somebody watches standard error. It changes no file.
     fn watched(&self) -> Option<u64> {
         None

@@ -18,6 +18,7 @@ mod files;
 mod halts;
 mod image;
 mod listing;
+mod misuse;
 mod output_files;
 mod printing;
 mod progress;

@@ -163,6 +163,29 @@ fn write_files<F: Files, R: Read + Drop, E: Write>(
     }
 }
 
+/// The same of standard input, of which the files take note before one is created.
+fn write_stdin<F: Files, I: Read, E: Write>(
+    alloc: Global,
+    files: &mut F,
+    stdin: &mut I,
+    stderr: &mut E,
+    program: &Program,
+    words: &[String],
+) -> Result<(), Halt>
+    requires some { 3 ≤ length words.now }
+    requires few { length words.now ≤ MAX_PARTITIONS + 2 }
+    ensures written { F.tells ≡ true → AreDistinct (names_of words.now) → (bytes : List ℕ)
+        → I.remaining stdin.old ≡ Some bytes
+        → StreamsAs program.now bytes (length (names_of words.now) - 2) (status_of_ended result)
+        (λ output. F.bytes files.new (word_at (names_of words.now) (output + 2))) }
+    ensures kept { KeepsOthers (names_of words.now) (F.bytes files.old) (F.bytes files.new) }
+{
+    match files.take_stdin() {
+        Ok(()) => write_files(alloc, files, stdin, stderr, program, words),
+        Err(error) => Err(unused(INPUT, &error)),
+    }
+}
+
 /// The same of the file of the second word; the name `stdin` is standard input.
 fn write_source<F: Files, I: Read, E: Write>(
     alloc: Global,
@@ -181,7 +204,7 @@ fn write_source<F: Files, I: Read, E: Write>(
 {
     let input = name_at(words, INPUT);
     if input == "stdin" {
-        return write_files(alloc, files, stdin, stderr, program, words);
+        return write_stdin(alloc, files, stdin, stderr, program, words);
     }
     match files.open(input) {
         Ok(reader) => write_files(alloc, files, reader, stderr, program, words),

@@ -108,6 +108,10 @@ impl Files for HostFiles<'_> {
         writer.flush()
     }
 
+    fn take_stdin(&mut self) -> io::Result<()> {
+        self.keep("/dev/stdin")
+    }
+
     fn watched(&self) -> Option<u64> {
         let start = self.start?;
         let passed = start.elapsed(self.rt).ok()?;
