@@ -87,7 +87,7 @@ pub(crate) fn push(program: &Program, batch: Batch, stream: &mut Stream) -> Resu
         offset: stream.offset,
         outputs: stream.outlets.len(),
     };
-    let item = Item::Batch(LoggedBatch::new(batch));
+    let item = Item::Batch(LoggedBatch::new(stream.blocks.alloc(), batch)?);
     let rows = item_refs_in(&mut stream.blocks, &origin, Some(program), &item)?;
     stream.counts.add_all(rows.counts())?;
     put_each(&rows, &mut stream.outlets)?;

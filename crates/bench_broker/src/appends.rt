@@ -31,7 +31,10 @@ fn fill<Id: Names, C, R: Wait>(
     most: usize,
 ) -> u64 {
     match batch_of_copies(alloc, TIMESTAMP, 1, None, Some(&[b'v'; 64])) {
-        Some(first) => fill_with(rt, alloc, broker, input, most, &LoggedBatch::new(first)),
+        Some(first) => match LoggedBatch::new(alloc, first) {
+            Ok(logged) => fill_with(rt, alloc, broker, input, most, &logged),
+            Err(_) => 0,
+        },
         None => 0,
     }
 }

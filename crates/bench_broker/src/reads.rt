@@ -84,7 +84,7 @@ fn fetches<Id: Names, R: Clock>(rt: &R, book: &Book<Id>, receipts: &[Receipt<Id>
 fn looks_for<Id: Names>(book: &Book<Id>, offset: u64) -> Option<u64> {
     let mut probes = Probes::new();
     let first = book.rows_since(0, offset, &mut probes).next()?;
-    if first.offset == offset {
+    if first.offset() == offset {
         Some(probes.count())
     } else {
         None

@@ -5,8 +5,8 @@ ghost use Rattle.part_log.specs.Parts.{CellNote};
 ghost use Rattle.broker.specs.Steps.{StepIs};
 
 use broker::{Audit, Broker, BrokerFault, Stepped};
-use log_spec::Row;
-use out_book::Book;
+use log_spec::RowRef;
+use out_book::{Book, BookRow};
 use part_log::{Names, Receipt};
 use std::alloc::Global;
 use std::sync::Wait;
@@ -76,19 +76,20 @@ pub fn audited<Id: Names, C, R: Wait>(
 
 /// Whether this is the row of a record that `put` appended, at this offset, by the emission with this
 /// number.
-pub fn is_row(row: &Row, offset: u64, number: usize, value: u8) -> bool
+pub fn is_row(row: &BookRow, offset: u64, number: usize, value: u8) -> bool
     ensures offset { result ≡ true → row.now.offset ≡ offset }
     ensures number { result ≡ true → row.now.number ≡ number }
 {
+    let row = row.by_ref();
     row.offset == offset
         && row.number as usize == number
         && row.timestamp == 1000
-        && holds(row, value)
+        && holds(&row, value)
 }
 
 /// Whether the row's key is `k` and its value one byte.
-fn holds(row: &Row, value: u8) -> bool {
-    match (&row.key, &row.value) {
+fn holds(row: &RowRef, value: u8) -> bool {
+    match (row.key, row.value) {
         (Some(key), Some(bytes)) => key.as_slice() == b"k".as_slice()
             && bytes.as_slice() == [value].as_slice(),
         _ => false,

@@ -177,7 +177,7 @@ fn since_in<Id: Names>(book: &Book<Id>, input: usize, offset: u64) -> Option<(u6
     let mut probes = Probes::new();
     let mut next = offset;
     for row in book.rows_since(input, offset, &mut probes) {
-        if row.offset != next {
+        if row.offset() != next {
             return None;
         }
         next = next.checked_add(1)?;

@@ -1,12 +1,13 @@
 -- Some records of a batch after others.
-use Rattle.std.proofs.Common.{◌≡◌, ℕ, zero, suc, ◌+◌, ◌<◌, ◌≤◌, ℤ, pos, negsuc, ◌≤ℤ◌, ◌<ℤ◌, unsigned_abs}
-use Rattle.std.proofs.Common.{List, [], ◌∷◌, ◌++◌, length, take, get_or, slice_get, map, Option, Some, None, option_map}
+use Rattle.std.proofs.Common.{◌≡◌, ℕ, zero, suc, ◌+◌, ◌-◌, ◌<◌, ◌≤◌, ℤ, pos, negsuc, ◌≤ℤ◌, ◌<ℤ◌, unsigned_abs}
+use Rattle.std.proofs.Common.{List, [], ◌∷◌, ◌++◌, length, take, drop, get_or, slice_get, map, Option, Some, None, option_map}
 use Rattle.std.proofs.Common.{refl, sym, ap, subst, ◌∙◌}
 use Rattle.std.proofs.Common.{append_assoc, arith, Result, Ok, Err}
 use Rattle.std.specs.Prelude.{OnOk}
 use Rattle.std.specs.List.{AllByRecursion}
 use Rattle.std.proofs.lemmas.Int.{ints}
-use Rattle.std.proofs.lemmas.List.{length-append, length-take, append-nil, get_or_default}
+use Rattle.std.proofs.lemmas.List.{length-append, length-take, length-drop, append-nil, get_or_default, get_or-drop}
+use Rattle.std.proofs.lemmas.List.{get_or_append_left, get_or-take, length-take-le, drop-drop, drop_at, take_at}
 use Rattle.wire_spec.specs.declared.{limits.TheConstants.TIMESTAMP_END, record.Record.Record, record.Batch.Batch}
 use Rattle.machine_spec.specs.declared.{outcome.Outcome.Outcome, outcome.Place.Place}
 use Rattle.machine_spec.specs.Image.{Program}
@@ -25,7 +26,9 @@ use Rattle.fates.specs.Totals.{Totals, AreCounts}
 use Rattle.fates.proofs.FateLaws.{fates-next}
 use Rattle.item_rows.specs.declared.{origin.Origin.Origin, batch_run.BatchRun.BatchRun}
 use Rattle.item_rows.specs.ItemRows.{IsOrigin, Adds}
-use Rattle.item_rows.specs.Blocks.{places_from, rows_of_each, AreFatesMore, program_in, CanRun, HaveRun}
+use Rattle.item_rows.specs.Blocks.{places_from, records_from, rows_of_each, AreFatesMore, program_in, StandFrom}
+use Rattle.item_rows.specs.Blocks.{CanRun, HaveRun}
+use Rattle.item_rows.specs.RowParts.{no_record}
 use Rattle.item_rows.proofs.RowLaws.{adds_none, adds_then, adds_as, each_at}
 
 -- ---- fates that are counted
@@ -338,6 +341,57 @@ all_later P (x ∷ xs) ys all = all_later P xs ys all.1
 
 -- ---- records that are left, and calls that may fail
 
+-- the records after some of those that stand from a number on
+pub stand_later : (all : List Record) (base first at : ℕ) (records done rest : List Record) → base ≤ first →
+    StandFrom all (first - base) records → done ++ rest ≡ records → at ≡ first + length done →
+    StandFrom all (at - base) rest
+stand_later all base first at records done rest le stand parts here =
+    let from : at - base ≡ (first - base) + length done = omega (arith, le, here) in
+    let both : records ++ stand.after ≡ done ++ (rest ++ stand.after) =
+    ap (λ (gs : List Record). gs ++ stand.after) (sym parts) ∙ append_assoc done rest stand.after in
+    record {
+      after = stand.after;
+      are = ap (λ (n : ℕ). drop n all) from
+          ∙ (sym (drop-drop (length done) (first - base) all)
+          ∙ (ap (drop (length done)) (stand.are ∙ both) ∙ drop_at done (rest ++ stand.after) (length done) refl));
+    }
+
+-- one of some records that stand from a number on
+pub stands_at : (all : List Record) (from : ℕ) (given : List Record) (k : ℕ) (d : Record) → StandFrom all from given →
+    k < length given → get_or all (from + k) d ≡ get_or given k d
+stands_at all from given k d stand lt =
+    sym (get_or-drop from all k d)
+    ∙ (ap (λ (gs : List Record). get_or gs k d) stand.are ∙ get_or_append_left given stand.after d k lt)
+
+-- they are so many of the list's, from that number on
+pub stand_between : (all : List Record) (from : ℕ) (given : List Record) (count : ℕ) → StandFrom all from given →
+    count ≡ length given → records_from from count all ≡ given
+stand_between all from given count stand long =
+    ap (take count) stand.are
+    ∙ (ap (λ (n : ℕ). take n (given ++ stand.after)) long ∙ take_at given stand.after (length given) refl)
+
+-- one of so many records from a number on
+pub between_at : (all : List Record) (from count k : ℕ) (g : Record) → k < count → from + count ≤ length all →
+    g ≡ get_or all (from + k) no_record → g ≡ get_or (records_from from count all) k g
+between_at all from count k g lt le is =
+    let within : from + k < length all = omega (arith, lt, le) in
+    is
+    ∙ (get_or_default all (from + k) no_record g within
+    ∙ (sym (get_or-drop from all k g) ∙ sym (get_or-take count (drop from all) k g lt)))
+
+pub between_long : (all : List Record) (from count : ℕ) → from + count ≤ length all →
+    length (records_from from count all) ≡ count
+between_long all from count le =
+    let long = length-drop from all in
+    length-take-le count (drop from all) (omega (arith, long, le))
+
+-- none stands past the end
+pub stand_within : (all : List Record) (from : ℕ) (given : List Record) → StandFrom all from given →
+    0 < length given → from + length given ≤ length all
+stand_within all from given stand some =
+    let long = ap length stand.are ∙ length-append given stand.after in
+    omega (arith, long, length-drop from all, some)
+
 -- the records that are left after others can be run
 pub can_run_rest : (run : BatchRun) (first at : ℕ) (records done rest : List Record) (old new : List (List Row))
     (were are : Totals) → CanRun run first records were → done ++ rest ≡ records → at ≡ first + length done →
@@ -346,6 +400,9 @@ can_run_rest run first at records done rest old new were are can parts here made
     let both = length-append done rest in let whole = ap length parts in let counted =
     run_counted run first done old new were are made in
     record {
+      from = omega (arith, can.from, here);
+      stand = stand_later run.batch.now.records run.origin.now.offset first at records done rest can.from can.stand
+          parts here;
       origin = can.origin;
       fits = all_later (FitsRecord run.batch.now) done rest
           (subst (λ (gs : List Record). AllByRecursion (FitsRecord run.batch.now) gs) (sym parts) can.fits);
@@ -359,6 +416,11 @@ pub can_run_first : (run : BatchRun) (at : ℕ) (here later : List Record) (coun
 can_run_first run at here later counts can =
     let both = length-append here later in
     record {
+      from = can.from;
+      stand = record {
+        after = later ++ can.stand.after;
+        are = can.stand.are ∙ append_assoc here later can.stand.after;
+      };
       origin = can.origin;
       fits = all_first (FitsRecord run.batch.now) here later can.fits;
       few = omega (arith, both, can.few);

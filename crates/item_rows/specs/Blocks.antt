@@ -1,5 +1,5 @@
 -- Some records of a batch, one after the other.
-use Rattle.std.specs.Prelude.{◌≡◌, ℕ, ◌+◌, ◌<◌, ◌≤◌, ◌^◌, List, [], ◌∷◌, ◌++◌, length, Option, option_map}
+use Rattle.std.specs.Prelude.{◌≡◌, ℕ, ◌+◌, ◌-◌, ◌<◌, ◌≤◌, ◌^◌, List, [], ◌∷◌, ◌++◌, length, take, drop, Option, option_map}
 use Rattle.std.specs.List.{AllByRecursion}
 use Rattle.wire_spec.specs.declared.{limits.TheConstants.TIMESTAMP_END, record.Record.Record, record.Batch.Batch}
 use Rattle.machine_spec.specs.declared.{outcome.Outcome.Outcome, outcome.Place.Place}
@@ -25,6 +25,10 @@ rows_of_each output [] (outcome ∷ outcomes) = []
 rows_of_each output (place ∷ places) (outcome ∷ outcomes) =
     rows_of output place outcome ++ rows_of_each output places outcomes
 
+-- so many of a batch's records, from a number on
+abbrev pub records_from : ℕ → ℕ → List Record → List Record
+records_from from count records = take count (drop from records)
+
 -- records with these fates are counted beside the others
 pub record AreFatesMore (fates : List Fate) (old new : Totals) : Type 0 where
   pub counts : (before : List Fate) → AreCounts before old → AreCounts (before ++ fates) new
@@ -34,8 +38,15 @@ pub record AreFatesMore (fates : List Fate) (old new : Totals) : Type 0 where
 abbrev pub program_in : BatchRun → Option Program
 program_in run = option_map (λ p. p.now) run.program
 
+-- some records stand one after the other in a list, from a number on
+pub record StandFrom (all : List Record) (from : ℕ) (given : List Record) : Type 0 where
+  pub after : List Record
+  pub are : drop from all ≡ given ++ after
+
 -- some records of a batch that fits a log, the first of which has this offset, can be run and counted
 pub record CanRun (run : BatchRun) (offset : ℕ) (given : List Record) (counts : Totals) : Type 0 where
+  pub from : run.origin.now.offset ≤ offset
+  pub stand : StandFrom run.batch.now.records (offset - run.origin.now.offset) given
   pub origin : IsOrigin run.origin.now
   pub fits : AllByRecursion (FitsRecord run.batch.now) given
   pub few : offset + length given ≤ TIMESTAMP_END

@@ -1,6 +1,6 @@
 //! A program on the records of a batch: one by one, or a block of them abreast.
 
-ghost use Rattle.std.specs.Prelude.{◌≡◌, ◌+◌, ◌≤◌, ◌<ℤ◌, ◌≤ℤ◌, pos, length, [], IfOk, OnOk, IfSome, Some};
+ghost use Rattle.std.specs.Prelude.{◌≡◌, ◌+◌, ◌-◌, ◌≤◌, ◌<ℤ◌, ◌≤ℤ◌, pos, length, [], IfOk, OnOk, IfSome, Some};
 ghost use Rattle.std.specs.List.{AllByRecursion};
 ghost use Rattle.wire_spec.specs.declared.limits.TheConstants.{TIMESTAMP_END};
 ghost use Rattle.machine_spec.specs.Meaning.{IsPlace};
@@ -14,15 +14,16 @@ ghost use Rattle.item_rows.specs.ItemRows.{IsOrigin, Adds};
 ghost use Rattle.item_rows.specs.Blocks.{places_from, program_in, CanRun, HaveRun};
 
 use crate::blocks::Blocks;
+use crate::given::Given;
 use crate::origin::Origin;
 use crate::outcomes::{push_outcome, push_outcomes};
 use crate::records::timestamp;
 use crate::refs::RowRefs;
 use fates::{Counts, Fate};
-use log_item::{BLOCK, Block, EmittedList, LEAST, MANY, Program};
+use log_item::{BLOCK, Block, EmittedList, LEAST, LoggedBatch, MANY, Program};
 use machine_spec::Place;
 use std::alloc::{AllocError, Global};
-use wire_spec::{Batch, Record};
+use wire_spec::Record;
 
 /// What the records of a batch are run by, and the outputs that their rows go to, from `first` on.
 #[derive(Drop)]
@@ -30,7 +31,7 @@ pub(crate) struct BatchRun<'a> {
     pub(crate) alloc: Global,
     pub(crate) program: Option<&'a Program>,
     pub(crate) origin: &'a Origin,
-    pub(crate) batch: &'a Batch,
+    pub(crate) batch: &'a LoggedBatch,
     pub(crate) first: usize,
 }
 
@@ -44,9 +45,17 @@ impl<'a> BatchRun<'a> {
         Place {
             partition: self.origin.input,
             offset,
-            timestamp: timestamp(self.batch, given),
+            timestamp: timestamp(self.batch.batch(), given),
             outputs: self.origin.outputs,
         }
+    }
+
+    /// The number in the batch of the record with this offset.
+    fn number_of(&self, offset: u64) -> usize
+        requires { self.now.origin.now.offset ≤ offset }
+        ensures { result ≡ offset - self.now.origin.now.offset }
+    {
+        (offset - self.origin.offset) as usize
     }
 
     /// Where each of these records is, of which the first has this offset.
@@ -69,7 +78,7 @@ impl<'a> BatchRun<'a> {
     fn push_record(
         &self,
         place: &Place,
-        given: &'a Record,
+        given: &Given<'a>,
         emitted: &mut EmittedList,
         all: &mut [RowRefs<'a>],
     ) -> Result<Fate, AllocError>
@@ -81,7 +90,7 @@ impl<'a> BatchRun<'a> {
         match self.program {
             None => Ok(Fate::Unprogrammed),
             Some(program) => {
-                let ending = program.run_into(self.alloc, given, place, emitted)?;
+                let ending = program.run_into(self.alloc, given.record(), place, emitted)?;
                 push_outcome(all, self.first, place, given, ending, emitted)
             }
         }
@@ -103,7 +112,8 @@ impl<'a> BatchRun<'a> {
         let mut next = offset;
         for given in records {
             let at = self.place(next, given);
-            let fate = self.push_record(&at, given, emitted, all)?;
+            let found = Given::new(self.batch, self.number_of(next));
+            let fate = self.push_record(&at, &found, emitted, all)?;
             counts.add(fate)?;
             next += 1;
         }
@@ -156,7 +166,17 @@ impl<'a> BatchRun<'a> {
             let mut block = blocks.take(count)?;
             let places = self.run_block(program, offset, here, &mut block)?;
             let at = places.as_slice();
-            push_outcomes(self.first, at, here, &mut block, &mut emitted, all, counts)?;
+            let from = self.number_of(offset);
+            push_outcomes(
+                self.first,
+                at,
+                self.batch,
+                from,
+                &mut block,
+                &mut emitted,
+                all,
+                counts,
+            )?;
             blocks.keep(count, block);
             offset += count as u64;
             rest = later;

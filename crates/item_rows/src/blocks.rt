@@ -22,6 +22,11 @@ impl Blocks {
         }
     }
 
+    /// The allocator of the blocks, and of what is run in them.
+    pub fn alloc(&self) -> Global {
+        self.alloc
+    }
+
     /// A block for so many records, the one that was kept of as many if there is one.
     pub(crate) fn take(&mut self, count: usize) -> Result<Block, AllocError> {
         let kept = if count == BLOCK {

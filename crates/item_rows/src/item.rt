@@ -6,13 +6,13 @@ ghost use Rattle.log_item.specs.Items.{item_view};
 ghost use Rattle.item_rows.specs.ItemRows.{IsOrigin, GivesRows, AreItemRows, AreRowsFrom, Adds};
 
 use crate::blocks::Blocks;
+use crate::book_row::BookRow;
 use crate::origin::Origin;
 use crate::records::push_records;
 use crate::refs::RowRefs;
 use crate::rows::{ItemRefs, ItemRows, empty};
 use fates::Counts;
 use log_item::{Item, Program};
-use log_spec::Row;
 use std::alloc::{AllocError, Global};
 use std::sync::Arc;
 
@@ -20,7 +20,7 @@ use std::sync::Arc;
 #[derive(Drop)]
 pub struct OneOutput {
     /// The rows.
-    pub rows: Vec<Row>,
+    pub rows: Vec<BookRow>,
     /// The counts of the item's records.
     pub counts: Arc<Counts>,
 }
@@ -42,7 +42,10 @@ fn push_item<'a>(
     match item {
         Item::Mark { .. } => Ok(Counts::new(blocks.alloc)),
         Item::End => Ok(Counts::new(blocks.alloc)),
-        Item::Batch(logged) => push_records(blocks, program, origin, logged.batch(), first, all),
+        Item::Batch(logged) => {
+            let _fits = logged.batch();
+            push_records(blocks, program, origin, logged, first, all)
+        }
     }
 }
 
@@ -110,7 +113,7 @@ pub fn item_refs_in<'a>(
     rows_from(blocks, origin, program, item, 0, origin.outputs)
 }
 
-/// The same, as values.
+/// The same, as books have them.
 pub fn item_rows_in(
     blocks: &mut Blocks,
     origin: &Origin,
@@ -122,7 +125,7 @@ pub fn item_rows_in(
     ensures counts { IfOk result (λ made. AreItemCounts origin.now.input origin.now.outputs (option_map (λ p. p.now) program.entry) origin.now.offset (item_view item.now) made.counts) }
 {
     let refs = item_refs_in(blocks, origin, program, item)?;
-    refs.into_rows(blocks.alloc)
+    refs.into_book_rows(blocks.alloc)
 }
 
 /// The rows of an item in one output alone, and the counts of its records. Each record is run once. It
@@ -139,7 +142,7 @@ pub fn output_rows(
     ensures counts { IfOk result (λ made. AreItemCounts origin.now.input origin.now.outputs (option_map (λ p. p.now) program.entry) origin.now.offset (item_view item.now) (arc_value made.counts)) }
 {
     let made = rows_from(&mut Blocks::new(alloc), origin, program, item, output, 1)?;
-    let mut rows = made.into_rows(alloc)?;
+    let mut rows = made.into_book_rows(alloc)?;
     let counts = Arc::try_clone(rows.counts())?;
     Ok(OneOutput {
         rows: rows.take(alloc, 0),

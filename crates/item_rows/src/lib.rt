@@ -4,6 +4,8 @@
 
 mod batch_run;
 mod blocks;
+mod book_row;
+mod given;
 mod item;
 mod laws;
 mod origin;
@@ -13,6 +15,7 @@ mod refs;
 mod rows;
 
 pub use crate::blocks::Blocks;
+pub use crate::book_row::{BookRow, row_values};
 pub use crate::item::{OneOutput, item_refs_in, item_rows, item_rows_in, output_rows};
 pub use crate::laws::one_list_of_rows;
 pub use crate::origin::Origin;

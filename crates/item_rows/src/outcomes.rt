@@ -10,14 +10,14 @@ ghost use Rattle.exec.specs.Endings.{outcome_with, outcomes_of};
 ghost use Rattle.log_spec.specs.Logs.{row_of, rows_to, rows_of};
 ghost use Rattle.fates.specs.Fates.{fate_of};
 ghost use Rattle.item_rows.specs.ItemRows.{Adds};
-ghost use Rattle.item_rows.specs.Blocks.{rows_of_each, AreFatesMore};
+ghost use Rattle.item_rows.specs.Blocks.{records_from, rows_of_each, AreFatesMore};
 
+use crate::given::Given;
 use crate::refs::RowRefs;
 use fates::{Counts, Fate};
-use log_item::{Block, Emitted, EmittedList, Ending};
+use log_item::{Block, Emitted, EmittedList, Ending, LoggedBatch};
 use machine_spec::Place;
 use std::alloc::AllocError;
-use wire_spec::Record;
 
 /// The output partition of what a program emitted.
 fn out_of(emitted: &Emitted) -> usize
@@ -36,7 +36,7 @@ fn push_row<'a>(
     first: usize,
     place: &Place,
     number: usize,
-    given: &'a Record,
+    given: &Given<'a>,
     emitted: Emitted,
 ) -> Result<(), AllocError>
     requires place { IsPlace place.now }
@@ -56,7 +56,7 @@ fn push_rows<'a>(
     all: &mut [RowRefs<'a>],
     first: usize,
     place: &Place,
-    given: &'a Record,
+    given: &Given<'a>,
     list: &mut Vec<Emitted>,
 ) -> Result<(), AllocError>
     requires place { IsPlace place.now }
@@ -78,7 +78,7 @@ pub(crate) fn push_outcome<'a>(
     all: &mut [RowRefs<'a>],
     first: usize,
     place: &Place,
-    given: &'a Record,
+    given: &Given<'a>,
     ending: Ending,
     emitted: &mut EmittedList,
 ) -> Result<Fate, AllocError>
@@ -96,27 +96,30 @@ pub(crate) fn push_outcome<'a>(
 }
 
 /// Adds the rows of the records of a block, each at its place, by the outcomes of its last run, and
-/// counts the records. What each of them emitted goes through a list, whose room is used again.
+/// counts the records: those of a batch from number `from` on. What each of them emitted goes through a
+/// list, whose room is used again.
 pub(crate) fn push_outcomes<'a>(
     first: usize,
     places: &[Place],
-    records: &'a [Record],
+    logged: &'a LoggedBatch,
+    from: usize,
     block: &mut Block,
     emitted: &mut EmittedList,
     all: &mut [RowRefs<'a>],
     counts: &mut Counts,
 ) -> Result<(), AllocError>
-    requires places { length places.now ≡ length records.now }
-    requires records { length records.now ≡ length block.old }
+    requires places { length places.now ≡ length block.old }
+    requires records { from + length block.old ≤ length logged.now.records }
     requires ranges { (k : ℕ) (p : Place) → k < length places.now → IsPlace (get_or places.now k p) }
     requires few { counts.old.records + length block.old < 2 ^ 63 }
-    ensures rows { OnOk result (Adds first all.old all.new (λ output here. here ≡ rows_of_each output places.now (outcomes_of records.now block.old))) }
-    ensures counts { OnOk result (AreFatesMore (map fate_of (outcomes_of records.now block.old)) counts.old counts.new) }
+    ensures rows { OnOk result (Adds first all.old all.new (λ output here. here ≡ rows_of_each output places.now (outcomes_of (records_from from (length block.old) logged.now.records) block.old))) }
+    ensures counts { OnOk result (AreFatesMore (map fate_of (outcomes_of (records_from from (length block.old) logged.now.records) block.old)) counts.old counts.new) }
 {
+    let _few = logged.batch();
     for index in 0..places.len() {
         let ending = block.take(index, emitted);
-        let given = &records[index];
-        let fate = push_outcome(all, first, &places[index], given, ending, emitted)?;
+        let given = Given::new(logged, from + index);
+        let fate = push_outcome(all, first, &places[index], &given, ending, emitted)?;
         counts.add(fate)?;
     }
     Ok(())

@@ -1,5 +1,5 @@
 ghost use Rattle.std.specs.Prelude.{◌≡◌, ◌<◌, pos, ◌≤ℤ◌, ◌<ℤ◌, unsigned_abs, IfOk, option_map};
-ghost use Rattle.log_spec.specs.Logs.{timestamp_of, IsRecordsRows, FitsLog};
+ghost use Rattle.log_spec.specs.Logs.{timestamp_of, IsRecordsRows};
 ghost use Rattle.fates.specs.Fates.{AreRecordsFates};
 ghost use Rattle.fates.specs.Totals.{AreCountsWith};
 ghost use Rattle.item_rows.specs.ItemRows.{IsOrigin, Adds};
@@ -9,7 +9,7 @@ use crate::blocks::Blocks;
 use crate::origin::Origin;
 use crate::refs::RowRefs;
 use fates::Counts;
-use log_item::Program;
+use log_item::{LoggedBatch, Program};
 use std::alloc::AllocError;
 use wire_spec::{Batch, Record, TIMESTAMP_END};
 
@@ -29,12 +29,11 @@ pub(crate) fn push_records<'a>(
     blocks: &mut Blocks,
     program: Option<&'a Program>,
     origin: &'a Origin,
-    batch: &'a Batch,
+    batch: &'a LoggedBatch,
     first: usize,
     all: &mut [RowRefs<'a>],
 ) -> Result<Counts, AllocError>
-    requires fits { FitsLog batch.now }
-    requires origin { IsOrigin origin.now }
+    requires { IsOrigin origin.now }
     ensures { IfOk result (λ counts. AreCountsWith (AreRecordsFates origin.now.input origin.now.outputs (option_map (λ p. p.now) program.entry) batch.now origin.now.offset batch.now.records) counts
         × Adds first all.old all.new (λ output here. IsRecordsRows origin.now.input output origin.now.outputs (option_map (λ p. p.now) program.entry) batch.now origin.now.offset batch.now.records here)) }
 {
@@ -46,7 +45,7 @@ pub(crate) fn push_records<'a>(
         batch,
         first,
     };
-    let records = &batch.records;
+    let records = &batch.batch().records;
     let mut counts = Counts::new(alloc);
     run.push_all(origin.offset, &records.list, blocks, all, &mut counts)?;
     Ok(counts)

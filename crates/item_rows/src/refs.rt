@@ -1,49 +1,52 @@
 //! Rows whose parts stay where they are.
 
-ghost use Rattle.std.specs.Prelude.{◌≡◌, ◌≢◌, ℕ, ◌<◌, ◌++◌, ◌∷◌, [], length, get_or, slice_get, Some, IfOk, OnOk};
+ghost use Rattle.std.specs.Prelude.{◌≡◌, ◌<◌, ◌++◌, ◌∷◌, [], length, get_or, slice_get, Some, IfOk, OnOk};
 ghost use Rattle.machine_spec.specs.declared.outcome.Emission.{Emission};
 ghost use Rattle.machine_spec.specs.declared.limits.TheConstants.{MAX_EMISSIONS};
 ghost use Rattle.machine_spec.specs.Meaning.{IsPlace};
 ghost use Rattle.helpers.specs.Emitted.{emission_in};
 ghost use Rattle.log_spec.specs.Logs.{row_of};
-ghost use Rattle.item_rows.specs.RowRefs.{row_with, row_in, whole, no_emission, IsWithin};
+ghost use Rattle.item_rows.specs.RowParts.{whole, no_emission, IsWithin};
+ghost use Rattle.std.specs.Arc.{arc_value};
+ghost use Rattle.item_rows.specs.RowRefs.{row_with, row_in, rows_by, AreWithin};
 
+use crate::book_row::{BookRow, Made};
+use crate::given::Given;
 use bytes::Bytes;
-use kafka_record::{share_bytes, share_headers};
 use log_item::Emitted;
-use log_spec::{Row, RowRef};
+use log_spec::RowRef;
 use machine_spec::{Emission, Place};
 use std::alloc::{AllocError, Global};
 use std::marker::Model;
-use std::mem;
-use wire_spec::{Headers, Record};
+use std::sync::Arc;
+use wire_spec::Headers;
 
 /// A row but for its parts.
 #[derive(Drop)]
-struct Slot<'a> {
-    input: u32,
-    number: u32,
-    offset: u64,
-    timestamp: u64,
+pub(crate) struct Slot<'a> {
+    pub(crate) input: u32,
+    pub(crate) number: u32,
+    pub(crate) offset: u64,
+    pub(crate) timestamp: u64,
     // The record that the row came from.
-    given: &'a Record,
+    pub(crate) given: Given<'a>,
     // Which of the made records has the parts; none where the given record has them.
-    made: Option<usize>,
+    pub(crate) made: Option<usize>,
 }
 
 /// A row but for its parts, which a made record has or the given one.
-fn slot_for<'a>(place: &Place, number: usize, given: &'a Record, made: Option<usize>) -> Slot<'a>
+fn slot_for<'a>(place: &Place, number: usize, given: &Given<'a>, made: Option<usize>) -> Slot<'a>
     requires place { IsPlace place.now }
     requires few { number < MAX_EMISSIONS }
     ensures row { (e : Emission) → row_with result e ≡ row_of place.now number e }
-    ensures parts { (result.given.now ≡ given.now) × (result.made ≡ made) }
+    ensures parts { (result.given ≡ given.now) × (result.made ≡ made) }
 {
     Slot {
         input: place.partition as u32,
         number: number as u32,
         offset: place.offset,
         timestamp: place.timestamp,
-        given,
+        given: given.again(),
         made,
     }
 }
@@ -84,9 +87,9 @@ fn made_row<'r>(made: &'r [Emission], slot: &Slot, number: usize) -> RowRef<'r>
 /// The row of a slot whose parts are the given record's.
 #[inline(always)]
 fn given_row<'r>(slot: &'r Slot) -> RowRef<'r>
-    ensures { result ≡ row_with slot.now (whole slot.now.given.now) }
+    ensures { result ≡ row_with slot.now (whole slot.now.given) }
 {
-    let given = slot.given;
+    let given = slot.given.record();
     slot.with_parts(&given.key, &given.value, &given.headers)
 }
 
@@ -112,76 +115,16 @@ fn make_room(made: &mut Vec<Emission>, rows: usize) -> Result<(), AllocError>
     Ok(())
 }
 
-/// The row of a slot as a value with another owner of the given record's parts.
-fn share_given(alloc: Global, slot: &Slot) -> Result<Row, AllocError>
-    ensures { IfOk result (λ row. row ≡ row_with slot.now (whole slot.now.given.now)) }
+/// The rows of slots as books have them, which are owners of the made records.
+fn book_rows(alloc: Global, slots: &[Slot], made: &Arc<Made>) -> Result<Vec<BookRow>, AllocError>
+    requires { AreWithin (length (arc_value made.now)) slots.now }
+    ensures { IfOk result (λ rows. rows.items ≡ rows_by (arc_value made.now) slots.now) }
 {
-    let given = slot.given;
-    Ok(Row {
-        input: slot.input,
-        number: slot.number,
-        offset: slot.offset,
-        timestamp: slot.timestamp,
-        key: share_bytes(&given.key)?,
-        value: share_bytes(&given.value)?,
-        headers: share_headers(alloc, &given.headers)?,
-    })
-}
-
-/// The row of a slot as a value with these parts.
-fn row_with_parts(slot: &Slot, parts: Emission) -> Row
-    ensures { result ≡ row_with slot.now parts }
-{
-    let Emission {
-        out: _,
-        key,
-        value,
-        headers,
-    } = parts;
-    Row {
-        input: slot.input,
-        number: slot.number,
-        offset: slot.offset,
-        timestamp: slot.timestamp,
-        key,
-        value,
-        headers,
+    let mut rows = Vec::with_capacity(alloc, slots.len())?;
+    for slot in slots {
+        rows.push(BookRow::of(slot, made)?)?;
     }
-}
-
-/// What stays of a made record whose parts are taken.
-fn nothing(alloc: Global) -> Emission {
-    Emission {
-        out: 0,
-        key: None,
-        value: None,
-        headers: Headers {
-            list: Vec::new(alloc),
-        },
-    }
-}
-
-/// A made record, of which nothing is left in the list.
-fn take_made(alloc: Global, made: &mut [Emission], number: usize) -> Emission
-    requires { number < length made.old }
-    ensures taken { result ≡ get_or made.old number no_emission }
-    ensures others { (other : ℕ) → other ≢ number → get_or made.new other no_emission ≡ get_or made.old other no_emission }
-    ensures long { length made.new ≡ length made.old }
-{
-    mem::replace(&mut made[number], nothing(alloc))
-}
-
-/// The row of a slot as a value. A made record's parts are taken.
-fn take_row(alloc: Global, slot: &Slot, made: &mut [Emission]) -> Result<Row, AllocError>
-    requires { IsWithin (length made.old) slot.now.made }
-    ensures row { IfOk result (λ row. row ≡ row_in made.old slot.now) }
-    ensures others { OnOk result ((other : ℕ) → slot.now.made ≢ Some other → get_or made.new other no_emission ≡ get_or made.old other no_emission) }
-    ensures long { OnOk result (length made.new ≡ length made.old) }
-{
-    match slot.made {
-        None => share_given(alloc, slot),
-        Some(number) => Ok(row_with_parts(slot, take_made(alloc, made, number))),
-    }
+    Ok(rows)
 }
 
 /// The rows of an item in one output partition. A row of a record as it is has that record's parts; the
@@ -196,13 +139,13 @@ pub struct RowRefs<'a> {
 impl<'a> Model for RowRefs<'a> {
     ghost use Rattle.std.specs.Prelude.{List, length};
     ghost use Rattle.log_spec.specs.declared.row.Row.{Row};
-    ghost use Rattle.item_rows.specs.RowRefs.{rows_by, AreInOrder};
+    ghost use Rattle.item_rows.specs.RowRefs.{rows_by, AreWithin};
 
     ghost Value = { List Row };
 
     ghost view = { λ r. rows_by r.made.items r.slots.items };
 
-    ghost invariant = { λ r. AreInOrder 0 r.slots.items (length r.made.items) };
+    ghost invariant = { λ r. AreWithin (length r.made.items) r.slots.items };
 }
 
 impl<'a> RowRefs<'a> {
@@ -222,7 +165,7 @@ impl<'a> RowRefs<'a> {
         &mut self,
         place: &Place,
         number: usize,
-        given: &'a Record,
+        given: &Given<'a>,
         emitted: Emitted,
     ) -> Result<(), AllocError>
         requires place { IsPlace place.now }
@@ -240,7 +183,7 @@ impl<'a> RowRefs<'a> {
         &mut self,
         place: &Place,
         number: usize,
-        given: &'a Record,
+        given: &Given<'a>,
     ) -> Result<(), AllocError>
         requires place { IsPlace place.now }
         requires few { number < MAX_EMISSIONS }
@@ -255,7 +198,7 @@ impl<'a> RowRefs<'a> {
         &mut self,
         place: &Place,
         number: usize,
-        given: &'a Record,
+        given: &Given<'a>,
         emission: Emission,
     ) -> Result<(), AllocError>
         requires place { IsPlace place.now }
@@ -286,17 +229,15 @@ impl<'a> RowRefs<'a> {
         row_of_slot(&self.made, slot)
     }
 
-    /// The rows as values. Those of records as they are become other owners of their parts. It fails only
-    /// where memory runs out.
-    pub(crate) fn into_rows(self, alloc: Global) -> Result<Vec<Row>, AllocError>
+    /// The rows as books have them. They own what has their parts. It fails only where memory runs out.
+    pub(crate) fn into_book_rows(self, alloc: Global) -> Result<Vec<BookRow>, AllocError>
         ensures { IfOk result (λ rows. rows.items ≡ self.entry) }
     {
-        let RowRefs { slots, mut made } = self;
-        let mut rows = Vec::with_capacity(alloc, slots.len())?;
-        for index in 0..slots.len() {
-            let row = take_row(alloc, &slots[index], &mut made)?;
-            rows.push(row)?;
+        let RowRefs { slots, made } = self;
+        if slots.is_empty() {
+            return Ok(Vec::new(alloc));
         }
-        Ok(rows)
+        let made = Arc::new(alloc, Made { list: made })?;
+        book_rows(alloc, slots.as_slice(), &made)
     }
 }

@@ -2,9 +2,9 @@ ghost use Rattle.std.specs.Prelude.{◌≡◌, ◌<◌, ◌++◌, ◌∷◌, [],
 ghost use Rattle.std.specs.Arc.{arc_value};
 ghost use Rattle.item_rows.specs.ItemRows.{AreEmpty, item_yield};
 
+use crate::book_row::BookRow;
 use crate::refs::RowRefs;
 use fates::Counts;
-use log_spec::Row;
 use std::alloc::{AllocError, Global};
 use std::marker::Model;
 use std::mem;
@@ -13,7 +13,7 @@ use std::sync::Arc;
 /// Rows in one output partition. Contracts see the list of them.
 #[derive(Drop)]
 struct OutputRows {
-    list: Vec<Row>,
+    list: Vec<BookRow>,
 }
 
 impl Model for OutputRows {
@@ -36,14 +36,14 @@ impl OutputRows {
     }
 
     /// The rows.
-    fn as_slice(&self) -> &[Row]
+    fn as_slice(&self) -> &[BookRow]
         ensures { result.now ≡ self.now }
     {
         self.list.as_slice()
     }
 
     /// The rows, by value.
-    fn into_vec(self) -> Vec<Row>
+    fn into_vec(self) -> Vec<BookRow>
         ensures { result.items ≡ self }
     {
         let OutputRows { list } = self;
@@ -68,13 +68,13 @@ pub(crate) fn empty<'a>(
     Ok(all)
 }
 
-/// The rows of each output partition as values.
+/// The rows of each output partition as books have them.
 fn rows_of_each(alloc: Global, mut outputs: Vec<RowRefs>) -> Result<Vec<OutputRows>, AllocError>
     ensures { IfOk result (λ made. made.items ≡ outputs.entry.items) }
 {
     let mut made = Vec::with_capacity(alloc, outputs.len())?;
     for rows in outputs.drain(..) {
-        let list = rows.into_rows(alloc)?;
+        let list = rows.into_book_rows(alloc)?;
         made.push(OutputRows { list })?;
     }
     Ok(made)
@@ -126,8 +126,8 @@ impl<'a> ItemRefs<'a> {
         &self.counts
     }
 
-    /// The rows as values, other owners of their parts. It fails only where memory runs out.
-    pub(crate) fn into_rows(self, alloc: Global) -> Result<ItemRows, AllocError>
+    /// The rows as books have them. It fails only where memory runs out.
+    pub(crate) fn into_book_rows(self, alloc: Global) -> Result<ItemRows, AllocError>
         ensures { IfOk result (λ made. made ≡ self.entry) }
     {
         let ItemRefs { outputs, counts } = self;
@@ -165,7 +165,7 @@ impl ItemRows {
     }
 
     /// The item's rows in an output partition.
-    pub fn rows(&self, output: usize) -> &[Row]
+    pub fn rows(&self, output: usize) -> &[BookRow]
         requires { output < length self.now.rows }
         ensures { slice_get self.now.rows output ≡ Some result.now }
     {
@@ -180,7 +180,7 @@ impl ItemRows {
     }
 
     /// The item's rows in an output partition, by value. None are left there.
-    pub fn take(&mut self, alloc: Global, output: usize) -> Vec<Row>
+    pub fn take(&mut self, alloc: Global, output: usize) -> Vec<BookRow>
         requires { output < length self.old.rows }
         ensures rows { slice_get self.old.rows output ≡ Some result.items }
         ensures left { self.new.rows ≡ slice_set self.old.rows output [] }

@@ -19,4 +19,4 @@ pub use crate::laws::follows_core;
 pub use crate::probes::Probes;
 pub use crate::room::Room;
 pub use crate::rows::Rows;
-pub use crate::sharing::share_row;
+pub use item_rows::BookRow;

@@ -6,8 +6,7 @@ ghost use Rattle.out_book.specs.Books.{rows_from};
 ghost use Rattle.report.specs.Holdings.{HoldsOf, IsOutput};
 
 use fates::Counts;
-use log_spec::Row;
-use out_book::{Book, Rows, share_row};
+use out_book::{Book, BookRow, Rows};
 use part_log::{Names, Trail};
 use std::alloc::{AllocError, Global};
 use std::marker::Model;
@@ -20,7 +19,7 @@ use std::sync::Arc;
 pub struct Holding<Id: Names> {
     output: usize,
     done: Trail<Id>,
-    rows: Vec<Row>,
+    rows: Vec<BookRow>,
     counts: Arc<Counts>,
 }
 
@@ -75,7 +74,7 @@ impl<Id: Names> Holding<Id> {
     }
 
     /// The rows of these items.
-    pub fn rows(&self) -> &[Row]
+    pub fn rows(&self) -> &[BookRow]
         ensures rows { result.now ≡ self.now.rows }
         ensures are { IsRowsOf self.now.done.partition self.now.output Id.outputs self.now.done.items (length self.now.done.items) result.now }
     {
@@ -134,13 +133,13 @@ impl<Id: Names> Holdings<Id> {
 }
 
 /// A list of rows, which share their bytes with the given ones.
-fn shared(alloc: Global, rows: Rows<'_>) -> Result<Vec<Row>, AllocError>
+fn shared(alloc: Global, rows: Rows<'_>) -> Result<Vec<BookRow>, AllocError>
     ensures { IfOk result (λ shared. shared.items ≡ rows.entry) }
 {
     let mut left = rows;
     let mut list = Vec::new(alloc);
     while let Some(row) = left.next() {
-        list.push(share_row(alloc, row)?)?;
+        list.push(row.share()?)?;
     }
     Ok(list)
 }

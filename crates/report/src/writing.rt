@@ -123,7 +123,7 @@ fn put_rows<Id: Names, W: Write>(
     let mut text = String::new(alloc);
     for row in holding.rows() {
         text.clear();
-        push_row(&mut text, holding.output(), row)?;
+        push_row(&mut text, holding.output(), &row.by_ref())?;
         put(text.as_str(), out)?;
     }
     Ok(())

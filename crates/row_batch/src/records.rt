@@ -120,7 +120,7 @@ pub fn put_most<L: RowList>(
     let mut latest = 0;
     for count in 0..most {
         let row = rows.row(first + count);
-        let put = put_if_room(base, &row.by_ref(), count, out)?;
+        let put = put_if_room(base, &row, count, out)?;
         if !put {
             return Ok(Extent { count, latest });
         }

@@ -9,8 +9,6 @@ use crate::front::{blank, with_front};
 use crate::list::RowList;
 use crate::records::{likely_size, put_most};
 use batch::{MAX_RECORDS, begin, finish};
-use log_spec::Row;
-use segments::Segments;
 use std::alloc::{AllocError, Global};
 use wire_spec::{Batch, Records, TIMESTAMP_END};
 
@@ -58,8 +56,9 @@ pub fn first_batch<L: RowList>(
     requires fit { All RowFits (take most (drop first (L.rows rows.now))) }
     ensures { IfOk result (λ made. IsFirst place (take most (drop first (L.rows rows.now))) made.count made.bytes.items) }
 {
-    let base = rows.row(first).timestamp;
-    let mut bytes = blank(alloc, likely_size(&rows.row(first).by_ref(), most))?;
+    let earliest = rows.row(first);
+    let base = earliest.timestamp;
+    let mut bytes = blank(alloc, likely_size(&earliest, most))?;
     let put = put_most(base, rows, first, most, &mut bytes)?;
     let size = bytes.len();
     let head = head(alloc, place, base);
@@ -76,14 +75,14 @@ pub fn first_batch<L: RowList>(
 /// where `max` is 0. The batch's base offset is the place, and its base timestamp the first row's.
 /// The rows' bytes are copied as `first_batch` does, and the time does not depend on the rows before the
 /// place. It fails only where memory runs out.
-pub fn row_batch(
+pub fn row_batch<L: RowList>(
     alloc: Global,
-    rows: &Segments<Row>,
+    rows: &L,
     place: usize,
     max: usize,
 ) -> Result<Option<Vec<u8>>, AllocError>
-    requires { All RowFits rows.now.items }
-    ensures { IfOk result (λ found. IsFetched rows.now.items place max (option_map (λ bytes. bytes.items) found)) }
+    requires { All RowFits (L.rows rows.now) }
+    ensures { IfOk result (λ found. IsFetched (L.rows rows.now) place max (option_map (λ bytes. bytes.items) found)) }
 {
     if place >= rows.len() || max == 0 {
         return Ok(None);

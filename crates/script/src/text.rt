@@ -4,7 +4,7 @@ ghost use Rattle.std.specs.Prelude.{◌≡◌, ◌<◌, ◌++◌, IfOk, OnOk, op
 ghost use Rattle.script.specs.Texts.{load_line, deploy_line, append_line, close_line, fetch_line, row_line, bytes_text, found_text, hex_text, byte_text, hex_glyph};
 
 use bytes::Bytes;
-use log_spec::Row;
+use log_spec::RowRef;
 use std::alloc::{AllocError, Global};
 
 /// The line that reports a load. It fails only where memory runs out.
@@ -111,17 +111,18 @@ pub fn fetch_text(alloc: Global, found: &Option<Vec<u8>>) -> Result<String, Allo
 
 /// Appends the line of a row of an output partition to a text. It fails only where memory runs out;
 /// the text may then end within the line.
-pub fn push_row(text: &mut String, output: usize, row: &Row) -> Result<(), AllocError>
+pub fn push_row(text: &mut String, output: usize, row: &RowRef) -> Result<(), AllocError>
     ensures { OnOk result (string_bytes text.new ≡ string_bytes text.old ++ row_line output row.now) }
 {
     let input = row.input;
     let offset = row.offset;
     let number = row.number;
     let timestamp = row.timestamp;
-    let headers = row.headers.list.len();
+    let headers = row.headers;
+    let headers = headers.list.len();
     write!(text, "row {output} {input} {offset} {number} {timestamp} ")?;
-    push_bytes(text, &row.key)?;
+    push_bytes(text, row.key)?;
     text.push_str(" ")?;
-    push_bytes(text, &row.value)?;
+    push_bytes(text, row.value)?;
     write!(text, " {headers}\n")
 }

@@ -8,7 +8,7 @@ use crate::numbers::Numbers;
 use crate::threads::{CELLS, DEPLOYERS, INPUTS, OUTPUTS};
 use broker::Broker;
 use fixtures::raw_name_of;
-use log_spec::{Event, Refusal, Row};
+use log_spec::{Event, Refusal, Row, RowRef};
 use machine_spec::Table;
 use out_book::Book;
 use part_log::{Item, Names, Receipt, Trail};
@@ -217,14 +217,14 @@ fn has<Id: Names>(book: &Book<Id>, input: usize, rows: &[Row]) -> bool {
     let mut rest = rows;
     for row in book.rows_from(input) {
         match rest.split_first() {
-            Some((first, others)) if is_same(row, first) => rest = others,
+            Some((first, others)) if is_same(&row.by_ref(), &first.by_ref()) => rest = others,
             _ => return false,
         }
     }
     rest.is_empty()
 }
 
-fn is_same(row: &Row, other: &Row) -> bool {
+fn is_same(row: &RowRef, other: &RowRef) -> bool {
     row.input == other.input
         && row.offset == other.offset
         && row.number == other.number

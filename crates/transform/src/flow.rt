@@ -136,7 +136,7 @@ impl<W: Write> Transform<W> {
             offset: self.offset,
             outputs: self.outlets.len(),
         };
-        let item = Item::Batch(LoggedBatch::new(batch));
+        let item = Item::Batch(LoggedBatch::new(self.blocks.alloc(), batch)?);
         let rows = item_refs_in(&mut self.blocks, &origin, Some(program), &item)?;
         self.counts.add_all(rows.counts())?;
         self.offset += item.records();

@@ -6,7 +6,7 @@ ghost use Rattle.worker.specs.Walks.{last};
 ghost use Rattle.worker.specs.Processed.{IsOfLast, output_share};
 
 use fates::Counts;
-use log_spec::Row;
+use item_rows::BookRow;
 use part_log::{Names, Trail};
 use std::marker::Model;
 use std::sync::Arc;
@@ -17,7 +17,7 @@ use std::sync::Arc;
 pub struct Delivery<Id: Names> {
     trail: Trail<Id>,
     output: usize,
-    rows: Vec<Row>,
+    rows: Vec<BookRow>,
     counts: Arc<Counts>,
 }
 
@@ -37,7 +37,7 @@ impl<Id: Names> Delivery<Id> {
     pub(crate) fn new(
         trail: Trail<Id>,
         output: usize,
-        rows: Vec<Row>,
+        rows: Vec<BookRow>,
         counts: Arc<Counts>,
     ) -> Delivery<Id>
         requires { IsOfLast Id.outputs (output_share trail output rows.items (arc_value counts)) }
@@ -82,7 +82,7 @@ impl<Id: Names> Delivery<Id> {
     }
 
     /// The rows, by value, and what became of the item's records.
-    pub fn into_parts(self) -> (Vec<Row>, Arc<Counts>)
+    pub fn into_parts(self) -> (Vec<BookRow>, Arc<Counts>)
         ensures rows { result.0.items ≡ self.rows }
         ensures are { IsRowsAt self.walk.partition self.output Id.outputs self.walk.items (last self.walk.items) result.0.items }
         ensures fit { All RowFits result.0.items }

@@ -7,8 +7,7 @@ ghost use Rattle.worker.specs.Processed.{processed_log, AreInTurn};
 
 use crate::delivery::Delivery;
 use fates::Counts;
-use item_rows::ItemRows;
-use log_spec::Row;
+use item_rows::{BookRow, ItemRows};
 use part_log::{Names, Trail};
 use std::alloc::{AllocError, Global};
 use std::marker::Model;
@@ -66,7 +65,7 @@ impl<Id: Names> Results<Id> {
     }
 
     /// The item's rows in an output partition.
-    pub fn rows(&self, output: usize) -> &[Row]
+    pub fn rows(&self, output: usize) -> &[BookRow]
         requires { output < Id.outputs }
         ensures rows { result.now ≡ rows_in self.now.rows output }
         ensures are { IsRowsAt self.now.walk.partition output Id.outputs self.now.walk.items (last self.now.walk.items) result.now }

@@ -2,8 +2,7 @@
 
 use broker::Broker;
 use broker_fixtures::is_row;
-use log_spec::Row;
-use out_book::Book;
+use out_book::{Book, BookRow};
 use part_log::Names;
 use std::sync::Wait;
 
@@ -31,11 +30,14 @@ pub(crate) fn has_first<Id: Names, C, R: Wait>(
 }
 
 /// Whether this is a row of such a value.
-fn is_seen(row: &Row, want: &Seen) -> bool {
+fn is_seen(row: &BookRow, want: &Seen) -> bool {
     let (offset, number, value) = *want;
     match value {
         Some(value) => is_row(row, offset, number, value),
-        None => row.offset == offset && row.number as usize == number && row.value.is_none(),
+        None => {
+            let row = row.by_ref();
+            row.offset == offset && row.number as usize == number && row.value.is_none()
+        }
     }
 }
 

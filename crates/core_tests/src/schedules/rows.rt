@@ -1,6 +1,6 @@
 //! What rows are.
 
-use log_spec::Row;
+use log_spec::{Row, RowRef};
 use out_book::Book;
 use part_log::Names;
 
@@ -30,7 +30,7 @@ pub(crate) fn is_row(row: &Row, want: &Seen) -> bool {
         && holds(row, value)
 }
 
-fn is_same(row: &Row, other: &Row) -> bool {
+fn is_same(row: &RowRef, other: &RowRef) -> bool {
     row.input == other.input
         && row.offset == other.offset
         && row.number == other.number
@@ -46,7 +46,7 @@ pub(crate) fn has<Id: Names>(book: &Book<Id>, input: usize, rows: &[Row]) -> boo
     let mut rest = rows;
     for row in book.rows_from(input) {
         match rest.split_first() {
-            Some((first, others)) if is_same(row, first) => rest = others,
+            Some((first, others)) if is_same(&row.by_ref(), &first.by_ref()) => rest = others,
             _ => return false,
         }
     }

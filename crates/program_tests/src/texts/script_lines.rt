@@ -255,7 +255,7 @@ fn row_of(alloc: Global) -> Row {
 /// The text of a row, behind a text.
 fn row_text(alloc: Global, before: &str, row: &Row) -> Result<String, AllocError> {
     let mut text = String::from_str(alloc, before)?;
-    push_row(&mut text, 3, row)?;
+    push_row(&mut text, 3, &row.by_ref())?;
     Ok(text)
 }
 

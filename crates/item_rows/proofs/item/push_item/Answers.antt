@@ -1,6 +1,4 @@
-use Rattle.std.proofs.Common.{sym, subst, ap, option_map}
-use Rattle.std.specs.Prelude.{IfOk}
-use Rattle.wire_spec.specs.declared.record.Batch.{Batch}
+use Rattle.std.proofs.Common.{sym, ap, option_map}
 use Rattle.log_spec.specs.Logs.{IsRecordsRows, Records}
 use Rattle.log_item.specs.Items.{item_view}
 use Rattle.fates.specs.Fates.{AreRecordsFates}
@@ -14,16 +12,12 @@ returns-in-Batch c =
     let first = c.args.first in let origin = c.args.origin.now in let batch = c.in-Batch.logged in let program =
     option_map (λ p. p.now) c.args.program in let item = item_view c.args.item.now in
     let one = c.args.all.now in let two = c.push_records.new.all in
-    let is = subst (λ (b : Batch). IfOk c.push_records.result (λ (counts : Totals).
-    AreCountsWith (AreRecordsFates origin.input origin.outputs program b origin.offset b.records) counts
-    × Adds first one two (λ q here. IsRecordsRows origin.input q origin.outputs program b origin.offset b.records
-    here))) c.batch.ensures.batch c.push_records.ensures in
     if_ok c.push_records.result (λ (counts : Totals).
     AreCountsWith (AreRecordsFates origin.input origin.outputs program batch origin.offset batch.records) counts
     × Adds first one two (λ q here. IsRecordsRows origin.input q origin.outputs program batch origin.offset
     batch.records here))
     (λ (counts : Totals). AreItemCounts origin.input origin.outputs program origin.offset item counts
-    × Adds first one two (GivesRows origin program item)) is
+    × Adds first one two (GivesRows origin program item)) c.push_records.ensures
     (λ counts made. item_made first origin program (Records batch) item one two counts
     (sym (ap item_view c.in-Batch.is))
-    (batch_made first origin program batch one two counts c.batch.ensures.fits made))
+    (batch_made first origin program batch one two counts c.batch-fits.ensures.fits made))

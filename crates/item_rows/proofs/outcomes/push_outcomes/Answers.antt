@@ -10,24 +10,29 @@ use Rattle.fates.specs.declared.fate.Fate.{Fate}
 use Rattle.fates.specs.Fates.{fate_of}
 use Rattle.fates.specs.Totals.{AreCounts}
 use Rattle.item_rows.specs.ItemRows.{Adds}
-use Rattle.item_rows.specs.Blocks.{rows_of_each, AreFatesMore}
+use Rattle.item_rows.specs.Blocks.{records_from, rows_of_each, AreFatesMore}
 use Rattle.item_rows.proofs.RowLaws.{take_all}
 use Rattle.item_rows.proofs.BlockLaws.{one_fate, fates_then, outcome_more, outcomes_long, outcome_here}
+use Rattle.item_rows.proofs.BlockLaws.{between_at, between_long}
 use Rattle.item_rows.proofs.outcomes.push_outcomes.Goals as goal
 
 abbrev nowhere : Place
 nowhere = record { partition = 0; offset = 0; timestamp = 0; outputs = 0 }
 
 pub take-ending-requires : goal.take-ending-requires
-take-ending-requires c =
-    omega (arith, c.loop-index.invariant.long, c.requires.places, c.requires.records, c.loop-index-test.true)
+take-ending-requires c = omega (arith, c.loop-index.invariant.long, c.requires.places, c.loop-index-test.true)
+
+pub new-given-requires : goal.new-given-requires
+new-given-requires c = omega (arith, c.requires.places, c.requires.records, c.loop-index-test.true)
 
 pub push_outcome-requires : goal.push_outcome-requires
 push_outcome-requires c = c.requires.ranges c.loop-index.index nowhere c.loop-index-test.true
 
 pub add-requires : goal.add-requires
 add-requires c =
-    let outcomes = outcomes_of c.args.records.now c.args.block.now in let k = c.loop-index.index in
+    let block = c.args.block.now in let records = records_from c.args.from (length block) c.args.logged.now.records in
+    let outcomes = outcomes_of records block in let k = c.loop-index.index in
+    let long = between_long c.args.logged.now.records c.args.from (length block) c.requires.records in
     omega (
       arith,
       c.loop-index.invariant.counts.records,
@@ -35,28 +40,27 @@ add-requires c =
       length-take k outcomes,
       c.loop-index-test.true,
       c.requires.places,
-      outcomes_long c.args.records.now c.args.block.now c.requires.records,
-      c.requires.records,
+      outcomes_long records block long,
+      long,
       c.requires.few,
     )
 
 pub loop-index-preserved : goal.loop-index-preserved
 loop-index-preserved c =
-    let first = c.args.first in let places = c.args.places.now in let records = c.args.records.now in let outcomes = outcomes_of records c.args.block.now in let k =
-    c.loop-index.index in let inv = c.loop-index.invariant in let done = take k outcomes in let ended : Ended = record {
+    let first = c.args.first in let places = c.args.places.now in let block = c.args.block.now in let all_records =
+    c.args.logged.now.records in let records = records_from c.args.from (length block) all_records in
+    let outcomes = outcomes_of records block in let k = c.loop-index.index in let inv = c.loop-index.invariant in let done = take k outcomes in let ended : Ended = record {
       ending = c.take-ending.result;
       emitted = c.take-ending.new.emitted;
-    } in let given = c.index-records-index.result in
+    } in let given = c.new-given.result in
     let outcome = outcome_in given ended in let place = get_or places k nowhere in
     let lt : k < length places = c.loop-index-test.true in
-    let within : k < length outcomes = omega (
-      arith,
-      lt,
-      c.requires.places,
-      outcomes_long records c.args.block.now c.requires.records,
-    ) in
-    let here : slice_get outcomes k ≡ Some outcome = outcome_here records c.args.block.now k given ended
-    (omega (arith, lt, c.requires.places)) (omega (arith, lt, c.requires.places, c.requires.records)) c.index-records-index.is (sym (inv.left k (omega arith)) ∙ c.take-ending.ensures.ended) in
+    let long = between_long all_records c.args.from (length block) c.requires.records in
+    let within : k < length outcomes = omega (arith, lt, c.requires.places, long, outcomes_long records block long) in
+    let at = between_at all_records c.args.from (length block) k given (omega (arith, lt, c.requires.places))
+    c.requires.records c.new-given.ensures in
+    let here : slice_get outcomes k ≡ Some outcome = outcome_here records block k given ended
+    (omega (arith, lt, c.requires.places, long)) (omega (arith, lt, c.requires.places)) at (sym (inv.left k (omega arith)) ∙ c.take-ending.ensures.ended) in
     let longer : take (k + 1) outcomes ≡ done ++ outcome ∷ [] = take_more outcomes k outcome within
     ∙ ap (λ (o : Outcome). done ++ o ∷ []) (get_or_from_slice_get outcomes k outcome outcome here) in
     let one : AreFatesMore (fate_of outcome ∷ []) c.loop-index.counts c.add.new.self =
@@ -80,13 +84,16 @@ loop-index-preserved c =
 
 pub returns : goal.returns
 returns c =
-    let outcomes = outcomes_of c.args.records.now c.args.block.now in
+    let block = c.args.block.now in let records = records_from c.args.from (length block) c.args.logged.now.records in
+    let outcomes = outcomes_of records block in
+    let long = between_long c.args.logged.now.records c.args.from (length block) c.requires.records in
     let whole : take c.loop-index.index outcomes ≡ outcomes =
     take_all c.loop-index.index outcomes (omega (
       arith,
       c.loop-index-test.false,
       c.requires.places,
-      outcomes_long c.args.records.now c.args.block.now c.requires.records,
+      long,
+      outcomes_long records block long,
     )) in
     record {
       rows = subst (λ (os : List Outcome). Adds c.args.first c.args.all.now c.loop-index.all

@@ -1,4 +1,4 @@
-use Rattle.std.proofs.Common.{◌≡◌, ℕ, ◌+◌, ◌<◌, pos, Bool, true, false, length, sym, subst, arith, rules}
+use Rattle.std.proofs.Common.{◌≡◌, ℕ, ◌+◌, ◌<◌, pos, Bool, true, false, length, max, sym, ap, subst, ◌∙◌, arith, rules}
 use Rattle.wire_spec.specs.RecordSpelling.{record_spelling}
 use Rattle.log_spec.specs.declared.row.Row.{Row}
 use Rattle.row_batch.specs.RowBatches.{record_of}
@@ -12,7 +12,7 @@ returns-then-not-put g c =
     let l = c.loop-count in
     let all = g.L.RowList.rows c.args.rows.now in
     let rows = part all c.args.first c.args.most in
-    let row = c.row-row.result.now in
+    let row = c.row-row.result in
     let new = c.put_if_room.new.out.items in
     let long = part_length all c.args.first c.args.most c.requires.there in
     let lt : l.count < length rows = omega (arith, long, c.loop-count-test.true) in
@@ -20,15 +20,14 @@ returns-then-not-put g c =
     let no : c.in_ok-put.put ≡ false = search rules in
     no_more_put c.args.base rows l.count l.latest c.args.out.now.items l.out.items new row l.invariant lt is
     (subst (λ (p : Bool). PutsIfRoom p l.out.items new (record_spelling (pos l.count) (record_of c.args.base row))) no
-    (subst (λ (r : Row). PutsIfRoom c.in_ok-put.put l.out.items new
-    (record_spelling (pos l.count) (record_of c.args.base r))) c.by_ref.ensures c.in_ok-put.ensures.ok))
+    c.in_ok-put.ensures.ok)
 
 pub loop-count-preserved : goal.loop-count-preserved
 loop-count-preserved g c =
     let l = c.loop-count in
     let all = g.L.RowList.rows c.args.rows.now in
     let rows = part all c.args.first c.args.most in
-    let row = c.row-row.result.now in
+    let row = c.row-row.result in
     let new = c.put_if_room.new.out.items in
     let long = part_length all c.args.first c.args.most c.requires.there in
     let lt : l.count < length rows = omega (arith, long, c.loop-count-test.true) in
@@ -38,6 +37,7 @@ loop-count-preserved g c =
     let yes : c.in_ok-put.put ≡ true = search rules in
     let next = one_more_put c.args.base rows l.count l.latest c.args.out.now.items l.out.items new row l.invariant lt is
     (subst (λ (p : Bool). PutsIfRoom p l.out.items new (record_spelling (pos l.count) (record_of c.args.base row))) yes
-    (subst (λ (r : Row). PutsIfRoom c.in_ok-put.put l.out.items new
-    (record_spelling (pos l.count) (record_of c.args.base r))) c.by_ref.ensures c.in_ok-put.ensures.ok)) fits.time in
-    subst (λ (n : ℕ). SoFar c.args.base rows (l.count + 1) n c.args.out.now.items new) (sym c.max-latest.ensures) next
+    c.in_ok-put.ensures.ok) fits.time in
+    let time : c.row.inside.timestamp ≡ row.timestamp = ap (λ (r : Row). r.timestamp) c.row.view_is in
+    subst (λ (n : ℕ). SoFar c.args.base rows (l.count + 1) n c.args.out.now.items new)
+    (sym (c.max-latest.ensures ∙ ap (max l.latest) time)) next

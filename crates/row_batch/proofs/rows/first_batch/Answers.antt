@@ -5,6 +5,7 @@ use Rattle.std.proofs.lemmas.Int.{to_z_pos}
 use Rattle.wire_spec.specs.declared.{limits.TheConstants.MAX_RECORDS, record.Batch.Batch}
 use Rattle.wire_spec.specs.BatchSpelling.{records_spelling}
 use Rattle.batch.specs.Heads.{front_of, header_of}
+use Rattle.log_spec.specs.declared.row.Row.{Row}
 use Rattle.row_batch.specs.RowBatches.{record_of, first_timestamp, head_of}
 use Rattle.row_batch.specs.FirstRows.{IsMeasured, HasPut}
 use Rattle.row_batch.proofs.Places.{part, part_length, part_first}
@@ -18,7 +19,8 @@ put_most-requires-clause-base g c =
     let rows = part all c.args.first c.args.most in
     omega (
       arith,
-      part_first all c.args.first c.args.most c.row.result.now c.requires.there c.requires.some c.row.ensures,
+      ap (λ (r : Row). r.timestamp) c.earliest.view_is,
+      part_first all c.args.first c.args.most c.row-earliest.result c.requires.there c.requires.some c.row-earliest.ensures,
       first_fits rows c.requires.fit,
     )
 
@@ -28,7 +30,8 @@ head-head-requires-clause-base g c =
     let rows = part all c.args.first c.args.most in
     omega (
       arith,
-      part_first all c.args.first c.args.most c.row.result.now c.requires.there c.requires.some c.row.ensures,
+      ap (λ (r : Row). r.timestamp) c.earliest.view_is,
+      part_first all c.args.first c.args.most c.row-earliest.result c.requires.there c.requires.some c.row-earliest.ensures,
       first_fits rows c.requires.fit,
     )
 
@@ -43,7 +46,8 @@ begin-requires-clause-some g c =
     let all = g.L.RowList.rows c.args.rows.now in
     let rows = part all c.args.first c.args.most in
     let made = c.in_ok-put.put in
-    let same = part_first all c.args.first c.args.most c.row.result.now c.requires.there c.requires.some c.row.ensures in
+    let same = ap (λ (r : Row). r.timestamp) c.earliest.view_is
+    ∙ part_first all c.args.first c.args.most c.row-earliest.result c.requires.there c.requires.some c.row-earliest.ensures in
     let long = part_length all c.args.first c.args.most c.requires.there in
     let size = length c.put_most.new.out.items in
     some_measured rows made.count size made.latest (omega (arith, long, c.requires.some)) c.requires.fit
@@ -70,8 +74,9 @@ returns g c =
     let size = c.len-size.result in
     let front = c.in_ok-front.front.items in
     let whole = c.with_front-whole.result.items in
-    let same : c.row.result.now.timestamp ≡ base =
-    part_first all c.args.first c.args.most c.row.result.now c.requires.there c.requires.some c.row.ensures in
+    let same : c.earliest.inside.timestamp ≡ base =
+    ap (λ (r : Row). r.timestamp) c.earliest.view_is
+    ∙ part_first all c.args.first c.args.most c.row-earliest.result c.requires.there c.requires.some c.row-earliest.ensures in
     let long = part_length all c.args.first c.args.most c.requires.there in
     let some : 0 < length rows = omega (arith, long, c.requires.some) in
     let few : length rows ≤ MAX_RECORDS = omega (arith, long, c.requires.few) in

@@ -5,11 +5,11 @@ use Rattle.row_batch.proofs.Places.{part_fits}
 use Rattle.row_batch.proofs.rows.row_batch.Goals as goal
 
 pub first_batch-requires-clause-fit : goal.first_batch-requires-clause-fit
-first_batch-requires-clause-fit c = part_fits c.args.rows.now.items c.args.place c.min-most.result c.requires
+first_batch-requires-clause-fit g c = part_fits (g.L.RowList.rows c.args.rows.now) c.args.place c.min-most.result c.requires
 
 pub returns : goal.returns
-returns c =
-    let rows = c.args.rows.now.items in
+returns g c =
+    let rows = g.L.RowList.rows c.args.rows.now in
     let place = c.args.place in
     let most = c.min-most.result in
     let made = c.in_ok-first_batch.field-0 in

@@ -1,4 +1,4 @@
-use Rattle.std.proofs.Common.{◌≡◌, ℕ, ◌<◌, ◌++◌, List, [], length, get_or, sym, ap, subst, ◌∙◌, arith, append_assoc, refl}
+use Rattle.std.proofs.Common.{◌≡◌, ℕ, ◌-◌, ◌<◌, ◌++◌, List, [], length, map, get_or, sym, ap, subst, ◌∙◌, arith, append_assoc, refl}
 use Rattle.std.proofs.lemmas.List.{length-append}
 use Rattle.wire_spec.specs.declared.record.Record.{Record}
 use Rattle.machine_spec.specs.declared.outcome.Place.{Place}
@@ -6,9 +6,10 @@ use Rattle.machine_spec.specs.Meaning.{IsPlace}
 use Rattle.exec.specs.Endings.{outcomes_of}
 use Rattle.log_item.specs.Programs.{RunsSafelyOnEach}
 use Rattle.item_rows.specs.ItemRows.{Adds}
-use Rattle.item_rows.specs.Blocks.{rows_of_each, CanRun, HaveRun}
+use Rattle.fates.specs.Fates.{fate_of}
+use Rattle.item_rows.specs.Blocks.{records_from, rows_of_each, AreFatesMore, CanRun, HaveRun}
 use Rattle.item_rows.proofs.BlockLaws.{none_run, run_then, can_run_rest, can_run_first, places_given, places_long}
-use Rattle.item_rows.proofs.BlockLaws.{meant_run, on_ok}
+use Rattle.item_rows.proofs.BlockLaws.{meant_run, on_ok, stand_between, stand_within}
 use Rattle.item_rows.proofs.batch_run.BatchRun.push_blocks.Goals as goal
 
 pub loop-rest-init : goal.loop-rest-init
@@ -29,6 +30,12 @@ run_block-requires-clause-few c =
     c.args.all.now c.loop-rest.all c.args.counts.now c.loop-rest.counts c.requires.run inv.1 inv.2 inv.3 in
     omega (arith, can.few, c.split_at.ensures.front_len, c.split_at.ensures.back_len)
 
+pub number_of-from-requires : goal.number_of-from-requires
+number_of-from-requires c =
+    let inv = c.loop-rest.invariant in let run = c.args.self.now in
+    (can_run_rest run c.args.first_offset c.loop-rest.offset c.args.records.now inv.0 c.loop-rest.rest.now
+    c.args.all.now c.loop-rest.all c.args.counts.now c.loop-rest.counts c.requires.run inv.1 inv.2 inv.3).from
+
 pub push_outcomes-requires-clause-places : goal.push_outcomes-requires-clause-places
 push_outcomes-requires-clause-places c =
     let run = c.args.self.now in
@@ -36,6 +43,23 @@ push_outcomes-requires-clause-places c =
       arith,
       ap length (c.as_slice-at.ensures.value ∙ c.in_ok-places.ensures.places),
       places_long run.origin.now.input run.origin.now.outputs run.batch.now c.loop-rest.offset c.split_at.result.0.now,
+      c.in_ok-places.ensures.long,
+    )
+
+pub push_outcomes-requires-clause-records : goal.push_outcomes-requires-clause-records
+push_outcomes-requires-clause-records c =
+    let inv = c.loop-rest.invariant in let run = c.args.self.now in let rest = c.loop-rest.rest.now in let at =
+    c.loop-rest.offset in
+    let can = can_run_rest run c.args.first_offset at c.args.records.now inv.0 rest
+    c.args.all.now c.loop-rest.all c.args.counts.now c.loop-rest.counts c.requires.run inv.1 inv.2 inv.3 in
+    omega (
+      arith,
+      stand_within run.batch.now.records (at - run.origin.now.offset) rest can.stand
+          (omega (arith, c.loop-rest-test.true)),
+      c.number_of-from.ensures,
+      c.in_ok-places.ensures.long,
+      c.split_at.ensures.front_len,
+      c.split_at.ensures.back_len,
     )
 
 pub push_outcomes-requires-clause-ranges : goal.push_outcomes-requires-clause-ranges
@@ -81,10 +105,22 @@ loop-rest-preserved c =
     let at = c.in_ok-places.ensures.places in
     let meant = subst (λ (ps : List Place). RunsSafelyOnEach program here ps outcomes) at
     c.in_ok-places.ensures.outcomes in
+    let can = can_run_rest run first c.loop-rest.offset c.args.records.now done c.loop-rest.rest.now
+    c.args.all.now old c.args.counts.now were c.requires.run inv.1 inv.2 inv.3 in
+    let stand = (can_run_first run c.loop-rest.offset here later were
+    (subst (λ (gs : List Record). CanRun run c.loop-rest.offset gs were) c.split_at.ensures.by_index.0 can)).stand in
+    let block = c.run_block.new.block in
+    let same : records_from c.number_of-from.result (length block) run.batch.now.records ≡ here =
+    ap (λ (n : ℕ). records_from n (length block) run.batch.now.records) c.number_of-from.ensures
+    ∙ stand_between run.batch.now.records (c.loop-rest.offset - run.origin.now.offset) here (length block) stand
+    c.in_ok-places.ensures.long in
     let adds = subst (λ (ps : List Place). Adds run.first old new (λ q rows. rows ≡ rows_of_each q ps outcomes))
-    (c.as_slice-at.ensures.value ∙ at) c.in_ok-push_outcomes.ensures.rows in
+    (c.as_slice-at.ensures.value ∙ at)
+    (subst (λ (gs : List Record). Adds run.first old new (λ q rows. rows ≡ rows_of_each q c.as_slice-at.result.now
+    (outcomes_of gs block))) same c.in_ok-push_outcomes.ensures.rows) in
     let made = meant_run run c.loop-rest.offset program here outcomes old new were are c.requires.program meant adds
-    c.in_ok-push_outcomes.ensures.counts in (
+    (subst (λ (gs : List Record). AreFatesMore (map fate_of (outcomes_of gs block)) were are) same
+    c.in_ok-push_outcomes.ensures.counts) in (
       done ++ here,
       append_assoc done here later
           ∙ (ap (λ (gs : List Record). done ++ gs) (sym c.split_at.ensures.by_index.0) ∙ inv.1),

@@ -1,4 +1,6 @@
-use Rattle.std.proofs.Common.{◌≡◌, Some, sym, ap, option_map}
+use Rattle.std.proofs.Common.{◌≡◌, ℕ, Some, sym, ap, subst, option_map}
+use Rattle.wire_spec.specs.declared.record.Record.{Record}
+use Rattle.machine_spec.specs.Meaning.{Means}
 use Rattle.helpers.specs.Emitted.{emissions_in}
 use Rattle.exec.specs.Endings.{outcome_with}
 use Rattle.log_spec.specs.Logs.{rows_of, IsRecordRows}
@@ -16,7 +18,9 @@ returns-in_ok-ending-in-Some c =
     let one = c.args.all.now in let two = c.push_outcome.new.all in let outcome =
     outcome_with c.in_ok-ending-in-Some.ending (emissions_in given c.run_into.new.emitted) in
     let in_force = program_in run in
-    let ran = c.in_ok-ending-in-Some.ensures.means in
+    let ran = subst (λ (g : Record). (n : ℕ) × Means program (record { given = g; place = place })
+    (outcome_with c.in_ok-ending-in-Some.ending (emissions_in g c.run_into.new.emitted)) n) c.record.ensures
+    c.in_ok-ending-in-Some.ensures.means in
     if_ok c.push_outcome.result (λ (f : Fate). (f ≡ fate_of outcome)
     × Adds first one two (λ q here. here ≡ rows_of q place outcome))
     (λ (f : Fate). IsFate in_force place given f

@@ -1,17 +1,19 @@
-use Rattle.std.proofs.Common.{List, ◌++◌, ◌∷◌, [], length, sym, ap, subst, ◌∙◌}
+use Rattle.std.proofs.Common.{List, ◌++◌, ◌∷◌, [], length, sym, ap, subst, ◌∙◌, arith}
 use Rattle.log_spec.specs.declared.row.Row.{Row}
 use Rattle.log_spec.specs.Logs.{row_of}
 use Rattle.item_rows.specs.declared.refs.Slot.{Slot}
-use Rattle.item_rows.specs.RowRefs.{whole, rows_by, AreInOrder}
-use Rattle.item_rows.proofs.RefLaws.{given_more, given_order}
+use Rattle.item_rows.specs.RowParts.{whole}
+use Rattle.item_rows.specs.RowRefs.{rows_by, AreWithin}
+use Rattle.item_rows.proofs.RefLaws.{given_more, one_within, none_made}
 use Rattle.item_rows.proofs.refs.RowRefs.push_given.Goals as goal
 
 pub invariant_of-self-2 : goal.invariant_of-self-2
 invariant_of-self-2 c =
     let inside = c.self.inside in
-    subst (λ (ss : List Slot). AreInOrder 0 ss (length inside.made.items)) (sym c.in_ok-push.ensures.items)
-    (given_order 0 inside.slots.items (length inside.made.items) c.slot_for.result c.self.invariant
-    c.slot_for.ensures.parts.1)
+    let count = length inside.made.items in
+    subst (λ (ss : List Slot). AreWithin count ss) (sym c.in_ok-push.ensures.items)
+    (one_within count count inside.slots.items c.slot_for.result (omega arith) c.self.invariant
+    (none_made count c.slot_for.result.made c.slot_for.ensures.parts.1))
 
 pub returns : goal.returns
 returns c =

@@ -4,8 +4,8 @@ use Rattle.log_spec.specs.declared.row.Row.{Row}
 use Rattle.log_spec.specs.Logs.{row_of}
 use Rattle.machine_spec.specs.declared.outcome.Emission.{Emission}
 use Rattle.item_rows.specs.declared.refs.Slot.{Slot}
-use Rattle.item_rows.specs.RowRefs.{rows_by, AreInOrder}
-use Rattle.item_rows.proofs.RefLaws.{made_more, made_order, order_longer}
+use Rattle.item_rows.specs.RowRefs.{rows_by, AreWithin}
+use Rattle.item_rows.proofs.RefLaws.{made_more, one_within, all_within, last_made}
 use Rattle.item_rows.proofs.refs.RowRefs.push_made.Goals as goal
 
 pub invariant_of-self-in_err-push-2 : goal.invariant_of-self-in_err-push-2
@@ -14,8 +14,8 @@ invariant_of-self-in_err-push-2 c =
     let more : length c.push.new.self.items ≡ end + 1 = ap length c.in_ok-push.ensures.items
     ∙ (length-append c.make_room.new.made.items (c.args.emission ∷ [])
     ∙ ap (λ (es : List Emission). length es + 1) c.make_room.ensures) in
-    subst (λ (ss : List Slot). AreInOrder 0 ss (length c.push.new.self.items)) (sym c.in_err-push-2.ensures.items)
-    (order_longer 0 inside.slots.items end (length c.push.new.self.items) c.self.invariant (omega (arith, more)))
+    subst (λ (ss : List Slot). AreWithin (length c.push.new.self.items) ss) (sym c.in_err-push-2.ensures.items)
+    (all_within end (length c.push.new.self.items) inside.slots.items (omega (arith, more)) c.self.invariant)
 
 pub invariant_of-self-2 : goal.invariant_of-self-2
 invariant_of-self-2 c =
@@ -24,10 +24,10 @@ invariant_of-self-2 c =
     ∙ (length-append c.make_room.new.made.items (c.args.emission ∷ [])
     ∙ ap (λ (es : List Emission). length es + 1) c.make_room.ensures) in
     let last : c.len-made.result ≡ end = omega (arith, c.len-made.ensures, inside.made.ok.0) in
-    subst (λ (ss : List Slot). AreInOrder 0 ss (length c.push.new.self.items)) (sym c.in_ok-push-2.ensures.items)
-    (subst (λ (n : ℕ). AreInOrder 0 (inside.slots.items ++ c.slot_for.result ∷ []) n) (sym more)
-    (made_order 0 inside.slots.items end c.slot_for.result c.self.invariant
-    (c.slot_for.ensures.parts.1 ∙ ap Some last)))
+    subst (λ (ss : List Slot). AreWithin (length c.push.new.self.items) ss) (sym c.in_ok-push-2.ensures.items)
+    (subst (λ (n : ℕ). AreWithin n (inside.slots.items ++ c.slot_for.result ∷ [])) (sym more)
+    (one_within end (end + 1) inside.slots.items c.slot_for.result (omega arith) c.self.invariant
+    (last_made end c.slot_for.result.made (c.slot_for.ensures.parts.1 ∙ ap Some last))))
 
 pub returns : goal.returns
 returns c =

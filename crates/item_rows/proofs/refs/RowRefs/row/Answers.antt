@@ -2,7 +2,8 @@ use Rattle.std.proofs.Common.{◌≡◌, ◌<◌, List, length, slice_get, Some,
 use Rattle.std.proofs.lemmas.List.{length-map}
 use Rattle.machine_spec.specs.declared.outcome.Emission.{Emission}
 use Rattle.log_spec.specs.declared.row.Row.{Row}
-use Rattle.item_rows.specs.RowRefs.{row_in, rows_by, IsWithin}
+use Rattle.item_rows.specs.RowParts.{IsWithin}
+use Rattle.item_rows.specs.RowRefs.{row_in, rows_by}
 use Rattle.item_rows.proofs.RefLaws.{within_at, row_at}
 use Rattle.item_rows.proofs.refs.RowRefs.row.Goals as goal
 
@@ -12,7 +13,7 @@ row_of_slot-requires c =
     let lt : c.args.index < length slots =
     omega (arith, c.requires, ap length c.self.view_is, length-map slots (row_in made)) in
     subst (λ (es : List Emission). IsWithin (length es) slot.made) (sym c.deref.ensures.value)
-    (within_at 0 slots (length made) c.args.index slot c.self.invariant lt c.index-slot.ensures)
+    (within_at (length made) slots c.args.index slot c.self.invariant lt c.index-slot.ensures)
 
 pub returns : goal.returns
 returns c =

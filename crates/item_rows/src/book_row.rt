@@ -1,0 +1,231 @@
+//! A row as a book has it: its parts stay where they are.
+
+ghost use Rattle.std.specs.Prelude.{◌≡◌, ◌<◌, length, get_or, IfOk};
+ghost use Rattle.std.specs.Arc.{arc_value};
+ghost use Rattle.item_rows.specs.RowParts.{whole, parts_in, no_emission, IsWithin};
+ghost use Rattle.item_rows.specs.RowRefs.{row_in};
+ghost use Rattle.item_rows.specs.BookRows.{parts_of, row_of_parts, AreThere};
+
+use crate::given::Given;
+use crate::refs::Slot;
+use bytes::Bytes;
+use kafka_record::{share_bytes, share_headers};
+use log_item::LoggedBatch;
+use log_spec::{Row, RowRef};
+use machine_spec::Emission;
+use std::alloc::{AllocError, Global};
+use std::marker::Model;
+use std::sync::Arc;
+use wire_spec::Headers;
+
+/// The records that a program made for an output partition. A clause sees the list of them.
+#[derive(Drop)]
+pub(crate) struct Made {
+    pub(crate) list: Vec<Emission>,
+}
+
+impl Model for Made {
+    ghost use Rattle.std.specs.Prelude.{List};
+    ghost use Rattle.machine_spec.specs.declared.outcome.Emission.{Emission};
+
+    ghost Value = { List Emission };
+
+    ghost view = { λ m. m.list.items };
+}
+
+/// What has a row's parts.
+#[derive(Drop)]
+enum Parts {
+    /// The record of a log's batch with this number, as it is.
+    Given { logged: LoggedBatch, index: usize },
+    /// One of the records that a program made, by its number.
+    Made { made: Arc<Made>, index: usize },
+}
+
+/// A row as a book has it. It is one of the owners of what has its parts: the batch of a log that the
+/// row's record is of, or the records that a program made for an item. A clause sees the row.
+#[derive(Drop)]
+pub struct BookRow {
+    input: u32,
+    number: u32,
+    offset: u64,
+    timestamp: u64,
+    parts: Parts,
+}
+
+impl Model for BookRow {
+    ghost use Rattle.log_spec.specs.declared.row.Row.{Row};
+    ghost use Rattle.item_rows.specs.BookRows.{parts_of, AreThere};
+    ghost use Rattle.item_rows.specs.RowParts.{row_by};
+
+    ghost Value = { Row };
+
+    ghost view = { λ r. row_by r.input r.number r.offset r.timestamp (parts_of r.parts) };
+
+    ghost invariant = { λ r. AreThere r.parts };
+}
+
+impl Parts {
+    /// Another owner of a record of a log's batch.
+    #[inline(always)]
+    fn of_given(given: &Given) -> Result<Parts, AllocError>
+        ensures { IfOk result (λ parts. AreThere parts × (parts_of parts ≡ whole given.now)) }
+    {
+        let logged = given.logged.share()?;
+        Ok(Parts::Given {
+            logged,
+            index: given.index,
+        })
+    }
+
+    /// Another owner of a record that a program made.
+    #[inline(always)]
+    fn of_made(made: &Arc<Made>, index: usize) -> Result<Parts, AllocError>
+        requires { index < length (arc_value made.now) }
+        ensures { IfOk result (λ parts. AreThere parts × (parts_of parts ≡ get_or (arc_value made.now) index no_emission)) }
+    {
+        let made = Arc::try_clone(made)?;
+        Ok(Parts::Made { made, index })
+    }
+
+    /// Another owner of a slot's parts.
+    #[inline(always)]
+    fn of(slot: &Slot, made: &Arc<Made>) -> Result<Parts, AllocError>
+        requires { IsWithin (length (arc_value made.now)) slot.now.made }
+        ensures { IfOk result (λ parts. AreThere parts × (parts_of parts ≡ parts_in (arc_value made.now) slot.now.given slot.now.made)) }
+    {
+        match slot.made {
+            None => Self::of_given(&slot.given),
+            Some(index) => Self::of_made(made, index),
+        }
+    }
+
+    /// Another owner of the same.
+    fn share(&self) -> Result<Parts, AllocError>
+        requires { AreThere self.now }
+        ensures { IfOk result (λ parts. AreThere parts × (parts_of parts ≡ parts_of self.now)) }
+    {
+        match self {
+            Parts::Given { logged, index } => {
+                let logged = logged.share()?;
+                Ok(Parts::Given {
+                    logged,
+                    index: *index,
+                })
+            }
+            Parts::Made { made, index } => {
+                let made = Arc::try_clone(made)?;
+                Ok(Parts::Made {
+                    made,
+                    index: *index,
+                })
+            }
+        }
+    }
+}
+
+impl BookRow {
+    /// The row of a slot, whose parts a record has or one of those that a program made. It fails only
+    /// where memory runs out.
+    #[inline(always)]
+    pub(crate) fn of(slot: &Slot, made: &Arc<Made>) -> Result<BookRow, AllocError>
+        requires { IsWithin (length (arc_value made.now)) slot.now.made }
+        ensures { IfOk result (λ row. row ≡ row_in (arc_value made.now) slot.now) }
+    {
+        let parts = Parts::of(slot, made)?;
+        Ok(BookRow {
+            input: slot.input,
+            number: slot.number,
+            offset: slot.offset,
+            timestamp: slot.timestamp,
+            parts,
+        })
+    }
+
+    /// The record's offset in its input partition.
+    #[inline(always)]
+    pub fn offset(&self) -> u64
+        ensures { result ≡ self.now.offset }
+    {
+        self.offset
+    }
+
+    /// The row with these parts.
+    #[inline(always)]
+    fn with_parts<'r>(
+        &self,
+        key: &'r Option<Bytes>,
+        value: &'r Option<Bytes>,
+        headers: &'r Headers,
+    ) -> RowRef<'r>
+        ensures { result ≡ row_of_parts self.now (record { out = 0; key = key.now; value = value.now; headers = headers.now }) }
+    {
+        RowRef {
+            input: self.input,
+            number: self.number,
+            offset: self.offset,
+            timestamp: self.timestamp,
+            key,
+            value,
+            headers,
+        }
+    }
+
+    /// The row by reference.
+    #[inline(always)]
+    pub fn by_ref(&self) -> RowRef<'_>
+        ensures { result ≡ self.now }
+    {
+        match &self.parts {
+            Parts::Given { logged, index } => {
+                let given = logged.record(*index);
+                self.with_parts(&given.key, &given.value, &given.headers)
+            }
+            Parts::Made { made, index } => {
+                let emission = &made.list[*index];
+                self.with_parts(&emission.key, &emission.value, &emission.headers)
+            }
+        }
+    }
+
+    /// The same row, another owner of what has its parts. It fails only where memory runs out.
+    pub fn share(&self) -> Result<BookRow, AllocError>
+        ensures { IfOk result (λ row. row ≡ self.now) }
+    {
+        let parts = self.parts.share()?;
+        Ok(BookRow {
+            input: self.input,
+            number: self.number,
+            offset: self.offset,
+            timestamp: self.timestamp,
+            parts,
+        })
+    }
+
+    /// The row as a value, another owner of its parts. It fails only where memory runs out.
+    pub fn value(&self, alloc: Global) -> Result<Row, AllocError>
+        ensures { IfOk result (λ row. row ≡ self.now) }
+    {
+        let row = self.by_ref();
+        Ok(Row {
+            input: row.input,
+            number: row.number,
+            offset: row.offset,
+            timestamp: row.timestamp,
+            key: share_bytes(row.key)?,
+            value: share_bytes(row.value)?,
+            headers: share_headers(alloc, row.headers)?,
+        })
+    }
+}
+
+/// Rows as values, other owners of their parts. It fails only where memory runs out.
+pub fn row_values(alloc: Global, rows: &[BookRow]) -> Result<Vec<Row>, AllocError>
+    ensures { IfOk result (λ values. values.items ≡ rows.now) }
+{
+    let mut values = Vec::with_capacity(alloc, rows.len())?;
+    for row in rows {
+        values.push(row.value(alloc)?)?;
+    }
+    Ok(values)
+}
