@@ -174,10 +174,11 @@ fn time_all<Id: Names, C, R: Wait + Clock>(
 ) -> Option<Figures> {
     let size = nearest_u64_to_f64(given.bytes.len() as u64);
     let last = Work::Fetch(rows.wrapping_mul(7));
-    let first = shortest(rt, alloc, broker, given, Work::Fetch(0), rows, times)?;
-    let last = shortest(rt, alloc, broker, given, last, rows, times)?;
+    // The copy comes first: the system's allocator keeps room of the size that was freed once.
     let copy = shortest(rt, alloc, broker, given, Work::Copy, rows, times)?;
     let encode = shortest(rt, alloc, broker, given, Work::Encode, rows, times)?;
+    let first = shortest(rt, alloc, broker, given, Work::Fetch(0), rows, times)?;
+    let last = shortest(rt, alloc, broker, given, last, rows, times)?;
     Some((size, first, last, copy, encode))
 }
 
