@@ -2,10 +2,9 @@
 use Rattle.std.specs.Prelude.{◌<◌, length, get_or}
 use Rattle.std.specs.Arc.{arc_value}
 use Rattle.machine_spec.specs.declared.outcome.Emission.{Emission}
-use Rattle.log_spec.specs.declared.row.Row.{Row}
 use Rattle.item_rows.specs.declared.book_row.Parts.{Parts}
 use Rattle.item_rows.specs.declared.book_row.Parts.TheVariants as parts
-use Rattle.item_rows.specs.RowParts.{row_by, whole, no_record, no_emission}
+use Rattle.item_rows.specs.RowParts.{whole, no_record, no_emission}
 
 -- what has a row's parts, as an emission: a record of a log's batch as it is, or one that a program made
 abbrev pub parts_of : Parts → Emission
@@ -16,7 +15,3 @@ parts_of (parts.Made made index) = get_or (arc_value made) index no_emission
 abbrev pub AreThere : Parts → Type 0
 AreThere (parts.Given logged index) = index < length logged.records
 AreThere (parts.Made made index) = index < length (arc_value made)
-
--- a row with the parts of an emission in place of its own
-abbrev pub row_of_parts : Row → Emission → Row
-row_of_parts row emission = row_by row.input row.number row.offset row.timestamp emission

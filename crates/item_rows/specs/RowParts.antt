@@ -3,14 +3,15 @@ use Rattle.std.specs.Prelude.{ℕ, ◌<◌, List, [], get_or, pos, Option, Some,
 use Rattle.wire_spec.specs.declared.record.Record.{Record}
 use Rattle.machine_spec.specs.declared.outcome.Emission.{Emission}
 use Rattle.log_spec.specs.declared.row.Row.{Row}
+use Rattle.item_rows.specs.declared.numbers.RowNumbers.{RowNumbers}
 
--- a row of these numbers with the parts of an emission
-abbrev pub row_by : (input number offset timestamp : ℕ) → Emission → Row
-row_by input number offset timestamp emission = record {
-  input = input;
-  number = number;
-  offset = offset;
-  timestamp = timestamp;
+-- the row of these numbers with the parts of an emission
+abbrev pub row_by : RowNumbers → Emission → Row
+row_by numbers emission = record {
+  input = numbers.input;
+  number = numbers.number;
+  offset = numbers.offset;
+  timestamp = numbers.timestamp;
   key = emission.key;
   value = emission.value;
   headers = emission.headers;

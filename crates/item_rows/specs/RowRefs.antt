@@ -7,7 +7,7 @@ use Rattle.item_rows.specs.RowParts.{row_by, parts_in, IsWithin}
 
 -- the row of a slot with the parts of an emission
 abbrev pub row_with : Slot → Emission → Row
-row_with slot emission = row_by slot.input slot.number slot.offset slot.timestamp emission
+row_with slot emission = row_by slot.numbers emission
 
 -- the row of a slot
 abbrev pub row_in : List Emission → Slot → Row

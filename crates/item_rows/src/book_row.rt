@@ -4,11 +4,11 @@ ghost use Rattle.std.specs.Prelude.{◌≡◌, ◌<◌, length, get_or, IfOk};
 ghost use Rattle.std.specs.Arc.{arc_value};
 ghost use Rattle.item_rows.specs.RowParts.{whole, parts_in, no_emission, IsWithin};
 ghost use Rattle.item_rows.specs.RowRefs.{row_in};
-ghost use Rattle.item_rows.specs.BookRows.{parts_of, row_of_parts, AreThere};
+ghost use Rattle.item_rows.specs.BookRows.{parts_of, AreThere};
 
 use crate::given::Given;
+use crate::numbers::RowNumbers;
 use crate::refs::Slot;
-use bytes::Bytes;
 use kafka_record::{share_bytes, share_headers};
 use log_item::LoggedBatch;
 use log_spec::{Row, RowRef};
@@ -16,7 +16,6 @@ use machine_spec::Emission;
 use std::alloc::{AllocError, Global};
 use std::marker::Model;
 use std::sync::Arc;
-use wire_spec::Headers;
 
 /// The records that a program made for an output partition. A clause sees the list of them.
 #[derive(Drop)]
@@ -46,10 +45,7 @@ enum Parts {
 /// row's record is of, or the records that a program made for an item. A clause sees the row.
 #[derive(Drop)]
 pub struct BookRow {
-    input: u32,
-    number: u32,
-    offset: u64,
-    timestamp: u64,
+    numbers: RowNumbers,
     parts: Parts,
 }
 
@@ -60,7 +56,7 @@ impl Model for BookRow {
 
     ghost Value = { Row };
 
-    ghost view = { λ r. row_by r.input r.number r.offset r.timestamp (parts_of r.parts) };
+    ghost view = { λ r. row_by r.numbers (parts_of r.parts) };
 
     ghost invariant = { λ r. AreThere r.parts };
 }
@@ -134,10 +130,7 @@ impl BookRow {
     {
         let parts = Parts::of(slot, made)?;
         Ok(BookRow {
-            input: slot.input,
-            number: slot.number,
-            offset: slot.offset,
-            timestamp: slot.timestamp,
+            numbers: slot.numbers,
             parts,
         })
     }
@@ -147,28 +140,7 @@ impl BookRow {
     pub fn offset(&self) -> u64
         ensures { result ≡ self.now.offset }
     {
-        self.offset
-    }
-
-    /// The row with these parts.
-    #[inline(always)]
-    fn with_parts<'r>(
-        &self,
-        key: &'r Option<Bytes>,
-        value: &'r Option<Bytes>,
-        headers: &'r Headers,
-    ) -> RowRef<'r>
-        ensures { result ≡ row_of_parts self.now (record { out = 0; key = key.now; value = value.now; headers = headers.now }) }
-    {
-        RowRef {
-            input: self.input,
-            number: self.number,
-            offset: self.offset,
-            timestamp: self.timestamp,
-            key,
-            value,
-            headers,
-        }
+        self.numbers.offset
     }
 
     /// The row by reference.
@@ -179,11 +151,13 @@ impl BookRow {
         match &self.parts {
             Parts::Given { logged, index } => {
                 let given = logged.record(*index);
-                self.with_parts(&given.key, &given.value, &given.headers)
+                self.numbers
+                    .with_parts(&given.key, &given.value, &given.headers)
             }
             Parts::Made { made, index } => {
                 let emission = &made.list[*index];
-                self.with_parts(&emission.key, &emission.value, &emission.headers)
+                self.numbers
+                    .with_parts(&emission.key, &emission.value, &emission.headers)
             }
         }
     }
@@ -194,10 +168,7 @@ impl BookRow {
     {
         let parts = self.parts.share()?;
         Ok(BookRow {
-            input: self.input,
-            number: self.number,
-            offset: self.offset,
-            timestamp: self.timestamp,
+            numbers: self.numbers,
             parts,
         })
     }

@@ -8,6 +8,7 @@ mod book_row;
 mod given;
 mod item;
 mod laws;
+mod numbers;
 mod origin;
 mod outcomes;
 mod records;

@@ -5,29 +5,25 @@ ghost use Rattle.machine_spec.specs.declared.outcome.Emission.{Emission};
 ghost use Rattle.machine_spec.specs.declared.limits.TheConstants.{MAX_EMISSIONS};
 ghost use Rattle.machine_spec.specs.Meaning.{IsPlace};
 ghost use Rattle.helpers.specs.Emitted.{emission_in};
+ghost use Rattle.std.specs.Arc.{arc_value};
 ghost use Rattle.log_spec.specs.Logs.{row_of};
 ghost use Rattle.item_rows.specs.RowParts.{whole, no_emission, IsWithin};
-ghost use Rattle.std.specs.Arc.{arc_value};
 ghost use Rattle.item_rows.specs.RowRefs.{row_with, row_in, rows_by, AreWithin};
 
 use crate::book_row::{BookRow, Made};
 use crate::given::Given;
-use bytes::Bytes;
+use crate::numbers::RowNumbers;
 use log_item::Emitted;
 use log_spec::RowRef;
 use machine_spec::{Emission, Place};
 use std::alloc::{AllocError, Global};
 use std::marker::Model;
 use std::sync::Arc;
-use wire_spec::Headers;
 
 /// A row but for its parts.
 #[derive(Drop)]
 pub(crate) struct Slot<'a> {
-    pub(crate) input: u32,
-    pub(crate) number: u32,
-    pub(crate) offset: u64,
-    pub(crate) timestamp: u64,
+    pub(crate) numbers: RowNumbers,
     // The record that the row came from.
     pub(crate) given: Given<'a>,
     // Which of the made records has the parts; none where the given record has them.
@@ -42,35 +38,9 @@ fn slot_for<'a>(place: &Place, number: usize, given: &Given<'a>, made: Option<us
     ensures parts { (result.given ≡ given.now) × (result.made ≡ made) }
 {
     Slot {
-        input: place.partition as u32,
-        number: number as u32,
-        offset: place.offset,
-        timestamp: place.timestamp,
+        numbers: RowNumbers::of(place, number),
         given: given.again(),
         made,
-    }
-}
-
-impl<'a> Slot<'a> {
-    /// The row with these parts.
-    #[inline(always)]
-    fn with_parts<'r>(
-        &self,
-        key: &'r Option<Bytes>,
-        value: &'r Option<Bytes>,
-        headers: &'r Headers,
-    ) -> RowRef<'r>
-        ensures { result ≡ row_with self.now (record { out = 0; key = key.now; value = value.now; headers = headers.now }) }
-    {
-        RowRef {
-            input: self.input,
-            number: self.number,
-            offset: self.offset,
-            timestamp: self.timestamp,
-            key,
-            value,
-            headers,
-        }
     }
 }
 
@@ -81,7 +51,8 @@ fn made_row<'r>(made: &'r [Emission], slot: &Slot, number: usize) -> RowRef<'r>
     ensures { result ≡ row_with slot.now (get_or made.now number no_emission) }
 {
     let emission = &made[number];
-    slot.with_parts(&emission.key, &emission.value, &emission.headers)
+    slot.numbers
+        .with_parts(&emission.key, &emission.value, &emission.headers)
 }
 
 /// The row of a slot whose parts are the given record's.
@@ -90,7 +61,8 @@ fn given_row<'r>(slot: &'r Slot) -> RowRef<'r>
     ensures { result ≡ row_with slot.now (whole slot.now.given) }
 {
     let given = slot.given.record();
-    slot.with_parts(&given.key, &given.value, &given.headers)
+    slot.numbers
+        .with_parts(&given.key, &given.value, &given.headers)
 }
 
 /// The row of a slot.

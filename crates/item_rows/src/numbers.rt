@@ -1,0 +1,59 @@
+//! What a row has beside its parts.
+
+ghost use Rattle.std.specs.Prelude.{◌≡◌, ◌<◌};
+ghost use Rattle.machine_spec.specs.declared.limits.TheConstants.{MAX_EMISSIONS};
+ghost use Rattle.machine_spec.specs.declared.outcome.Emission.{Emission};
+ghost use Rattle.machine_spec.specs.Meaning.{IsPlace};
+ghost use Rattle.log_spec.specs.Logs.{row_of};
+ghost use Rattle.item_rows.specs.RowParts.{row_by};
+
+use bytes::Bytes;
+use log_spec::RowRef;
+use machine_spec::Place;
+use wire_spec::Headers;
+
+/// What a row has beside its parts.
+#[derive(Clone, Copy)]
+pub(crate) struct RowNumbers {
+    pub(crate) input: u32,
+    pub(crate) number: u32,
+    pub(crate) offset: u64,
+    pub(crate) timestamp: u64,
+}
+
+impl RowNumbers {
+    /// Those of the row of an emission of the record at a place.
+    pub(crate) fn of(place: &Place, number: usize) -> RowNumbers
+        requires place { IsPlace place.now }
+        requires few { number < MAX_EMISSIONS }
+        ensures { (e : Emission) → row_by result e ≡ row_of place.now number e }
+    {
+        RowNumbers {
+            input: place.partition as u32,
+            number: number as u32,
+            offset: place.offset,
+            timestamp: place.timestamp,
+        }
+    }
+
+    /// The row of these numbers with these parts.
+    #[inline(always)]
+    pub(crate) fn with_parts<'r>(
+        &self,
+        key: &'r Option<Bytes>,
+        value: &'r Option<Bytes>,
+        headers: &'r Headers,
+    ) -> RowRef<'r>
+        ensures { result ≡ row_by self.now (record { out = 0; key = key.now; value = value.now; headers = headers.now }) }
+    {
+        RowRef {
+            input: self.input,
+            number: self.number,
+            offset: self.offset,
+            timestamp: self.timestamp,
+            key,
+            value,
+            headers,
+        }
+    }
+}
