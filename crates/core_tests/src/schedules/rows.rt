@@ -31,14 +31,16 @@ pub(crate) fn is_row(row: &Row, want: &Seen) -> bool {
 }
 
 fn is_same(row: &RowRef, other: &RowRef) -> bool {
+    let headers = row.headers;
+    let others = other.headers;
     row.input == other.input
         && row.offset == other.offset
         && row.number == other.number
         && row.timestamp == other.timestamp
         && row.key == other.key
         && row.value == other.value
-        && row.headers.list.is_empty()
-        && other.headers.list.is_empty()
+        && headers.list.is_empty()
+        && others.list.is_empty()
 }
 
 /// Whether a book has exactly these rows from an input partition.
