@@ -1,6 +1,6 @@
 //! A row as a book has it: its parts stay where they are.
 
-ghost use Rattle.std.specs.Prelude.{◌≡◌, ◌<◌, length, get_or, IfOk};
+ghost use Rattle.std.specs.Prelude.{◌≡◌, ◌<◌, [], length, get_or, IfOk};
 ghost use Rattle.std.specs.Arc.{arc_value};
 ghost use Rattle.item_rows.specs.RowParts.{whole, parts_in, no_emission, IsWithin};
 ghost use Rattle.item_rows.specs.RowRefs.{row_in};
@@ -133,6 +133,24 @@ impl BookRow {
             numbers: slot.numbers,
             parts,
         })
+    }
+
+    /// The row of a slot whose parts a record has, where none was made. It fails only where memory runs out.
+    #[inline(always)]
+    pub(crate) fn of_given(slot: &Slot) -> Result<BookRow, AllocError>
+        requires { IsWithin 0 slot.now.made }
+        ensures { IfOk result (λ row. row ≡ row_in [] slot.now) }
+    {
+        match slot.made {
+            None => {
+                let parts = Parts::of_given(&slot.given)?;
+                Ok(BookRow {
+                    numbers: slot.numbers,
+                    parts,
+                })
+            }
+            Some(_) => unreachable!(),
+        }
     }
 
     /// The record's offset in its input partition.

@@ -87,6 +87,18 @@ fn make_room(made: &mut Vec<Emission>, rows: usize) -> Result<(), AllocError>
     Ok(())
 }
 
+/// The rows of slots as books have them, where no record was made.
+fn given_rows(alloc: Global, slots: &[Slot]) -> Result<Vec<BookRow>, AllocError>
+    requires { AreWithin 0 slots.now }
+    ensures { IfOk result (λ rows. rows.items ≡ rows_by [] slots.now) }
+{
+    let mut rows = Vec::with_capacity(alloc, slots.len())?;
+    for slot in slots {
+        rows.push(BookRow::of_given(slot)?)?;
+    }
+    Ok(rows)
+}
+
 /// The rows of slots as books have them, which are owners of the made records.
 fn book_rows(alloc: Global, slots: &[Slot], made: &Arc<Made>) -> Result<Vec<BookRow>, AllocError>
     requires { AreWithin (length (arc_value made.now)) slots.now }
@@ -206,8 +218,8 @@ impl<'a> RowRefs<'a> {
         ensures { IfOk result (λ rows. rows.items ≡ self.entry) }
     {
         let RowRefs { slots, made } = self;
-        if slots.is_empty() {
-            return Ok(Vec::new(alloc));
+        if made.is_empty() {
+            return given_rows(alloc, slots.as_slice());
         }
         let made = Arc::new(alloc, Made { list: made })?;
         book_rows(alloc, slots.as_slice(), &made)
