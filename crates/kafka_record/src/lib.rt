@@ -1,18 +1,24 @@
 //! Records of Kafka's message format (magic 2): one record and its bytes.
 #![tactic(auto)]
 
+mod by_ref;
 mod fault;
 mod limits;
+mod nullable;
 mod reading;
 mod sharing;
 mod sizes;
+mod spans;
 #[tactic(auto, using(crate::proofs::Written::keeping))]
 mod writing;
 
+pub use by_ref::RecordRef;
 pub use fault::RecordFault;
 pub use limits::fits;
+pub use nullable::NullableBytes;
 pub use reading::{one_spelling, read};
 pub use sharing::{share, share_bytes, share_headers};
 pub use sizes::{size, size_of_parts};
+pub use spans::{Extent, Span};
 pub use wire_spec::{Header, Headers, Record};
 pub use writing::{write, write_parts};

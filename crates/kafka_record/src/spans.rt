@@ -1,0 +1,46 @@
+//! Where a record's parts are in the bytes of its batch.
+
+ghost use Rattle.std.specs.Prelude.{◌≡◌, length, IfOk, option_map};
+ghost use Rattle.kafka_record.specs.Spans.{extent_bytes, IsExtentWithin, IsPartWithin};
+
+use bytes::Bytes;
+use std::alloc::AllocError;
+use wire_spec::Headers;
+
+/// Bytes of a buffer from a place on and before another.
+#[derive(Clone, Copy, Debug, PartialEq, Eq)]
+pub struct Extent {
+    pub start: u32,
+    pub end: u32,
+}
+
+/// A record's fields, with the places of its key and its value in a buffer.
+#[derive(Drop)]
+pub struct Span {
+    pub timestamp_delta: i64,
+    pub key: Option<Extent>,
+    pub value: Option<Extent>,
+    pub headers: Headers,
+}
+
+/// The bytes of an extent.
+#[inline(always)]
+pub(crate) fn extent_of(bytes: &Bytes, extent: Extent) -> &[u8]
+    requires { IsExtentWithin (length bytes.now) extent }
+    ensures { result.now ≡ extent_bytes bytes.now extent }
+{
+    &bytes[extent.start as usize..extent.end as usize]
+}
+
+/// Another owner of the bytes of an extent.
+pub(crate) fn share_extent(bytes: &Bytes, extent: Option<Extent>) -> Result<Option<Bytes>, AllocError>
+    requires { IsPartWithin (length bytes.now) extent }
+    ensures { IfOk result (λ shared. shared ≡ option_map (extent_bytes bytes.now) extent) }
+{
+    match extent {
+        Some(extent) => Ok(Some(
+            bytes.slice(extent.start as usize..extent.end as usize)?,
+        )),
+        None => Ok(None),
+    }
+}
