@@ -5,7 +5,7 @@ ghost use Rattle.wire_spec.specs.RecordSpelling.{HeaderFits, RecordFits, nullabl
 ghost use Rattle.kafka_record.specs.Parts.{record_with};
 
 use crate::limits::slice_of;
-use bytes::Bytes;
+use crate::nullable::NullableBytes;
 use varint::{len32, len64};
 use wire_spec::{
     Header, Headers, MAX_BODY_SIZE, MAX_HEADER_SIZE, MAX_HEADERS, MAX_RECORD_SIZE, MAX_VALUE,
@@ -21,11 +21,11 @@ fn string_len(len: usize) -> usize
     len32(len as i32) + len
 }
 
-fn nullable_len(part: &Option<Bytes>) -> usize
+fn nullable_len(part: &NullableBytes) -> usize
     requires { IfSome part.now (λ b. length b ≤ MAX_VALUE) }
     ensures { result ≡ length (nullable part.now) }
 {
-    match part {
+    match part.slice {
         Some(bytes) => string_len(bytes.len()),
         None => len32(-1),
     }
@@ -36,7 +36,7 @@ fn header_len(one: &Header) -> usize
     ensures size { result ≡ length (header one.now) }
     ensures small { result ≤ MAX_HEADER_SIZE }
 {
-    string_len(one.key.len()) + nullable_len(&one.value)
+    string_len(one.key.len()) + nullable_len(&NullableBytes::of(&one.value))
 }
 
 fn headers_len(headers: &[Header]) -> usize
@@ -56,8 +56,8 @@ fn headers_len(headers: &[Header]) -> usize
 /// length says.
 pub fn body_len(
     timestamp_delta: i64,
-    key: &Option<Bytes>,
-    value: &Option<Bytes>,
+    key: &NullableBytes,
+    value: &NullableBytes,
     headers: &Headers,
     delta: i32,
 ) -> usize
@@ -78,8 +78,8 @@ pub fn body_len(
 /// How many bytes the record with this offset delta and these parts takes, its length among them.
 pub fn size_of_parts(
     timestamp_delta: i64,
-    key: &Option<Bytes>,
-    value: &Option<Bytes>,
+    key: &NullableBytes,
+    value: &NullableBytes,
     headers: &Headers,
     delta: i32,
 ) -> usize
@@ -98,8 +98,8 @@ pub fn size(record: &Record, delta: i32) -> usize
 {
     size_of_parts(
         record.timestamp_delta,
-        &record.key,
-        &record.value,
+        &NullableBytes::of(&record.key),
+        &NullableBytes::of(&record.value),
         &record.headers,
         delta,
     )

@@ -6,8 +6,8 @@ ghost use Rattle.kafka_record.specs.Keeps.{Keeps};
 ghost use Rattle.kafka_record.specs.Parts.{record_with};
 
 use crate::limits::slice_of;
+use crate::nullable::NullableBytes;
 use crate::sizes::body_len;
-use bytes::Bytes;
 use std::alloc::AllocError;
 use varint::{write32, write64};
 use wire_spec::{Header, Headers, Record};
@@ -35,12 +35,12 @@ fn put_string(bytes: &[u8], out: &mut Vec<u8>) -> Result<(), AllocError>
 
 /// Writes a length and that many bytes, or the length -1 for null.
 #[inline(always)]
-fn put_nullable(part: &Option<Bytes>, out: &mut Vec<u8>) -> Result<(), AllocError>
+fn put_nullable(part: &NullableBytes, out: &mut Vec<u8>) -> Result<(), AllocError>
     requires { IfSome part.now (λ b. length b < 2 ^ 31) }
     ensures ok { OnOk result (out.new.items ≡ out.old.items ++ nullable part.now) }
     ensures kept { Keeps out.old.items out.new.items }
 {
-    match part {
+    match part.slice {
         Some(bytes) => put_string(bytes, out),
         None => write32(-1, out),
     }
@@ -52,7 +52,7 @@ fn put_header(one: &Header, out: &mut Vec<u8>) -> Result<(), AllocError>
     ensures kept { Keeps out.old.items out.new.items }
 {
     put_string(&one.key, out)?;
-    put_nullable(&one.value, out)
+    put_nullable(&NullableBytes::of(&one.value), out)
 }
 
 fn put_headers(headers: &[Header], out: &mut Vec<u8>) -> Result<(), AllocError>
@@ -90,8 +90,8 @@ fn put_deltas(timestamp_delta: i64, delta: i32, out: &mut Vec<u8>) -> Result<(),
 /// Writes what follows a record's length.
 fn put_body(
     timestamp_delta: i64,
-    key: &Option<Bytes>,
-    value: &Option<Bytes>,
+    key: &NullableBytes,
+    value: &NullableBytes,
     headers: &Headers,
     delta: i32,
     out: &mut Vec<u8>,
@@ -108,8 +108,8 @@ fn put_body(
 
 fn put_record(
     timestamp_delta: i64,
-    key: &Option<Bytes>,
-    value: &Option<Bytes>,
+    key: &NullableBytes,
+    value: &NullableBytes,
     headers: &Headers,
     delta: i32,
     out: &mut Vec<u8>,
@@ -126,8 +126,8 @@ fn put_record(
 /// where memory runs out; an `Err` leaves the bytes as they were.
 pub fn write_parts(
     timestamp_delta: i64,
-    key: &Option<Bytes>,
-    value: &Option<Bytes>,
+    key: &NullableBytes,
+    value: &NullableBytes,
     headers: &Headers,
     delta: i32,
     out: &mut Vec<u8>,
@@ -155,8 +155,8 @@ pub fn write(record: &Record, delta: i32, out: &mut Vec<u8>) -> Result<(), Alloc
 {
     write_parts(
         record.timestamp_delta,
-        &record.key,
-        &record.value,
+        &NullableBytes::of(&record.key),
+        &NullableBytes::of(&record.value),
         &record.headers,
         delta,
         out,

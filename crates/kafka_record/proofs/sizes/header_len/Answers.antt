@@ -1,4 +1,5 @@
-use Rattle.std.proofs.Common.{◌+◌, ◌≤◌, arith}
+use Rattle.std.proofs.Common.{ℕ, ◌+◌, ◌≤◌, List, Option, length, ap, arith}
+use Rattle.wire_spec.specs.RecordSpelling.{nullable}
 use Rattle.wire_spec.specs.declared.limits.TheConstants.{MAX_HEADER_VALUE, MAX_HEADER_SIZE}
 use Rattle.wire_spec.proofs.RecordLaws.{length-nullable}
 use Rattle.kafka_record.proofs.sizes.header_len.Goals as goal
@@ -9,6 +10,7 @@ small c = omega (
   c.requires.key,
   c.len.ensures.value,
   c.string_len.ensures.small,
+  ap (λ (text : Option (List ℕ)). length (nullable text)) c.of.ensures,
   c.nullable_len.ensures,
   length-nullable MAX_HEADER_VALUE c.args.one.now.value c.requires.value,
 )
