@@ -8,6 +8,7 @@ mod nullable;
 mod reading;
 mod sharing;
 mod sizes;
+mod span_reading;
 mod spans;
 #[tactic(auto, using(crate::proofs::Written::keeping))]
 mod writing;
@@ -19,6 +20,7 @@ pub use nullable::NullableBytes;
 pub use reading::{one_spelling, read};
 pub use sharing::{share, share_bytes, share_headers};
 pub use sizes::{size, size_of_parts};
+pub use span_reading::read_span;
 pub use spans::{Extent, Span};
 pub use wire_spec::{Header, Headers, Record};
 pub use writing::{write, write_parts};

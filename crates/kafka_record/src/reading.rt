@@ -18,7 +18,7 @@ use wire_spec::{
 
 /// The varint at a place, and the place after it.
 #[inline(always)]
-fn varint_from(bytes: &[u8], at: usize) -> Result<(i32, usize), RecordFault>
+pub(crate) fn varint_from(bytes: &[u8], at: usize) -> Result<(i32, usize), RecordFault>
     requires { at ≤ length bytes.now }
     ensures gives { AnswersAs Memory (λ x. (x.0, drop x.1 bytes.now)) result (ok_or (varint_at (drop at bytes.now)) Bad) }
     ensures within { IfOk result (λ x. (at ≤ x.1) × (x.1 ≤ length bytes.now)) }
@@ -31,7 +31,7 @@ fn varint_from(bytes: &[u8], at: usize) -> Result<(i32, usize), RecordFault>
 
 /// The varlong at a place, and the place after it.
 #[inline(always)]
-fn varlong_from(bytes: &[u8], at: usize) -> Result<(i64, usize), RecordFault>
+pub(crate) fn varlong_from(bytes: &[u8], at: usize) -> Result<(i64, usize), RecordFault>
     requires { at ≤ length bytes.now }
     ensures gives { AnswersAs Memory (λ x. (x.0, drop x.1 bytes.now)) result (ok_or (varlong_at (drop at bytes.now)) Bad) }
     ensures within { IfOk result (λ x. (at ≤ x.1) × (x.1 ≤ length bytes.now)) }
@@ -148,7 +148,7 @@ fn headers_from(
 /// That many headers, and the place after them. Most records have none, which takes no call.
 #[tactic(auto, unfolding(wire_spec::specs::RecordReading::headers_at))]
 #[inline(always)]
-fn counted_from(
+pub(crate) fn counted_from(
     alloc: Global,
     bytes: &Bytes,
     at: usize,
@@ -174,7 +174,7 @@ fn counted_from(
 
 /// The place after the attributes, which are 0.
 #[inline(always)]
-fn attributes_from(bytes: &[u8], at: usize) -> Result<usize, RecordFault>
+pub(crate) fn attributes_from(bytes: &[u8], at: usize) -> Result<usize, RecordFault>
     requires { at ≤ length bytes.now }
     ensures gives { AnswersAs Memory (λ x. drop x bytes.now) result (ok_or (attributes_at (drop at bytes.now)) Bad) }
     ensures within { IfOk result (λ x. (at ≤ x) × (x ≤ length bytes.now)) }
@@ -191,7 +191,7 @@ fn attributes_from(bytes: &[u8], at: usize) -> Result<usize, RecordFault>
 /// The place after the offset delta, which is this one.
 #[tactic(auto, unfolding(wire_spec::specs::RecordReading::delta_at))]
 #[inline(always)]
-fn delta_from(bytes: &[u8], at: usize, delta: i32) -> Result<usize, RecordFault>
+pub(crate) fn delta_from(bytes: &[u8], at: usize, delta: i32) -> Result<usize, RecordFault>
     requires { at ≤ length bytes.now }
     ensures gives { AnswersAs Memory (λ x. drop x bytes.now) result (ok_or (delta_at delta (drop at bytes.now)) Bad) }
     ensures within { IfOk result (λ x. (at ≤ x) × (x ≤ length bytes.now)) }
@@ -234,7 +234,7 @@ fn body_from(
 
 /// Whether a record's length is the number of bytes that its fields take.
 #[inline(always)]
-fn is_filled(len: i32, used: usize) -> bool
+pub(crate) fn is_filled(len: i32, used: usize) -> bool
     ensures { result ≡ int_eq len (pos used) }
 {
     len >= 0 && len as usize == used
