@@ -7,3 +7,4 @@ pub mod Loop
 pub mod Made
 pub mod Numbers
 pub mod Written
+pub mod PackedLaws

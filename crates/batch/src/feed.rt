@@ -8,6 +8,7 @@ ghost use Rattle.batch.specs.Streams.{Open, pending_bytes, with_piece, after_fau
 
 use crate::fields::i32_at;
 use crate::limits::FRONT;
+use crate::packed::{PackedBatch, decode_packed};
 use crate::reading::{batch_size, decode};
 use bytes::Bytes;
 use std::alloc::{AllocError, Global};
@@ -105,6 +106,23 @@ impl Feed {
         }
     }
 
+    /// The same, of which the records stay in the bytes that were fed.
+    pub fn next_packed(&mut self) -> Result<Option<PackedBatch>, BatchFault>
+        ensures gives { Gives self.old result self.new }
+        ensures fits { IfOk result (λ given. IfSome given BatchFits) }
+    {
+        if let Some(fault) = self.fault {
+            return Err(fault);
+        }
+        if !fill(self.alloc, &mut self.ready, &mut self.next)? {
+            return Ok(None);
+        }
+        match cut_packed(self.alloc, &mut self.ready) {
+            Ok(batch) => Ok(Some(batch)),
+            Err(fault) => Err(self.refuse(fault)),
+        }
+    }
+
     // Ends the stream with a fault, unless memory ran out.
     fn refuse(&mut self, fault: BatchFault) -> BatchFault
         ensures fault { result ≡ fault }
@@ -161,6 +179,21 @@ fn cut(alloc: Global, ready: &mut Bytes) -> Result<Batch, BatchFault>
     ensures fits { IfOk result BatchFits }
 {
     match decode(alloc, ready.clone()?) {
+        Ok((batch, used)) => {
+            ready.advance(used);
+            Ok(batch)
+        }
+        Err(fault) => Err(fault),
+    }
+}
+
+/// The same of a batch whose records stay in the bytes.
+fn cut_packed(alloc: Global, ready: &mut Bytes) -> Result<PackedBatch, BatchFault>
+    requires { IsPart ready.old → ⊥ }
+    ensures cuts { Cuts ready.old result ready.new }
+    ensures fits { IfOk result BatchFits }
+{
+    match decode_packed(alloc, ready.clone()?) {
         Ok((batch, used)) => {
             ready.advance(used);
             Ok(batch)

@@ -4,6 +4,7 @@
 mod feed;
 mod fields;
 mod limits;
+mod packed;
 mod reading;
 mod sharing;
 mod times;
@@ -11,6 +12,7 @@ mod writing;
 
 pub use feed::Feed;
 pub use limits::{HEADER, fits, record_len};
+pub use packed::{PackedBatch, decode_packed};
 pub use reading::{decode, one_spelling};
 pub use sharing::share;
 pub use wire_spec::{Batch, BatchFault, Headers, MAX_BATCH, MAX_RECORDS, Records};

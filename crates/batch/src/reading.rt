@@ -33,6 +33,7 @@ fn with_front_of(length: i32) -> usize
 pub(crate) fn batch_size(bytes: &[u8]) -> Result<usize, BatchFault>
     ensures gives { result ≡ size_at bytes.now }
     ensures within { IfOk result (λ n. (61 ≤ n) × (n ≤ length bytes.now)) }
+    ensures small { IfOk result (λ n. n ≤ MAX_BATCH) }
     ensures bytes { (i : ℕ) → slice_index bytes.now i < 256 }
 {
     if bytes.len() < FRONT {
@@ -64,7 +65,7 @@ fn miscounted(bytes: &[u8]) -> bool
 
 /// The header's number of records.
 #[tactic(auto, unfolding(wire_spec::specs::BatchReading::count_at))]
-fn count_of(bytes: &[u8]) -> Result<u32, BatchFault>
+pub(crate) fn count_of(bytes: &[u8]) -> Result<u32, BatchFault>
     requires { 61 ≤ length bytes.now }
     ensures gives { result ≡ count_at bytes.now }
     ensures within { IfOk result (λ n. n ≤ MAX_RECORDS) }
@@ -106,7 +107,7 @@ fn record_of(
 
 /// How many records to make room for: no more than the bytes after the header may hold, since the
 /// shortest record has 7.
-fn room_for(count: u32, bytes: usize) -> usize {
+pub(crate) fn room_for(count: u32, bytes: usize) -> usize {
     (count as usize).min(bytes.saturating_sub(HEADER) / SHORTEST_RECORD + 1)
 }
 

@@ -2,7 +2,9 @@ ghost use Rattle.std.specs.Prelude.{◌≡◌, ◌+ℤ◌};
 ghost use Rattle.std.specs.Ordering.{int_eq};
 ghost use Rattle.wire_spec.specs.BatchReading.{is_timestamp as timestamp_test};
 ghost use Rattle.batch.specs.Latest.{when_timestamp, latest_of};
+ghost use Rattle.batch.specs.Packed.{all_spanned};
 
+use kafka_record::Span;
 use wire_spec::{Batch, Record, TIMESTAMP_END};
 
 /// Whether this is a timestamp: 0 to 2^62 - 1 milliseconds.
@@ -42,6 +44,19 @@ pub fn latest(base: i64, records: &[Record]) -> Option<i64>
     let mut greatest = 0;
     for record in records {
         let time = timestamp_of(base, record.timestamp_delta)?;
+        greatest = greatest.max(time);
+    }
+    Some(greatest)
+}
+
+/// The same of records that are spans of these bytes.
+pub fn latest_span(base: i64, bytes: &[u8], spans: &[Span]) -> Option<i64>
+    ensures { result ≡ latest_of base (all_spanned bytes.now spans.now) }
+{
+    let _bytes = bytes;
+    let mut greatest = 0;
+    for span in spans {
+        let time = timestamp_of(base, span.timestamp_delta)?;
         greatest = greatest.max(time);
     }
     Some(greatest)

@@ -1,0 +1,38 @@
+-- Batches whose records are spans of their bytes.
+use Rattle.std.specs.Prelude.{◌≡◌, ℕ, List, [], ◌∷◌, length, map, ⊤}
+use Rattle.wire_spec.specs.declared.{record.Record.Record, record.Batch.Batch}
+use Rattle.kafka_record.specs.declared.spans.Span.{Span}
+use Rattle.kafka_record.specs.Spans.{spanned, IsSpanWithin}
+use Rattle.wire_spec.specs.BatchReading.{base_offset, leader_epoch, base_timestamp, producer_id, producer_epoch}
+use Rattle.wire_spec.specs.BatchReading.{base_sequence}
+use Rattle.batch.specs.declared.packed.Head.{Head}
+
+-- the records of spans, in order
+abbrev pub all_spanned : List ℕ → List Span → List Record
+all_spanned bytes spans = map (spanned bytes) spans
+
+-- each has its key and its value in a buffer of that many bytes
+abbrev pub AreSpansWithin : ℕ → List Span → Type 0
+AreSpansWithin count [] = ⊤
+AreSpansWithin count (span ∷ spans) = IsSpanWithin count span × AreSpansWithin count spans
+
+-- the batch of a header and of records
+abbrev pub headed : Head → List Record → Batch
+headed head records = record {
+  base_offset = head.base_offset;
+  leader_epoch = head.leader_epoch;
+  base_timestamp = head.base_timestamp;
+  producer_id = head.producer_id;
+  producer_epoch = head.producer_epoch;
+  base_sequence = head.base_sequence;
+  records = records;
+}
+
+-- these are the fields of the header at the front of the bytes
+pub record IsHeadOf (bytes : List ℕ) (head : Head) : Type 0 where
+  pub base_offset : head.base_offset ≡ base_offset bytes
+  pub leader_epoch : head.leader_epoch ≡ leader_epoch bytes
+  pub base_timestamp : head.base_timestamp ≡ base_timestamp bytes
+  pub producer_id : head.producer_id ≡ producer_id bytes
+  pub producer_epoch : head.producer_epoch ≡ producer_epoch bytes
+  pub base_sequence : head.base_sequence ≡ base_sequence bytes
