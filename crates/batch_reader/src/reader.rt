@@ -4,13 +4,13 @@ ghost use Rattle.batch.specs.Streams.{Open, pending_bytes, Gives};
 ghost use Rattle.batch_reader.specs.Readings.{none_given, with_batch, inlet, IsOpen, ReadsBatch, ReadsMore, CountsCut, EndsReading};
 ghost use Rattle.batch_reader.specs.declared.reader.ReadFault.TheVariants.{Batch as Refused};
 
-use batch::Feed;
+use batch::{Feed, PackedBatch};
 use std::alloc::{AllocError, Global};
 use std::io;
 use std::io::Read;
 use std::marker::Model;
 use thiserror::Error;
-use wire_spec::{Batch, BatchFault, MAX_PIECE};
+use wire_spec::{BatchFault, MAX_PIECE};
 
 /// Why no batch is read.
 #[derive(Clone, Copy, Debug, PartialEq, Eq, Drop, Error)]
@@ -103,12 +103,12 @@ impl<R: Read> BatchReader<R> {
         self.position
     }
 
-    /// The next batch, or `None` at the reader's end. Bytes are read until they hold a whole batch; no
+    /// The next batch, whose records stay in the bytes that were read, or `None` at the reader's end. Bytes are read until they hold a whole batch; no
     /// bytes are kept beyond those of one batch and one piece. A read that was interrupted is tried
     /// again. It fails where the reader fails, where the bytes that follow begin with no batch or end
     /// inside one, and where memory runs out; it is not called again then. How much was given changes
     /// with a batch alone.
-    pub fn next(&mut self) -> Result<Option<Batch>, ReadFault>
+    pub fn next(&mut self) -> Result<Option<PackedBatch>, ReadFault>
         requires { IsOpen self.old }
         ensures gives { ReadsBatch self.old result self.new }
         ensures fits { IfOk result (λ given. IfSome given BatchFits) }
@@ -124,7 +124,7 @@ fn next_of<R: Read>(
     reader: &mut R,
     buffer: &mut [u8],
     position: &mut Position,
-) -> Result<Option<Batch>, ReadFault>
+) -> Result<Option<PackedBatch>, ReadFault>
     requires open { feed.old ≡ Open (pending_bytes feed.old) }
     requires buffer { 1 ≤ length buffer.old }
     ensures gives { ReadsBatch (inlet feed.old (R.remaining reader.old) position.old) result (inlet feed.new (R.remaining reader.new) position.new) }
@@ -143,13 +143,13 @@ fn next_of<R: Read>(
 }
 
 // The batch that the fed bytes begin with, if they hold a whole one. It is counted.
-fn cut(feed: &mut Feed, position: &mut Position) -> Result<Option<Batch>, BatchFault>
+fn cut(feed: &mut Feed, position: &mut Position) -> Result<Option<PackedBatch>, BatchFault>
     ensures gives { Gives feed.old result feed.new }
     ensures counts { CountsCut feed.old position.old result feed.new position.new }
     ensures fits { IfOk result (λ given. IfSome given BatchFits) }
 {
     let before = feed.len() as u64;
-    let Some(batch) = feed.next()? else {
+    let Some(batch) = feed.next_packed()? else {
         return Ok(None);
     };
     let used = before.saturating_sub(feed.len() as u64);
