@@ -8,7 +8,7 @@ ghost use Rattle.row_batch.specs.FirstRows.{PutsIfRoom, HasPut};
 
 use crate::list::RowList;
 use batch::{HEADER, MAX_BATCH, MAX_RECORDS};
-use kafka_record::{size_of_parts, write_parts};
+use kafka_record::{NullableBytes, size_of_parts, write_parts};
 use log_spec::RowRef;
 use std::alloc::AllocError;
 use wire_spec::TIMESTAMP_END;
@@ -48,7 +48,9 @@ fn put_row(base: u64, row: &RowRef, place: usize, out: &mut Vec<u8>) -> Result<(
     ensures err { OnErr result (out.new.items ≡ out.old.items) }
 {
     let delta = delta(base, row.timestamp);
-    write_parts(delta, row.key, row.value, row.headers, place as i32, out)
+    let key = NullableBytes::new(row.key);
+    let value = NullableBytes::new(row.value);
+    write_parts(delta, &key, &value, row.headers, place as i32, out)
 }
 
 /// How many bytes a row takes as the record with this place in a batch with this base timestamp.
@@ -59,7 +61,9 @@ fn row_size(base: u64, row: &RowRef, place: usize) -> usize
     ensures { result ≡ length (record_spelling (pos place) (record_of base row.now)) }
 {
     let delta = delta(base, row.timestamp);
-    size_of_parts(delta, row.key, row.value, row.headers, place as i32)
+    let key = NullableBytes::new(row.key);
+    let value = NullableBytes::new(row.value);
+    size_of_parts(delta, &key, &value, row.headers, place as i32)
 }
 
 /// Whether a batch of this size may have no room for a row. Where it returns false, the headers may still
@@ -134,8 +138,8 @@ pub fn put_most<L: RowList>(
 
 /// About how many bytes a row takes in a batch without its headers.
 fn likely_parts(row: &RowRef) -> usize {
-    let key = row.key.as_ref().map_or(0, |key| key.len());
-    let value = row.value.as_ref().map_or(0, |value| value.len());
+    let key = row.key.map_or(0, |key| key.len());
+    let value = row.value.map_or(0, |value| value.len());
     LIKELY_RECORD.saturating_add(key).saturating_add(value)
 }
 
