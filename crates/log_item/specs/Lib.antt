@@ -1,3 +1,4 @@
+pub mod Contents
 pub mod Fitting
 pub mod Items
 pub mod Marks
