@@ -11,10 +11,9 @@ ghost use Rattle.bpf_machine.specs.States.{input_of};
 use crate::registers::{REGISTERS, get};
 use crate::stack::Stack;
 use crate::tagged::Tagged;
-use helpers::text;
+use helpers::{RecordRef, text};
 use machine_spec::{Direction, Extension, MemoryOperand, Place, Region, STACK_SIZE, Size, Table};
 use std::alloc::{AllocError, Global};
-use wire_spec::Record;
 
 /// What a run has at hand: the program's image, the slots at which its instructions begin, its helper
 /// table, the record and its place.
@@ -24,7 +23,7 @@ pub struct Run<'a> {
     pub image: &'a [u8],
     pub firsts: &'a [bool],
     pub table: Table,
-    pub given: &'a Record,
+    pub given: &'a RecordRef<'a>,
     pub place: &'a Place,
 }
 
@@ -140,8 +139,8 @@ impl<'a> Run<'a> {
     {
         match region {
             Region::Stack => STACK_SIZE,
-            Region::Key => text(&self.given.key).len(),
-            Region::Value => text(&self.given.value).len(),
+            Region::Key => text(&self.given.key()).len(),
+            Region::Value => text(&self.given.value()).len(),
         }
     }
 
@@ -151,8 +150,8 @@ impl<'a> Run<'a> {
     {
         match region {
             Region::Stack => stack.get(place),
-            Region::Key => byte_of(text(&self.given.key), place),
-            Region::Value => byte_of(text(&self.given.value), place),
+            Region::Key => byte_of(text(&self.given.key()), place),
+            Region::Value => byte_of(text(&self.given.value()), place),
         }
     }
 

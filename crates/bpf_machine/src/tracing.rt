@@ -16,6 +16,7 @@ use crate::slots::{first_slots, slot_count};
 use crate::tagged::Tagged;
 use crate::traps::trap_of;
 use bpf_isa::form_at;
+use helpers::RecordRef;
 use machine_spec::{Instruction, Outcome, Place, Summary, Table, Trap};
 use std::alloc::{AllocError, Global};
 use wire_spec::Record;
@@ -91,13 +92,11 @@ impl Machine {
     }
 }
 
-/// Runs the program of an image and a helper table on a record, whatever bytes its image has. Returns
-/// what the run ends with, an outcome or the trap of its last state, and how many instructions were
-/// done, an exit among them. It fails only where memory runs out.
-pub fn trace(
+/// Does what `trace` does, on a record by reference.
+fn trace_reference(
     alloc: Global,
     image: &[u8],
-    given: &Record,
+    given: &RecordRef,
     place: &Place,
     table: Table,
 ) -> Result<(End, u64), AllocError>
@@ -128,4 +127,20 @@ pub fn trace(
             }
         }
     }
+}
+
+/// Runs the program of an image and a helper table on a record, whatever bytes its image has. Returns
+/// what the run ends with, an outcome or the trap of its last state, and how many instructions were
+/// done, an exit among them. It fails only where memory runs out.
+pub fn trace(
+    alloc: Global,
+    image: &[u8],
+    given: &Record,
+    place: &Place,
+    table: Table,
+) -> Result<(End, u64), AllocError>
+    ensures { IfOk result (λ answer. EndsOnlyIn (program_of image.now table)
+        (record { given = given.now; place = place.now }) answer.0 answer.1) }
+{
+    trace_reference(alloc, image, &RecordRef::of(given), place, table)
 }

@@ -2,11 +2,11 @@
 ghost use Rattle.std.specs.Prelude.{◌≡◌, ◌++◌, [], IfOk, OnOk};
 ghost use Rattle.helpers.specs.Emitted.{emission_in, emissions_in};
 
-use kafka_record::{share_bytes, share_headers};
+use kafka_record::{RecordRef, share_headers};
 use machine_spec::{Emission, Emissions};
 use std::alloc::{AllocError, Global};
 use std::marker::Model;
-use wire_spec::{Headers, Record};
+use wire_spec::Headers;
 
 /// What a program emitted for a record.
 #[derive(Drop)]
@@ -64,15 +64,15 @@ impl Emitted {
     /// The emission of it for this record: another owner of the record's parts, where it is the record as it
     /// is. It fails only where memory runs out.
     #[inline(always)]
-    fn into_emission(self, alloc: Global, given: &Record) -> Result<Emission, AllocError>
+    fn into_emission(self, alloc: Global, given: &RecordRef) -> Result<Emission, AllocError>
         ensures { IfOk result (λ emission. emission ≡ emission_in given.now self) }
     {
         match self {
             Emitted::Given { out } => Ok(Emission {
                 out,
-                key: share_bytes(&given.key)?,
-                value: share_bytes(&given.value)?,
-                headers: share_some(alloc, &given.headers)?,
+                key: given.share_key()?,
+                value: given.share_value()?,
+                headers: share_some(alloc, given.headers())?,
             }),
             Emitted::Made(emission) => Ok(emission),
         }
@@ -82,7 +82,7 @@ impl Emitted {
 /// Adds the emissions for a record to a list. Nothing is left in the other list, but its room.
 fn add_each(
     alloc: Global,
-    given: &Record,
+    given: &RecordRef,
     emitted: &mut Vec<Emitted>,
     made: &mut Vec<Emission>,
 ) -> Result<(), AllocError>
@@ -108,7 +108,11 @@ impl EmittedList {
     /// The emissions for a record, made of what a program emitted for it. Nothing is left in the list, but its
     /// room. It fails only where memory runs out. Many runs emit nothing, which takes a test alone.
     #[inline(always)]
-    pub fn make_emissions(&mut self, alloc: Global, given: &Record) -> Result<Emissions, AllocError>
+    pub fn make_emissions(
+        &mut self,
+        alloc: Global,
+        given: &RecordRef,
+    ) -> Result<Emissions, AllocError>
         ensures made { IfOk result (λ made. made ≡ emissions_in given.now self.old) }
         ensures none { OnOk result (self.new ≡ []) }
     {
@@ -122,7 +126,7 @@ impl EmittedList {
 
     /// The same where something was emitted.
     #[inline(never)]
-    fn make_each(&mut self, alloc: Global, given: &Record) -> Result<Emissions, AllocError>
+    fn make_each(&mut self, alloc: Global, given: &RecordRef) -> Result<Emissions, AllocError>
         ensures made { IfOk result (λ made. made ≡ emissions_in given.now self.old) }
         ensures none { OnOk result (self.new ≡ []) }
     {

@@ -2,8 +2,8 @@
 ghost use Rattle.std.specs.Prelude.{◌≡◌, length, slice_get, option_map};
 ghost use Rattle.machine_spec.specs.Machine.{key_bytes, value_bytes, key_answer, value_answer};
 
-use crate::parts::text;
-use wire_spec::{Header, Record};
+use kafka_record::RecordRef;
+use wire_spec::Header;
 
 /// What a program gets of a header: bytes of it, and the number that says what was found.
 #[derive(Clone, Copy, Debug)]
@@ -13,10 +13,10 @@ pub struct HeaderPart<'a> {
 }
 
 /// How many headers a record has.
-pub fn header_count(given: &Record) -> u64
+pub fn header_count(given: &RecordRef) -> u64
     ensures { result ≡ length given.now.headers }
 {
-    given.headers.list.len() as u64
+    given.headers().list.len() as u64
 }
 
 /// The header at a position, from 0, if there is one.
@@ -73,18 +73,18 @@ fn value_of(header: Option<&Header>) -> HeaderPart
 
 /// The key of the header at a position, from 0. It answers the key's length plus 1, or 0 where there
 /// is no such header.
-pub fn header_key(given: &Record, position: u64) -> HeaderPart
+pub fn header_key<'a>(given: &RecordRef<'a>, position: u64) -> HeaderPart<'a>
     ensures bytes { result.bytes.now ≡ key_bytes (slice_get given.now.headers position) }
     ensures answer { result.answer ≡ key_answer (slice_get given.now.headers position) }
 {
-    key_of(header_at(&given.headers.list, position))
+    key_of(header_at(&given.headers().list, position))
 }
 
 /// The value of the header at a position, from 0. It answers 0 where there is no such header, 1 where
 /// the value is null, else the value's length plus 2.
-pub fn header_value(given: &Record, position: u64) -> HeaderPart
+pub fn header_value<'a>(given: &RecordRef<'a>, position: u64) -> HeaderPart<'a>
     ensures bytes { result.bytes.now ≡ value_bytes (slice_get given.now.headers position) }
     ensures answer { result.answer ≡ value_answer (slice_get given.now.headers position) }
 {
-    value_of(header_at(&given.headers.list, position))
+    value_of(header_at(&given.headers().list, position))
 }

@@ -13,6 +13,7 @@ mod room;
 pub use emitted::{Emitted, EmittedList};
 pub use emitter::Emitter;
 pub use headers::{HeaderPart, header_count, header_key, header_value};
+pub use kafka_record::{NullableBytes, RecordRef};
 pub use machine_spec::{Emission, Emissions, Helper, Outcome, Place};
 pub use parts::{null_flags, text, text_length};
 pub use pieces::Piece;

@@ -1,6 +1,6 @@
-use Rattle.std.proofs.Common.{◌≡◌, ◌-◌, ◌+◌, ◌<◌, ◌||◌, suc, refl, ap, subst, sym, ◌∙◌, length, slice_set, true, false, arith}
+use Rattle.std.proofs.Common.{◌≡◌, ◌-◌, ◌+◌, ◌<◌, ◌||◌, suc, ap, ◌∙◌, length, slice_set, true, false, arith}
 use Rattle.std.proofs.lemmas.List.{length-replicate, length-set}
-use Rattle.machine_spec.specs.Image.{slot_count, is_first_slot}
+use Rattle.machine_spec.specs.Image.{slot_count}
 use Rattle.bpf_machine.specs.Views.{is_marked}
 use Rattle.bpf_machine.proofs.Walks.{comes, comes_first, comes_past, none_marked, marks_on, marks_all}
 use Rattle.bpf_machine.proofs.slots.first_slots.Goals as goal

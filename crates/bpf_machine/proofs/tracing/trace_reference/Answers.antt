@@ -7,7 +7,7 @@ use Rattle.helpers.specs.Emitted.{emissions_in}
 use Rattle.bpf_machine.specs.States.{state_in}
 use Rattle.bpf_machine.proofs.Bounds.{near_of, step_further}
 use Rattle.bpf_machine.proofs.Going.{ends_trapped, ends_out, small_slot, small_count}
-use Rattle.bpf_machine.proofs.tracing.trace.Goals as goal
+use Rattle.bpf_machine.proofs.tracing.trace_reference.Goals as goal
 
 pub advance-requires-clause-slot : goal.advance-requires-clause-slot
 advance-requires-clause-slot c =
