@@ -11,6 +11,7 @@ ghost use Rattle.verifier_spec.specs.StandsFor.{IsWithinLimits};
 
 use bytes::Bytes;
 use exec::{Block, EmittedList, Ending};
+use kafka_record::RecordRef;
 use machine_spec::{IsaFault, Outcome, Place, Table};
 use notes::Verified;
 use std::alloc::{AllocError, Global};
@@ -78,7 +79,7 @@ impl Program {
     pub fn run_into(
         &self,
         alloc: Global,
-        given: &Record,
+        given: &RecordRef,
         place: &Place,
         emitted: &mut EmittedList,
     ) -> Result<Ending, AllocError>
@@ -99,7 +100,7 @@ impl Program {
     pub fn run_block(
         &self,
         block: &mut Block,
-        given: &[Record],
+        given: &[RecordRef],
         places: &[Place],
     ) -> Result<(), AllocError>
         requires given { AreGiven given.now places.now }
