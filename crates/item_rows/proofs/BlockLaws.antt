@@ -8,6 +8,7 @@ use Rattle.std.specs.List.{AllByRecursion}
 use Rattle.std.proofs.lemmas.Int.{ints}
 use Rattle.std.proofs.lemmas.List.{length-append, length-take, length-drop, append-nil, get_or_default, get_or-drop}
 use Rattle.std.proofs.lemmas.List.{get_or_append_left, get_or-take, length-take-le, drop-drop, drop_at, take_at}
+use Rattle.std.proofs.lemmas.List.{take-append-drop}
 use Rattle.wire_spec.specs.declared.{limits.TheConstants.TIMESTAMP_END, record.Record.Record, record.Batch.Batch}
 use Rattle.machine_spec.specs.declared.{outcome.Outcome.Outcome, outcome.Place.Place}
 use Rattle.machine_spec.specs.Image.{Program}
@@ -430,3 +431,26 @@ can_run_first run at here later counts can =
 pub on_ok : {A E : Type 0} (result : Result A E) (P Q : Type 0) → (P → Q) → OnOk result P → OnOk result Q
 on_ok (Ok value) P Q so p = so p
 on_ok (Err fault) P Q so p = tt
+
+-- ---- some of the records after the first ones
+
+pub record IsPart (records : List Record) (done count : ℕ) : Type 0 where
+  pub long : length (take count (drop done records)) ≡ count
+  pub rest : drop done records ≡ take count (drop done records) ++ drop count (drop done records)
+  pub more : take (done + count) records ≡ take done records ++ take count (drop done records)
+
+pub is_part : (records : List Record) (done count : ℕ) → done + count ≤ length records → IsPart records done count
+is_part records done count le =
+    let front = take done records in let rest = drop done records in
+    let here = take count rest in let later = drop count rest in
+    let long : length here ≡ count = length-take-le count rest (omega (arith, le, length-drop done records)) in
+    let front_long : length front ≡ done = length-take-le done records (omega (arith, le)) in
+    let both : length (front ++ here) ≡ done + count = omega (arith, length-append front here, long, front_long) in
+    let parts : here ++ later ≡ rest = take-append-drop count rest in
+    let whole : (front ++ here) ++ later ≡ records =
+    append_assoc front here later ∙ (ap (λ (rs : List Record). front ++ rs) parts ∙ take-append-drop done records) in
+    record {
+      long = long;
+      rest = sym parts;
+      more = ap (take (done + count)) (sym whole) ∙ take_at (front ++ here) later (done + count) both;
+    }

@@ -20,10 +20,10 @@ use crate::outcomes::{push_outcome, push_outcomes};
 use crate::records::timestamp;
 use crate::refs::RowRefs;
 use fates::{Counts, Fate};
+use kafka_record::RecordRef;
 use log_item::{BLOCK, Block, EmittedList, LEAST, LoggedBatch, MANY, Program};
 use machine_spec::Place;
 use std::alloc::{AllocError, Global};
-use wire_spec::Record;
 
 /// What the records of a batch are run by, and the outputs that their rows go to, from `first` on.
 #[derive(Drop)]
@@ -37,7 +37,7 @@ pub(crate) struct BatchRun<'a> {
 
 impl<'a> BatchRun<'a> {
     /// Where a record with this offset is.
-    fn place(&self, offset: u64, given: &Record) -> Place
+    fn place(&self, offset: u64, given: &RecordRef) -> Place
         requires from { pos 0 ≤ℤ timestamp_of self.now.batch.now given.now }
         requires to { timestamp_of self.now.batch.now given.now <ℤ pos TIMESTAMP_END }
         ensures { result ≡ place_of self.now.origin.now.input self.now.origin.now.outputs offset self.now.batch.now given.now }
@@ -45,7 +45,7 @@ impl<'a> BatchRun<'a> {
         Place {
             partition: self.origin.input,
             offset,
-            timestamp: timestamp(self.batch.batch(), given),
+            timestamp: timestamp(self.batch, given),
             outputs: self.origin.outputs,
         }
     }
@@ -59,7 +59,7 @@ impl<'a> BatchRun<'a> {
     }
 
     /// Where each of these records is, of which the first has this offset.
-    fn places(&self, offset: u64, records: &[Record]) -> Result<Vec<Place>, AllocError>
+    fn places(&self, offset: u64, records: &[RecordRef]) -> Result<Vec<Place>, AllocError>
         requires fits { AllByRecursion (FitsRecord self.now.batch.now) records.now }
         requires few { offset + length records.now ≤ TIMESTAMP_END }
         ensures { IfOk result (λ places. places.items ≡ places_from self.now.origin.now.input self.now.origin.now.outputs self.now.batch.now offset records.now) }
@@ -90,7 +90,7 @@ impl<'a> BatchRun<'a> {
         match self.program {
             None => Ok(Fate::Unprogrammed),
             Some(program) => {
-                let ending = program.run_into(self.alloc, given.record(), place, emitted)?;
+                let ending = program.run_into(self.alloc, &given.record(), place, emitted)?;
                 push_outcome(all, self.first, place, given, ending, emitted)
             }
         }
@@ -101,7 +101,7 @@ impl<'a> BatchRun<'a> {
     fn push_each(
         &self,
         offset: u64,
-        records: &'a [Record],
+        records: &[RecordRef],
         emitted: &mut EmittedList,
         all: &mut [RowRefs<'a>],
         counts: &mut Counts,
@@ -126,7 +126,7 @@ impl<'a> BatchRun<'a> {
         &self,
         program: &Program,
         offset: u64,
-        records: &[Record],
+        records: &[RecordRef],
         block: &mut Block,
     ) -> Result<Vec<Place>, AllocError>
         requires origin { IsOrigin self.now.origin.now }
@@ -148,7 +148,7 @@ impl<'a> BatchRun<'a> {
         &self,
         program: &Program,
         first_offset: u64,
-        records: &'a [Record],
+        records: &[RecordRef],
         blocks: &mut Blocks,
         all: &mut [RowRefs<'a>],
         counts: &mut Counts,
@@ -159,10 +159,10 @@ impl<'a> BatchRun<'a> {
     {
         let mut emitted = EmittedList::new(self.alloc);
         let mut offset = first_offset;
-        let mut rest = records;
-        while rest.len() >= LEAST {
-            let count = rest.len().min(BLOCK);
-            let (here, later) = rest.split_at(count);
+        let mut done = 0;
+        while records.len() - done >= LEAST {
+            let count = (records.len() - done).min(BLOCK);
+            let here = &records[done..done + count];
             let mut block = blocks.take(count)?;
             let places = self.run_block(program, offset, here, &mut block)?;
             let at = places.as_slice();
@@ -179,9 +179,9 @@ impl<'a> BatchRun<'a> {
             )?;
             blocks.keep(count, block);
             offset += count as u64;
-            rest = later;
+            done += count;
         }
-        self.push_each(offset, rest, &mut emitted, all, counts)
+        self.push_each(offset, &records[done..], &mut emitted, all, counts)
     }
 
     /// The program in force, where so many records take less time abreast than one by one.
@@ -198,7 +198,7 @@ impl<'a> BatchRun<'a> {
     pub(crate) fn push_all(
         &self,
         offset: u64,
-        records: &'a [Record],
+        records: &[RecordRef],
         blocks: &mut Blocks,
         all: &mut [RowRefs<'a>],
         counts: &mut Counts,

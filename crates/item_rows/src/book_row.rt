@@ -9,7 +9,7 @@ ghost use Rattle.item_rows.specs.BookRows.{parts_of, AreThere};
 use crate::given::Given;
 use crate::numbers::RowNumbers;
 use crate::refs::Slot;
-use kafka_record::{share_bytes, share_headers};
+use kafka_record::{NullableBytes, share_bytes, share_headers};
 use log_item::LoggedBatch;
 use log_spec::{Row, RowRef};
 use machine_spec::Emission;
@@ -170,12 +170,13 @@ impl BookRow {
             Parts::Given { logged, index } => {
                 let given = logged.record(*index);
                 self.numbers
-                    .with_parts(&given.key, &given.value, &given.headers)
+                    .with_parts(given.key(), given.value(), given.headers())
             }
             Parts::Made { made, index } => {
                 let emission = &made.list[*index];
-                self.numbers
-                    .with_parts(&emission.key, &emission.value, &emission.headers)
+                let key = NullableBytes::of(&emission.key);
+                let value = NullableBytes::of(&emission.value);
+                self.numbers.with_parts(key, value, &emission.headers)
             }
         }
     }
@@ -195,16 +196,22 @@ impl BookRow {
     pub fn value(&self, alloc: Global) -> Result<Row, AllocError>
         ensures { IfOk result (λ row. row ≡ self.now) }
     {
-        let row = self.by_ref();
-        Ok(Row {
-            input: row.input,
-            number: row.number,
-            offset: row.offset,
-            timestamp: row.timestamp,
-            key: share_bytes(row.key)?,
-            value: share_bytes(row.value)?,
-            headers: share_headers(alloc, row.headers)?,
-        })
+        match &self.parts {
+            Parts::Given { logged, index } => {
+                let given = logged.record(*index);
+                let headers = share_headers(alloc, given.headers())?;
+                Ok(self
+                    .numbers
+                    .row(given.share_key()?, given.share_value()?, headers))
+            }
+            Parts::Made { made, index } => {
+                let emission = &made.list[*index];
+                let headers = share_headers(alloc, &emission.headers)?;
+                let key = share_bytes(&emission.key)?;
+                let value = share_bytes(&emission.value)?;
+                Ok(self.numbers.row(key, value, headers))
+            }
+        }
     }
 }
 

@@ -3,9 +3,9 @@
 ghost use Rattle.std.specs.Prelude.{◌≡◌, ◌<◌, length, get_or};
 ghost use Rattle.item_rows.specs.RowParts.{no_record};
 
+use kafka_record::RecordRef;
 use log_item::LoggedBatch;
 use std::marker::Model;
-use wire_spec::Record;
 
 /// A record of a batch of a log, by its number. A clause sees the record.
 #[derive(Drop)]
@@ -49,8 +49,8 @@ impl<'a> Given<'a> {
 
     /// The record.
     #[inline(always)]
-    pub(crate) fn record(&self) -> &'a Record
-        ensures { result.now ≡ self.now }
+    pub(crate) fn record(&self) -> RecordRef<'a>
+        ensures { result ≡ self.now }
     {
         self.logged.record(self.index)
     }

@@ -43,7 +43,7 @@ fn push_item<'a>(
         Item::Mark { .. } => Ok(Counts::new(blocks.alloc)),
         Item::End => Ok(Counts::new(blocks.alloc)),
         Item::Batch(logged) => {
-            let _fits = logged.batch();
+            let _fits = logged.len();
             push_records(blocks, program, origin, logged, first, all)
         }
     }

@@ -20,6 +20,5 @@ pub use crate::book_row::{BookRow, row_values};
 pub use crate::item::{OneOutput, item_refs_in, item_rows, item_rows_in, output_rows};
 pub use crate::laws::one_list_of_rows;
 pub use crate::origin::Origin;
-pub use crate::records::timestamp;
 pub use crate::refs::RowRefs;
 pub use crate::rows::{ItemRefs, ItemRows};

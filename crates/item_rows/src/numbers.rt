@@ -8,7 +8,8 @@ ghost use Rattle.log_spec.specs.Logs.{row_of};
 ghost use Rattle.item_rows.specs.RowParts.{row_by};
 
 use bytes::Bytes;
-use log_spec::RowRef;
+use kafka_record::NullableBytes;
+use log_spec::{Row, RowRef};
 use machine_spec::Place;
 use wire_spec::Headers;
 
@@ -40,13 +41,28 @@ impl RowNumbers {
     #[inline(always)]
     pub(crate) fn with_parts<'r>(
         &self,
-        key: &'r Option<Bytes>,
-        value: &'r Option<Bytes>,
+        key: NullableBytes<'r>,
+        value: NullableBytes<'r>,
         headers: &'r Headers,
     ) -> RowRef<'r>
-        ensures { result ≡ row_by self.now (record { out = 0; key = key.now; value = value.now; headers = headers.now }) }
+        ensures { result ≡ row_by self.now (record { out = 0; key = key.entry; value = value.entry; headers = headers.now }) }
     {
         RowRef {
+            input: self.input,
+            number: self.number,
+            offset: self.offset,
+            timestamp: self.timestamp,
+            key: key.as_slice(),
+            value: value.as_slice(),
+            headers,
+        }
+    }
+
+    /// The row of these numbers that owns these parts.
+    pub(crate) fn row(&self, key: Option<Bytes>, value: Option<Bytes>, headers: Headers) -> Row
+        ensures { result ≡ row_by self.now (record { out = 0; key = key; value = value; headers = headers }) }
+    {
+        Row {
             input: self.input,
             number: self.number,
             offset: self.offset,

@@ -115,7 +115,7 @@ pub(crate) fn push_outcomes<'a>(
     ensures rows { OnOk result (Adds first all.old all.new (λ output here. here ≡ rows_of_each output places.now (outcomes_of (records_from from (length block.old) logged.now.records) block.old))) }
     ensures counts { OnOk result (AreFatesMore (map fate_of (outcomes_of (records_from from (length block.old) logged.now.records) block.old)) counts.old counts.new) }
 {
-    let _few = logged.batch();
+    let _few = logged.len();
     for index in 0..places.len() {
         let ending = block.take(index, emitted);
         let given = Given::new(logged, from + index);

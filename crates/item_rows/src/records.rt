@@ -9,18 +9,31 @@ use crate::blocks::Blocks;
 use crate::origin::Origin;
 use crate::refs::RowRefs;
 use fates::Counts;
+use kafka_record::RecordRef;
 use log_item::{LoggedBatch, Program};
-use std::alloc::AllocError;
-use wire_spec::{Batch, Record, TIMESTAMP_END};
+use std::alloc::{AllocError, Global};
+use wire_spec::TIMESTAMP_END;
 
 /// A record's timestamp in milliseconds: its batch's base timestamp plus its delta.
-pub fn timestamp(batch: &Batch, given: &Record) -> u64
+pub(crate) fn timestamp(batch: &LoggedBatch, given: &RecordRef) -> u64
     requires from { pos 0 ≤ℤ timestamp_of batch.now given.now }
     requires to { timestamp_of batch.now given.now <ℤ pos TIMESTAMP_END }
     ensures value { result ≡ unsigned_abs (timestamp_of batch.now given.now) }
     ensures small { result < TIMESTAMP_END }
 {
-    (batch.base_timestamp + given.timestamp_delta) as u64
+    (batch.base_timestamp() + given.timestamp_delta()) as u64
+}
+
+/// The records of a batch, by reference.
+fn references(alloc: Global, batch: &LoggedBatch) -> Result<Vec<RecordRef<'_>>, AllocError>
+    ensures { IfOk result (λ records. records.items ≡ batch.now.records) }
+{
+    let count = batch.len();
+    let mut records = Vec::with_capacity(alloc, count)?;
+    for index in 0..count {
+        records.push(batch.record(index))?;
+    }
+    Ok(records)
 }
 
 /// Runs the program in force on a batch's records, in order, and adds the rows that they give. Returns
@@ -45,8 +58,9 @@ pub(crate) fn push_records<'a>(
         batch,
         first,
     };
-    let records = &batch.batch().records;
+    let _fits = batch.len();
+    let records = references(alloc, batch)?;
     let mut counts = Counts::new(alloc);
-    run.push_all(origin.offset, &records.list, blocks, all, &mut counts)?;
+    run.push_all(origin.offset, records.as_slice(), blocks, all, &mut counts)?;
     Ok(counts)
 }

@@ -13,6 +13,7 @@ ghost use Rattle.item_rows.specs.RowRefs.{row_with, row_in, rows_by, AreWithin};
 use crate::book_row::{BookRow, Made};
 use crate::given::Given;
 use crate::numbers::RowNumbers;
+use kafka_record::NullableBytes;
 use log_item::Emitted;
 use log_spec::RowRef;
 use machine_spec::{Emission, Place};
@@ -51,8 +52,9 @@ fn made_row<'r>(made: &'r [Emission], slot: &Slot, number: usize) -> RowRef<'r>
     ensures { result ≡ row_with slot.now (get_or made.now number no_emission) }
 {
     let emission = &made[number];
-    slot.numbers
-        .with_parts(&emission.key, &emission.value, &emission.headers)
+    let key = NullableBytes::of(&emission.key);
+    let value = NullableBytes::of(&emission.value);
+    slot.numbers.with_parts(key, value, &emission.headers)
 }
 
 /// The row of a slot whose parts are the given record's.
@@ -62,7 +64,7 @@ fn given_row<'r>(slot: &'r Slot) -> RowRef<'r>
 {
     let given = slot.given.record();
     slot.numbers
-        .with_parts(&given.key, &given.value, &given.headers)
+        .with_parts(given.key(), given.value(), given.headers())
 }
 
 /// The row of a slot.

@@ -7,6 +7,7 @@ ghost use Rattle.item_rows.specs.ItemRows.{rows_in};
 ghost use Rattle.transform.specs.Transforms.{flow, none_counted, Pushes, PutsEach, PutsOne, EndsEach, EndsOne, EndsFlow};
 
 use crate::outlet::{Outlet, OutletFault};
+use batch::PackedBatch;
 use fates::Counts;
 use item_rows::{Blocks, ItemRefs, Origin, RowRefs, item_refs_in};
 use log_item::{Item, LoggedBatch, Program};
@@ -128,6 +129,27 @@ impl<W: Write> Transform<W> {
         requires { FitsLog batch }
         ensures { Pushes program.now batch self.old result self.new }
     {
+        let logged = LoggedBatch::new(self.blocks.alloc(), batch)?;
+        self.push_logged(program, logged)
+    }
+
+    /// The same of a batch whose records stay in the bytes that they came in.
+    pub fn push_packed(
+        &mut self,
+        program: &Program,
+        batch: PackedBatch,
+    ) -> Result<(), TransformFault>
+        requires { FitsLog batch }
+        ensures { Pushes program.now batch self.old result self.new }
+    {
+        let logged = LoggedBatch::packed(self.blocks.alloc(), batch)?;
+        self.push_logged(program, logged)
+    }
+
+    // The same of a batch as a log has it.
+    fn push_logged(&mut self, program: &Program, batch: LoggedBatch) -> Result<(), TransformFault>
+        ensures { Pushes program.now batch self.old result self.new }
+    {
         if self.offset > TIMESTAMP_END - MAX_RECORDS as u64 {
             return Err(TransformFault::Full);
         }
@@ -136,7 +158,8 @@ impl<W: Write> Transform<W> {
             offset: self.offset,
             outputs: self.outlets.len(),
         };
-        let item = Item::Batch(LoggedBatch::new(self.blocks.alloc(), batch)?);
+        let _fits = batch.len();
+        let item = Item::Batch(batch);
         let rows = item_refs_in(&mut self.blocks, &origin, Some(program), &item)?;
         self.counts.add_all(rows.counts())?;
         self.offset += item.records();

@@ -7,11 +7,11 @@ ghost use Rattle.transform.specs.Streams.{is_broken, PushesAll, TransformsAll};
 ghost use Rattle.transform.specs.declared.stream.StreamFault.TheVariants.{Read as Unread, Transform as Stopped};
 
 use crate::flow::{Transform, TransformFault};
+use batch::PackedBatch;
 use batch_reader::{BatchReader, Position, ReadFault};
 use log_item::Program;
 use std::io::{Read, Write};
 use thiserror::Error;
-use wire_spec::Batch;
 
 /// Why no further batch of a reader is transformed.
 #[derive(Clone, Copy, Debug, PartialEq, Eq, Drop, Error)]
@@ -117,7 +117,7 @@ fn push_all<R: Read, W: Write, V: Watch>(
     for _ in 0..u64::MAX {
         match next_batch(reader)? {
             None => return Ok(()),
-            Some(batch) => stream.push(program, batch)?,
+            Some(batch) => stream.push_packed(program, batch)?,
         }
         watch.batch_done(reader.position(), stream.offset());
     }
@@ -126,7 +126,7 @@ fn push_all<R: Read, W: Write, V: Watch>(
 
 // The next batch of a reader, which a log takes.
 #[tactic(auto, using(crate::proofs::StreamLaws::fits))]
-fn next_batch<R: Read>(reader: &mut BatchReader<R>) -> Result<Option<Batch>, ReadFault>
+fn next_batch<R: Read>(reader: &mut BatchReader<R>) -> Result<Option<PackedBatch>, ReadFault>
     requires { IsOpen reader.old }
     ensures gives { ReadsBatch reader.old result reader.new }
     ensures fits { IfOk result (λ given. IfSome given FitsLog) }

@@ -20,4 +20,4 @@ returns-in-Batch c =
     × Adds first one two (GivesRows origin program item)) c.push_records.ensures
     (λ counts made. item_made first origin program (Records batch) item one two counts
     (sym (ap item_view c.in-Batch.is))
-    (batch_made first origin program batch one two counts c.batch-fits.ensures.fits made))
+    (batch_made first origin program batch one two counts c.len-fits.ensures.fits made))

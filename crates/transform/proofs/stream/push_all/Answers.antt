@@ -17,19 +17,19 @@ returns-in_err-next_batch g c =
     unread c.args.program.now c.args.reader.now c.args.stream.now c.loop.reader c.next_batch.new.reader c.loop.stream why
     c.from_residual.result c.loop.invariant reads is
 
-pub returns-in_err-push-in-Some : goal.returns-in_err-push-in-Some
-returns-in_err-push-in-Some g c =
-    let why = c.in_err-push-in-Some.field-0.0 in let batch = c.in-Some.batch in
+pub returns-in_err-push_packed-in-Some : goal.returns-in_err-push_packed-in-Some
+returns-in_err-push_packed-in-Some g c =
+    let why = c.in_err-push_packed-in-Some.field-0.0 in let batch = c.in-Some.batch in
     let reads : ReadsBatch c.loop.reader (Ok (Some batch)) c.next_batch.new.reader = search rules in
-    let pushes : Pushes c.args.program.now batch c.loop.stream (Err why) c.push.new.self = search rules in
-    let is : c.from_residual-in_err-push-in-Some.result ≡ Err (fault.Transform why) = search rules in
+    let pushes : Pushes c.args.program.now batch c.loop.stream (Err why) c.push_packed.new.self = search rules in
+    let is : c.from_residual-in_err-push_packed-in-Some.result ≡ Err (fault.Transform why) = search rules in
     unpushed c.args.program.now c.args.reader.now c.args.stream.now c.loop.reader c.next_batch.new.reader c.loop.stream
-    c.push.new.self batch why c.from_residual-in_err-push-in-Some.result c.loop.invariant reads pushes is
+    c.push_packed.new.self batch why c.from_residual-in_err-push_packed-in-Some.result c.loop.invariant reads pushes is
 
 pub loop-preserved : goal.loop-preserved
 loop-preserved g c =
     let batch = c.in-Some.batch in
     let reads : ReadsBatch c.loop.reader (Ok (Some batch)) c.next_batch.new.reader = search rules in
-    let pushes : Pushes c.args.program.now batch c.loop.stream (Ok tt) c.push.new.self = search rules in
+    let pushes : Pushes c.args.program.now batch c.loop.stream (Ok tt) c.push_packed.new.self = search rules in
     goes_on c.args.program.now c.args.reader.now c.args.stream.now c.loop.reader c.next_batch.new.reader c.loop.stream
-    c.push.new.self batch c.loop.invariant reads pushes
+    c.push_packed.new.self batch c.loop.invariant reads pushes

@@ -10,7 +10,7 @@ use Rattle.transform.specs.Outlets.{Outflow}
 use Rattle.transform.specs.Transforms.{Flow, flow, IsFlow, origin_of, PutsEach, Pushes}
 use Rattle.transform.proofs.CountLaws.{batch_counted, counts_batch}
 use Rattle.transform.proofs.PushLaws.{as_many, still_flow, pushed}
-use Rattle.transform.proofs.flow.Transform.push.Goals as goal
+use Rattle.transform.proofs.flow.Transform.push_logged.Goals as goal
 
 pub add_all-requires : goal.add_all-requires
 add_all-requires g c =
@@ -19,7 +19,7 @@ add_all-requires g c =
     let counts : AreItemCounts old.input outputs (Some c.args.program.now) old.offset (Records batch) here =
     search rules in
     let counted = batch_counted old.input outputs (Some c.args.program.now) old.offset batch here counts in
-    omega (arith, counted, c.requires.count, c.self.invariant.counted, c.self.invariant.offset)
+    omega (arith, counted, c.len-fits.ensures.fits.count, c.self.invariant.counted, c.self.invariant.offset)
 
 pub put_each-requires-clause-fit : goal.put_each-requires-clause-fit
 put_each-requires-clause-fit g c output lt =
@@ -46,7 +46,7 @@ invariant_of-self-2 g c =
     subst (λ (os : List Outflow). IsFlow (flow old.input (old.offset + c.records.result) os c.add_all.new.self))
     (sym same)
     (still_flow before c.records.result c.put_each.new.outlets c.add_all.new.self c.self.invariant many
-    (omega (arith, counted, more, c.in_ok-add_all.ensures.records)) (omega (arith, more, c.requires.count)) room)
+    (omega (arith, counted, more, c.in_ok-add_all.ensures.records)) (omega (arith, more, c.len-fits.ensures.fits.count)) room)
 
 pub returns : goal.returns
 returns g c =
