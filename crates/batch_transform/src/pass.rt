@@ -9,14 +9,13 @@ ghost use Rattle.batch_transform.specs.Transformed.{TransformsBatches};
 use crate::ending::{OutputBatches, end_each};
 use crate::fault::{BatchPlace, Stop};
 use crate::stream::{Stream, push, start};
-use batch::decode;
+use batch::{PackedBatch, decode_packed};
 use bytes::Bytes;
 use fates::Counts;
 use item_rows::Origin;
 use log_item::Program;
 use std::alloc::{AllocError, Global};
 use std::collections::BTreeMap;
-use wire_spec::Batch;
 
 /// What a program makes of record batches.
 #[derive(Drop)]
@@ -33,12 +32,12 @@ pub struct Transformed {
 
 /// The batch at the front, which a log takes, and how many bytes it has.
 #[tactic(auto, using(log_spec::proofs::FittingBatches::fits_log))]
-fn read(alloc: Global, rest: &Bytes) -> Result<(Batch, usize), Stop>
+fn read(alloc: Global, rest: &Bytes) -> Result<(PackedBatch, usize), Stop>
     ensures reads { ReadsBatch rest.now result }
     ensures fits { IfOk result (λ x. FitsLog x.0) }
     ensures within { IfOk result (λ x. (61 ≤ x.1) × (x.1 ≤ length rest.now)) }
 {
-    match decode(alloc, rest.clone()?) {
+    match decode_packed(alloc, rest.clone()?) {
         Ok(found) => Ok(found),
         Err(fault) => Err(Stop::Batch(fault)),
     }

@@ -7,12 +7,13 @@ ghost use Rattle.transform.specs.Transforms.{InEach, InOne, Stays, Fills};
 ghost use Rattle.batch_transform.specs.Passes.{IsStream, StartsAt, PushesBatch, AreEmpty};
 
 use crate::fault::Stop;
+use batch::PackedBatch;
 use fates::Counts;
 use item_rows::{Blocks, ItemRefs, Origin, RowRefs, item_refs_in};
 use log_item::{Item, LoggedBatch, Program};
 use std::alloc::{AllocError, Global};
 use transform::Outlet;
-use wire_spec::{Batch, MAX_RECORDS, TIMESTAMP_END};
+use wire_spec::{MAX_RECORDS, TIMESTAMP_END};
 
 /// Batches through a program: the input partition, the offset of its next record, what became of the
 /// records, the output partitions, and the blocks that records are run in.
@@ -74,7 +75,7 @@ fn put_each(rows: &ItemRefs, outlets: &mut [Outlet<Vec<u8>>]) -> Result<(), Allo
 }
 
 /// Runs a program on the records of the next batch and puts the rows into the output partitions.
-pub(crate) fn push(program: &Program, batch: Batch, stream: &mut Stream) -> Result<(), Stop>
+pub(crate) fn push(program: &Program, batch: PackedBatch, stream: &mut Stream) -> Result<(), Stop>
     requires fits { FitsLog batch }
     requires stream { IsStream stream.old }
     ensures { PushesBatch program.now batch stream.old result stream.new }
@@ -87,7 +88,7 @@ pub(crate) fn push(program: &Program, batch: Batch, stream: &mut Stream) -> Resu
         offset: stream.offset,
         outputs: stream.outlets.len(),
     };
-    let item = Item::Batch(LoggedBatch::new(stream.blocks.alloc(), batch)?);
+    let item = Item::Batch(LoggedBatch::packed(stream.blocks.alloc(), batch)?);
     let rows = item_refs_in(&mut stream.blocks, &origin, Some(program), &item)?;
     stream.counts.add_all(rows.counts())?;
     put_each(&rows, &mut stream.outlets)?;

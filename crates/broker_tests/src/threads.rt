@@ -198,7 +198,7 @@ fn read<Id: Names, C>(
 
 fn stamp_of(item: &Item) -> Option<(i64, u64)> {
     match item {
-        Item::Batch(logged) => Some((logged.batch().base_timestamp, item.records())),
+        Item::Batch(logged) => Some((logged.base_timestamp(), item.records())),
         Item::Mark { .. } => None,
         Item::End => None,
     }

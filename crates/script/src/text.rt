@@ -78,6 +78,15 @@ pub fn push_bytes(text: &mut String, bytes: &Option<Bytes>) -> Result<(), AllocE
     ensures { OnOk result (string_bytes text.new ≡ string_bytes text.old ++ bytes_text bytes.now) }
 {
     match bytes {
+        None => push_part(text, None),
+        Some(bytes) => push_part(text, Some(bytes.as_slice())),
+    }
+}
+
+fn push_part(text: &mut String, part: Option<&[u8]>) -> Result<(), AllocError>
+    ensures { OnOk result (string_bytes text.new ≡ string_bytes text.old ++ bytes_text (option_map (λ bytes. bytes.now) part.entry)) }
+{
+    match part {
         None => text.push_str("-"),
         Some(bytes) => {
             if bytes.is_empty() {
@@ -121,8 +130,8 @@ pub fn push_row(text: &mut String, output: usize, row: &RowRef) -> Result<(), Al
     let headers = row.headers;
     let headers = headers.list.len();
     write!(text, "row {output} {input} {offset} {number} {timestamp} ")?;
-    push_bytes(text, row.key)?;
+    push_part(text, row.key)?;
     text.push_str(" ")?;
-    push_bytes(text, row.value)?;
+    push_part(text, row.value)?;
     write!(text, " {headers}\n")
 }

@@ -137,8 +137,8 @@ fn item_of<'a, Id: Names, C>(
 /// Finds the records of an item.
 fn find_all(numbers: &mut Numbers, item: &Item) {
     if let Item::Batch(logged) = item {
-        for record in &logged.batch().records.list {
-            numbers.find(record);
+        for index in 0..logged.len() {
+            numbers.find(&logged.record(index));
         }
     }
 }
@@ -150,7 +150,7 @@ fn event_of(alloc: Global, input: usize, item: &Item) -> Option<Event>
     match item {
         Item::End => Some(Event::Close(input)),
         Item::Batch(logged) => {
-            let batch = batch::share(alloc, logged.batch()).ok()?;
+            let batch = logged.to_batch(alloc).ok()?;
             Some(Event::Batch(input, batch))
         }
         Item::Mark { name, version, .. } => Some(Event::Mark(input, name.again(), *version)),

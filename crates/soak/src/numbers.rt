@@ -1,8 +1,7 @@
 //! Which records are in the logs.
 
-use bytes::Bytes;
+use kafka_record::RecordRef;
 use std::alloc::{AllocError, Global};
-use wire_spec::Record;
 
 /// Which of the records with the numbers 0, 1 and so on were found, and how often one was found again
 /// or has no such number.
@@ -28,8 +27,8 @@ impl Numbers {
     }
 
     /// Finds a record.
-    pub(crate) fn find(&mut self, record: &Record) {
-        if is_new(&mut self.found, record_number(&record.key)) {
+    pub(crate) fn find(&mut self, record: &RecordRef) {
+        if is_new(&mut self.found, record_number(record.key().as_slice())) {
             self.once = self.once.wrapping_add(1);
         } else {
             self.again = self.again.wrapping_add(1);
@@ -47,9 +46,9 @@ fn is_new(found: &mut [bool], number: usize) -> bool {
 }
 
 /// The number of the record with this key.
-fn record_number(key: &Option<Bytes>) -> usize {
+fn record_number(key: Option<&[u8]>) -> usize {
     match key {
-        Some(key) => read(key.as_slice()),
+        Some(key) => read(key),
         None => usize::MAX,
     }
 }
