@@ -1,6 +1,6 @@
 //! A program on the records of a batch: one by one, or a block of them abreast.
 
-ghost use Rattle.std.specs.Prelude.{◌≡◌, ◌+◌, ◌-◌, ◌≤◌, ◌<ℤ◌, ◌≤ℤ◌, pos, length, [], IfOk, OnOk, IfSome, Some};
+ghost use Rattle.std.specs.Prelude.{◌≡◌, ◌+◌, ◌<◌, ◌≤◌, ◌^◌, ◌<ℤ◌, ◌≤ℤ◌, pos, length, drop, IfOk, OnOk, IfSome, Some};
 ghost use Rattle.std.specs.List.{AllByRecursion};
 ghost use Rattle.wire_spec.specs.declared.limits.TheConstants.{TIMESTAMP_END};
 ghost use Rattle.machine_spec.specs.Meaning.{IsPlace};
@@ -11,7 +11,7 @@ ghost use Rattle.log_item.specs.Programs.{RunsSafelyOnEach};
 ghost use Rattle.log_spec.specs.Logs.{timestamp_of, place_of, FitsRecord, IsRecordRows};
 ghost use Rattle.fates.specs.Fates.{IsFate};
 ghost use Rattle.item_rows.specs.ItemRows.{IsOrigin, Adds};
-ghost use Rattle.item_rows.specs.Blocks.{places_from, program_in, CanRun, HaveRun};
+ghost use Rattle.item_rows.specs.Blocks.{places_from, program_in, records_from, CanRun, HaveRun};
 
 use crate::blocks::Blocks;
 use crate::given::Given;
@@ -48,14 +48,6 @@ impl<'a> BatchRun<'a> {
             timestamp: timestamp(self.batch, given),
             outputs: self.origin.outputs,
         }
-    }
-
-    /// The number in the batch of the record with this offset.
-    fn number_of(&self, offset: u64) -> usize
-        requires { self.now.origin.now.offset ≤ offset }
-        ensures { result ≡ offset - self.now.origin.now.offset }
-    {
-        (offset - self.origin.offset) as usize
     }
 
     /// Where each of these records is, of which the first has this offset.
@@ -96,28 +88,47 @@ impl<'a> BatchRun<'a> {
         }
     }
 
-    /// Runs records of the batch one by one, of which the first has this offset, adds the rows that
-    /// they give, and counts them.
+    /// The offset of the record with a number in the batch.
+    fn offset_of(&self, number: usize) -> u64
+        requires { self.now.origin.now.offset + number < 2 ^ 64 }
+        ensures { result ≡ self.now.origin.now.offset + number }
+    {
+        self.origin.offset + number as u64
+    }
+
+    /// Runs the records of the batch from a number on one by one, adds the rows that they give, and counts
+    /// them.
     fn push_each(
         &self,
-        offset: u64,
-        records: &[RecordRef],
+        first: usize,
         emitted: &mut EmittedList,
         all: &mut [RowRefs<'a>],
         counts: &mut Counts,
     ) -> Result<(), AllocError>
-        requires { CanRun self.now offset records.now counts.old }
-        ensures { OnOk result (HaveRun self.now offset records.now all.old all.new counts.old counts.new) }
+        requires within { first ≤ length self.now.batch.now.records }
+        requires run { CanRun self.now (self.now.origin.now.offset + first) (drop first self.now.batch.now.records) counts.old }
+        ensures { OnOk result (HaveRun self.now (self.now.origin.now.offset + first) (drop first self.now.batch.now.records) all.old all.new counts.old counts.new) }
     {
-        let mut next = offset;
-        for given in records {
-            let at = self.place(next, given);
-            let found = Given::new(self.batch, self.number_of(next));
+        for number in first..self.batch.len() {
+            let found = Given::new(self.batch, number);
+            let at = self.place(self.offset_of(number), &found.record());
             let fate = self.push_record(&at, &found, emitted, all)?;
             counts.add(fate)?;
-            next += 1;
         }
         Ok(())
+    }
+
+    /// So many records of the batch from a number on, by reference.
+    fn references(&self, first: usize, count: usize) -> Result<Vec<RecordRef<'a>>, AllocError>
+        requires { first + count ≤ length self.now.batch.now.records }
+        ensures { IfOk result (λ records. records.items ≡ records_from first count self.now.batch.now.records) }
+    {
+        let _few = self.batch.len();
+        let mut records = Vec::with_capacity(self.alloc, count)?;
+        for index in 0..count {
+            records.push(self.batch.record(first + index))?;
+        }
+        Ok(records)
     }
 
     /// Runs a program on records of a block, of which the first has this offset. Returns where each of
@@ -142,46 +153,42 @@ impl<'a> BatchRun<'a> {
         Ok(places)
     }
 
-    /// Does what `push_each` does with the records in blocks, each block abreast, and then with the few
-    /// that are left.
+    /// Does what `push_each` does with all records, in blocks, each block abreast, and then with the few that
+    /// are left.
     fn push_blocks(
         &self,
         program: &Program,
-        first_offset: u64,
-        records: &[RecordRef],
         blocks: &mut Blocks,
         all: &mut [RowRefs<'a>],
         counts: &mut Counts,
     ) -> Result<(), AllocError>
         requires program { program_in self.now ≡ Some program.now }
-        requires run { CanRun self.now first_offset records.now counts.old }
-        ensures { OnOk result (HaveRun self.now first_offset records.now all.old all.new counts.old counts.new) }
+        requires run { CanRun self.now self.now.origin.now.offset self.now.batch.now.records counts.old }
+        ensures { OnOk result (HaveRun self.now self.now.origin.now.offset self.now.batch.now.records all.old all.new counts.old counts.new) }
     {
         let mut emitted = EmittedList::new(self.alloc);
-        let mut offset = first_offset;
+        let total = self.batch.len();
         let mut done = 0;
-        while records.len() - done >= LEAST {
-            let count = (records.len() - done).min(BLOCK);
-            let here = &records[done..done + count];
+        while total - done >= LEAST {
+            let count = (total - done).min(BLOCK);
+            let records = self.references(done, count)?;
             let mut block = blocks.take(count)?;
-            let places = self.run_block(program, offset, here, &mut block)?;
-            let at = places.as_slice();
-            let from = self.number_of(offset);
+            let places =
+                self.run_block(program, self.offset_of(done), records.as_slice(), &mut block)?;
             push_outcomes(
                 self.first,
-                at,
+                places.as_slice(),
                 self.batch,
-                from,
+                done,
                 &mut block,
                 &mut emitted,
                 all,
                 counts,
             )?;
             blocks.keep(count, block);
-            offset += count as u64;
             done += count;
         }
-        self.push_each(offset, &records[done..], &mut emitted, all, counts)
+        self.push_each(done, &mut emitted, all, counts)
     }
 
     /// The program in force, where so many records take less time abreast than one by one.
@@ -194,23 +201,22 @@ impl<'a> BatchRun<'a> {
         }
     }
 
-    /// Does what `push_each` does, in the way that takes less time.
+    /// Runs the records of the batch, adds the rows that they give, and counts them, in the way that takes
+    /// less time.
     pub(crate) fn push_all(
         &self,
-        offset: u64,
-        records: &[RecordRef],
         blocks: &mut Blocks,
         all: &mut [RowRefs<'a>],
         counts: &mut Counts,
     ) -> Result<(), AllocError>
-        requires { CanRun self.now offset records.now counts.old }
-        ensures { OnOk result (HaveRun self.now offset records.now all.old all.new counts.old counts.new) }
+        requires { CanRun self.now self.now.origin.now.offset self.now.batch.now.records counts.old }
+        ensures { OnOk result (HaveRun self.now self.now.origin.now.offset self.now.batch.now.records all.old all.new counts.old counts.new) }
     {
-        match self.program_abreast(records.len()) {
-            Some(program) => self.push_blocks(program, offset, records, blocks, all, counts),
+        match self.program_abreast(self.batch.len()) {
+            Some(program) => self.push_blocks(program, blocks, all, counts),
             None => {
                 let mut emitted = EmittedList::new(self.alloc);
-                self.push_each(offset, records, &mut emitted, all, counts)
+                self.push_each(0, &mut emitted, all, counts)
             }
         }
     }

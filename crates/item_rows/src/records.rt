@@ -11,7 +11,7 @@ use crate::refs::RowRefs;
 use fates::Counts;
 use kafka_record::RecordRef;
 use log_item::{LoggedBatch, Program};
-use std::alloc::{AllocError, Global};
+use std::alloc::AllocError;
 use wire_spec::TIMESTAMP_END;
 
 /// A record's timestamp in milliseconds: its batch's base timestamp plus its delta.
@@ -22,18 +22,6 @@ pub(crate) fn timestamp(batch: &LoggedBatch, given: &RecordRef) -> u64
     ensures small { result < TIMESTAMP_END }
 {
     (batch.base_timestamp() + given.timestamp_delta()) as u64
-}
-
-/// The records of a batch, by reference.
-fn references(alloc: Global, batch: &LoggedBatch) -> Result<Vec<RecordRef<'_>>, AllocError>
-    ensures { IfOk result (λ records. records.items ≡ batch.now.records) }
-{
-    let count = batch.len();
-    let mut records = Vec::with_capacity(alloc, count)?;
-    for index in 0..count {
-        records.push(batch.record(index))?;
-    }
-    Ok(records)
 }
 
 /// Runs the program in force on a batch's records, in order, and adds the rows that they give. Returns
@@ -59,8 +47,7 @@ pub(crate) fn push_records<'a>(
         first,
     };
     let _fits = batch.len();
-    let records = references(alloc, batch)?;
     let mut counts = Counts::new(alloc);
-    run.push_all(origin.offset, records.as_slice(), blocks, all, &mut counts)?;
+    run.push_all(blocks, all, &mut counts)?;
     Ok(counts)
 }
