@@ -3,8 +3,8 @@
 
     tools/crate_table.py                       lines, tests and edits alone, in a second
     tools/crate_table.py --prove               also proves each crate in a fresh clone of what is committed, by one job, lowest first
-    tools/crate_table.py --times FILE [ROWS]   the table of docs/PROVING.md: what proofs, tests and edits took in a whole run of the
-                                               gate, of the 15 crates that took most, or ROWS of them, and the sums of others and all
+    tools/crate_table.py --times FILE [ROWS]   what proofs, tests and edits took in a whole run of the gate, of the 15 crates that took
+                                               most, or ROWS of them, and the sums of others and all
 
 FILE has a line for each call of `rattle`: its folder, its words, and then user, system and elapsed seconds and kilobytes, as
 GNU time writes them with -f "$PWD $* %U %S %e %M". A copy of the kit whose bin/rattle is a script of such a call makes it.

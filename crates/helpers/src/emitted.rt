@@ -105,8 +105,8 @@ impl EmittedList {
         }
     }
 
-    /// The emissions for a record, made of what a program emitted for it. Nothing is left in the list, but its
-    /// room. It fails only where memory runs out. Many runs emit nothing, which takes a test alone.
+    /// The emissions for a record, made of what a program emitted for it. It fails only where memory runs out;
+    /// else nothing is left in the list, but its room. Many runs emit nothing, which takes a test alone.
     #[inline(always)]
     pub fn make_emissions(
         &mut self,

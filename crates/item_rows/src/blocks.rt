@@ -2,7 +2,8 @@ use log_item::{BLOCK, Block};
 use std::alloc::{AllocError, Global};
 
 /// Blocks that the records of items are run in. What runs an item after another keeps them between the
-/// items, so that these take no memory but that of their rows.
+/// items. Beside its rows an item then takes memory for its counts, and each run of a block for lists of its
+/// records' keys, values and places.
 #[derive(Drop)]
 pub struct Blocks {
     pub(crate) alloc: Global,

@@ -85,7 +85,7 @@ fn rows_from<'a>(
 
 /// The rows of an item in each output, by the program in force before it: none of a mark or the
 /// end, and none of a batch with no mark before it; and the counts of its records. Each record is run
-/// once. It fails only where memory runs out.
+/// once, which no clause says. It fails only where memory runs out.
 pub fn item_rows(
     alloc: Global,
     origin: &Origin,
@@ -128,8 +128,8 @@ pub fn item_rows_in(
     refs.into_book_rows(blocks.alloc)
 }
 
-/// The rows of an item in one output alone, and the counts of its records. Each record is run once. It
-/// fails only where memory runs out.
+/// The rows of an item in one output alone, and the counts of its records. Each record is run once, which
+/// no clause says. It fails only where memory runs out.
 pub fn output_rows(
     alloc: Global,
     origin: &Origin,

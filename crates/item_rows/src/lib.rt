@@ -1,5 +1,5 @@
 //! The rows of a log's item, for every output partition at once or for one, and what became of its
-//! records: each record is run once.
+//! records. Each record is run once: this is read in the code.
 #![tactic(auto)]
 
 mod batch_run;

@@ -1,7 +1,7 @@
 //! Records and batches as data, and what their bytes mean.
 //!
 //! This crate has the types and the definitions that a reader must believe, and no function but the
-//! texts of the faults and the conversions of a lack of memory to one of them.
+//! texts of the faults, the conversions of a lack of memory to one of them, and the drop of headers.
 #![tactic(auto)]
 
 mod fault;

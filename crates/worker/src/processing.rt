@@ -8,8 +8,9 @@ use item_rows::{Blocks, Origin, item_rows_in, output_rows};
 use part_log::{Names, PartLog};
 use std::alloc::{AllocError, Global};
 
-/// The rows of a walk's last item for each output partition, and the counts of its records. Each record
-/// is run once, by the program in force for the item. It fails only where memory runs out.
+/// The rows of a walk's last item for each output partition, and the counts of its records, by the program
+/// in force for the item. Each record is run once, which no clause says. It fails only where memory runs
+/// out.
 pub fn process<Id: Names>(
     alloc: Global,
     walk: &Walk<Id>,
@@ -53,8 +54,9 @@ pub fn process_in<Id: Names>(
     Ok(Results::new(walk.trail().again(), rows))
 }
 
-/// The rows of a walk's last item for one output partition alone, and the counts of its records. Each
-/// record is run once, by the program in force for the item. It fails only where memory runs out.
+/// The rows of a walk's last item for one output partition alone, and the counts of its records, by the
+/// program in force for the item. Each record is run once, which no clause says. It fails only where memory
+/// runs out.
 pub fn process_for<Id: Names>(
     alloc: Global,
     walk: &Walk<Id>,
