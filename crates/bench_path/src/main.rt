@@ -90,8 +90,8 @@ fn transformed(alloc: Global, program: &Program, bytes: &[u8]) -> io::Result<u64
 fn records_in(feed: &mut Feed) -> io::Result<u64> {
     let mut records = 0u64;
     for _ in 0..u64::MAX {
-        match feed.next() {
-            Ok(Some(batch)) => records = records.wrapping_add(batch.records.list.len() as u64),
+        match feed.next_packed() {
+            Ok(Some(batch)) => records = records.wrapping_add(batch.len() as u64),
             Ok(None) => return Ok(records),
             Err(_) => return Err(ErrorKind::InvalidData.into()),
         }

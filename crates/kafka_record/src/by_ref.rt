@@ -115,6 +115,7 @@ impl<'a> RecordRef<'a> {
     }
 
     /// Another owner of the key. It fails only where there are too many.
+    #[inline(always)]
     pub fn share_key(&self) -> Result<Option<Bytes>, AllocError>
         ensures { IfOk result (λ shared. shared ≡ self.now.key) }
     {
@@ -125,6 +126,7 @@ impl<'a> RecordRef<'a> {
     }
 
     /// Another owner of the value. It fails only where there are too many.
+    #[inline(always)]
     pub fn share_value(&self) -> Result<Option<Bytes>, AllocError>
         ensures { IfOk result (λ shared. shared ≡ self.now.value) }
     {
@@ -136,6 +138,7 @@ impl<'a> RecordRef<'a> {
 
     /// Another owner of the key's bytes between two places; a null key has none. It fails only where
     /// there are too many.
+    #[inline(always)]
     pub fn cut_key(&self, start: usize, end: usize) -> Result<Bytes, AllocError>
         requires order { start ≤ end }
         requires within { end ≤ length (unwrap_or self.now.key []) }
@@ -149,6 +152,7 @@ impl<'a> RecordRef<'a> {
 
     /// Another owner of the value's bytes between two places; a null value has none. It fails only where
     /// there are too many.
+    #[inline(always)]
     pub fn cut_value(&self, start: usize, end: usize) -> Result<Bytes, AllocError>
         requires order { start ≤ end }
         requires within { end ≤ length (unwrap_or self.now.value []) }
