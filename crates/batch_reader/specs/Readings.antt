@@ -70,11 +70,11 @@ pub record CountsBatch (before : Option (List ℕ)) (batch : Batch) (old new : P
   pub at_front : (known : List ℕ) → before ≡ Some known → batch_at known ≡ Ok (batch, used)
   pub counted : new ≡ with_batch old used
 
--- The next batch was read, and counted; or there is none, at the end; or a fault stopped that.
+-- The next batch was read, and counted; or there is none, at the end, and no byte is kept; or a fault stopped that.
 abbrev pub ReadsBatch : Inlet → Result (Option Batch) ReadFault → Inlet → Type 0
 ReadsBatch old (Ok (Some batch)) new =
     IsOpen new × LosesBatch (left_of old) batch (left_of new) × CountsBatch (left_of old) batch old.given new.given
-ReadsBatch old (Ok None) new = IsAtEnd (left_of old) × (new.given ≡ old.given)
+ReadsBatch old (Ok None) new = IsAtEnd (left_of old) × (new.stream ≡ Open []) × (new.given ≡ old.given)
 ReadsBatch old (Err (fault.Batch why)) new = BeginsBadly (left_of old) why × (new.given ≡ old.given)
 ReadsBatch old (Err fault.Read) new = new.given ≡ old.given
 ReadsBatch old (Err fault.Memory) new = new.given ≡ old.given

@@ -103,11 +103,12 @@ impl<R: Read> BatchReader<R> {
         self.position
     }
 
-    /// The next batch, whose records stay in the bytes that were read, or `None` at the reader's end. Bytes are read until they hold a whole batch; no
-    /// bytes are kept beyond those of one batch and one piece. A read that was interrupted is tried
-    /// again. It fails where the reader fails, where the bytes that follow begin with no batch or end
-    /// inside one, and where memory runs out; it is not called again then. How much was given changes
-    /// with a batch alone.
+    /// The next batch, or `None` at the reader's end; it may be called again after both, and keeps no
+    /// bytes at the end. The batch's records stay in the bytes that were read. Bytes are read until they
+    /// hold a whole batch; no bytes are kept beyond those of one batch and one piece. A read that was
+    /// interrupted is tried again. It fails where the reader fails, where the bytes that follow begin
+    /// with no batch or end inside one, and where memory runs out; it is not called again then. How much
+    /// was given changes with a batch alone.
     pub fn next(&mut self) -> Result<Option<PackedBatch>, ReadFault>
         requires { IsOpen self.old }
         ensures gives { ReadsBatch self.old result self.new }

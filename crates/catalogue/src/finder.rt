@@ -4,7 +4,7 @@ ghost use Rattle.left_right.specs.Sides.{view};
 ghost use Rattle.log_spec.specs.Catalogue.{LiveTable, among};
 ghost use Rattle.catalogue.specs.Faults.{IsFindFault};
 ghost use Rattle.catalogue.specs.Finders.{Finds};
-ghost use Rattle.catalogue.specs.Publications.{Reads};
+ghost use Rattle.catalogue.specs.Publications.{Reads, StartsWith};
 ghost use Rattle.catalogue.specs.Versions.{number_and_program, under_name, newer, Keeps, SeesNewest, IsNoOlder, IsThisOrLater};
 
 use crate::edition::Edition;
@@ -92,6 +92,7 @@ fn read_version(
     name: &Name,
 ) -> (TableReader, Result<Option<(u32, Arc<Program>)>, CatFault>)
     ensures read { IfOk result.1 (λ read. (table : LiveTable) × Reads (view reader.place) table (view result.0.place) × (number_and_program read ≡ among table name.now)) }
+    ensures later { StartsWith (view result.0.place).loads (view reader.place).loads }
     ensures fault { IfErr result.1 IsFindFault }
 {
     match reader.enter_as::<Looks>() {
@@ -170,8 +171,8 @@ impl Finder {
     /// The last version of a name with its program, none where no version is published, known or
     /// was seen. It is no older than in the table that this call reads. Under the name of `known` it
     /// is `known` itself or a later version, and it is never an older one than this finder returned
-    /// before. Fails where the reader gets no table (the catalogue is gone) or memory runs out, and
-    /// has then seen no more versions than before.
+    /// before. Fails where the reader gets no table (the catalogue is gone) or memory runs out; it has
+    /// then seen no more versions than before, and knows of all loads that it knew of.
     pub fn find(
         &mut self,
         name: &Name,
@@ -180,7 +181,7 @@ impl Finder {
         ensures found { IfOk result (λ found. Finds known.now name.now self.old self.new (number_and_program found)) }
         ensures known { IfOk result (λ found. known.now.name ≡ name.now → IsThisOrLater known.now (number_and_program found)) }
         ensures never_back { (other : List ℕ) → IsNoOlder (among self.old.versions other) (among self.new.versions other) }
-        ensures err { OnErr result (self.new.versions ≡ self.old.versions) }
+        ensures err { OnErr result ((self.new.versions ≡ self.old.versions) × StartsWith self.new.readings.loads self.old.readings.loads) }
         ensures fault { IfErr result IsFindFault }
     {
         let read = replace_with(&mut self.reader, name, read_version)?;

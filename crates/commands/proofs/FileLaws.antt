@@ -19,7 +19,7 @@ use Rattle.transform.specs.declared.stream.StreamFault.TheVariants as fault
 use Rattle.transform.specs.declared.flow.TransformFault.TheVariants as stop
 use Rattle.transform.specs.declared.outlet.OutletFault.TheVariants as outlet
 use Rattle.transform.specs.Backlogs.{Waiting, waiting, with_rows}
-use Rattle.transform.specs.Outlets.{Outflow, outflow, WroteBatches}
+use Rattle.transform.specs.Outlets.{Outflow, outflow, WroteBatches, IsTooMany}
 use Rattle.transform.specs.Streams.{TransformsAll}
 use Rattle.transform.specs.Transforms.{Flow, flow, none_counted, output_at, AreRows, AreRowsOfALog, FillsAll}
 use Rattle.transform.specs.Transforms.{FillsSome, StopsFilling, Finished, Broken}
@@ -30,7 +30,7 @@ use Rattle.commands.specs.declared.status.Status.{Status}
 use Rattle.commands.specs.declared.status.Status.TheVariants.{Failed}
 use Rattle.command_line.specs.Calls.{names_of, AreDistinct}
 use Rattle.commands.specs.FileTransforms.{KeepsOthers, HasRows, IsFresh, HasWritten, HaveWritten, StreamsAs}
-use Rattle.commands.specs.FileTransforms.{TransformsAs, CallTransforms, IsUnloaded, status_of, status_of_halt}
+use Rattle.commands.specs.FileTransforms.{Overfills, TransformsAs, CallTransforms, IsUnloaded, status_of, status_of_halt}
 use Rattle.commands.specs.Images.{first_bytes}
 use Rattle.commands.specs.Listings.{source_of}
 
@@ -194,12 +194,27 @@ all_broken program batches fresh now output why files law new broken stops held 
         (λ le. ⊎_elim (λ more. inr (λ e. omega (arith, more, e))) (λ ge. inl (omega (arith, le, ge))) (cases_lt b a))
         (cases_lt a b)
 
+-- an output partition that was fresh has too many rows
+overfills : (program : Program) (batches : List Batch) (fresh now : List Outflow) (output : ℕ) → AreRowsOfALog →
+    All IsFresh fresh → Broken (flow 0 0 fresh none_counted) program batches now output outlet.Full →
+    Overfills program batches (length fresh) output
+overfills program batches fresh now output law new broken =
+    let rows = broken.here.0 in
+    let many : IsTooMany (with_rows (waiting 0 []) rows) =
+    subst (λ (o : Outflow). IsTooMany (with_rows o.waits rows)) (fresh_at fresh output new broken.within) broken.here.2.0
+    in (
+      broken.within,
+      rows,
+      (λ name version. law 0 output (length fresh) version name program batches rows broken.here.1),
+      omega (arith, many),
+    )
+
 streamed : (program : Program) (bytes : List ℕ) (fresh : List Outflow) (result : Result (Unit {0}) StreamFault)
-    (now : Flow) (files : ℕ → Option (List ℕ)) → AreRowsOfALog → All IsFresh fresh →
-    TransformsAll program (inlet (Open []) (Some bytes) none_given) (flow 0 0 fresh none_counted) result now →
+    (after : Inlet) (now : Flow) (files : ℕ → Option (List ℕ)) → AreRowsOfALog → All IsFresh fresh →
+    TransformsAll program (inlet (Open []) (Some bytes) none_given) (flow 0 0 fresh none_counted) result after now →
     AllWritten now.outputs (length fresh) files → StreamsAs program bytes (length fresh) (status_of result) files
-streamed program bytes fresh (Ok done) now files law new (batches, rest, begins, ends) held =
-    let b = begins bytes refl in
+streamed program bytes fresh (Ok done) after now files law new (batches, mid, gave, ends, all) held =
+    let b = gave.begins bytes refl in
     inr (
       Ok done,
       refl,
@@ -207,12 +222,13 @@ streamed program bytes fresh (Ok done) now files law new (batches, rest, begins,
         batches = batches;
         rest = b.0;
         begin = b.1;
-        ends = subst IsAtEnd b.2 ends.1;
-        each = all_finished program batches fresh now.outputs false files law new ends.0 held;
+        ends = subst IsAtEnd b.2 ends.0;
+        each = all_finished program batches fresh now.outputs false files law new all.outputs held;
       },
     )
-streamed program bytes fresh (Err (fault.Read (read.Batch why))) now files law new (batches, rest, begins, ends) held =
-    let b = begins bytes refl in
+streamed program bytes fresh (Err (fault.Read (read.Batch why))) after now files law new
+    (batches, mid, gave, ends, all) held =
+    let b = gave.begins bytes refl in
     inr (
       Err (fault.Read (read.Batch why)),
       refl,
@@ -220,14 +236,16 @@ streamed program bytes fresh (Err (fault.Read (read.Batch why))) now files law n
         batches = batches;
         rest = b.0;
         begin = b.1;
-        ends = subst (λ (r : Option (List ℕ)). BeginsBadly r why) b.2 ends.1;
-        each = all_finished program batches fresh now.outputs false files law new ends.0 held;
+        ends = subst (λ (r : Option (List ℕ)). BeginsBadly r why) b.2 ends.0;
+        each = all_finished program batches fresh now.outputs false files law new all.outputs held;
       },
     )
-streamed program bytes fresh (Err (fault.Read read.Read)) now files law new ends held = inl refl
-streamed program bytes fresh (Err (fault.Read read.Memory)) now files law new ends held = inl refl
-streamed program bytes fresh (Err (fault.Transform stop.Full)) now files law new (batches, rest, begins, ends) held =
-    let b = begins bytes refl in
+streamed program bytes fresh (Err (fault.Read read.Read)) after now files law new does held = inl refl
+streamed program bytes fresh (Err (fault.Read read.Memory)) after now files law new does held = inl refl
+streamed program bytes fresh (Err (fault.Transform stop.Full)) after now files law new
+    (batches, mid, gave, (top, batch, reads), all) held =
+    let b = gave.begins bytes refl in
+    let next = reads.1 b.0 b.2 in
     inr (
       Err (fault.Transform stop.Full),
       refl,
@@ -235,14 +253,14 @@ streamed program bytes fresh (Err (fault.Transform stop.Full)) now files law new
         batches = batches;
         rest = b.0;
         begin = b.1;
-        ends = tt;
-        each = all_finished program batches fresh now.outputs false files law new ends.0 held;
+        ends = (omega (arith, top), batch, next.0, next.1);
+        each = all_finished program batches fresh now.outputs false files law new all.outputs held;
       },
     )
-streamed program bytes fresh (Err (fault.Transform stop.Memory)) now files law new ends held = inl refl
-streamed program bytes fresh (Err (fault.Transform (stop.Output output outlet.Full))) now files law new
-    (batches, rest, begins, ends) held =
-    let b = begins bytes refl in
+streamed program bytes fresh (Err (fault.Transform stop.Memory)) after now files law new does held = inl refl
+streamed program bytes fresh (Err (fault.Transform (stop.Output output outlet.Full))) after now files law new
+    (batches, mid, gave, ends, broken) held =
+    let b = gave.begins bytes refl in
     inr (
       Err (fault.Transform (stop.Output output outlet.Full)),
       refl,
@@ -250,28 +268,25 @@ streamed program bytes fresh (Err (fault.Transform (stop.Output output outlet.Fu
         batches = batches;
         rest = b.0;
         begin = b.1;
-        ends = tt;
-        each = all_broken program batches fresh now.outputs output outlet.Full files law new ends
-            (λ rows old after stops. stops) held;
+        ends = overfills program batches fresh now.outputs output law new broken;
+        each = all_broken program batches fresh now.outputs output outlet.Full files law new broken
+            (λ rows old later stops. (stops.1, stops.2)) held;
       },
     )
-streamed program bytes fresh (Err (fault.Transform (stop.Output output outlet.Memory))) now files law new ends held =
-    inl refl
-streamed program bytes fresh (Err (fault.Transform (stop.Output output outlet.Write))) now files law new ends held =
-    inl refl
+streamed program bytes fresh (Err (fault.Transform (stop.Output output outlet.Memory))) after now files law new does
+    held = inl refl
+streamed program bytes fresh (Err (fault.Transform (stop.Output output outlet.Write))) after now files law new does
+    held = inl refl
 
 count_of : (program : Program) (bytes : List ℕ) (fresh : List Outflow) (result : Result (Unit {0}) StreamFault)
-    (now : Flow) →
-    TransformsAll program (inlet (Open []) (Some bytes) none_given) (flow 0 0 fresh none_counted) result now →
+    (after : Inlet) (now : Flow) →
+    TransformsAll program (inlet (Open []) (Some bytes) none_given) (flow 0 0 fresh none_counted) result after now →
     length now.outputs ≡ length fresh
-count_of program bytes fresh (Ok done) now (batches, rest, begins, ends) = ends.0.count
-count_of program bytes fresh (Err (fault.Read (read.Batch why))) now (batches, rest, begins, ends) = ends.0.count
-count_of program bytes fresh (Err (fault.Read read.Read)) now (batches, rest, begins, ends) = ends.0.count
-count_of program bytes fresh (Err (fault.Read read.Memory)) now (batches, rest, begins, ends) = ends.0.count
-count_of program bytes fresh (Err (fault.Transform stop.Full)) now (batches, rest, begins, ends) = ends.0.count
-count_of program bytes fresh (Err (fault.Transform stop.Memory)) now (batches, rest, begins, ends) = ends.0.count
-count_of program bytes fresh (Err (fault.Transform (stop.Output output why))) now (batches, rest, begins, ends) =
-    ends.count
+count_of program bytes fresh (Ok done) after now does = does.4.outputs.count
+count_of program bytes fresh (Err (fault.Read why)) after now does = does.4.outputs.count
+count_of program bytes fresh (Err (fault.Transform stop.Full)) after now does = does.4.outputs.count
+count_of program bytes fresh (Err (fault.Transform stop.Memory)) after now does = does.4.outputs.count
+count_of program bytes fresh (Err (fault.Transform (stop.Output output why))) after now does = does.4.count
 
 -- what is known of a stream of known bytes into fresh output partitions, whose files are the words from the third on
 pub record IsStream (program : Program) (bytes : List ℕ) (fresh : List Outflow) (reader : Inlet) (start : Flow) : Type 0
@@ -282,21 +297,22 @@ pub record IsStream (program : Program) (bytes : List ℕ) (fresh : List Outflow
     pub start_is : start ≡ flow 0 0 fresh none_counted
 
 pub wrote_files : (program : Program) (bytes : List ℕ) (names : List (List ℕ)) (count : ℕ) (fresh outs : List Outflow)
-    (reader : Inlet) (start : Flow) (result : Result (Unit {0}) StreamFault) (now : Flow)
+    (reader after : Inlet) (start : Flow) (result : Result (Unit {0}) StreamFault) (now : Flow)
     (files : List ℕ → Option (List ℕ)) → IsStream program bytes fresh reader start → length fresh ≡ count →
-    count + 2 ≡ length names → TransformsAll program reader start result now → outs ≡ now.outputs →
+    count + 2 ≡ length names → TransformsAll program reader start result after now → outs ≡ now.outputs →
     HaveWritten names outs files →
     StreamsAs program bytes count (status_of result) (λ output. files (word_at names (output + 2)))
-wrote_files program bytes names count fresh outs reader start result now files is many of_names does same held =
-    let from : TransformsAll program reader (flow 0 0 fresh none_counted) result now =
-    subst (λ (f : Flow). TransformsAll program reader f result now) is.start_is does in
+wrote_files program bytes names count fresh outs reader after start result now files is many of_names does same held =
+    let from : TransformsAll program reader (flow 0 0 fresh none_counted) result after now =
+    subst (λ (f : Flow). TransformsAll program reader f result after now) is.start_is does in
     let known : TransformsAll program (inlet (Open []) (Some bytes) none_given) (flow 0 0 fresh none_counted) result
-    now = subst (λ (r : Inlet). TransformsAll program r (flow 0 0 fresh none_counted) result now) is.reader_is from in
-    let long : length now.outputs ≡ length fresh = count_of program bytes fresh result now known in
+    after now =
+    subst (λ (r : Inlet). TransformsAll program r (flow 0 0 fresh none_counted) result after now) is.reader_is from in
+    let long : length now.outputs ≡ length fresh = count_of program bytes fresh result after now known in
     let held_now : HaveWritten names now.outputs files =
     subst (λ (os : List Outflow). HaveWritten names os files) same held in
     subst (λ (n : ℕ). StreamsAs program bytes n (status_of result) (λ output. files (word_at names (output + 2)))) many
-    (streamed program bytes fresh result now (λ output. files (word_at names (output + 2))) is.law is.new known
+    (streamed program bytes fresh result after now (λ output. files (word_at names (output + 2))) is.law is.new known
     (λ q lt. held_now q (omega (arith, lt, long)) (omega (arith, lt, many, of_names))))
 
 -- the status of a stream whose files were ended, or 3

@@ -1,8 +1,10 @@
 -- What `transform` writes to the files of output partitions.
-use Rattle.std.specs.Prelude.{◌≡◌, ◌≢◌, ◌⊎◌, ℕ, ◌+◌, ◌-◌, ◌<◌, Bool, false, List, [], length, Option, Some, Result}
+use Rattle.std.specs.Prelude.{◌≡◌, ◌≢◌, ◌⊎◌, ℕ, ◌+◌, ◌-◌, ◌<◌, ◌^◌, Bool, false, List, [], length, Option, Some, Result}
 use Rattle.std.specs.Prelude.{Ok, Err, ⊤, IfSome}
 use Rattle.std.specs.List.{concat}
 use Rattle.wire_spec.specs.declared.{record.Batch.Batch, fault.BatchFault.BatchFault}
+use Rattle.wire_spec.specs.declared.limits.TheConstants.{TIMESTAMP_END, MAX_RECORDS}
+use Rattle.wire_spec.specs.BatchReading.{batch_at}
 use Rattle.machine_spec.specs.Image.{Program, program_of}
 use Rattle.machine_spec.specs.declared.helper.Table.{Table}
 use Rattle.verifier_spec.specs.Loading.{IsRefusedWith}
@@ -19,7 +21,7 @@ use Rattle.transform.specs.declared.outlet.OutletFault.TheVariants as outlet
 use Rattle.transform.specs.Backlogs.{Waiting, waiting}
 use Rattle.transform.specs.Outlets as outlets
 use Rattle.transform.specs.Streams.{is_broken}
-use Rattle.transform.specs.Transforms.{log_of, output_at}
+use Rattle.transform.specs.Transforms.{log_of, output_at, records_of}
 use Rattle.script.specs.Words.{word_at}
 use Rattle.commands.specs.declared.halts.Halt.{Halt}
 use Rattle.commands.specs.declared.halts.Halt.TheVariants as halt
@@ -32,13 +34,18 @@ use Rattle.commands.specs.Stops as stops
 
 -- ---- what a file has
 
--- A file has whole batches of the rows that a program gives to an output partition of batches, one after the other: these
--- are the rows of the log of the program's mark and the batches. It has all of them, unless writing was broken off.
+-- the rows that a program gives to an output partition of batches, one after the other: those of the log of the program's
+-- mark and the batches
+abbrev pub AreRows : Program → List Batch → ℕ → ℕ → List Row → Type 0
+AreRows program batches outputs output rows = (name : List ℕ) (version : ℕ) →
+    IsRowsOf 0 output outputs (log_of name version program batches) (1 + length batches) rows
+
+-- A file has whole batches of the rows that a program gives to an output partition of batches, one after the other. It
+-- has all of them, unless writing was broken off.
 pub record HasRows (program : Program) (batches : List Batch) (outputs output : ℕ) (broken : Bool) (bytes : List ℕ)
     : Type 0 where
   pub rows : List Row
-  pub are_rows : (name : List ℕ) (version : ℕ) →
-      IsRowsOf 0 output outputs (log_of name version program batches) (1 + length batches) rows
+  pub are_rows : AreRows program batches outputs output rows
   pub written : List (List ℕ)
   pub rest : Waiting
   pub are_written : outlets.AreBatches (waiting 0 rows) written rest
@@ -53,13 +60,30 @@ IsNoOutput names other = (output : ℕ) → output + 2 < length names → other 
 abbrev pub KeepsOthers : List (List ℕ) → (before after : List ℕ → Option (List ℕ)) → Type 0
 KeepsOthers names before after = (other : List ℕ) → IsNoOutput names other → after other ≡ before other
 
--- how a transform ends at the bytes that are left: none are, or they begin with no batch, and why
-abbrev pub EndsAt : Result (Unit {0}) StreamFault → List ℕ → Type 0
-EndsAt (Ok done) rest = rest ≡ []
-EndsAt (Err (fault.Read (read.Batch why))) rest = BeginsBadly (Some rest) why
-EndsAt (Err (fault.Read read.Read)) rest = ⊤
-EndsAt (Err (fault.Read read.Memory)) rest = ⊤
-EndsAt (Err (fault.Transform why)) rest = ⊤
+-- one batch more might reach the offset 2^62, and the bytes begin with one
+abbrev pub IsAtLimit : List Batch → List ℕ → Type 0
+IsAtLimit batches rest = (TIMESTAMP_END < records_of batches + MAX_RECORDS) × (batch : Batch) × (used : ℕ)
+    × (batch_at rest ≡ Ok (batch, used))
+
+-- a program gives an output partition more rows than there are offsets
+abbrev pub Overfills : Program → List Batch → ℕ → ℕ → Type 0
+Overfills program batches outputs output = (output < outputs) × (rows : List Row)
+    × AreRows program batches outputs output rows × (2 ^ 63 < length rows)
+
+-- Why a program is run on no more batches, at the bytes that are left: none are; or they begin with no batch, and why; or
+-- offsets are used up, those of the input partition or of an output partition. Nothing is said where a file or memory
+-- failed.
+abbrev pub EndsAt : Program → List Batch → ℕ → Result (Unit {0}) StreamFault → List ℕ → Type 0
+EndsAt program batches outputs (Ok done) rest = rest ≡ []
+EndsAt program batches outputs (Err (fault.Read (read.Batch why))) rest = BeginsBadly (Some rest) why
+EndsAt program batches outputs (Err (fault.Read read.Read)) rest = ⊤
+EndsAt program batches outputs (Err (fault.Read read.Memory)) rest = ⊤
+EndsAt program batches outputs (Err (fault.Transform stop.Full)) rest = IsAtLimit batches rest
+EndsAt program batches outputs (Err (fault.Transform stop.Memory)) rest = ⊤
+EndsAt program batches outputs (Err (fault.Transform (stop.Output output outlet.Full))) rest =
+    Overfills program batches outputs output
+EndsAt program batches outputs (Err (fault.Transform (stop.Output output outlet.Memory))) rest = ⊤
+EndsAt program batches outputs (Err (fault.Transform (stop.Output output outlet.Write))) rest = ⊤
 
 -- A program was run on the batches that bytes begin with, up to their end or to a fault, and the files of the output
 -- partitions have their rows.
@@ -68,7 +92,7 @@ pub record Transformed (program : Program) (bytes : List ℕ) (outputs : ℕ) (r
   pub batches : List Batch
   pub rest : List ℕ
   pub begin : AreBatches bytes batches rest
-  pub ends : EndsAt result rest
+  pub ends : EndsAt program batches outputs result rest
   pub each : (output : ℕ) → output < outputs →
       IfSome (files output) (HasRows program batches outputs output (is_broken result))
 

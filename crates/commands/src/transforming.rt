@@ -83,7 +83,7 @@ fn run<F: Files, R: Read, E: Write>(
     stream: &mut Transform<F::Writer>,
 ) -> Result<(), StreamFault>
     requires { IsOpen batches.old }
-    ensures { TransformsAll program.now batches.old stream.old result stream.new }
+    ensures { TransformsAll program.now batches.old stream.old result batches.new stream.new }
 {
     let mut progress = Progress::new(alloc, files, stderr);
     transform_watched(program, batches, stream, &mut progress)
@@ -234,8 +234,9 @@ fn transform_files<F: Files, I: Read, E: Write>(
 
 /// Runs a program of a helper table on the batches of a file and writes each output partition's rows as
 /// batches to a file of its own; answers the status. The words are the image, the file of the batches and one file for
-/// each output partition. The input partition is 0, and its offsets begin at 0. All files but those of the output
-/// partitions stay.
+/// each output partition. The input partition is 0, and its offsets begin at 0. Where it ends since offsets are used
+/// up, one batch more might reach the offset 2^62, or an output partition would have more than 2^63 rows. All files but
+/// those of the output partitions stay.
 pub fn transform<F: Files, I: Read, E: Write>(
     alloc: Global,
     files: &mut F,

@@ -1,13 +1,17 @@
 -- Output partitions that are filled and emptied.
-use Rattle.std.proofs.Common.{◌≡◌, ℕ, List, Err, sym, subst}
+use Rattle.std.proofs.Common.{◌≡◌, ℕ, ◌<◌, List, [], length, slice_index_or, slice_set, None, Err, sym, subst}
+use Rattle.std.proofs.lemmas.List.{length-set, get_or-set_same, get_or-set_other}
+use Rattle.std.proofs.lemmas.Option.{slice_get-get_or, get_or_from_slice_get}
 use Rattle.log_spec.specs.declared.row.Row.{Row}
 use Rattle.item_rows.specs.ItemRows.{rows_in}
 use Rattle.transform.specs.declared.{flow.TransformFault.TransformFault}
+use Rattle.transform.specs.declared.{outlet.OutletFault.OutletFault}
 use Rattle.transform.specs.declared.flow.TransformFault.TheVariants as fault
-use Rattle.transform.specs.Backlogs.{with_rows}
-use Rattle.transform.specs.Outlets.{Outflow}
+use Rattle.transform.specs.declared.outlet.OutletFault.TheVariants as cause
+use Rattle.transform.specs.Backlogs.{waiting, with_rows}
+use Rattle.transform.specs.Outlets.{Outflow, outflow, WroteBatches, PutsRows}
 use Rattle.transform.specs.Transforms.{Fills, FillsSome, StopsFilling, Empties, EmptiesSome, StopsEmptying, InOne}
-use Rattle.transform.specs.Transforms.{Stays, PutsEach, PutsOne, EndsEach, EndsOne}
+use Rattle.transform.specs.Transforms.{output_at, Stays, PutsEach, PutsOne, EndsEach, EndsOne}
 use Rattle.transform.proofs.OutletLaws.{wrote_batches, batches_none}
 use Rattle.transform.proofs.EachLaws.{InFirst, first_stops}
 
@@ -17,6 +21,34 @@ fills_some rows x y fills =
 
 fills_none : (rows : List Row) (x : Outflow) → FillsSome rows x x
 fills_none rows x = (with_rows x.waits rows, batches_none (with_rows x.waits rows) x.written)
+
+-- rows were not put into an output partition
+stops_filling : (rows : List Row) (x y : Outflow) (why : OutletFault) → PutsRows x rows (Err why) y →
+    StopsFilling rows x why y
+stops_filling rows x y cause.Write puts = puts.1
+stops_filling rows x y cause.Memory puts = puts.1
+stops_filling rows x y cause.Full (many, same) = (
+  many,
+  with_rows x.waits rows,
+  subst (λ (o : Outflow). WroteBatches (with_rows x.waits rows) x.written (with_rows x.waits rows) o.written) (sym same)
+      (batches_none (with_rows x.waits rows) x.written),
+)
+
+pub not_put : (output : ℕ) (rows : List Row) (old : List Outflow) (any new : Outflow) (why : OutletFault) →
+    output < length old → PutsRows (slice_index_or old output any) rows (Err why) new →
+    InOne old (slice_set old output new) output (λ x. StopsFilling rows x why) (λ other. Stays)
+not_put output rows old any new why within puts =
+    let none = outflow None (waiting 0 []) in let x = slice_index_or old output any in
+    let before : output_at old output ≡ x =
+    get_or_from_slice_get old output x none (slice_get-get_or old output any within) in
+    let after : output_at (slice_set old output new) output ≡ new = get_or-set_same old output new none within in
+    record {
+      count = length-set old output new;
+      within = within;
+      here = subst (λ (o : Outflow). StopsFilling rows o why (output_at (slice_set old output new) output)) (sym before)
+          (subst (StopsFilling rows x why) (sym after) (stops_filling rows x new why puts));
+      others = λ other lt not. get_or-set_other old output other new none not;
+    }
 
 pub put_stopped : (k : ℕ) (all : List (List Row)) (rows : List Row) (old mid new : List Outflow) (why : TransformFault) →
     rows ≡ rows_in all k → InFirst k old mid (λ q. Fills (rows_in all q)) → PutsOne k rows mid (Err why) new →

@@ -163,7 +163,7 @@ end_stops start old new program batches output why follows (ends, stays) =
             before.1,
             wrote_then_stops (with_rows (output_at start.outputs output).waits before.0)
                 (output_at old.outputs output).waits (output_at start.outputs output).written
-                (output_at old.outputs output).written (output_at new.outputs output).written why before.2 ends.here,
+                (output_at old.outputs output).written (output_at new.outputs output).written why before.2 ends.here.1,
           );
       others = λ q lt not.
           let before = follows.each q lt in

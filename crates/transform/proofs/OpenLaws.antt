@@ -9,7 +9,7 @@ use Rattle.row_batch.specs.OpenBatches.{shown}
 use Rattle.transform.specs.declared.{outlet.OutletFault.OutletFault}
 use Rattle.transform.specs.declared.outlet.OutletFault.TheVariants as fault
 use Rattle.transform.specs.Backlogs.{Waiting, waiting, with_rows, rest_after, IsBatchOf, IsFull, TakesRow}
-use Rattle.transform.specs.Outlets.{WroteFull, WroteBatches, Stops, PutsAll, PutsOpen}
+use Rattle.transform.specs.Outlets.{Outflow, WroteFull, WroteBatches, Fails, PutsFull, PutsRows, PutsAll, PutsOpen}
 use Rattle.transform.proofs.ShownLaws.{one_shown, more_with}
 use Rattle.transform.proofs.OutletLaws.{batches_none, wrote_batches, wrote_to, wrote_then}
 use Rattle.transform.proofs.OutletLaws.{wrote_then_stops, batch_with, full_with, total}
@@ -72,41 +72,47 @@ put_after old same mid new row others before after full (bytes, given, written) 
 
 -- memory ran out before the row was added
 pub stops_before : (old : Waiting) (rows : List Row) (held : Option (List ℕ)) →
-    Stops (with_rows old rows) held fault.Memory held
-stops_before old rows held = (with_rows old rows, batches_none (with_rows old rows) held)
+    Fails (with_rows old rows) held fault.Memory held
+stops_before old rows held = (λ e. absurd cc, (with_rows old rows, batches_none (with_rows old rows) held))
 
 -- or after the batch was written
 pub stops_after : (old same mid : Waiting) (row : Row) (others : List Row) (before after : Option (List ℕ)) →
     TakesRow false old row same → PutsOpen same before (Ok tt) mid after →
-    Stops (with_rows old (row ∷ others)) before fault.Memory after
+    Fails (with_rows old (row ∷ others)) before fault.Memory after
 stops_after old same mid row others before after full puts =
     let wrote : PutsOpen old before (Ok tt) mid after = opened old same mid row before after (Ok tt) full puts in
     let rest = waiting (old.place + length old.rows) (row ∷ others) in (
-      rest,
-      wrote_batches (with_rows old (row ∷ others)) rest before after
-          (wrote_open old row others before after wrote.0 (too_much old row others wrote.0 full.2 wrote.1.0) wrote.2),
+      λ e. absurd cc,
+      (
+        rest,
+        wrote_batches (with_rows old (row ∷ others)) rest before after
+            (wrote_open old row others before after wrote.0 (too_much old row others wrote.0 full.2 wrote.1.0) wrote.2),
+      ),
     )
 
 -- or the batch was not written
 pub stops_open : (old same mid : Waiting) (row : Row) (others : List Row) (before after : Option (List ℕ))
     (why : OutletFault) → TakesRow false old row same → PutsOpen same before (Err why) mid after →
-    Stops (with_rows old (row ∷ others)) before why after
+    Fails (with_rows old (row ∷ others)) before why after
 stops_open old same mid row others before after why full puts =
     by_fault why (opened old same mid row before after (Err why) full puts)
   where
     by_fault : (why : OutletFault) → PutsOpen old before (Err why) mid after →
-        Stops (with_rows old (row ∷ others)) before why after
-    by_fault fault.Write (bytes, batch, begun) = record {
-      batches = [];
-      rest = with_rows old (row ∷ others);
-      are = refl;
-      count = length old.rows;
-      next = bytes;
-      next_is = batch_with old (row ∷ others) (length old.rows) bytes batch;
-      written = begun;
-    }
+        Fails (with_rows old (row ∷ others)) before why after
+    by_fault fault.Write (bytes, batch, begun) = (
+      λ e. absurd cc,
+      record {
+        batches = [];
+        rest = with_rows old (row ∷ others);
+        are = refl;
+        count = length old.rows;
+        next = bytes;
+        next_is = batch_with old (row ∷ others) (length old.rows) bytes batch;
+        written = begun;
+      },
+    )
     by_fault fault.Memory kept =
-        subst (λ (h : Option (List ℕ)). Stops (with_rows old (row ∷ others)) before fault.Memory h) (sym kept)
+        subst (λ (h : Option (List ℕ)). Fails (with_rows old (row ∷ others)) before fault.Memory h) (sym kept)
         (stops_before old (row ∷ others) before)
     by_fault fault.Full never = absurd never
 
@@ -156,11 +162,21 @@ put_next old mid new rows index row a b c more is so_far next =
 pub put_stops : (old mid : Waiting) (rows : List Row) (index : ℕ) (row : Row) (a b c : Option (List ℕ))
     (why : OutletFault) → index < length rows → row ≡ slice_index_or rows index row →
     WroteFull (with_rows old rows) a (with_rows mid (drop index rows)) b →
-    Stops (with_rows mid (row ∷ drop (index + 1) rows)) b why c → Stops (with_rows old rows) a why c
+    Fails (with_rows mid (row ∷ drop (index + 1) rows)) b why c → Fails (with_rows old rows) a why c
 put_stops old mid rows index row a b c why more is so_far next =
-    let left = first_left rows index row more is in
-    wrote_then_stops (with_rows old rows) (with_rows mid (row ∷ drop (index + 1) rows)) a b c why
-    (subst (λ (rs : List Row). WroteFull (with_rows old rows) a (with_rows mid rs) b) left so_far) next
+    let left = first_left rows index row more is in (
+      next.0,
+      wrote_then_stops (with_rows old rows) (with_rows mid (row ∷ drop (index + 1) rows)) a b c why
+          (subst (λ (rs : List Row). WroteFull (with_rows old rows) a (with_rows mid rs) b) left so_far) next.1,
+    )
+
+-- there was room for all of them
+pub puts_rows : (old new : Outflow) (rows : List Row) (result : Result (Unit {0}) OutletFault) →
+    PutsFull (with_rows old.waits rows) old.written result new.waits new.written → PutsRows old rows result new
+puts_rows old new rows (Ok done) puts = puts
+puts_rows old new rows (Err fault.Write) puts = puts
+puts_rows old new rows (Err fault.Memory) puts = puts
+puts_rows old new rows (Err fault.Full) puts = absurd (puts.0 refl)
 
 -- ---- the end
 
@@ -183,15 +199,18 @@ pub puts_all : (old new : Waiting) (before after : Option (List ℕ)) (result : 
     PutsOpen old before result new after → PutsAll old before result new after
 puts_all old new before after (Ok done) puts =
     (all_open old new before after puts, ap (λ (w : Waiting). w.rows) puts.1.1)
-puts_all old new before after (Err fault.Write) (bytes, batch, begun) = record {
-  batches = [];
-  rest = old;
-  are = refl;
-  count = length old.rows;
-  next = bytes;
-  next_is = batch;
-  written = begun;
-}
+puts_all old new before after (Err fault.Write) (bytes, batch, begun) = (
+  λ e. absurd cc,
+  record {
+    batches = [];
+    rest = old;
+    are = refl;
+    count = length old.rows;
+    next = bytes;
+    next_is = batch;
+    written = begun;
+  },
+)
 puts_all old new before after (Err fault.Memory) same =
-    (old, subst (λ (h : Option (List ℕ)). WroteBatches old before old h) (sym same) (batches_none old before))
+    (λ e. absurd cc, (old, subst (λ (h : Option (List ℕ)). WroteBatches old before old h) (sym same) (batches_none old before)))
 puts_all old new before after (Err fault.Full) never = absurd never

@@ -158,5 +158,7 @@ wrote_then_part old mid a b c one two =
 pub wrote_then_stops : (old mid : Waiting) (a b c : Option (List ℕ)) (why : OutletFault) → WroteFull old a mid b →
     Stops mid b why c → Stops old a why c
 wrote_then_stops old mid a b c cause.Write one two = wrote_then_part old mid a b c one two
-wrote_then_stops old mid a b c cause.Full one (rest, two) = (rest, wrote_then_batches old mid rest a b c one two)
+wrote_then_stops old mid a b c cause.Full one (many, rest, two) =
+    let same = total old mid one.batches (all_batches old mid one.batches one.are) in
+    (omega (arith, many, same), rest, wrote_then_batches old mid rest a b c one two)
 wrote_then_stops old mid a b c cause.Memory one (rest, two) = (rest, wrote_then_batches old mid rest a b c one two)

@@ -1,7 +1,10 @@
 -- Batches of a reader that are pushed one after the other, and the end.
-use Rattle.std.proofs.Common.{◌≡◌, ℕ, true, false, List, [], ◌∷◌, ◌++◌, drop, Option, Some, None, Result, Ok, Err, refl}
-use Rattle.std.proofs.Common.{sym, ap, subst}
-use Rattle.std.specs.Prelude.{IfOk, IfSome}
+use Rattle.std.proofs.Common.{◌≡◌, ℕ, ◌+◌, ◌-◌, ◌≤◌, true, false, List, [], ◌∷◌, ◌++◌, length, drop, Option, Some, None}
+use Rattle.std.proofs.Common.{Result, Ok, Err, refl, sym, ap, subst, ◌∙◌, inl, inr, arith}
+use Rattle.std.specs.Prelude.{◌^◌, min, IfOk, IfSome}
+use Rattle.std.proofs.Math.Nat.{min-eq_left}
+use Rattle.std.proofs.lemmas.List.{length-drop, length_push}
+use Rattle.std.proofs.lemmas.Option.{same_Some}
 use Rattle.wire_spec.specs.declared.record.Batch.{Batch}
 use Rattle.wire_spec.specs.BatchSpelling.{BatchFits}
 use Rattle.wire_spec.specs.BatchReading.{batch_at}
@@ -9,14 +12,16 @@ use Rattle.machine_spec.specs.Image.{Program}
 use Rattle.log_spec.specs.Logs.{FitsLog}
 use Rattle.log_spec.proofs.FittingBatches.{fits_log}
 use Rattle.batch.specs.Batches.{AreBatches}
+use Rattle.batch.proofs.FeedLaws.{batch_at-taken}
+use Rattle.batch_reader.specs.declared.reader.Position.{Position}
 use Rattle.batch_reader.specs.declared.reader.ReadFault.{ReadFault}
 use Rattle.batch_reader.specs.declared.reader.ReadFault.TheVariants as read
 use Rattle.batch_reader.specs.Readings.{Inlet, left_of, IsOpen, LosesBatch, ReadsBatch}
 use Rattle.transform.specs.declared.{stream.StreamFault.StreamFault, flow.TransformFault.TransformFault}
 use Rattle.transform.specs.declared.stream.StreamFault.TheVariants as fault
 use Rattle.transform.specs.declared.flow.TransformFault.TheVariants as stop
-use Rattle.transform.specs.Transforms.{Flow, Follows, Finished, CountsBatches, Pushes, EndsFlow}
-use Rattle.transform.specs.Streams.{Begins, Pushed, is_broken, PushesAll, TransformsAll}
+use Rattle.transform.specs.Transforms.{Flow, Follows, Pushes, EndsFlow}
+use Rattle.transform.specs.Streams.{Begins, Gave, is_broken, Completed, PushesAll, TransformsAll}
 use Rattle.transform.proofs.FollowLaws.{none_follows, one_follows, one_stops, end_finishes, end_counts, end_stops}
 
 -- what is decoded is a batch that a log takes
@@ -26,6 +31,8 @@ fits (Ok (Some batch)) h = fits_log batch h
 fits (Ok None) h = tt
 fits (Err why) h = tt
 
+-- ---- what a reader gave
+
 one_more : (bytes : List ℕ) (batches : List Batch) (rest : List ℕ) (batch : Batch) (used : ℕ) →
     AreBatches bytes batches rest → batch_at rest ≡ Ok (batch, used) →
     AreBatches bytes (batches ++ batch ∷ []) (drop used rest)
@@ -34,19 +41,27 @@ one_more bytes [] rest batch used is found =
 one_more bytes (first ∷ batches) rest batch used are found =
     (are.0, are.1, one_more (drop are.0 bytes) batches rest batch used are.2 found)
 
--- what is known after some batches
-pub record Underway (program : Program) (inlet : Inlet) (start : Flow) (reader : Inlet) (now : Flow) : Type 0 where
-  pub batches : List Batch
-  pub follows : Follows start program batches now
-  pub begins : Begins (left_of inlet) batches (left_of reader)
-  pub is_open : IsOpen reader
+-- no more bytes are left than there were
+no_longer : (bytes : List ℕ) (batches : List Batch) (rest : List ℕ) → AreBatches bytes batches rest →
+    length rest ≤ length bytes
+no_longer bytes [] rest is = omega (arith, ap length is)
+no_longer bytes (first ∷ batches) rest are =
+    omega (arith, no_longer (drop are.0 bytes) batches rest are.2, length-drop are.0 bytes)
 
-pub begun : (program : Program) (inlet : Inlet) (start : Flow) → IsOpen inlet → Underway program inlet start inlet start
-begun program inlet start is_open = record {
-  batches = [];
-  follows = none_follows start program;
+-- the same bytes begin with one batch alone
+same_used : (bytes : List ℕ) (batch : Batch) (m n : ℕ) → batch_at bytes ≡ Ok (batch, m) →
+    batch_at bytes ≡ Ok (batch, n) → m ≡ n
+same_used bytes batch m n one two =
+    ap (λ (x : Batch × ℕ). x.1) (same_ok (batch, m) (batch, n) (sym one ∙ two))
+  where
+    same_ok : {A E : Type 0} (x y : A) → ◌≡◌ {A = Result A E} (Ok x) (Ok y) → x ≡ y
+    same_ok x y h = cc
+
+pub gave_none : (reader : Inlet) → Gave reader [] reader
+gave_none reader = record {
   begins = λ bytes known. (bytes, refl, known);
-  is_open = is_open;
+  batches = λ few. omega arith;
+  bytes = λ known rest before after short. omega (arith, ap length (same_Some known rest (sym before ∙ after)));
 }
 
 begins_more : (before mid after : Option (List ℕ)) (batches : List Batch) (batch : Batch) → Begins before batches mid →
@@ -56,117 +71,179 @@ begins_more before mid after batches batch begins loses bytes known =
     let next = loses so_far.0 so_far.2 in
     (drop next.0 so_far.0, one_more bytes batches so_far.0 batch next.0 so_far.1 next.1, next.2)
 
-pub goes_on : (program : Program) (inlet : Inlet) (start : Flow) (mid after : Inlet) (old new : Flow) (batch : Batch) →
-    Underway program inlet start mid old → ReadsBatch mid (Ok (Some batch)) after → Pushes program batch old (Ok tt) new →
-    Underway program inlet start after new
-goes_on program inlet start mid after old new batch so_far reads pushes = record {
+gave_more : (old mid new : Inlet) (given : List Batch) (batch : Batch) → Gave old given mid →
+    ReadsBatch mid (Ok (Some batch)) new → Gave old (given ++ batch ∷ []) new
+gave_more old mid new given batch gave (going, loses, counts) = record {
+  begins = begins_more (left_of old) (left_of mid) (left_of new) given batch gave.begins loses;
+  batches = λ few.
+      let so_far = gave.batches (omega (arith, few, length_push given batch)) in
+      let one : new.given.batches ≡ min (mid.given.batches + 1) (2 ^ 64 - 1) =
+      ap (λ (p : Position). p.batches) counts.counted in
+      omega (
+        arith,
+        one ∙ min-eq_left (omega (arith, few, so_far, length_push given batch)),
+        so_far,
+        length_push given batch,
+      );
+  bytes = λ known rest before after short.
+      let so_far = gave.begins known before in
+      let next = loses so_far.0 so_far.2 in
+      let used : counts.used ≡ next.0 =
+      same_used so_far.0 batch counts.used next.0 (counts.at_front so_far.0 so_far.2) next.1 in
+      let there = (batch_at-taken so_far.0 batch next.0 next.1).there in
+      let rest_is : length rest + next.0 ≡ length so_far.0 =
+      omega (arith, there, length-drop next.0 so_far.0, ap length (same_Some (drop next.0 so_far.0) rest (sym next.2 ∙ after))) in
+      let fewer = no_longer known given so_far.0 so_far.1 in
+      let counted = gave.bytes known so_far.0 before so_far.2 (omega (arith, short, rest_is)) in
+      let one : new.given.bytes ≡ min (mid.given.bytes + counts.used) (2 ^ 64 - 1) =
+      ap (λ (p : Position). p.bytes) counts.counted in
+      omega (
+        arith,
+        one ∙ min-eq_left (omega (arith, short, counted, used, rest_is)),
+        counted,
+        used,
+        rest_is,
+      );
+}
+
+-- what is known after some batches
+pub record Underway (program : Program) (first : Inlet) (start : Flow) (reader : Inlet) (now : Flow) : Type 0 where
+  pub batches : List Batch
+  pub follows : Follows start program batches now
+  pub gave : Gave first batches reader
+  pub is_open : IsOpen reader
+
+pub begun : (program : Program) (first : Inlet) (start : Flow) → IsOpen first → Underway program first start first start
+begun program first start is_open = record {
+  batches = [];
+  follows = none_follows start program;
+  gave = gave_none first;
+  is_open = is_open;
+}
+
+pub goes_on : (program : Program) (first : Inlet) (start : Flow) (mid after : Inlet) (old new : Flow) (batch : Batch) →
+    Underway program first start mid old → ReadsBatch mid (Ok (Some batch)) after → Pushes program batch old (Ok tt) new →
+    Underway program first start after new
+goes_on program first start mid after old new batch so_far reads pushes = record {
   batches = so_far.batches ++ batch ∷ [];
   follows = one_follows start old new program so_far.batches batch so_far.follows pushes;
-  begins = begins_more (left_of inlet) (left_of mid) (left_of after) so_far.batches batch so_far.begins reads.1;
+  gave = gave_more first mid after so_far.batches batch so_far.gave reads;
   is_open = reads.0;
 }
 
 -- ---- how that ends
 
-pub at_end : (program : Program) (inlet : Inlet) (start : Flow) (mid after : Inlet) (now : Flow) →
-    Underway program inlet start mid now → ReadsBatch mid (Ok None) after → PushesAll program inlet start (Ok tt) now
-at_end program inlet start mid after now so_far reads =
-    (so_far.batches, left_of mid, so_far.begins, (so_far.follows, reads.0))
+pub at_end : (program : Program) (first : Inlet) (start : Flow) (mid after : Inlet) (now : Flow) →
+    Underway program first start mid now → ReadsBatch mid (Ok None) after →
+    PushesAll program first start (Ok tt) after now
+at_end program first start mid after now so_far reads =
+    (so_far.batches, mid, so_far.gave, reads, so_far.follows)
 
-pub unread : (program : Program) (inlet : Inlet) (start : Flow) (mid after : Inlet) (now : Flow) (why : ReadFault)
-    (result : Result (Unit {0}) StreamFault) → Underway program inlet start mid now → ReadsBatch mid (Err why) after →
-    result ≡ Err (fault.Read why) → PushesAll program inlet start result now
-unread program inlet start mid after now why result so_far reads is =
-    subst (λ (r : Result (Unit {0}) StreamFault). PushesAll program inlet start r now) (sym is)
-    (so_far.batches, left_of mid, so_far.begins, by_fault why reads)
-  where
-    by_fault : (why : ReadFault) → ReadsBatch mid (Err why) after →
-        Pushed start program so_far.batches (left_of mid) (Err (fault.Read why)) now
-    by_fault (read.Batch cause) reads = (so_far.follows, reads.0)
-    by_fault read.Read reads = (so_far.follows, tt)
-    by_fault read.Memory reads = (so_far.follows, tt)
+pub unread : (program : Program) (first : Inlet) (start : Flow) (mid after : Inlet) (now : Flow) (why : ReadFault)
+    (result : Result (Unit {0}) StreamFault) → Underway program first start mid now → ReadsBatch mid (Err why) after →
+    result ≡ Err (fault.Read why) → PushesAll program first start result after now
+unread program first start mid after now why result so_far reads is =
+    subst (λ (r : Result (Unit {0}) StreamFault). PushesAll program first start r after now) (sym is)
+    (so_far.batches, mid, so_far.gave, reads, so_far.follows)
 
-pub too_many : (program : Program) (inlet : Inlet) (start : Flow) (mid : Inlet) (now : Flow) →
-    Underway program inlet start mid now → PushesAll program inlet start (Err (fault.Read read.Read)) now
-too_many program inlet start mid now so_far = (so_far.batches, left_of mid, so_far.begins, (so_far.follows, tt))
+pub too_many : (program : Program) (first : Inlet) (start : Flow) (mid : Inlet) (now : Flow) →
+    Underway program first start mid now → PushesAll program first start (Err (fault.Read read.Read)) mid now
+too_many program first start mid now so_far = (so_far.batches, mid, so_far.gave, refl, so_far.follows)
 
-pub unpushed : (program : Program) (inlet : Inlet) (start : Flow) (mid after : Inlet) (old new : Flow) (batch : Batch)
-    (why : TransformFault) (result : Result (Unit {0}) StreamFault) → Underway program inlet start mid old →
+pub unpushed : (program : Program) (first : Inlet) (start : Flow) (mid after : Inlet) (old new : Flow) (batch : Batch)
+    (why : TransformFault) (result : Result (Unit {0}) StreamFault) → Underway program first start mid old →
     ReadsBatch mid (Ok (Some batch)) after → Pushes program batch old (Err why) new →
-    result ≡ Err (fault.Transform why) → PushesAll program inlet start result new
-unpushed program inlet start mid after old new batch why result so_far reads pushes is =
-    subst (λ (r : Result (Unit {0}) StreamFault). PushesAll program inlet start r new) (sym is) (by_fault why pushes)
+    result ≡ Err (fault.Transform why) → PushesAll program first start result after new
+unpushed program first start mid after old new batch why result so_far reads pushes is =
+    subst (λ (r : Result (Unit {0}) StreamFault). PushesAll program first start r after new) (sym is)
+    (by_fault why pushes)
   where
     by_fault : (why : TransformFault) → Pushes program batch old (Err why) new →
-        PushesAll program inlet start (Err (fault.Transform why)) new
+        PushesAll program first start (Err (fault.Transform why)) after new
     by_fault (stop.Output output cause) pushes = (
       so_far.batches ++ batch ∷ [],
-      left_of after,
-      begins_more (left_of inlet) (left_of mid) (left_of after) so_far.batches batch so_far.begins reads.1,
+      after,
+      gave_more first mid after so_far.batches batch so_far.gave reads,
+      inl refl,
       one_stops start old new program so_far.batches batch output cause so_far.follows pushes,
     )
-    by_fault stop.Full pushes = (
+    by_fault stop.Full (top, same) = (
       so_far.batches,
-      left_of mid,
-      so_far.begins,
-      subst (λ (f : Flow). Follows start program so_far.batches f) (sym pushes.1) so_far.follows,
+      mid,
+      so_far.gave,
+      (omega (arith, top, so_far.follows.offset), batch, reads),
+      subst (λ (f : Flow). Follows start program so_far.batches f) (sym same) so_far.follows,
     )
-    by_fault stop.Memory pushes = (
+    by_fault stop.Memory same = (
       so_far.batches,
-      left_of mid,
-      so_far.begins,
-      subst (λ (f : Flow). Follows start program so_far.batches f) (sym pushes) so_far.follows,
+      mid,
+      so_far.gave,
+      (batch, reads),
+      subst (λ (f : Flow). Follows start program so_far.batches f) (sym same) so_far.follows,
     )
 
 -- ---- and what waits is written
 
-pub broken : (program : Program) (inlet : Inlet) (start : Flow) (result : Result (Unit {0}) StreamFault) (now : Flow) →
-    is_broken result ≡ true → PushesAll program inlet start result now → TransformsAll program inlet start result now
-broken program inlet start (Ok done) now is pushed = absurd cc
-broken program inlet start (Err (fault.Read why)) now is pushed = absurd cc
-broken program inlet start (Err (fault.Transform stop.Full)) now is pushed = absurd cc
-broken program inlet start (Err (fault.Transform stop.Memory)) now is pushed = absurd cc
-broken program inlet start (Err (fault.Transform (stop.Output output why))) now is pushed = pushed
+pub broken : (program : Program) (first : Inlet) (start : Flow) (result : Result (Unit {0}) StreamFault) (after : Inlet)
+    (now : Flow) → is_broken result ≡ true → PushesAll program first start result after now →
+    TransformsAll program first start result after now
+broken program first start (Ok done) after now is pushed = absurd cc
+broken program first start (Err (fault.Read why)) after now is pushed = absurd cc
+broken program first start (Err (fault.Transform stop.Full)) after now is pushed = absurd cc
+broken program first start (Err (fault.Transform stop.Memory)) after now is pushed = absurd cc
+broken program first start (Err (fault.Transform (stop.Output output why))) after now is pushed = pushed
 
 written : (start mid new : Flow) (program : Program) (batches : List Batch) → Follows start program batches mid →
-    EndsFlow mid (Ok tt) new →
-    Finished start program batches new.outputs × CountsBatches start program batches new.counts
-written start mid new program batches follows ends = (
-  end_finishes start mid new program batches follows ends,
-  end_counts start mid new program batches (Ok tt) follows ends,
-)
+    EndsFlow mid (Ok tt) new → Completed start program batches new
+written start mid new program batches follows ends = record {
+  input = ap (λ (f : Flow). f.input) ends.1 ∙ follows.input;
+  offset = ap (λ (f : Flow). f.offset) ends.1 ∙ follows.offset;
+  outputs = end_finishes start mid new program batches follows ends;
+  counts = end_counts start mid new program batches (Ok tt) follows ends;
+}
 
-pub all_written : (program : Program) (inlet : Inlet) (start : Flow) (result : Result (Unit {0}) StreamFault)
-    (mid new : Flow) → is_broken result ≡ false → PushesAll program inlet start result mid → EndsFlow mid (Ok tt) new →
-    TransformsAll program inlet start result new
-all_written program inlet start (Ok done) mid new is (batches, rest, begins, pushed) ends =
-    let wrote = written start mid new program batches pushed.0 ends in
-    (batches, rest, begins, (wrote.0, pushed.1, wrote.1))
-all_written program inlet start (Err (fault.Read why)) mid new is (batches, rest, begins, pushed) ends =
-    let wrote = written start mid new program batches pushed.0 ends in
-    (batches, rest, begins, (wrote.0, pushed.1, wrote.1))
-all_written program inlet start (Err (fault.Transform stop.Full)) mid new is (batches, rest, begins, pushed) ends =
-    (batches, rest, begins, written start mid new program batches pushed ends)
-all_written program inlet start (Err (fault.Transform stop.Memory)) mid new is (batches, rest, begins, pushed) ends =
-    (batches, rest, begins, written start mid new program batches pushed ends)
-all_written program inlet start (Err (fault.Transform (stop.Output output why))) mid new is pushed ends = absurd cc
+pub all_written : (program : Program) (first : Inlet) (start : Flow) (result : Result (Unit {0}) StreamFault)
+    (after : Inlet) (mid new : Flow) → is_broken result ≡ false → PushesAll program first start result after mid →
+    EndsFlow mid (Ok tt) new → TransformsAll program first start result after new
+all_written program first start (Ok done) after mid new is (batches, last, gave, at, pushed) ends =
+    (batches, last, gave, at, written start mid new program batches pushed ends)
+all_written program first start (Err (fault.Read why)) after mid new is (batches, last, gave, at, pushed) ends =
+    (batches, last, gave, at, written start mid new program batches pushed ends)
+all_written program first start (Err (fault.Transform stop.Full)) after mid new is (batches, last, gave, at, pushed)
+    ends = (batches, last, gave, at, written start mid new program batches pushed ends)
+all_written program first start (Err (fault.Transform stop.Memory)) after mid new is (batches, last, gave, at, pushed)
+    ends = (batches, last, gave, at, written start mid new program batches pushed ends)
+all_written program first start (Err (fault.Transform (stop.Output output why))) after mid new is pushed ends =
+    absurd cc
+
+-- no batch more was given where one isn't read
+none_more : (old new : Inlet) (why : ReadFault) → ReadsBatch old (Err why) new → new.given ≡ old.given
+none_more old new (read.Batch cause) reads = reads.1
+none_more old new read.Read reads = reads
+none_more old new read.Memory reads = reads
 
 -- an output partition failed at the end
-pub unwritten : (program : Program) (inlet : Inlet) (start : Flow) (result : Result (Unit {0}) StreamFault)
-    (mid new : Flow) (why : TransformFault) → is_broken result ≡ false → PushesAll program inlet start result mid →
-    EndsFlow mid (Err why) new → TransformsAll program inlet start (Err (fault.Transform why)) new
-unwritten program inlet start result mid new stop.Full is pushed ends = absurd ends.0
-unwritten program inlet start result mid new stop.Memory is pushed ends = absurd ends.0
-unwritten program inlet start (Ok done) mid new (stop.Output output why) is (batches, rest, begins, pushed) ends =
-    (batches, rest, begins, end_stops start mid new program batches output why pushed.0 ends)
-unwritten program inlet start (Err (fault.Read cause)) mid new (stop.Output output why) is
-    (batches, rest, begins, pushed) ends =
-    (batches, rest, begins, end_stops start mid new program batches output why pushed.0 ends)
-unwritten program inlet start (Err (fault.Transform stop.Full)) mid new (stop.Output output why) is
-    (batches, rest, begins, pushed) ends =
-    (batches, rest, begins, end_stops start mid new program batches output why pushed ends)
-unwritten program inlet start (Err (fault.Transform stop.Memory)) mid new (stop.Output output why) is
-    (batches, rest, begins, pushed) ends =
-    (batches, rest, begins, end_stops start mid new program batches output why pushed ends)
-unwritten program inlet start (Err (fault.Transform (stop.Output number cause))) mid new (stop.Output output why) is
-    pushed ends = absurd cc
+pub unwritten : (program : Program) (first : Inlet) (start : Flow) (result : Result (Unit {0}) StreamFault)
+    (after : Inlet) (mid new : Flow) (why : TransformFault) → is_broken result ≡ false →
+    PushesAll program first start result after mid → EndsFlow mid (Err why) new →
+    TransformsAll program first start (Err (fault.Transform why)) after new
+unwritten program first start result after mid new stop.Full is pushed ends = absurd ends.0
+unwritten program first start result after mid new stop.Memory is pushed ends = absurd ends.0
+unwritten program first start (Ok done) after mid new (stop.Output output why) is (batches, last, gave, at, pushed)
+    ends = (batches, last, gave, inl at.2, end_stops start mid new program batches output why pushed ends)
+unwritten program first start (Err (fault.Read cause)) after mid new (stop.Output output why) is
+    (batches, last, gave, at, pushed) ends = (
+      batches,
+      last,
+      gave,
+      inl (none_more last after cause at),
+      end_stops start mid new program batches output why pushed ends,
+    )
+unwritten program first start (Err (fault.Transform stop.Full)) after mid new (stop.Output output why) is
+    (batches, last, gave, at, pushed) ends =
+    (batches, last, gave, inr (at.1, at.2), end_stops start mid new program batches output why pushed ends)
+unwritten program first start (Err (fault.Transform stop.Memory)) after mid new (stop.Output output why) is
+    (batches, last, gave, at, pushed) ends =
+    (batches, last, gave, inr at, end_stops start mid new program batches output why pushed ends)
+unwritten program first start (Err (fault.Transform (stop.Output number cause))) after mid new (stop.Output output why)
+    is pushed ends = absurd cc

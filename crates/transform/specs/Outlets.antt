@@ -1,5 +1,6 @@
 -- Record batches of an output partition that are written one after the other.
-use Rattle.std.specs.Prelude.{◌≡◌, ℕ, ◌<◌, ◌≤◌, List, [], ◌∷◌, ◌++◌, length, take, Option, Result, Ok, Err}
+use Rattle.std.specs.Prelude.{◌≡◌, ◌≢◌, ℕ, ◌+◌, ◌<◌, ◌≤◌, ◌^◌, List, [], ◌∷◌, ◌++◌, length, take, Option, Result, Ok}
+use Rattle.std.specs.Prelude.{Err}
 use Rattle.std.specs.List.{concat}
 use Rattle.std.specs.Io.KnownBytes.{Appends}
 use Rattle.log_spec.specs.declared.row.Row.{Row}
@@ -60,21 +61,30 @@ pub record WrotePart (old : Waiting) (before after : Option (List ℕ)) : Type 0
   pub next_is : IsBatchOf rest count next
   pub written : HasBegun before after (concat batches ++ next)
 
--- what a fault leaves: whole batches, and a beginning of one more where the writer failed
+-- with these rows an output partition has more than there are offsets
+abbrev pub IsTooMany : Waiting → Type 0
+IsTooMany w = 2 ^ 63 < w.place + length w.rows
+
+-- What a fault leaves: whole batches, and a beginning of one more where the writer failed. An output partition is full
+-- only where it would have too many rows.
 abbrev pub Stops : Waiting → Option (List ℕ) → OutletFault → Option (List ℕ) → Type 0
 Stops old before fault.Write after = WrotePart old before after
-Stops old before fault.Full after = (rest : Waiting) × WroteBatches old before rest after
+Stops old before fault.Full after = IsTooMany old × (rest : Waiting) × WroteBatches old before rest after
 Stops old before fault.Memory after = (rest : Waiting) × WroteBatches old before rest after
 
--- Full batches were written, or a fault stopped that.
+-- the same where the fault is of the writer or of memory
+abbrev pub Fails : Waiting → Option (List ℕ) → OutletFault → Option (List ℕ) → Type 0
+Fails old before why after = (why ≢ fault.Full) × Stops old before why after
+
+-- Full batches were written, or the writer failed or memory ran out.
 abbrev pub PutsFull : Waiting → Option (List ℕ) → Result (Unit {0}) OutletFault → Waiting → Option (List ℕ) → Type 0
 PutsFull old before (Ok done) new after = WroteFull old before new after
-PutsFull old before (Err why) new after = Stops old before why after
+PutsFull old before (Err why) new after = Fails old before why after
 
--- All rows that waited were written, or a fault stopped that.
+-- All rows that waited were written, or the writer failed or memory ran out.
 abbrev pub PutsAll : Waiting → Option (List ℕ) → Result (Unit {0}) OutletFault → Waiting → Option (List ℕ) → Type 0
 PutsAll old before (Ok done) new after = WroteBatches old before new after × (new.rows ≡ [])
-PutsAll old before (Err why) new after = Stops old before why after
+PutsAll old before (Err why) new after = Fails old before why after
 
 -- The batch of all rows that wait was written, and none of them waits. Or memory ran out, or the writer failed.
 abbrev pub PutsOpen : Waiting → Option (List ℕ) → Result (Unit {0}) OutletFault → Waiting → Option (List ℕ) → Type 0
@@ -84,17 +94,19 @@ PutsOpen old before (Err fault.Write) new after =
 PutsOpen old before (Err fault.Memory) new after = after ≡ before
 PutsOpen old before (Err fault.Full) new after = ⊥
 
--- The first of some rows was added, after a full batch was written where that had no room for it; or a fault stopped
--- that.
+-- The first of some rows was added, after a full batch was written where that had no room for it; or the writer failed
+-- or memory ran out.
 abbrev pub PutsFirst : Outflow → List Row → Result (Unit {0}) OutletFault → Outflow → List Row → Type 0
 PutsFirst old rows result new others =
     PutsFull (with_rows old.waits rows) old.written result (with_rows new.waits others) new.written
 
--- Rows were added, and full batches written, or a fault stopped that.
+-- Rows were added, and full batches written, or the writer failed or memory ran out. Where there would be too many rows
+-- none is added, and nothing changes.
 abbrev pub PutsRows : Outflow → List Row → Result (Unit {0}) OutletFault → Outflow → Type 0
+PutsRows old rows (Err fault.Full) new = IsTooMany (with_rows old.waits rows) × (new ≡ old)
 PutsRows old rows result new = PutsFull (with_rows old.waits rows) old.written result new.waits new.written
 
--- All rows that waited were written, or a fault stopped that.
+-- All rows that waited were written, or the writer failed or memory ran out.
 abbrev pub PutsRest : Outflow → Result (Unit {0}) OutletFault → Outflow → Type 0
 PutsRest old result new = PutsAll old.waits old.written result new.waits new.written
 

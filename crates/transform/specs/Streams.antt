@@ -1,27 +1,29 @@
 -- All batches of a reader through a program.
-use Rattle.std.specs.Prelude.{◌≡◌, ℕ, Bool, true, false, List, Option, Some, Result, Ok, Err, ⊤}
-use Rattle.std.specs.Io.KnownBytes.{IsAtEnd}
+use Rattle.std.specs.Prelude.{◌≡◌, ◌⊎◌, ℕ, ◌+◌, ◌^◌, ◌<◌, Bool, true, false, List, length, Option, Some, None}
+use Rattle.std.specs.Prelude.{Result, Ok, Err}
 use Rattle.wire_spec.specs.declared.record.Batch.{Batch}
+use Rattle.wire_spec.specs.declared.limits.TheConstants.{TIMESTAMP_END, MAX_RECORDS}
 use Rattle.machine_spec.specs.Image.{Program}
 use Rattle.batch.specs.Batches.{AreBatches}
-use Rattle.batch_reader.specs.declared.reader.ReadFault.{ReadFault}
-use Rattle.batch_reader.specs.declared.reader.ReadFault.TheVariants as read
-use Rattle.batch_reader.specs.Readings.{Inlet, left_of, BeginsBadly}
+use Rattle.batch_reader.specs.Readings.{Inlet, left_of, ReadsBatch}
 use Rattle.transform.specs.declared.{stream.StreamFault.StreamFault}
 use Rattle.transform.specs.declared.stream.StreamFault.TheVariants as fault
 use Rattle.transform.specs.declared.flow.TransformFault.TheVariants as stop
-use Rattle.transform.specs.Transforms.{Flow, Follows, Finished, Broken, CountsBatches}
+use Rattle.transform.specs.Transforms.{Flow, Follows, Finished, Broken, CountsBatches, records_of}
 
 -- where bytes are known, they begin with these batches, one after the other, and those are the others
 abbrev pub Begins : Option (List ℕ) → List Batch → Option (List ℕ) → Type 0
 Begins before batches after = (bytes : List ℕ) → before ≡ Some bytes →
     (rest : List ℕ) × AreBatches bytes batches rest × (after ≡ Some rest)
 
--- why no batch is read of these bytes
-abbrev pub EndsBadly : Option (List ℕ) → ReadFault → Type 0
-EndsBadly rest (read.Batch why) = BeginsBadly rest why
-EndsBadly rest read.Read = ⊤
-EndsBadly rest read.Memory = ⊤
+-- A reader gave these batches, one after the other, and no others. Its bytes, where they are known, begin with them, and
+-- it counted as many batches more, and as many bytes as they have; nothing is said of a count of 2^64 or more.
+pub record Gave (old : Inlet) (given : List Batch) (new : Inlet) : Type 0 where
+  pub begins : Begins (left_of old) given (left_of new)
+  pub batches : old.given.batches + length given < 2 ^ 64 → new.given.batches ≡ old.given.batches + length given
+  pub bytes : (known rest : List ℕ) → left_of old ≡ Some known → left_of new ≡ Some rest →
+      old.given.bytes + length known < 2 ^ 64 + length rest →
+      new.given.bytes + length rest ≡ old.given.bytes + length known
 
 -- an output partition failed
 abbrev pub is_broken : Result (Unit {0}) StreamFault → Bool
@@ -31,34 +33,46 @@ is_broken (Err (fault.Transform stop.Full)) = false
 is_broken (Err (fault.Transform stop.Memory)) = false
 is_broken (Err (fault.Transform (stop.Output output why))) = true
 
--- Batches were pushed, up to the end of the bytes or to a fault, and these bytes are left.
-abbrev pub Pushed : Flow → Program → List Batch → Option (List ℕ) → Result (Unit {0}) StreamFault → Flow → Type 0
-Pushed start program batches rest (Ok done) now = Follows start program batches now × IsAtEnd rest
-Pushed start program batches rest (Err (fault.Read why)) now = Follows start program batches now × EndsBadly rest why
-Pushed start program batches rest (Err (fault.Transform stop.Full)) now = Follows start program batches now
-Pushed start program batches rest (Err (fault.Transform stop.Memory)) now = Follows start program batches now
-Pushed start program batches rest (Err (fault.Transform (stop.Output output why))) now =
+-- What a reader did after the batches that were transformed, and so why no more are: it is at its end, or fails; or it
+-- gave one batch more, which might reach the offset 2^62, or for which memory ran out. Where an output partition failed
+-- it gave none more, or such a one.
+abbrev pub EndsAt : Flow → List Batch → Inlet → Result (Unit {0}) StreamFault → Inlet → Type 0
+EndsAt start batches old (Ok done) new = ReadsBatch old (Ok None) new
+EndsAt start batches old (Err (fault.Read why)) new = ReadsBatch old (Err why) new
+EndsAt start batches old (Err (fault.Transform stop.Full)) new =
+    (TIMESTAMP_END < start.offset + records_of batches + MAX_RECORDS)
+    × (batch : Batch) × ReadsBatch old (Ok (Some batch)) new
+EndsAt start batches old (Err (fault.Transform stop.Memory)) new =
+    (batch : Batch) × ReadsBatch old (Ok (Some batch)) new
+EndsAt start batches old (Err (fault.Transform (stop.Output output why))) new =
+    (new.given ≡ old.given) ⊎ ((batch : Batch) × ReadsBatch old (Ok (Some batch)) new)
+
+-- Batches were pushed, unless an output partition failed.
+abbrev pub Pushed : Flow → Program → List Batch → Result (Unit {0}) StreamFault → Flow → Type 0
+Pushed start program batches (Err (fault.Transform (stop.Output output why))) now =
     Broken start program batches now.outputs output why
+Pushed start program batches result now = Follows start program batches now
 
--- The same, and all rows of the batches were written, and their records counted, unless an output partition failed.
-abbrev pub Transformed : Flow → Program → List Batch → Option (List ℕ) → Result (Unit {0}) StreamFault → Flow → Type 0
-Transformed start program batches rest (Ok done) now =
-    Finished start program batches now.outputs × IsAtEnd rest × CountsBatches start program batches now.counts
-Transformed start program batches rest (Err (fault.Read why)) now =
-    Finished start program batches now.outputs × EndsBadly rest why × CountsBatches start program batches now.counts
-Transformed start program batches rest (Err (fault.Transform stop.Full)) now =
-    Finished start program batches now.outputs × CountsBatches start program batches now.counts
-Transformed start program batches rest (Err (fault.Transform stop.Memory)) now =
-    Finished start program batches now.outputs × CountsBatches start program batches now.counts
-Transformed start program batches rest (Err (fault.Transform (stop.Output output why))) now =
+-- Batches were pushed, and all their rows written. Their records were counted, and the next one has the offset after
+-- them.
+pub record Completed (start : Flow) (program : Program) (batches : List Batch) (now : Flow) : Type 0 where
+  pub input : now.input ≡ start.input
+  pub offset : now.offset ≡ start.offset + records_of batches
+  pub outputs : Finished start program batches now.outputs
+  pub counts : CountsBatches start program batches now.counts
+
+-- Batches were pushed, and all their rows written, unless an output partition failed.
+abbrev pub Transformed : Flow → Program → List Batch → Result (Unit {0}) StreamFault → Flow → Type 0
+Transformed start program batches (Err (fault.Transform (stop.Output output why))) now =
     Broken start program batches now.outputs output why
+Transformed start program batches result now = Completed start program batches now
 
--- The batches that a reader's bytes begin with were pushed.
-abbrev pub PushesAll : Program → Inlet → Flow → Result (Unit {0}) StreamFault → Flow → Type 0
-PushesAll program inlet start result now = (batches : List Batch) × (rest : Option (List ℕ))
-    × Begins (left_of inlet) batches rest × Pushed start program batches rest result now
+-- The batches that a reader gave were pushed: all up to its end, or those before a fault.
+abbrev pub PushesAll : Program → Inlet → Flow → Result (Unit {0}) StreamFault → Inlet → Flow → Type 0
+PushesAll program reader start result after now = (batches : List Batch) × (mid : Inlet) × Gave reader batches mid
+    × EndsAt start batches mid result after × Pushed start program batches result now
 
--- The batches that a reader's bytes begin with were transformed: all of them, or those before a fault.
-abbrev pub TransformsAll : Program → Inlet → Flow → Result (Unit {0}) StreamFault → Flow → Type 0
-TransformsAll program inlet start result now = (batches : List Batch) × (rest : Option (List ℕ))
-    × Begins (left_of inlet) batches rest × Transformed start program batches rest result now
+-- The batches that a reader gave were transformed: all up to its end, or those before a fault.
+abbrev pub TransformsAll : Program → Inlet → Flow → Result (Unit {0}) StreamFault → Inlet → Flow → Type 0
+TransformsAll program reader start result after now = (batches : List Batch) × (mid : Inlet)
+    × Gave reader batches mid × EndsAt start batches mid result after × Transformed start program batches result now

@@ -14,7 +14,7 @@ use Rattle.item_rows.specs.ItemRows.{rows_in, AreItemRows}
 use Rattle.transform.specs.declared.{flow.TransformFault.TransformFault, outlet.OutletFault.OutletFault}
 use Rattle.transform.specs.declared.flow.TransformFault.TheVariants as fault
 use Rattle.transform.specs.Backlogs.{Waiting, waiting, with_rows}
-use Rattle.transform.specs.Outlets.{Outflow, outflow, WroteFull, WroteBatches, Stops}
+use Rattle.transform.specs.Outlets.{Outflow, outflow, WroteFull, WroteBatches, Stops, Fails}
 
 -- ---- the rows of batches
 
@@ -147,9 +147,9 @@ Empties old new = WroteBatches old.waits old.written new.waits new.written × (n
 abbrev pub EmptiesSome : Outflow → Outflow → Type 0
 EmptiesSome old new = (rest : Waiting) × WroteBatches old.waits old.written rest new.written
 
--- a fault stopped that
+-- the writer failed, or memory ran out
 abbrev pub StopsEmptying : Outflow → OutletFault → Outflow → Type 0
-StopsEmptying old why new = Stops old.waits old.written why new.written
+StopsEmptying old why new = Fails old.waits old.written why new.written
 
 -- All rows that waited in each output partition were written, or one failed.
 abbrev pub EndsEach : List Outflow → Result (Unit {0}) TransformFault → List Outflow → Type 0

@@ -91,10 +91,10 @@ impl<W: Write> Outlet<W> {
     }
 
     /// Adds rows at the end, one after the other, and writes the batch of those that wait before a row
-    /// that it has no room for. It fails where an offset would be 2^63 or more, where memory runs out,
-    /// and where the writer fails or takes no byte. Then whole batches were written of the rows that
-    /// waited and of these, and where the writer failed, a beginning of one more; what waits is not
-    /// said.
+    /// that it has no room for. It is full only where an offset would be 2^63 or more; then nothing
+    /// changes. It fails otherwise only where memory runs out, and where the writer fails or takes no
+    /// byte. Then whole batches were written of the rows that waited and of these, and where the
+    /// writer failed, a beginning of one more; what waits is not said.
     pub fn put(&mut self, rows: &RowRefs) -> Result<(), OutletFault>
         requires { All RowFits rows.now }
         ensures { PutsRows self.old rows.now result self.new }
@@ -105,7 +105,7 @@ impl<W: Write> Outlet<W> {
         put_rows(rows, &mut self.backlog, &mut self.writer)
     }
 
-    /// Writes the batch of all rows that wait; none waits then. It fails where memory runs out, and
+    /// Writes the batch of all rows that wait; none waits then. It fails only where memory runs out, and
     /// where the writer fails or takes no byte. Then whole batches of those rows were written, and
     /// where the writer failed, a beginning of one more; what waits is not said.
     pub fn end(&mut self) -> Result<(), OutletFault>

@@ -57,14 +57,15 @@ impl Watch for Unwatched {
 /// Runs a program on all batches of a reader, one after the other, counts what became of their
 /// records, and writes all their rows. After a fault the rows of the batches before it are written too,
 /// and their records counted, unless an output partition failed: then each output partition has
-/// written whole batches of its rows, and that one maybe a beginning of one more.
+/// written whole batches of its rows, and that one maybe a beginning of one more. The reader gave no
+/// other batch but one that might reach the offset 2^62, or for which memory ran out.
 pub fn transform_all<R: Read, W: Write>(
     program: &Program,
     reader: &mut BatchReader<R>,
     stream: &mut Transform<W>,
 ) -> Result<(), StreamFault>
     requires { IsOpen reader.old }
-    ensures { TransformsAll program.now reader.old stream.old result stream.new }
+    ensures { TransformsAll program.now reader.old stream.old result reader.new stream.new }
 {
     transform_watched(program, reader, stream, &mut Unwatched)
 }
@@ -77,7 +78,7 @@ pub fn transform_watched<R: Read, W: Write, V: Watch>(
     watch: &mut V,
 ) -> Result<(), StreamFault>
     requires { IsOpen reader.old }
-    ensures { TransformsAll program.now reader.old stream.old result stream.new }
+    ensures { TransformsAll program.now reader.old stream.old result reader.new stream.new }
 {
     let pushed = push_all(program, reader, stream, watch);
     if is_broken(&pushed) {
@@ -112,7 +113,7 @@ fn push_all<R: Read, W: Write, V: Watch>(
     watch: &mut V,
 ) -> Result<(), StreamFault>
     requires { IsOpen reader.old }
-    ensures { PushesAll program.now reader.old stream.old result stream.new }
+    ensures { PushesAll program.now reader.old stream.old result reader.new stream.new }
 {
     for _ in 0..u64::MAX {
         match next_batch(reader)? {

@@ -23,7 +23,7 @@ returns-clause-written g c = λ tells distinct bytes known.
     (status_of c.run-ended.result) (λ output. g.F.Files.bytes c.finish.new.files (word_at names (output + 2)))
     c.finish.ensures.held
     (λ held. wrote_files c.args.program.now bytes names (length names - 2) fresh c.run-ended.new.stream.outputs
-    c.args.batches.now c.new-stream.result c.run-ended.result c.run-ended.new.stream
+    c.args.batches.now c.run-ended.new.batches c.new-stream.result c.run-ended.result c.run-ended.new.stream
     (g.F.Files.bytes c.finish.new.files) is count of_names c.run-ended.ensures refl (held distinct))
 
 pub returns-clause-kept : goal.returns-clause-kept
