@@ -1,10 +1,10 @@
 -- What a feed gives of its bytes, which are in two parts, by what is cut off the first.
-use Rattle.std.proofs.Common.{◌≡◌, ◌≢◌, ℕ, ◌≤◌, List, [], ◌∷◌, ◌++◌, length, take, drop, Ok, Err, true, false, refl}
+use Rattle.std.proofs.Common.{◌≡◌, ◌≢◌, ℕ, List, [], ◌∷◌, ◌++◌, length, take, drop, Ok, Err, true, false, refl}
 use Rattle.std.proofs.Common.{sym, ap, subst, ◌∙◌, arith}
 use Rattle.std.specs.Prelude.{◌↔◌, Some, None}
 use Rattle.std.proofs.lemmas.List.{drop-append-le, append-nil}
 use Rattle.wire_spec.specs.declared.{fault.BatchFault.BatchFault, record.Batch.Batch}
-use Rattle.wire_spec.specs.declared.fault.BatchFault.TheVariants.{Short, Memory}
+use Rattle.wire_spec.specs.declared.fault.BatchFault.TheVariants.{Memory}
 use Rattle.wire_spec.specs.BatchReading.{◌>>=◌, size_at, whole_at, IsPart, batch_at}
 use Rattle.wire_spec.proofs.MoreBytes.{batch_at-part, batch_at-append, batch_at-not_short}
 use Rattle.wire_spec.proofs.BatchLaws.{Sized, bind_ok, ok_is, size_taken}

@@ -1,5 +1,5 @@
 -- Batches whose records are spans of their bytes.
-use Rattle.std.specs.Prelude.{◌≡◌, ℕ, List, [], ◌∷◌, length, map, ⊤}
+use Rattle.std.specs.Prelude.{◌≡◌, ℕ, List, [], ◌∷◌, map, ⊤}
 use Rattle.wire_spec.specs.declared.{record.Record.Record, record.Batch.Batch}
 use Rattle.kafka_record.specs.declared.spans.Span.{Span}
 use Rattle.kafka_record.specs.Spans.{spanned, IsSpanWithin}

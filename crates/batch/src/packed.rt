@@ -131,12 +131,7 @@ fn span_of(
 }
 
 /// That many records, which fill the bytes after the header. The slice is of the same bytes.
-fn spans_of(
-    alloc: Global,
-    bytes: &Bytes,
-    slice: &[u8],
-    count: u32,
-) -> Result<Vec<Span>, BatchFault>
+fn spans_of(alloc: Global, bytes: &Bytes, slice: &[u8], count: u32) -> Result<Vec<Span>, BatchFault>
     requires same { slice.now ≡ bytes.now }
     requires header { 61 ≤ length bytes.now }
     requires size { length bytes.now < 2 ^ 32 }

@@ -173,8 +173,12 @@ impl<'a> BatchRun<'a> {
             let count = (total - done).min(BLOCK);
             let records = self.references(done, count)?;
             let mut block = blocks.take(count)?;
-            let places =
-                self.run_block(program, self.offset_of(done), records.as_slice(), &mut block)?;
+            let places = self.run_block(
+                program,
+                self.offset_of(done),
+                records.as_slice(),
+                &mut block,
+            )?;
             push_outcomes(
                 self.first,
                 places.as_slice(),

@@ -200,9 +200,10 @@ impl BookRow {
             Parts::Given { logged, index } => {
                 let given = logged.record(*index);
                 let headers = share_headers(alloc, given.headers())?;
-                Ok(self
-                    .numbers
-                    .row(given.share_key()?, given.share_value()?, headers))
+                Ok(
+                    self.numbers
+                        .row(given.share_key()?, given.share_value()?, headers),
+                )
             }
             Parts::Made { made, index } => {
                 let emission = &made.list[*index];

@@ -65,11 +65,7 @@ fn nullable_extent_from(
 /// The extent of a key or a value after its length, and the place after it.
 #[tactic(auto, unfolding(wire_spec::specs::RecordReading::nullable_at))]
 #[inline(always)]
-fn part_from(
-    bytes: &[u8],
-    at: usize,
-    limit: usize,
-) -> Result<(Option<Extent>, usize), RecordFault>
+fn part_from(bytes: &[u8], at: usize, limit: usize) -> Result<(Option<Extent>, usize), RecordFault>
     requires at { at ≤ length bytes.now }
     requires small { length bytes.now < 2 ^ 32 }
     ensures gives { AnswersAs Memory (λ x. (option_map (extent_bytes bytes.now) x.0, drop x.1 bytes.now)) result (ok_or (nullable_at limit (drop at bytes.now)) Bad) }

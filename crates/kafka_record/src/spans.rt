@@ -33,14 +33,15 @@ pub(crate) fn extent_of(bytes: &Bytes, extent: Extent) -> &[u8]
 }
 
 /// Another owner of the bytes of an extent.
-pub(crate) fn share_extent(bytes: &Bytes, extent: Option<Extent>) -> Result<Option<Bytes>, AllocError>
+pub(crate) fn share_extent(
+    bytes: &Bytes,
+    extent: Option<Extent>,
+) -> Result<Option<Bytes>, AllocError>
     requires { IsPartWithin (length bytes.now) extent }
     ensures { IfOk result (λ shared. shared ≡ option_map (extent_bytes bytes.now) extent) }
 {
     match extent {
-        Some(extent) => Ok(Some(
-            bytes.slice(extent.start as usize..extent.end as usize)?,
-        )),
+        Some(extent) => Ok(Some(bytes.slice(extent.start as usize..extent.end as usize)?)),
         None => Ok(None),
     }
 }

@@ -1,9 +1,7 @@
-use Rattle.std.proofs.Common.{◌≡◌, ◌∙◌, ◌+◌, ◌≤◌, suc, List, [], ◌∷◌, ◌++◌, length, drop, get_or, drop-cons, subst, sym, ap, arith}
+use Rattle.std.proofs.Common.{◌≡◌, ◌∙◌, ◌+◌, ◌≤◌, suc, [], ◌∷◌, ◌++◌, length, drop, get_or, drop-cons, subst, sym, ap, arith}
 use Rattle.std.proofs.lemmas.List.{drop_all}
 use Rattle.std.proofs.lemmas.Result.{err_from_is_err_and}
-use Rattle.wire_spec.specs.declared.record.Record.{Record}
 use Rattle.wire_spec.specs.BatchReading.{records_at}
-use Rattle.kafka_record.specs.declared.spans.Span.{Span}
 use Rattle.kafka_record.specs.Spans.{spanned}
 use Rattle.batch.specs.Packed.{all_spanned, AreSpansWithin}
 use Rattle.batch.proofs.Loop.{goes_on, ends, is_done, is_over}

@@ -6,7 +6,6 @@ use Rattle.std.proofs.lemmas.List.Elements.{All-from_recursion}
 use Rattle.wire_spec.specs.declared.record.Record.{Record}
 use Rattle.wire_spec.specs.RecordSpelling.{RecordFits}
 use Rattle.wire_spec.specs.BatchSpelling.{greatest, timestamps, records_spelling}
-use Rattle.batch.specs.Heads.{front_of, header_of}
 use Rattle.batch.proofs.WithinLimits.{spelling_length}
 use Rattle.batch.proofs.Written.{finished_is}
 use Rattle.batch.proofs.writing.encode.Goals as goal

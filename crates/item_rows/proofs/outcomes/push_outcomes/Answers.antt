@@ -1,11 +1,9 @@
-use Rattle.std.proofs.Common.{◌≡◌, ℕ, ◌<◌, ◌+◌, ◌++◌, List, length, map, take, get_or, slice_get, Some, sym, ap, subst, ◌∙◌}
+use Rattle.std.proofs.Common.{◌≡◌, ◌<◌, ◌+◌, ◌++◌, List, length, map, take, get_or, slice_get, Some, sym, ap, subst, ◌∙◌}
 use Rattle.std.proofs.Common.{arith, [], ◌∷◌}
 use Rattle.std.proofs.lemmas.List.{length-map, length-take, map-append, take_more, get_or_default}
 use Rattle.std.proofs.lemmas.Option.{get_or_from_slice_get}
 use Rattle.machine_spec.specs.declared.{outcome.Outcome.Outcome, outcome.Place.Place}
-use Rattle.wire_spec.specs.declared.record.Record.{Record}
 use Rattle.exec.specs.Endings.{Ended, outcome_in, outcomes_of}
-use Rattle.log_spec.specs.declared.row.Row.{Row}
 use Rattle.fates.specs.declared.fate.Fate.{Fate}
 use Rattle.fates.specs.Fates.{fate_of}
 use Rattle.fates.specs.Totals.{AreCounts}

@@ -1,6 +1,5 @@
-use Rattle.std.proofs.Common.{◌≡◌, ℕ, ◌-◌, List, [], length, drop, ap, sym, ◌∙◌, arith, option_map}
+use Rattle.std.proofs.Common.{◌≡◌, ℕ, ◌-◌, [], drop, ap, sym, ◌∙◌, arith}
 use Rattle.std.proofs.lemmas.List.{append-nil}
-use Rattle.wire_spec.specs.declared.record.Record.{Record}
 use Rattle.item_rows.proofs.records.push_records.Goals as goal
 
 pub push_all-requires : goal.push_all-requires

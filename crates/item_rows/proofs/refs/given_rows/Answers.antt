@@ -1,4 +1,4 @@
-use Rattle.std.proofs.Common.{[], length, ◌∙◌, arith}
+use Rattle.std.proofs.Common.{[], ◌∙◌, arith}
 use Rattle.std.proofs.lemmas.List.{length-map}
 use Rattle.item_rows.specs.RowRefs.{row_in, rows_by}
 use Rattle.item_rows.proofs.RowLaws.{take_all}

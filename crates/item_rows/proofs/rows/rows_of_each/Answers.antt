@@ -1,4 +1,4 @@
-use Rattle.std.proofs.Common.{◌≡◌, ◌-◌, List, ◌++◌, sym, ap, subst, ◌∙◌, rules, arith, [], ◌∷◌, append_assoc}
+use Rattle.std.proofs.Common.{◌≡◌, ◌-◌, List, ◌++◌, sym, ap, ◌∙◌, rules, arith, [], ◌∷◌, append_assoc}
 use Rattle.std.proofs.lemmas.List.{append-nil}
 use Rattle.std.specs.Vec.Iter.{drain_items}
 use Rattle.log_spec.specs.declared.row.Row.{Row}

@@ -1,5 +1,5 @@
-use Rattle.std.proofs.Common.{rules, ◌≡◌, ◌+◌, ◌-◌, ◌≤◌, [], arith, length, take, drop, subst, sym, unwrap_or, option_map}
-use Rattle.std.specs.Prelude.{slice_range, Option}
+use Rattle.std.proofs.Common.{◌+◌, ◌-◌, ◌≤◌, [], arith, length, take, drop, subst, unwrap_or, option_map}
+use Rattle.std.specs.Prelude.{Option}
 use Rattle.std.proofs.lemmas.List.{length-take}
 use Rattle.bytes.proofs.Ranges.{slice_range-slice_range}
 use Rattle.kafka_record.specs.declared.spans.Extent.{Extent}
@@ -17,5 +17,8 @@ returns-in-Some c =
     c.requires.end in
     let ends : extent.start + c.args.end ≤ extent.end =
     omega (arith, within.order, short, length-take (extent.end - extent.start) (drop extent.start bytes)) in
-    rw (c.in-Some.is, slice_range-slice_range bytes extent.start extent.end c.args.start c.args.end c.requires.order
-    ends) c.slice.ensures.ok
+    rw (
+      c.in-Some.is,
+      slice_range-slice_range bytes extent.start extent.end c.args.start c.args.end c.requires.order
+          ends,
+    ) c.slice.ensures.ok

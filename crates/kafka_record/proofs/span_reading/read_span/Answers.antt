@@ -35,6 +35,8 @@ returns-clause-exact c =
     (to_z-of_z w32 c.args.delta c.ranges.delta) c.requires.same (to_z-of_z w32 c.in_ok-len.len fits)
     (read_ok _ _ c.in_ok-len.ensures.gives) (read_ok _ _ c.in_ok-span.ensures.gives) c.in_ok-span.ensures.within.0
     c.in_ok-span.ensures.within.1 c.is_filled.ensures
-    ∙ rw c.if-not-is_filled.false (ap (λ (k : ℕ). Some (spanned c.args.bytes.now c.in_ok-span.span,
-    drop k c.args.bytes.now)) end) in
+    ∙ rw c.if-not-is_filled.false (ap (λ (k : ℕ). Some (
+      spanned c.args.bytes.now c.in_ok-span.span,
+      drop k c.args.bytes.now,
+    )) end) in
     as_answer (record_at c.args.delta (drop c.args.at c.args.bytes.now)) (Some found) read

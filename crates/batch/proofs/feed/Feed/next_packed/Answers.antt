@@ -1,5 +1,4 @@
 use Rattle.std.proofs.Common.{rules, ◌≡◌, ◌++◌, Err, Ok, true, false, sym, ap, subst, ◌∙◌}
-use Rattle.std.specs.Prelude.{Some}
 use Rattle.wire_spec.specs.declared.fault.BatchFault.{BatchFault}
 use Rattle.batch.specs.Streams.{Stream, Open, stream, after_fault, Gives, Cuts, IsReady}
 use Rattle.batch.proofs.FeedLaws.{gives_none, gives_batch, gives_refusal}

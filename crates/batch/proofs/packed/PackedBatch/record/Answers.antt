@@ -1,4 +1,4 @@
-use Rattle.std.proofs.Common.{◌≡◌, ℕ, ◌<◌, ◌∙◌, List, length, slice_get, Some, sym, ap, subst, arith}
+use Rattle.std.proofs.Common.{◌≡◌, ℕ, ◌<◌, ◌∙◌, List, length, slice_get, Some, sym, ap, arith}
 use Rattle.std.proofs.lemmas.List.{length-map}
 use Rattle.wire_spec.specs.declared.{record.Batch.Batch, record.Record.Record}
 use Rattle.kafka_record.specs.declared.spans.Span.{Span}

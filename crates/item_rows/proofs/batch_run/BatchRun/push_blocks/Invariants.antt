@@ -1,4 +1,4 @@
-use Rattle.std.proofs.Common.{◌≡◌, ◌-◌, ◌≤◌, length, take}
+use Rattle.std.proofs.Common.{◌-◌, ◌≤◌, length, take}
 use Rattle.item_rows.specs.Blocks.{HaveRun}
 use Rattle.item_rows.proofs.batch_run.BatchRun.push_blocks.Given as goal
 

@@ -1,4 +1,4 @@
-use Rattle.std.proofs.Common.{◌≡◌, ℕ, ◌+◌, ◌-◌, ◌<◌, ◌≤◌, ◌++◌, List, length, take, drop, get_or, sym, ap, subst, ◌∙◌, arith}
+use Rattle.std.proofs.Common.{◌≡◌, ℕ, ◌+◌, ◌-◌, ◌<◌, ◌++◌, List, length, take, drop, get_or, sym, ap, subst, ◌∙◌, arith}
 use Rattle.std.proofs.Common.{[], ◌∷◌}
 use Rattle.std.proofs.lemmas.List.{take_more, length-take, length-drop, get_or-drop, get_or_default}
 use Rattle.wire_spec.specs.declared.record.Record.{Record}
@@ -8,7 +8,6 @@ use Rattle.fates.specs.Fates.{IsFate}
 use Rattle.item_rows.specs.ItemRows.{Adds}
 use Rattle.item_rows.specs.RowParts.{no_record}
 use Rattle.item_rows.specs.Blocks.{program_in, HaveRun}
-use Rattle.item_rows.proofs.RowLaws.{take_all}
 use Rattle.item_rows.proofs.BlockLaws.{one_fate, one_run, run_then, run_counted}
 use Rattle.item_rows.proofs.batch_run.BatchRun.push_each.Goals as goal
 

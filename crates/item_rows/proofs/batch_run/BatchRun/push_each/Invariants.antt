@@ -1,4 +1,4 @@
-use Rattle.std.proofs.Common.{◌≡◌, ◌+◌, ◌-◌, ◌≤◌, length, take, drop}
+use Rattle.std.proofs.Common.{◌+◌, ◌-◌, take, drop}
 use Rattle.item_rows.specs.Blocks.{HaveRun}
 use Rattle.item_rows.proofs.batch_run.BatchRun.push_each.Given as goal
 

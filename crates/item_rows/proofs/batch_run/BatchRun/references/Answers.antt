@@ -1,8 +1,7 @@
-use Rattle.std.proofs.Common.{◌≡◌, ◌∙◌, ◌+◌, ◌<◌, List, [], ◌∷◌, ◌++◌, length, take, drop, get_or, ap, sym, subst, arith}
+use Rattle.std.proofs.Common.{◌≡◌, ◌∙◌, ◌+◌, ◌<◌, List, [], ◌∷◌, ◌++◌, length, take, drop, get_or, ap, sym, arith}
 use Rattle.std.proofs.lemmas.Option.{get_or_from_slice_get}
 use Rattle.std.proofs.lemmas.List.{take_more, length-drop, get_or-drop}
 use Rattle.wire_spec.specs.declared.record.Record.{Record}
-use Rattle.item_rows.specs.Blocks.{records_from}
 use Rattle.item_rows.proofs.batch_run.BatchRun.references.Goals as goal
 
 pub loop-index-preserved : goal.loop-index-preserved

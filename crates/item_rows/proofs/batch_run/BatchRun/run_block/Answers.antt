@@ -1,4 +1,4 @@
-use Rattle.std.proofs.Common.{◌≡◌, List, sym, subst, ◌∙◌}
+use Rattle.std.proofs.Common.{List, sym, subst, ◌∙◌}
 use Rattle.machine_spec.specs.declared.outcome.Place.{Place}
 use Rattle.exec.specs.Abreast.{AreGiven}
 use Rattle.exec.specs.Endings.{outcomes_of}
