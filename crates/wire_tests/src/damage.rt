@@ -1,7 +1,7 @@
 //! Batches that are cut short anywhere, or have one byte changed, each place and each value.
 
 use crate::batches::{ONE, is_written_as};
-use batch::{Batch, BatchFault, decode};
+use batch::{Batch, BatchFault, decode, decode_packed};
 use bytes::Bytes;
 use std::alloc::{AllocError, Global};
 use std::process::Abort;
@@ -44,9 +44,32 @@ fn reading_of_buffer(alloc: Global, given: Bytes, bytes: &[u8]) -> Reading {
     }
 }
 
+/// The same, of a batch that is read packed.
+fn packed_reading(alloc: Global, given: Bytes, bytes: &[u8]) -> Result<Reading, AllocError> {
+    match decode_packed(alloc, given) {
+        Ok((packed, used)) => {
+            let batch = packed.to_batch(alloc)?;
+            let whole = used == bytes.len() && is_of(alloc, &batch, bytes);
+            Ok(if whole {
+                Reading::Whole
+            } else {
+                Reading::Other
+            })
+        }
+        Err(fault) => Ok(Reading::Refused(fault)),
+    }
+}
+
+/// What bytes are read as, in both ways; as another batch where these differ.
 fn reading_of(alloc: Global, bytes: &[u8]) -> Result<Reading, AllocError> {
     let given = Bytes::copy_from_slice(alloc, bytes)?;
-    Ok(reading_of_buffer(alloc, given, bytes))
+    let packed = packed_reading(alloc, given.clone()?, bytes)?;
+    let reading = reading_of_buffer(alloc, given, bytes);
+    Ok(if reading == packed {
+        reading
+    } else {
+        Reading::Other
+    })
 }
 
 /// The number that stands in bytes 8 to 11, read as 32 bits with a sign.

@@ -23,6 +23,17 @@ fn put(alloc: Global, out: &mut Vec<u8>, batch: &Batch) -> Result<(), AllocError
     out.extend_from_slice(&bytes)
 }
 
+/// The next batch; of an odd number of bytes it is read packed.
+fn next(alloc: Global, feed: &mut Feed) -> Result<Option<Batch>, BatchFault> {
+    if feed.len() % 2 == 0 {
+        return feed.next();
+    }
+    match feed.next_packed()? {
+        Some(packed) => Ok(Some(packed.to_batch(alloc)?)),
+        None => Ok(None),
+    }
+}
+
 /// Writes the batches that are there now, and returns why there is no further one.
 fn drain(
     alloc: Global,
@@ -30,7 +41,7 @@ fn drain(
     out: &mut Vec<u8>,
 ) -> Result<Option<BatchFault>, AllocError> {
     for _ in 0..1_000 {
-        match feed.next() {
+        match next(alloc, feed) {
             Ok(Some(batch)) => put(alloc, out, &batch)?,
             Ok(None) => return Ok(None),
             Err(fault) => return Ok(Some(fault)),

@@ -11,6 +11,8 @@ mod damage;
 #[cfg(test)]
 mod feeds;
 #[cfg(test)]
+mod packed;
+#[cfg(test)]
 mod records;
 #[cfg(test)]
 mod refused;
