@@ -65,6 +65,7 @@ fn append<Id: Names, C, R: Wait>(
     input: usize,
     logged: &LoggedBatch,
 ) -> bool {
+    let _fits = logged.len();
     match logged.to_batch(alloc) {
         Ok(batch) => broker.append(rt, alloc, input, batch).is_ok(),
         Err(_) => false,

@@ -150,6 +150,7 @@ fn event_of(alloc: Global, input: usize, item: &Item) -> Option<Event>
     match item {
         Item::End => Some(Event::Close(input)),
         Item::Batch(logged) => {
+            let _fits = logged.len();
             let batch = logged.to_batch(alloc).ok()?;
             Some(Event::Batch(input, batch))
         }
