@@ -6,24 +6,24 @@ use Rattle.wire_spec.specs.declared.{fault.BatchFault.BatchFault, record.Record.
 use Rattle.wire_spec.specs.declared.fault.BatchFault.TheVariants.{Timestamp}
 use Rattle.wire_spec.specs.BatchReading.{is_mistimed, timed_at}
 use Rattle.kafka_record.specs.declared.spans.Span.{Span}
-use Rattle.kafka_record.specs.Spans.{spanned, IsSpanWithin}
+use Rattle.kafka_record.specs.Spans.{spanned, IsSpanOf}
 use Rattle.batch.specs.declared.packed.Head.{Head}
-use Rattle.batch.specs.Packed.{all_spanned, headed, AreSpansWithin, IsHeadOf}
+use Rattle.batch.specs.Packed.{all_spanned, headed, AreSpansOf, IsHeadOf}
 use Rattle.batch.proofs.Made.{timed_ok}
 
 abbrev answer : Result Batch BatchFault → Result Batch BatchFault
 answer given = given
 
-pub within_at : (count : ℕ) (spans : List Span) (k : ℕ) (span : Span) → AreSpansWithin count spans → k < length spans →
-    span ≡ get_or spans k span → IsSpanWithin count span
-within_at count [] k span all lt is = absurd (omega arith)
-within_at count (first ∷ spans) zero span all lt is = subst (IsSpanWithin count) (sym is) all.0
-within_at count (first ∷ spans) (suc k) span all lt is = within_at count spans k span all.1 (omega arith) is
+pub within_at : (bytes : List ℕ) (spans : List Span) (k : ℕ) (span : Span) → AreSpansOf bytes spans → k < length spans →
+    span ≡ get_or spans k span → IsSpanOf bytes span
+within_at bytes [] k span all lt is = absurd (omega arith)
+within_at bytes (first ∷ spans) zero span all lt is = subst (IsSpanOf bytes) (sym is) all.0
+within_at bytes (first ∷ spans) (suc k) span all lt is = within_at bytes spans k span all.1 (omega arith) is
 
-pub one_within : (count : ℕ) (spans : List Span) (span : Span) → AreSpansWithin count spans → IsSpanWithin count span →
-    AreSpansWithin count (spans ++ span ∷ [])
-one_within count [] span all within = (within, tt)
-one_within count (first ∷ spans) span all within = (all.0, one_within count spans span all.1 within)
+pub one_within : (bytes : List ℕ) (spans : List Span) (span : Span) → AreSpansOf bytes spans → IsSpanOf bytes span →
+    AreSpansOf bytes (spans ++ span ∷ [])
+one_within bytes [] span all within = (within, tt)
+one_within bytes (first ∷ spans) span all within = (all.0, one_within bytes spans span all.1 within)
 
 -- the record of a span in its list
 pub spanned_at : (bytes : List ℕ) (spans : List Span) (k : ℕ) (span : Span) → k < length spans →

@@ -2,7 +2,7 @@
 use Rattle.std.specs.Prelude.{◌≡◌, ℕ, List, [], ◌∷◌, map, ⊤}
 use Rattle.wire_spec.specs.declared.{record.Record.Record, record.Batch.Batch}
 use Rattle.kafka_record.specs.declared.spans.Span.{Span}
-use Rattle.kafka_record.specs.Spans.{spanned, IsSpanWithin}
+use Rattle.kafka_record.specs.Spans.{spanned, IsSpanOf}
 use Rattle.wire_spec.specs.BatchReading.{base_offset, leader_epoch, base_timestamp, producer_id, producer_epoch}
 use Rattle.wire_spec.specs.BatchReading.{base_sequence}
 use Rattle.batch.specs.declared.packed.Head.{Head}
@@ -11,10 +11,10 @@ use Rattle.batch.specs.declared.packed.Head.{Head}
 abbrev pub all_spanned : List ℕ → List Span → List Record
 all_spanned bytes spans = map (spanned bytes) spans
 
--- each has its key and its value in a buffer of that many bytes
-abbrev pub AreSpansWithin : ℕ → List Span → Type 0
-AreSpansWithin count [] = ⊤
-AreSpansWithin count (span ∷ spans) = IsSpanWithin count span × AreSpansWithin count spans
+-- each has its parts in these bytes
+abbrev pub AreSpansOf : List ℕ → List Span → Type 0
+AreSpansOf bytes [] = ⊤
+AreSpansOf bytes (span ∷ spans) = IsSpanOf bytes span × AreSpansOf bytes spans
 
 -- the batch of a header and of records
 abbrev pub headed : Head → List Record → Batch

@@ -8,8 +8,8 @@ ghost use Rattle.wire_spec.specs.RecordReading.{record_at};
 ghost use Rattle.wire_spec.specs.BatchReading.{is_mistimed, record_or, records_at, timed_at, whole_at, batch_at};
 ghost use Rattle.wire_spec.specs.Memory.{AnswersAs};
 ghost use Rattle.wire_spec.specs.declared.limits.TheConstants.{MAX_RECORDS};
-ghost use Rattle.kafka_record.specs.Spans.{spanned, IsSpanWithin};
-ghost use Rattle.batch.specs.Packed.{all_spanned, AreSpansWithin, IsHeadOf};
+ghost use Rattle.kafka_record.specs.Spans.{spanned, IsSpanOf};
+ghost use Rattle.batch.specs.Packed.{all_spanned, AreSpansOf, IsHeadOf};
 
 use crate::fields::{i16_at, i32_at, i64_at};
 use crate::limits::HEADER;
@@ -32,7 +32,7 @@ struct Head {
     base_sequence: i32,
 }
 
-/// A record batch whose records stay in the bytes that they were read from: a record takes 56 bytes, and
+/// A record batch whose records stay in the bytes that they were read from: a record takes 64 bytes, and
 /// no count of owners. A clause sees the batch.
 #[derive(Drop)]
 pub struct PackedBatch {
@@ -44,13 +44,13 @@ pub struct PackedBatch {
 impl Model for PackedBatch {
     ghost use Rattle.std.specs.Prelude.{length};
     ghost use Rattle.wire_spec.specs.declared.record.Batch.{Batch};
-    ghost use Rattle.batch.specs.Packed.{all_spanned, headed, AreSpansWithin};
+    ghost use Rattle.batch.specs.Packed.{all_spanned, headed, AreSpansOf};
 
     ghost Value = { Batch };
 
     ghost view = { λ b. headed b.head (all_spanned b.bytes b.spans.items) };
 
-    ghost invariant = { λ b. AreSpansWithin (length b.bytes) b.spans.items };
+    ghost invariant = { λ b. AreSpansOf b.bytes b.spans.items };
 }
 
 impl PackedBatch {
@@ -96,7 +96,7 @@ impl PackedBatch {
 
 /// The records of spans of the bytes.
 fn records_of_spans(alloc: Global, bytes: &Bytes, spans: &[Span]) -> Result<Records, AllocError>
-    requires { AreSpansWithin (length bytes.now) spans.now }
+    requires { AreSpansOf bytes.now spans.now }
     ensures { IfOk result (λ made. made ≡ all_spanned bytes.now spans.now) }
 {
     let mut list = Vec::with_capacity(alloc, spans.len())?;
@@ -121,7 +121,7 @@ fn span_of(
     requires size { length bytes.now < 2 ^ 32 }
     requires small { place < 2 ^ 31 }
     ensures gives { AnswersAs Memory (λ x. (spanned bytes.now x.0, drop (at + x.1) bytes.now)) result (record_or place (record_at (pos place) (drop at bytes.now))) }
-    ensures within { IfOk result (λ x. (at + x.1 ≤ length bytes.now) × IsSpanWithin (length bytes.now) x.0) }
+    ensures within { IfOk result (λ x. (at + x.1 ≤ length bytes.now) × IsSpanOf bytes.now x.0) }
 {
     match read_span(alloc, bytes, slice, at, place as i32) {
         Ok(found) => Ok(found),
@@ -137,7 +137,7 @@ fn spans_of(alloc: Global, bytes: &Bytes, slice: &[u8], count: u32) -> Result<Ve
     requires size { length bytes.now < 2 ^ 32 }
     requires few { count ≤ MAX_RECORDS }
     ensures gives { AnswersAs Memory (λ spans. all_spanned bytes.now spans.items) result (records_at count 0 (drop 61 bytes.now)) }
-    ensures within { IfOk result (λ spans. AreSpansWithin (length bytes.now) spans.items) }
+    ensures within { IfOk result (λ spans. AreSpansOf bytes.now spans.items) }
 {
     let mut list = Vec::with_capacity(alloc, room_for(count, bytes.len()))?;
     let end = bytes.len();
@@ -184,7 +184,7 @@ fn head_of(bytes: &[u8]) -> Head
 /// The batch of the header and these records of these bytes.
 fn timed_of(bytes: Bytes, spans: Vec<Span>) -> Result<PackedBatch, BatchFault>
     requires header { 61 ≤ length bytes }
-    requires within { AreSpansWithin (length bytes) spans.items }
+    requires within { AreSpansOf bytes spans.items }
     ensures { result ≡ timed_at bytes (all_spanned bytes spans.items) }
 {
     let slice = bytes.as_slice();

@@ -168,9 +168,7 @@ impl BookRow {
     {
         match &self.parts {
             Parts::Given { logged, index } => {
-                let given = logged.record(*index);
-                self.numbers
-                    .with_parts(given.key(), given.value(), given.headers())
+                self.numbers.with_record(&logged.record(*index))
             }
             Parts::Made { made, index } => {
                 let emission = &made.list[*index];

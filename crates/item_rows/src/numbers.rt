@@ -5,10 +5,10 @@ ghost use Rattle.machine_spec.specs.declared.limits.TheConstants.{MAX_EMISSIONS}
 ghost use Rattle.machine_spec.specs.declared.outcome.Emission.{Emission};
 ghost use Rattle.machine_spec.specs.Meaning.{IsPlace};
 ghost use Rattle.log_spec.specs.Logs.{row_of};
-ghost use Rattle.item_rows.specs.RowParts.{row_by};
+ghost use Rattle.item_rows.specs.RowParts.{row_by, whole};
 
 use bytes::Bytes;
-use kafka_record::NullableBytes;
+use kafka_record::{NullableBytes, RecordRef};
 use log_spec::{Row, RowRef};
 use machine_spec::Place;
 use wire_spec::Headers;
@@ -37,6 +37,23 @@ impl RowNumbers {
         }
     }
 
+    /// The row of these numbers with the parts of a record.
+    #[inline(always)]
+    pub(crate) fn with_record<'r>(&self, given: &RecordRef<'r>) -> RowRef<'r>
+        ensures { result ≡ row_by self.now (whole given.now) }
+    {
+        RowRef {
+            input: self.input,
+            number: self.number,
+            offset: self.offset,
+            timestamp: self.timestamp,
+            key: given.key().as_slice(),
+            value: given.value().as_slice(),
+            headers: given.headers(),
+            parts: given.parts(),
+        }
+    }
+
     /// The row of these numbers with these parts.
     #[inline(always)]
     pub(crate) fn with_parts<'r>(
@@ -55,6 +72,7 @@ impl RowNumbers {
             key: key.as_slice(),
             value: value.as_slice(),
             headers,
+            parts: None,
         }
     }
 

@@ -62,9 +62,7 @@ fn made_row<'r>(made: &'r [Emission], slot: &Slot, number: usize) -> RowRef<'r>
 fn given_row<'r>(slot: &'r Slot) -> RowRef<'r>
     ensures { result ≡ row_with slot.now (whole slot.now.given) }
 {
-    let given = slot.given.record();
-    slot.numbers
-        .with_parts(given.key(), given.value(), given.headers())
+    slot.numbers.with_record(&slot.given.record())
 }
 
 /// The row of a slot.

@@ -1,4 +1,5 @@
 pub mod Answered
 pub mod Loop
+pub mod Spelled
 pub mod Within
 pub mod Written

@@ -6,7 +6,7 @@ use Rattle.std.proofs.lemmas.List.{take_at, take-take, take_all, length-take, le
 use Rattle.wire_spec.specs.declared.{record.Header.Header, record.Record.Record}
 use Rattle.wire_spec.specs.Varint.{varint, varlong}
 use Rattle.wire_spec.specs.RecordSpelling.{nullable, header, record_body}
-use Rattle.kafka_record.specs.Keeps.{Keeps}
+use Rattle.kafka_record.specs.{Keeps.Keeps, Parts.spelling_with}
 
 pub Keeps-same : (old new : List ℕ) → new ≡ old → Keeps old new
 Keeps-same old new e = record { front = ap (take (length old)) e ∙ take_all (length old) old (omega arith) }
@@ -32,6 +32,21 @@ body_is delta delta' t r hs old a b c new same_delta same_t same_hs e1 e2 e3 e4 
     let row : new ≡ (((old ++ 0 ∷ (varlong t ++ varint delta')) ++ nullable r.key) ++ nullable r.value)
     ++ (varint (pos (length hs)) ++ flat_map header hs) = cc in
     row ∙ rw (same_delta, same_t, same_hs) (simp append_assoc)
+
+-- the same, of parts that are spelled
+pub spelled_is : (time time' delta delta' : ℤ) (t d : ℕ) (old a b new parts : List ℕ) → time' ≡ time → delta' ≡ delta →
+    t ≡ length (varlong time') → d ≡ length (varint delta') → a ≡ old ++ varint (pos (1 + t + d + length parts)) →
+    b ≡ a ++ 0 ∷ (varlong time' ++ varint delta') → new ≡ b ++ parts → new ≡ old ++ spelling_with time parts delta
+spelled_is time time' delta delta' t d old a b new parts same_time same_delta t_is d_is e1 e2 e3 =
+    let long : 1 + t + d + length parts ≡ length (0 ∷ (varlong time' ++ (varint delta' ++ parts))) =
+    omega (
+      arith,
+      length-append (varint delta') parts,
+      length-append (varlong time') (varint delta' ++ parts),
+    ) in
+    let row : new ≡ ((old ++ varint (pos (1 + t + d + length parts))) ++ 0 ∷ (varlong time' ++ varint delta')) ++ parts =
+    cc in
+    row ∙ rw (long, same_time, same_delta) (simp append_assoc)
 
 -- the sum of their lengths
 pub length_is : (delta : ℤ) (r : Record) (t d k v n h : ℕ) → t ≡ length (varlong r.timestamp_delta) →

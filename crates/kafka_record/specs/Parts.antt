@@ -1,5 +1,7 @@
 -- Records by their parts.
-use Rattle.std.specs.Prelude.{ℕ, ℤ, List, Option}
+use Rattle.std.specs.Prelude.{ℕ, ℤ, List, ◌∷◌, ◌++◌, Option}
+use Rattle.wire_spec.specs.Varint.{varint, varlong}
+use Rattle.wire_spec.specs.RecordSpelling.{string}
 use Rattle.wire_spec.specs.declared.{record.Header.Header, record.Record.Record}
 
 -- the record with these parts
@@ -10,3 +12,7 @@ record_with timestamp_delta key value headers = record {
   value = value;
   headers = headers;
 }
+
+-- the bytes of a record with these parts, as they are spelled
+abbrev pub spelling_with : ℤ → List ℕ → ℤ → List ℕ
+spelling_with timestamp_delta parts delta = string (0 ∷ (varlong timestamp_delta ++ (varint delta ++ parts)))

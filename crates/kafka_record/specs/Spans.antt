@@ -1,6 +1,7 @@
 -- Records whose keys and values are places in a buffer.
-use Rattle.std.specs.Prelude.{ℕ, ◌≤◌, List, length, slice_range, Option, Some, None, option_map, ⊤}
+use Rattle.std.specs.Prelude.{◌≡◌, ℕ, ◌≤◌, List, length, slice_range, Option, Some, None, option_map, ⊤}
 use Rattle.wire_spec.specs.declared.record.Record.{Record}
+use Rattle.wire_spec.specs.RecordSpelling.{record_parts}
 use Rattle.kafka_record.specs.declared.{spans.Extent.Extent, spans.Span.Span, by_ref.Source.Source}
 use Rattle.kafka_record.specs.declared.by_ref.Source.TheVariants as source
 
@@ -27,10 +28,13 @@ spanned bytes span = record {
   headers = span.headers;
 }
 
--- its key and its value are in a buffer of that many bytes
-pub record IsSpanWithin (count : ℕ) (span : Span) : Type 0 where
-  pub key : IsPartWithin count span.key
-  pub value : IsPartWithin count span.value
+-- its key and its value are in these bytes, and so are its parts as a record spells them
+pub record IsSpanOf (bytes : List ℕ) (span : Span) : Type 0 where
+  pub key : IsPartWithin (length bytes) span.key
+  pub value : IsPartWithin (length bytes) span.value
+  pub parts : IsExtentWithin (length bytes) span.parts
+  pub spelled : extent_bytes bytes span.parts
+      ≡ record_parts (option_map (extent_bytes bytes) span.key) (option_map (extent_bytes bytes) span.value) span.headers
 
 -- the record that is somewhere
 abbrev pub record_in : Source → Record
@@ -40,4 +44,4 @@ record_in (source.Packed bytes span) = spanned bytes.now span.now
 -- its parts are there
 abbrev pub IsThere : Source → Type 0
 IsThere (source.Whole given) = ⊤
-IsThere (source.Packed bytes span) = IsSpanWithin (length bytes.now) span.now
+IsThere (source.Packed bytes span) = IsSpanOf bytes.now span.now

@@ -1,7 +1,8 @@
 //! Records whose parts stay where they are.
 
-ghost use Rattle.std.specs.Prelude.{◌≡◌, ◌≤◌, length, slice_range, unwrap_or, [], IfOk, option_map};
-ghost use Rattle.kafka_record.specs.Spans.{extent_bytes, IsPartWithin, spanned, IsSpanWithin};
+ghost use Rattle.std.specs.Prelude.{◌≡◌, ◌≤◌, length, slice_range, unwrap_or, [], IfOk, IfSome, option_map};
+ghost use Rattle.wire_spec.specs.RecordSpelling.{record_parts};
+ghost use Rattle.kafka_record.specs.Spans.{extent_bytes, IsPartWithin, spanned, IsSpanOf};
 
 use crate::nullable::NullableBytes;
 use crate::sharing::{share_bytes, share_headers};
@@ -51,7 +52,7 @@ impl<'a> RecordRef<'a> {
     /// The record of a span of a buffer.
     #[inline(always)]
     pub fn packed(bytes: &'a Bytes, span: &'a Span) -> RecordRef<'a>
-        requires { IsSpanWithin (length bytes.now) span.now }
+        requires { IsSpanOf bytes.now span.now }
         ensures { result ≡ spanned bytes.now span.now }
     {
         RecordRef {
@@ -111,6 +112,17 @@ impl<'a> RecordRef<'a> {
         match self.source {
             Source::Whole(given) => &given.headers,
             Source::Packed { span, .. } => &span.headers,
+        }
+    }
+
+    /// Key, value and headers as a record spells them after its offset delta, where they are in one piece.
+    #[inline(always)]
+    pub fn parts(&self) -> Option<&'a [u8]>
+        ensures { IfSome result (λ parts. parts.now ≡ record_parts self.now.key self.now.value self.now.headers) }
+    {
+        match self.source {
+            Source::Whole(_) => None,
+            Source::Packed { bytes, span } => Some(extent_of(bytes, span.parts)),
         }
     }
 

@@ -23,4 +23,4 @@ pub use sizes::{size, size_of_parts};
 pub use span_reading::read_span;
 pub use spans::{Extent, Span};
 pub use wire_spec::{Header, Headers, Record};
-pub use writing::{write, write_parts};
+pub use writing::{write, write_parts, write_spelled};

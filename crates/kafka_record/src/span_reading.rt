@@ -4,7 +4,7 @@ ghost use Rattle.std.specs.Prelude.{◌≡◌, ◌+◌, ◌<◌, ◌≤◌, ◌^
 ghost use Rattle.wire_spec.specs.RecordReading.{bytes_at, nullable_bytes_at, nullable_at, body_at, record_at};
 ghost use Rattle.wire_spec.specs.Memory.{AnswersAs};
 ghost use Rattle.kafka_record.specs.declared.fault.RecordFault.TheVariants.{Bad, Memory};
-ghost use Rattle.kafka_record.specs.Spans.{extent_bytes, IsExtentWithin, IsPartWithin, spanned, IsSpanWithin};
+ghost use Rattle.kafka_record.specs.Spans.{extent_bytes, IsExtentWithin, IsPartWithin, spanned, IsSpanOf};
 
 use crate::RecordFault;
 use crate::reading::{
@@ -89,22 +89,27 @@ fn span_body_from(
     requires at { at ≤ length bytes.now }
     requires small { length bytes.now < 2 ^ 32 }
     ensures gives { AnswersAs Memory (λ x. (spanned bytes.now x.0, drop x.1 bytes.now)) result (ok_or (body_at delta (drop at bytes.now)) Bad) }
-    ensures within { IfOk result (λ x. (at ≤ x.1) × (x.1 ≤ length bytes.now) × IsSpanWithin (length bytes.now) x.0) }
+    ensures within { IfOk result (λ x. (at ≤ x.1) × (x.1 ≤ length bytes.now) × IsSpanOf bytes.now x.0) }
 {
     let at = attributes_from(slice, at)?;
     let (timestamp_delta, at) = varlong_from(slice, at)?;
-    let at = delta_from(slice, at, delta)?;
-    let (key, at) = part_from(slice, at, MAX_KEY)?;
+    let start = delta_from(slice, at, delta)?;
+    let (key, at) = part_from(slice, start, MAX_KEY)?;
     let (value, at) = part_from(slice, at, MAX_VALUE)?;
     let (count, at) = varint_from(slice, at)?;
-    let (headers, at) = counted_from(alloc, bytes, at, count)?;
+    let (headers, end) = counted_from(alloc, bytes, at, count)?;
+    let parts = Extent {
+        start: start as u32,
+        end: end as u32,
+    };
     let span = Span {
         timestamp_delta,
         key,
         value,
         headers,
+        parts,
     };
-    Ok((span, at))
+    Ok((span, end))
 }
 
 /// The record with this offset delta that begins at a place in the bytes, as a span of them, and how many
@@ -123,7 +128,7 @@ pub fn read_span(
     requires small { length bytes.now < 2 ^ 32 }
     // Whether there is one, and which.
     ensures exact { AnswersAs Memory (λ x. (spanned bytes.now x.0, drop (at + x.1) bytes.now)) result (ok_or (record_at delta (drop at bytes.now)) Bad) }
-    ensures within { IfOk result (λ x. (at + x.1 ≤ length bytes.now) × IsSpanWithin (length bytes.now) x.0) }
+    ensures within { IfOk result (λ x. (at + x.1 ≤ length bytes.now) × IsSpanOf bytes.now x.0) }
 {
     let (len, start) = varint_from(slice, at)?;
     let (span, end) = span_body_from(alloc, bytes, slice, start, delta)?;

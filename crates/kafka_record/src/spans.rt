@@ -21,6 +21,8 @@ pub struct Span {
     pub key: Option<Extent>,
     pub value: Option<Extent>,
     pub headers: Headers,
+    /// Where key, value and headers are, as the record spells them after its offset delta.
+    pub parts: Extent,
 }
 
 /// The bytes of an extent.

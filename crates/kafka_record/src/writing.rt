@@ -1,16 +1,17 @@
-ghost use Rattle.std.specs.Prelude.{◌≡◌, ◌+◌, ◌^◌, ◌<◌, ℤ, pos, ◌∷◌, [], ◌++◌, length, All, IfSome, OnOk, OnErr};
+ghost use Rattle.std.specs.Prelude.{◌≡◌, ◌+◌, ◌^◌, ◌<◌, ◌≤◌, ℤ, pos, ◌∷◌, [], ◌++◌, length, All, IfSome, OnOk, OnErr};
 ghost use Rattle.std.specs.List.{flat_map};
 ghost use Rattle.wire_spec.specs.Varint.{varint, varlong};
 ghost use Rattle.wire_spec.specs.RecordSpelling.{HeaderFits, RecordFits, string, nullable, header, record_body, record_spelling};
 ghost use Rattle.kafka_record.specs.Keeps.{Keeps};
-ghost use Rattle.kafka_record.specs.Parts.{record_with};
+ghost use Rattle.wire_spec.specs.declared.limits.TheConstants.{MAX_BODY_SIZE};
+ghost use Rattle.kafka_record.specs.Parts.{record_with, spelling_with};
 
 use crate::limits::slice_of;
 use crate::nullable::NullableBytes;
 use crate::sizes::body_len;
 use std::alloc::AllocError;
-use varint::{write32, write64};
-use wire_spec::{Header, Headers, Record};
+use varint::{len32, len64, write32, write64};
+use wire_spec::{Header, Headers, MAX_BODY_SIZE, Record};
 
 /// Writes a length, of less than 2^31.
 #[inline(always)]
@@ -22,6 +23,15 @@ fn put_len(len: usize, out: &mut Vec<u8>) -> Result<(), AllocError>
     write32(len as i32, out)
 }
 
+/// Writes bytes as they are.
+#[inline(always)]
+fn put_bytes(bytes: &[u8], out: &mut Vec<u8>) -> Result<(), AllocError>
+    ensures ok { OnOk result (out.new.items ≡ out.old.items ++ bytes.now) }
+    ensures kept { Keeps out.old.items out.new.items }
+{
+    out.extend_from_slice(bytes)
+}
+
 /// Writes a length and that many bytes.
 #[inline(always)]
 fn put_string(bytes: &[u8], out: &mut Vec<u8>) -> Result<(), AllocError>
@@ -30,7 +40,7 @@ fn put_string(bytes: &[u8], out: &mut Vec<u8>) -> Result<(), AllocError>
     ensures kept { Keeps out.old.items out.new.items }
 {
     put_len(bytes.len(), out)?;
-    out.extend_from_slice(bytes)
+    put_bytes(bytes, out)
 }
 
 /// Writes a length and that many bytes, or the length -1 for null.
@@ -78,6 +88,7 @@ fn put_counted(headers: &[Header], out: &mut Vec<u8>) -> Result<(), AllocError>
 }
 
 /// Writes the attributes, a record's timestamp delta and its offset delta.
+#[inline(always)]
 fn put_deltas(timestamp_delta: i64, delta: i32, out: &mut Vec<u8>) -> Result<(), AllocError>
     ensures ok { OnOk result (out.new.items ≡ out.old.items ++ 0 ∷ (varlong timestamp_delta ++ varint delta)) }
     ensures kept { Keeps out.old.items out.new.items }
@@ -138,6 +149,47 @@ pub fn write_parts(
 {
     let start = out.len();
     match put_record(timestamp_delta, key, value, headers, delta, out) {
+        Ok(()) => Ok(()),
+        Err(error) => {
+            out.truncate(start);
+            Err(error)
+        }
+    }
+}
+
+/// Writes a record after its length, which is of less than 2^31 bytes.
+#[inline(always)]
+fn put_spelled(
+    timestamp_delta: i64,
+    parts: &[u8],
+    delta: i32,
+    out: &mut Vec<u8>,
+) -> Result<(), AllocError>
+    requires { length parts.now ≤ MAX_BODY_SIZE }
+    ensures ok { OnOk result (out.new.items ≡ out.old.items ++ spelling_with timestamp_delta parts.now delta) }
+    ensures kept { Keeps out.old.items out.new.items }
+{
+    let len = 1 + len64(timestamp_delta) + len32(delta) + parts.len();
+    put_len(len, out)?;
+    put_deltas(timestamp_delta, delta, out)?;
+    put_bytes(parts, out)
+}
+
+/// Writes the record with this timestamp delta and offset delta at the end, whose key, value and headers
+/// are spelled so. It does what `write_parts` does with them.
+#[inline(always)]
+pub fn write_spelled(
+    timestamp_delta: i64,
+    parts: &[u8],
+    delta: i32,
+    out: &mut Vec<u8>,
+) -> Result<(), AllocError>
+    requires { length parts.now ≤ MAX_BODY_SIZE }
+    ensures ok { OnOk result (out.new.items ≡ out.old.items ++ spelling_with timestamp_delta parts.now delta) }
+    ensures err { OnErr result (out.new.items ≡ out.old.items) }
+{
+    let start = out.len();
+    match put_spelled(timestamp_delta, parts, delta, out) {
         Ok(()) => Ok(()),
         Err(error) => {
             out.truncate(start);

@@ -11,11 +11,11 @@ use Rattle.std.proofs.lemmas.List.{length-append, length-map, length-take-le, ta
 use Rattle.std.proofs.lemmas.List.Elements.{All-take}
 use Rattle.std.proofs.lemmas.List.Sums.{fold-append}
 use Rattle.wire_spec.specs.declared.{limits.TheConstants.TIMESTAMP_END, record.Record.Record, record.Batch.Batch}
-use Rattle.wire_spec.specs.Varint.{varint}
-use Rattle.wire_spec.specs.RecordSpelling.{RecordFits, record_body, record_spelling}
+use Rattle.wire_spec.specs.Varint.{varint, varlong}
+use Rattle.wire_spec.specs.RecordSpelling.{RecordFits, record_parts, record_body, record_spelling}
 use Rattle.wire_spec.specs.Checksum.{checksum}
 use Rattle.wire_spec.specs.BatchSpelling.{IsTimestamp, timestamps, greatest, records_spelling}
-use Rattle.wire_spec.specs.declared.limits.TheConstants.{MAX_BATCH, MAX_RECORDS, MAX_RECORD_SIZE}
+use Rattle.wire_spec.specs.declared.limits.TheConstants.{MAX_BATCH, MAX_RECORDS, MAX_RECORD_SIZE, MAX_BODY_SIZE}
 use Rattle.wire_spec.specs.BatchSpelling.{batch_spelling, BatchFits}
 use Rattle.wire_spec.proofs.Varints.{length-varint}
 use Rattle.wire_spec.proofs.RecordLaws.{length-record_body}
@@ -405,4 +405,19 @@ most_taken rows place max most count bytes wanted few there greatest first =
       },
       fits,
       first.bytes_are ∙ ap (λ (rs : List Row). batch_spelling (batch_of place rs)) same,
+    )
+
+-- ---- The parts of a row as they are spelled
+
+pub few_parts : (row : Row) (parts : List ℕ) → RowFits row → parts ≡ record_parts row.key row.value row.headers →
+    length parts ≤ MAX_BODY_SIZE
+few_parts row parts fits is =
+    let r : Record = record { timestamp_delta = pos 0; key = row.key; value = row.value; headers = row.headers } in
+    let whole : List ℕ = record_parts row.key row.value row.headers in
+    omega (
+      arith,
+      ap length is,
+      length-record_body (pos 0) r fits.limits,
+      length-append (varint (pos 0)) whole,
+      length-append (varlong (pos 0)) (varint (pos 0) ++ whole),
     )

@@ -71,6 +71,7 @@ impl OpenBatch {
 
     /// Adds a row at the end, where the batch has room for it, and returns whether it has. The first always
     /// has. It fails only where memory runs out; then nothing changes.
+    #[inline(always)]
     pub fn push(&mut self, row: &RowRef) -> Result<bool, AllocError>
         requires { RowFits row.now }
         ensures ok { IfOk result (λ added. AddsIfRoom added self.old row.now self.new) }

@@ -8,7 +8,7 @@ ghost use Rattle.row_batch.specs.FirstRows.{PutsIfRoom, HasPut};
 
 use crate::list::RowList;
 use batch::{HEADER, MAX_BATCH, MAX_RECORDS};
-use kafka_record::{NullableBytes, size_of_parts, write_parts};
+use kafka_record::{NullableBytes, size_of_parts, write_parts, write_spelled};
 use log_spec::RowRef;
 use std::alloc::AllocError;
 use wire_spec::TIMESTAMP_END;
@@ -40,6 +40,7 @@ fn delta(base: u64, timestamp: u64) -> i64
 
 /// Writes a row at the end, as the record with this place in a batch with this base timestamp. An `Err`
 /// changes nothing.
+#[inline(always)]
 fn put_row(base: u64, row: &RowRef, place: usize, out: &mut Vec<u8>) -> Result<(), AllocError>
     requires base { base < TIMESTAMP_END }
     requires place { place < MAX_RECORDS }
@@ -48,12 +49,16 @@ fn put_row(base: u64, row: &RowRef, place: usize, out: &mut Vec<u8>) -> Result<(
     ensures err { OnErr result (out.new.items ≡ out.old.items) }
 {
     let delta = delta(base, row.timestamp);
+    if let Some(parts) = row.parts {
+        return write_spelled(delta, parts, place as i32, out);
+    }
     let key = NullableBytes::new(row.key);
     let value = NullableBytes::new(row.value);
     write_parts(delta, &key, &value, row.headers, place as i32, out)
 }
 
 /// How many bytes a row takes as the record with this place in a batch with this base timestamp.
+#[inline(never)]
 fn row_size(base: u64, row: &RowRef, place: usize) -> usize
     requires base { base < TIMESTAMP_END }
     requires place { place < MAX_RECORDS }
@@ -68,6 +73,7 @@ fn row_size(base: u64, row: &RowRef, place: usize) -> usize
 
 /// Whether a batch of this size may have no room for a row. Where it returns false, the headers may still
 /// be too much for it.
+#[inline(always)]
 fn may_be_full(size: usize, row: &RowRef) -> bool {
     size.saturating_add(likely_parts(row)) > NEARLY_FULL
 }
@@ -75,6 +81,7 @@ fn may_be_full(size: usize, row: &RowRef) -> bool {
 /// Writes a row as `put_row` does, if a batch has room for it then, and returns whether it has. An `Err`
 /// changes nothing.
 #[tactic(auto, using(crate::proofs::RoomLaws::cut_back, crate::proofs::RoomLaws::no_room))]
+#[inline(always)]
 pub fn put_if_room(
     base: u64,
     row: &RowRef,
@@ -137,6 +144,7 @@ pub fn put_most<L: RowList>(
 }
 
 /// About how many bytes a row takes in a batch without its headers.
+#[inline(always)]
 fn likely_parts(row: &RowRef) -> usize {
     let key = row.key.map_or(0, |key| key.len());
     let value = row.value.map_or(0, |value| value.len());

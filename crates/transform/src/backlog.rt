@@ -74,6 +74,7 @@ impl Backlog {
     /// Adds a row at the end, where one batch has room for it and those that wait, and returns whether
     /// it has; it always has where none waits. It fails only where memory runs out; then nothing
     /// changes.
+    #[inline(always)]
     pub fn push(&mut self, row: &RowRef) -> Result<bool, AllocError>
         requires fits { RowFits row.now }
         requires room { self.old.place + length self.old.rows < 2 ^ 63 }

@@ -136,6 +136,7 @@ fn put_rows<W: Write>(
 
 // Adds a row, after the batch of those that wait was written where it has no room for it. Rows may come
 // after it.
+#[inline(always)]
 fn put_row<W: Write>(row: &RowRef, backlog: &mut Backlog, writer: &mut W) -> Result<(), OutletFault>
     requires fits { RowFits row.now }
     requires room { backlog.old.place + length backlog.old.rows < 2 ^ 63 }

@@ -94,6 +94,7 @@ pub fn write32(value: i32, out: &mut Vec<u8>) -> Result<(), AllocError>
 /// Writes the varlong of a number at the end, in 1 to 10 bytes. It fails only where memory runs
 /// out; an `Err` leaves the bytes as they were.
 #[tactic(auto, unfolding(wire_spec::specs::Varint::varlong))]
+#[inline(always)]
 pub fn write64(value: i64, out: &mut Vec<u8>) -> Result<(), AllocError>
     ensures ok { OnOk result (out.new.items ≡ out.old.items ++ varlong value) }
     ensures err { OnErr result (out.new.items ≡ out.old.items) }
@@ -103,6 +104,7 @@ pub fn write64(value: i64, out: &mut Vec<u8>) -> Result<(), AllocError>
 
 /// How many bytes the varint of a number has, 1 to 5.
 #[tactic(auto, unfolding(wire_spec::specs::Varint::varint))]
+#[inline(always)]
 pub fn len32(value: i32) -> usize
     ensures size { result ≡ length (varint value) }
     ensures small { result ≤ 5 }
@@ -112,6 +114,7 @@ pub fn len32(value: i32) -> usize
 
 /// How many bytes the varlong of a number has, 1 to 10.
 #[tactic(auto, unfolding(wire_spec::specs::Varint::varlong))]
+#[inline(always)]
 pub fn len64(value: i64) -> usize
     ensures size { result ≡ length (varlong value) }
     ensures small { result ≤ 10 }

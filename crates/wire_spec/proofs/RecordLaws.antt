@@ -253,7 +253,7 @@ headers_again (h ∷ hs) rest fits =
     ap (headers_at (suc (length hs))) regrouped
     ∙ rw (header_again h (flat_map header hs ++ rest) fits.0, headers_again hs rest fits.1) refl
 
-counted_take : (z : ℤ) (bytes : List ℕ) (x : List Header × List ℕ) → IsBytes bytes → counted_at z bytes ≡ Some x →
+pub counted_take : (z : ℤ) (bytes : List ℕ) (x : List Header × List ℕ) → IsBytes bytes → counted_at z bytes ≡ Some x →
     Takes bytes (flat_map header x.0) x.1 × (z ≡ pos (length x.0)) × (length x.0 ≤ MAX_HEADERS)
     × AllByRecursion HeaderFits x.0
 counted_take (negsuc n) bytes x fits e = absurd cc

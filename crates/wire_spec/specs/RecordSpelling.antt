@@ -36,13 +36,14 @@ nullable (Some bytes) = string bytes
 abbrev pub header : Header → List ℕ
 header h = string h.key ++ nullable h.value
 
--- what follows a record's length: attributes, timestampDelta, offsetDelta, key, value, and the headers after their
--- number
+-- key, value, and the headers after their number
+abbrev pub record_parts : Option (List ℕ) → Option (List ℕ) → List Header → List ℕ
+record_parts key value headers =
+    nullable key ++ (nullable value ++ (varint (pos (length headers)) ++ flat_map header headers))
+
+-- what follows a record's length: attributes, timestampDelta, offsetDelta, and its parts
 abbrev pub record_body : ℤ → Record → List ℕ
-record_body delta r =
-    0 ∷ (varlong r.timestamp_delta
-    ++ (varint delta ++ (nullable r.key
-    ++ (nullable r.value ++ (varint (pos (length r.headers)) ++ flat_map header r.headers)))))
+record_body delta r = 0 ∷ (varlong r.timestamp_delta ++ (varint delta ++ record_parts r.key r.value r.headers))
 
 -- a record with this offset delta
 abbrev pub record_spelling : ℤ → Record → List ℕ

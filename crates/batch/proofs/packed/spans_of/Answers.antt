@@ -3,7 +3,7 @@ use Rattle.std.proofs.lemmas.List.{drop_all}
 use Rattle.std.proofs.lemmas.Result.{err_from_is_err_and}
 use Rattle.wire_spec.specs.BatchReading.{records_at}
 use Rattle.kafka_record.specs.Spans.{spanned}
-use Rattle.batch.specs.Packed.{all_spanned, AreSpansWithin}
+use Rattle.batch.specs.Packed.{all_spanned, AreSpansOf}
 use Rattle.batch.proofs.Loop.{goes_on, ends, is_done, is_over}
 use Rattle.batch.proofs.PackedLaws.{one_more, one_within}
 use Rattle.batch.proofs.packed.spans_of.Goals as goal
@@ -23,8 +23,8 @@ loop-place-preserved c =
     ap (all_spanned bytes) e ∙ one_more bytes front span in
     record {
       within = c.in_ok-span.ensures.within.0;
-      spans = subst (AreSpansWithin (length bytes)) (sym e)
-          (one_within (length bytes) front span c.loop-place.invariant.spans c.in_ok-span.ensures.within.1);
+      spans = subst (AreSpansOf bytes) (sym e)
+          (one_within bytes front span c.loop-place.invariant.spans c.in_ok-span.ensures.within.1);
       read = rw records (goes_on (all_spanned bytes front) c.args.count c.loop-place.place
           (drop c.loop-place.at bytes) (spanned bytes span) (drop (c.loop-place.at + c.in_ok-span.used) bytes)
           (records_at c.args.count 0 (drop 61 bytes)) c.loop-place-test.true c.in_ok-span.ensures.gives

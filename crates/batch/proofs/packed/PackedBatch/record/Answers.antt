@@ -15,7 +15,7 @@ few batch bytes spans head index is lt =
 
 pub packed-requires : goal.packed-requires
 packed-requires c =
-    within_at (length c.self.inside.bytes) c.self.inside.spans.items c.args.index c.index.result.now c.self.invariant
+    within_at c.self.inside.bytes c.self.inside.spans.items c.args.index c.index.result.now c.self.invariant
     (few c.args.self.now c.self.inside.bytes c.self.inside.spans.items c.self.inside.head c.args.index c.self.view_is
     c.requires) c.index.ensures
 
