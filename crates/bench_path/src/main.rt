@@ -1,17 +1,19 @@
-//! Times record batches on their whole way through a program on one core: read, run, written as batches
+//! Times record batches on their whole way through a program on one core: decoded, run, written as batches
 //! of four output partitions. The first argument is how many turns are taken, the others name files of
-//! images. Each turn reads the batches of a shape from memory, and the best turn is printed, beside one
-//! that reads the batches alone. With no argument the program does nothing.
+//! images. Each turn takes the batches of a shape, once as they are in memory and once from a reader that
+//! gives them in pieces, and the best turn is printed, beside one that decodes the batches alone. The
+//! output partitions of a program are the same in all turns. With no argument the program does nothing.
 #![tactic(auto)]
 
-ghost use Rattle.std.specs.Prelude.{◌≡◌, length, IfOk};
+ghost use Rattle.std.specs.Prelude.{◌≡◌, length, IfOk, IfSome};
+ghost use Rattle.log_spec.specs.Logs.{FitsLog};
 
 mod sink;
 mod stream;
 
 use crate::sink::Sink;
 use crate::stream::{Shape, stream_of};
-use batch::Feed;
+use batch::{PackedBatch, decode_packed};
 use batch_reader::BatchReader;
 use bytes::Bytes;
 use log_item::Program;
@@ -60,73 +62,100 @@ fn outlets(alloc: Global) -> Result<Vec<Outlet<Sink>>, AllocError>
     ensures { IfOk result (λ made. length made.items ≡ 4) }
 {
     let mut made = Vec::new(alloc);
-    made.push(Outlet::new(alloc, Sink::new()))?;
-    made.push(Outlet::new(alloc, Sink::new()))?;
-    made.push(Outlet::new(alloc, Sink::new()))?;
-    made.push(Outlet::new(alloc, Sink::new()))?;
+    made.push(Outlet::new(alloc, Sink))?;
+    made.push(Outlet::new(alloc, Sink))?;
+    made.push(Outlet::new(alloc, Sink))?;
+    made.push(Outlet::new(alloc, Sink))?;
     Ok(made)
 }
 
-/// How many bytes all output partitions have.
-fn bytes_of(outlets: Vec<Outlet<Sink>>) -> u64 {
-    let mut sum = 0u64;
-    for outlet in outlets {
-        sum = sum.wrapping_add(outlet.into_writer().bytes());
+/// The batch that the bytes begin with, which is cut off; none where no byte is left.
+#[tactic(auto, using(log_spec::proofs::FittingBatches::fits_log))]
+fn next_batch(alloc: Global, rest: &mut Bytes) -> io::Result<Option<PackedBatch>>
+    ensures { IfOk result (λ given. IfSome given FitsLog) }
+{
+    if rest.is_empty() {
+        return Ok(None);
     }
-    sum
-}
-
-/// Runs a program on a stream's batches, and returns how many bytes were written.
-fn transformed(alloc: Global, program: &Program, bytes: &[u8]) -> io::Result<u64> {
-    let mut reader = BatchReader::new(alloc, Cursor::new(bytes), MAX_PIECE)?;
-    let mut stream = Transform::new(alloc, 0, 0, outlets(alloc)?);
-    match transform_all(program, &mut reader, &mut stream) {
-        Ok(()) => Ok(bytes_of(stream.into_outlets())),
+    match decode_packed(alloc, rest.clone()?) {
+        Ok((batch, used)) => {
+            rest.advance(used);
+            Ok(Some(batch))
+        }
         Err(_) => Err(ErrorKind::InvalidData.into()),
     }
 }
 
-/// How many records the batches have that a feed holds whole.
-fn records_in(feed: &mut Feed) -> io::Result<u64> {
+/// Decodes a stream's batches, and returns how many records they have.
+fn decoded(alloc: Global, bytes: &Bytes) -> io::Result<u64> {
+    let mut rest = bytes.clone()?;
     let mut records = 0u64;
     for _ in 0..u64::MAX {
-        match feed.next_packed() {
-            Ok(Some(batch)) => records = records.wrapping_add(batch.len() as u64),
-            Ok(None) => return Ok(records),
-            Err(_) => return Err(ErrorKind::InvalidData.into()),
+        let Some(batch) = next_batch(alloc, &mut rest)? else {
+            return Ok(records);
+        };
+        records = records.wrapping_add(batch.len() as u64);
+    }
+    Ok(records)
+}
+
+/// Runs a program on a stream's batches as they are in memory.
+fn push_all(
+    alloc: Global,
+    program: &Program,
+    bytes: &Bytes,
+    stream: &mut Transform<Sink>,
+) -> io::Result<()> {
+    let mut rest = bytes.clone()?;
+    for _ in 0..u64::MAX {
+        let Some(batch) = next_batch(alloc, &mut rest)? else {
+            return Ok(());
+        };
+        if stream.push_packed(program, batch).is_err() {
+            return Err(ErrorKind::InvalidData.into());
         }
     }
-    Ok(records)
+    Ok(())
 }
 
-/// Reads a stream's batches, and returns how many records they have.
-fn read(alloc: Global, bytes: &[u8]) -> io::Result<u64> {
-    let mut feed = Feed::new(alloc);
-    let mut records = 0u64;
-    for piece in bytes.chunks(MAX_PIECE) {
-        feed.feed(piece)?;
-        records = records.wrapping_add(records_in(&mut feed)?);
+/// Runs a program on a stream's batches that a reader gives in pieces.
+fn read_all(
+    alloc: Global,
+    program: &Program,
+    bytes: &Bytes,
+    stream: &mut Transform<Sink>,
+) -> io::Result<()> {
+    let mut reader = BatchReader::new(alloc, Cursor::new(bytes.as_slice()), MAX_PIECE)?;
+    match transform_all(program, &mut reader, stream) {
+        Ok(()) => Ok(()),
+        Err(_) => Err(ErrorKind::InvalidData.into()),
     }
-    Ok(records)
 }
 
-/// Prints how long a record takes in the best of some turns, by `count` records a turn.
-fn show<R: Print>(rt: &R, name: &str, nanos: u128, count: u64, sum: u64) -> io::Result<()> {
+/// How long a record takes where `count` of them take so many nanoseconds, as text with one digit after
+/// the point.
+fn per_record(alloc: Global, nanos: u128, count: u64) -> Result<String, AllocError> {
     let tenths = nanos.saturating_mul(10) / u128::from(count.max(1));
     let (record, part) = (tenths / 10, tenths % 10);
-    println!(rt; "  {name}: {record}.{part} ns a record (sum {sum})")
+    format!(in alloc; "{record}.{part}")
 }
 
-/// Times the reading of a stream alone.
-fn time_read<R: Print + Clock>(rt: &R, alloc: Global, bytes: &[u8], turns: u32) -> io::Result<u64> {
+/// Times the decoding of a stream alone, and returns how many records it has.
+fn time_decode<R: Print + Clock>(
+    rt: &R,
+    alloc: Global,
+    bytes: &Bytes,
+    turns: u32,
+) -> io::Result<u64> {
     let mut best = u128::MAX;
     let mut records = 0u64;
     for _ in 0..turns {
         let start = Instant::now(rt)?;
-        records = read(alloc, bytes)?;
+        records = decoded(alloc, bytes)?;
         best = best.min(start.elapsed(rt)?.as_nanos());
     }
-    show(rt, "read alone", best, records, records)?;
+    let time = per_record(alloc, best, records)?;
+    println!(rt; "  decoded alone: {time} ns a record")?;
     Ok(records)
 }
 
@@ -136,18 +165,34 @@ fn time_program<R: Print + Clock>(
     alloc: Global,
     name: &str,
     program: &Program,
-    bytes: &[u8],
+    bytes: &Bytes,
     records: u64,
     turns: u32,
 ) -> io::Result<()> {
     let mut best = u128::MAX;
-    let mut sum = 0u64;
+    let mut best_read = u128::MAX;
+    let mut stream = Transform::new(alloc, 0, 0, outlets(alloc)?);
     for _ in 0..turns {
         let start = Instant::now(rt)?;
-        sum = transformed(alloc, program, bytes)?;
+        push_all(alloc, program, bytes, &mut stream)?;
         best = best.min(start.elapsed(rt)?.as_nanos());
+        let start = Instant::now(rt)?;
+        read_all(alloc, program, bytes, &mut stream)?;
+        best_read = best_read.min(start.elapsed(rt)?.as_nanos());
     }
-    show(rt, name, best, records, sum)
+    let time = per_record(alloc, best, records)?;
+    let read = per_record(alloc, best_read, records)?;
+    let rows = rows_of(&stream);
+    println!(rt; "  {name}: {time} ns a record, from a reader {read} ({rows} rows)")
+}
+
+/// How many rows all output partitions have.
+fn rows_of(stream: &Transform<Sink>) -> u64 {
+    let mut sum = 0u64;
+    for output in 0..stream.outputs() {
+        sum = sum.wrapping_add(stream.outlet(output).rows());
+    }
+    sum
 }
 
 /// The program of an image in a file.
@@ -159,7 +204,7 @@ fn program_of(rt: &HostRuntime, alloc: Global, name: &str) -> io::Result<Program
     }
 }
 
-/// Times the reading of a shape's stream, and each program on it.
+/// Times the decoding of a shape's stream, and each program on it.
 fn time_shape<R: Print + Clock>(
     rt: &R,
     alloc: Global,
@@ -167,9 +212,9 @@ fn time_shape<R: Print + Clock>(
     programs: &[(String, Program)],
     turns: u32,
 ) -> io::Result<()> {
-    let bytes = stream_of(alloc, shape)?;
+    let bytes = Bytes::from_vec(stream_of(alloc, shape)?)?;
     println!(rt; "{}", shape.name)?;
-    let records = time_read(rt, alloc, &bytes, turns)?;
+    let records = time_decode(rt, alloc, &bytes, turns)?;
     for (name, program) in programs {
         time_program(rt, alloc, name.as_str(), program, &bytes, records, turns)?;
     }
