@@ -1,6 +1,6 @@
 -- Records whose keys and values are places in a buffer.
 use Rattle.std.specs.Prelude.{◌≡◌, ℕ, ◌≤◌, List, length, slice_range, Option, Some, None, option_map, ⊤}
-use Rattle.wire_spec.specs.declared.record.Record.{Record}
+use Rattle.wire_spec.specs.declared.{record.Header.Header, record.Record.Record}
 use Rattle.wire_spec.specs.RecordSpelling.{record_parts}
 use Rattle.kafka_record.specs.declared.{spans.Extent.Extent, spans.Span.Span, by_ref.Source.Source}
 use Rattle.kafka_record.specs.declared.by_ref.Source.TheVariants as source
@@ -19,29 +19,29 @@ abbrev pub IsPartWithin : ℕ → Option Extent → Type 0
 IsPartWithin count None = ⊤
 IsPartWithin count (Some extent) = IsExtentWithin count extent
 
--- a record whose key and value are in these bytes
-abbrev pub spanned : List ℕ → Span → Record
-spanned bytes span = record {
+-- a record whose key and value are in these bytes, with these headers
+abbrev pub spanned : List ℕ → Span → List Header → Record
+spanned bytes span headers = record {
   timestamp_delta = span.timestamp_delta;
   key = option_map (extent_bytes bytes) span.key;
   value = option_map (extent_bytes bytes) span.value;
-  headers = span.headers;
+  headers = headers;
 }
 
--- its key and its value are in these bytes, and so are its parts as a record spells them
-pub record IsSpanOf (bytes : List ℕ) (span : Span) : Type 0 where
+-- its key and its value are in these bytes, and so are its parts as a record with these headers spells them
+pub record IsSpanOf (bytes : List ℕ) (span : Span) (headers : List Header) : Type 0 where
   pub key : IsPartWithin (length bytes) span.key
   pub value : IsPartWithin (length bytes) span.value
   pub parts : IsExtentWithin (length bytes) span.parts
   pub spelled : extent_bytes bytes span.parts
-      ≡ record_parts (option_map (extent_bytes bytes) span.key) (option_map (extent_bytes bytes) span.value) span.headers
+      ≡ record_parts (option_map (extent_bytes bytes) span.key) (option_map (extent_bytes bytes) span.value) headers
 
 -- the record that is somewhere
 abbrev pub record_in : Source → Record
 record_in (source.Whole given) = given.now
-record_in (source.Packed bytes span) = spanned bytes.now span.now
+record_in (source.Packed bytes span headers) = spanned bytes.now span.now headers.now
 
 -- its parts are there
 abbrev pub IsThere : Source → Type 0
 IsThere (source.Whole given) = ⊤
-IsThere (source.Packed bytes span) = IsSpanOf bytes.now span.now
+IsThere (source.Packed bytes span headers) = IsSpanOf bytes.now span.now headers.now

@@ -17,8 +17,12 @@ use wire_spec::{Headers, Record};
 enum Source<'a> {
     /// The record.
     Whole(&'a Record),
-    /// A buffer, and the places of the key and the value in it.
-    Packed { bytes: &'a Bytes, span: &'a Span },
+    /// A buffer, the places of the parts in it, and the headers.
+    Packed {
+        bytes: &'a Bytes,
+        span: &'a Span,
+        headers: &'a Headers,
+    },
 }
 
 /// A record whose parts stay where they are. A clause sees the record.
@@ -49,14 +53,18 @@ impl<'a> RecordRef<'a> {
         }
     }
 
-    /// The record of a span of a buffer.
+    /// The record of a span of a buffer, with its headers.
     #[inline(always)]
-    pub fn packed(bytes: &'a Bytes, span: &'a Span) -> RecordRef<'a>
-        requires { IsSpanOf bytes.now span.now }
-        ensures { result ≡ spanned bytes.now span.now }
+    pub fn packed(bytes: &'a Bytes, span: &'a Span, headers: &'a Headers) -> RecordRef<'a>
+        requires { IsSpanOf bytes.now span.now headers.now }
+        ensures { result ≡ spanned bytes.now span.now headers.now }
     {
         RecordRef {
-            source: Source::Packed { bytes, span },
+            source: Source::Packed {
+                bytes,
+                span,
+                headers,
+            },
         }
     }
 
@@ -67,7 +75,11 @@ impl<'a> RecordRef<'a> {
     {
         match self.source {
             Source::Whole(given) => RecordRef::of(given),
-            Source::Packed { bytes, span } => RecordRef::packed(bytes, span),
+            Source::Packed {
+                bytes,
+                span,
+                headers,
+            } => RecordRef::packed(bytes, span, headers),
         }
     }
 
@@ -89,7 +101,7 @@ impl<'a> RecordRef<'a> {
     {
         match self.source {
             Source::Whole(given) => NullableBytes::of(&given.key),
-            Source::Packed { bytes, span } => bytes_at(bytes, span.key),
+            Source::Packed { bytes, span, .. } => bytes_at(bytes, span.key),
         }
     }
 
@@ -100,7 +112,7 @@ impl<'a> RecordRef<'a> {
     {
         match self.source {
             Source::Whole(given) => NullableBytes::of(&given.value),
-            Source::Packed { bytes, span } => bytes_at(bytes, span.value),
+            Source::Packed { bytes, span, .. } => bytes_at(bytes, span.value),
         }
     }
 
@@ -111,7 +123,7 @@ impl<'a> RecordRef<'a> {
     {
         match self.source {
             Source::Whole(given) => &given.headers,
-            Source::Packed { span, .. } => &span.headers,
+            Source::Packed { headers, .. } => headers,
         }
     }
 
@@ -122,7 +134,7 @@ impl<'a> RecordRef<'a> {
     {
         match self.source {
             Source::Whole(_) => None,
-            Source::Packed { bytes, span } => Some(extent_of(bytes, span.parts)),
+            Source::Packed { bytes, span, .. } => Some(extent_of(bytes, span.parts)),
         }
     }
 
@@ -133,7 +145,7 @@ impl<'a> RecordRef<'a> {
     {
         match self.source {
             Source::Whole(given) => share_bytes(&given.key),
-            Source::Packed { bytes, span } => share_extent(bytes, span.key),
+            Source::Packed { bytes, span, .. } => share_extent(bytes, span.key),
         }
     }
 
@@ -144,7 +156,7 @@ impl<'a> RecordRef<'a> {
     {
         match self.source {
             Source::Whole(given) => share_bytes(&given.value),
-            Source::Packed { bytes, span } => share_extent(bytes, span.value),
+            Source::Packed { bytes, span, .. } => share_extent(bytes, span.value),
         }
     }
 
@@ -158,7 +170,7 @@ impl<'a> RecordRef<'a> {
     {
         match self.source {
             Source::Whole(given) => cut_whole(&given.key, start, end),
-            Source::Packed { bytes, span } => cut_packed(bytes, span.key, start, end),
+            Source::Packed { bytes, span, .. } => cut_packed(bytes, span.key, start, end),
         }
     }
 
@@ -172,7 +184,7 @@ impl<'a> RecordRef<'a> {
     {
         match self.source {
             Source::Whole(given) => cut_whole(&given.value, start, end),
-            Source::Packed { bytes, span } => cut_packed(bytes, span.value, start, end),
+            Source::Packed { bytes, span, .. } => cut_packed(bytes, span.value, start, end),
         }
     }
 

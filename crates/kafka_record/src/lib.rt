@@ -21,6 +21,6 @@ pub use reading::{one_spelling, read};
 pub use sharing::{share, share_bytes, share_headers};
 pub use sizes::{size, size_of_parts};
 pub use span_reading::read_span;
-pub use spans::{Extent, Span};
+pub use spans::{Extent, Span, SpannedRecord};
 pub use wire_spec::{Header, Headers, Record};
 pub use writing::{write, write_parts, write_spelled};

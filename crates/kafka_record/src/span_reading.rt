@@ -10,7 +10,7 @@ use crate::RecordFault;
 use crate::reading::{
     attributes_from, counted_from, delta_from, is_filled, varint_from, varlong_from,
 };
-use crate::spans::{Extent, Span};
+use crate::spans::{Extent, Span, SpannedRecord};
 use bytes::Bytes;
 use std::alloc::Global;
 use wire_spec::{MAX_KEY, MAX_VALUE};
@@ -84,12 +84,12 @@ fn span_body_from(
     slice: &[u8],
     at: usize,
     delta: i32,
-) -> Result<(Span, usize), RecordFault>
+) -> Result<(SpannedRecord, usize), RecordFault>
     requires same { slice.now ≡ bytes.now }
     requires at { at ≤ length bytes.now }
     requires small { length bytes.now < 2 ^ 32 }
-    ensures gives { AnswersAs Memory (λ x. (spanned bytes.now x.0, drop x.1 bytes.now)) result (ok_or (body_at delta (drop at bytes.now)) Bad) }
-    ensures within { IfOk result (λ x. (at ≤ x.1) × (x.1 ≤ length bytes.now) × IsSpanOf bytes.now x.0) }
+    ensures gives { AnswersAs Memory (λ x. (spanned bytes.now x.0.span x.0.headers, drop x.1 bytes.now)) result (ok_or (body_at delta (drop at bytes.now)) Bad) }
+    ensures within { IfOk result (λ x. (at ≤ x.1) × (x.1 ≤ length bytes.now) × IsSpanOf bytes.now x.0.span x.0.headers) }
 {
     let at = attributes_from(slice, at)?;
     let (timestamp_delta, at) = varlong_from(slice, at)?;
@@ -106,10 +106,9 @@ fn span_body_from(
         timestamp_delta,
         key,
         value,
-        headers,
         parts,
     };
-    Ok((span, end))
+    Ok((SpannedRecord { span, headers }, end))
 }
 
 /// The record with this offset delta that begins at a place in the bytes, as a span of them, and how many
@@ -122,18 +121,18 @@ pub fn read_span(
     slice: &[u8],
     at: usize,
     delta: i32,
-) -> Result<(Span, usize), RecordFault>
+) -> Result<(SpannedRecord, usize), RecordFault>
     requires same { slice.now ≡ bytes.now }
     requires at { at ≤ length bytes.now }
     requires small { length bytes.now < 2 ^ 32 }
     // Whether there is one, and which.
-    ensures exact { AnswersAs Memory (λ x. (spanned bytes.now x.0, drop (at + x.1) bytes.now)) result (ok_or (record_at delta (drop at bytes.now)) Bad) }
-    ensures within { IfOk result (λ x. (at + x.1 ≤ length bytes.now) × IsSpanOf bytes.now x.0) }
+    ensures exact { AnswersAs Memory (λ x. (spanned bytes.now x.0.span x.0.headers, drop (at + x.1) bytes.now)) result (ok_or (record_at delta (drop at bytes.now)) Bad) }
+    ensures within { IfOk result (λ x. (at + x.1 ≤ length bytes.now) × IsSpanOf bytes.now x.0.span x.0.headers) }
 {
     let (len, start) = varint_from(slice, at)?;
-    let (span, end) = span_body_from(alloc, bytes, slice, start, delta)?;
+    let (found, end) = span_body_from(alloc, bytes, slice, start, delta)?;
     if !is_filled(len, end - start) {
         return Err(RecordFault::Bad);
     }
-    Ok((span, end - at))
+    Ok((found, end - at))
 }

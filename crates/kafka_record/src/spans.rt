@@ -14,15 +14,21 @@ pub struct Extent {
     pub end: u32,
 }
 
-/// A record's fields, with the places of its key and its value in a buffer.
-#[derive(Drop)]
+/// A record's timestamp delta, and where its parts are in a buffer. It has no headers as values.
+#[derive(Clone, Copy)]
 pub struct Span {
     pub timestamp_delta: i64,
     pub key: Option<Extent>,
     pub value: Option<Extent>,
-    pub headers: Headers,
     /// Where key, value and headers are, as the record spells them after its offset delta.
     pub parts: Extent,
+}
+
+/// A record as a span of its bytes, with its headers.
+#[derive(Drop)]
+pub struct SpannedRecord {
+    pub span: Span,
+    pub headers: Headers,
 }
 
 /// The bytes of an extent.

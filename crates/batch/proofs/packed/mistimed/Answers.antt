@@ -2,7 +2,7 @@ use Rattle.std.proofs.Common.{rules, ◌≡◌, ◌∙◌, ap, FitsSigned, to_z,
 use Rattle.std.specs.Int.{w64}
 use Rattle.std.proofs.lemmas.Int.{to_z-of_z}
 use Rattle.wire_spec.specs.BatchReading.{base_timestamp, max_timestamp}
-use Rattle.batch.specs.Packed.{all_spanned}
+use Rattle.batch.specs.Packed.{entry_records}
 use Rattle.batch.proofs.Latest.{mistimed_when, mistimed_without}
 use Rattle.batch.proofs.packed.mistimed.Goals as goal
 
@@ -18,7 +18,7 @@ returns-else-not-is_timestamp c =
     let top_is : top ≡ max_timestamp c.args.bytes.now = to_z-of_z w64 c.i64_at-greatest.result top_fits
     ∙ c.i64_at-greatest.ensures in
     ap not (c.is_same.ensures ∙ ap (int_eq top) (to_z-of_z w64 c.in-Some.time time_fits))
-    ∙ mistimed_when c.args.bytes.now (all_spanned c.args.bytes.now c.args.spans.now) base top c.in-Some.time base_is top_is c.in-Some.ensures
+    ∙ mistimed_when c.args.bytes.now (entry_records c.args.bytes.now c.args.headers.now c.args.entries.now) base top c.in-Some.time base_is top_is c.in-Some.ensures
     c.if-not-is_timestamp.ensures
 
 pub returns-in-None : goal.returns-in-None
@@ -26,5 +26,5 @@ returns-in-None c =
     let base_fits : FitsSigned w64 c.i64_at-base.result = search rules in
     let base_is : to_z w64 (of_z w64 c.i64_at-base.result) ≡ base_timestamp c.args.bytes.now =
     to_z-of_z w64 c.i64_at-base.result base_fits ∙ c.i64_at-base.ensures in
-    mistimed_without c.args.bytes.now (all_spanned c.args.bytes.now c.args.spans.now) (to_z w64 (of_z w64 c.i64_at-base.result)) base_is
+    mistimed_without c.args.bytes.now (entry_records c.args.bytes.now c.args.headers.now c.args.entries.now) (to_z w64 (of_z w64 c.i64_at-base.result)) base_is
     c.in-None.ensures

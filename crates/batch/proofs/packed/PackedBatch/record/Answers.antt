@@ -1,28 +1,31 @@
-use Rattle.std.proofs.Common.{◌≡◌, ℕ, ◌<◌, ◌∙◌, List, length, slice_get, Some, sym, ap, arith}
+use Rattle.std.proofs.Common.{◌≡◌, ℕ, ◌<◌, ◌∙◌, List, length, slice_get, Some, sym, ap, subst, arith}
 use Rattle.std.proofs.lemmas.List.{length-map}
-use Rattle.wire_spec.specs.declared.{record.Batch.Batch, record.Record.Record}
-use Rattle.kafka_record.specs.declared.spans.Span.{Span}
-use Rattle.kafka_record.specs.Spans.{spanned}
-use Rattle.batch.specs.declared.packed.Head.{Head}
-use Rattle.batch.specs.Packed.{all_spanned, headed}
-use Rattle.batch.proofs.PackedLaws.{within_at, spanned_at}
+use Rattle.wire_spec.specs.declared.{record.Batch.Batch, record.Header.Header, record.Record.Record}
+use Rattle.batch.specs.declared.{packed.Head.Head, packed.Entry.Entry}
+use Rattle.batch.specs.Packed.{entry_record, entry_records, headed, IsEntryOf}
+use Rattle.batch.proofs.PackedLaws.{entry_at, record_at}
 use Rattle.batch.proofs.packed.PackedBatch.record.Goals as goal
 
-few : (batch : Batch) (bytes : List ℕ) (spans : List Span) (head : Head) (index : ℕ) →
-    headed head (all_spanned bytes spans) ≡ batch → index < length batch.records → index < length spans
-few batch bytes spans head index is lt =
-    omega (arith, lt, ap (λ (b : Batch). length b.records) is, length-map spans (spanned bytes))
+few : (batch : Batch) (bytes : List ℕ) (lists : List (List Header)) (entries : List Entry) (head : Head) (index : ℕ) →
+    headed head (entry_records bytes lists entries) ≡ batch → index < length batch.records → index < length entries
+few batch bytes lists entries head index is lt =
+    omega (arith, lt, ap (λ (b : Batch). length b.records) is, length-map entries (entry_record bytes lists))
 
-pub packed-requires : goal.packed-requires
-packed-requires c =
-    within_at c.self.inside.bytes c.self.inside.spans.items c.args.index c.index.result.now c.self.invariant
-    (few c.args.self.now c.self.inside.bytes c.self.inside.spans.items c.self.inside.head c.args.index c.self.view_is
-    c.requires) c.index.ensures
+pub record_of-requires : goal.record_of-requires
+record_of-requires c =
+    subst (λ (lists : List (List Header)). IsEntryOf c.self.inside.bytes lists c.index.result.now)
+    (sym c.as_slice.ensures.value) (entry_at c.self.inside.bytes c.self.inside.headers.items c.self.inside.entries.items c.args.index
+    c.index.result.now c.self.invariant
+    (few c.args.self.now c.self.inside.bytes c.self.inside.headers.items c.self.inside.entries.items c.self.inside.head
+    c.args.index c.self.view_is c.requires) c.index.ensures)
 
 pub returns : goal.returns
 returns c =
     ap (λ (b : Batch). slice_get b.records c.args.index) (sym c.self.view_is)
-    ∙ spanned_at c.self.inside.bytes c.self.inside.spans.items c.args.index c.index.result.now
-    (few c.args.self.now c.self.inside.bytes c.self.inside.spans.items c.self.inside.head c.args.index c.self.view_is
-    c.requires) c.index.ensures
-    ∙ ap (λ (r : Record). Some r) (sym c.packed.ensures)
+    ∙ record_at c.self.inside.bytes c.self.inside.headers.items c.self.inside.entries.items c.args.index
+    c.index.result.now
+    (few c.args.self.now c.self.inside.bytes c.self.inside.headers.items c.self.inside.entries.items c.self.inside.head
+    c.args.index c.self.view_is c.requires) c.index.ensures
+    ∙ ap (λ (lists : List (List Header)). Some (entry_record c.self.inside.bytes lists c.index.result.now))
+    (sym c.as_slice.ensures.value)
+    ∙ ap (λ (r : Record). Some r) (sym c.record_of.ensures)
