@@ -1,9 +1,11 @@
 //! Batches whose records stay in the bytes that they came in.
 
+ghost use Rattle.kafka_record.specs.Spans.{IsSpanOf};
+
 use crate::batches::CLIENT_FOUR;
 use batch::{HEADER, PackedBatch, decode_packed};
 use bytes::Bytes;
-use kafka_record::{RecordRef, read_span};
+use kafka_record::{RecordRef, SpannedRecord, read_span};
 use std::alloc::Global;
 use std::test::*;
 
@@ -73,6 +75,17 @@ fn records_stay_in_their_bytes(rt: HostRuntime) {
     assert!(rt; read(rt.alloc()) == Some((4, 1_700_000_000_000)));
 }
 
+/// Key, value and headers of the first record, as it spells them: `k`, `v` and none.
+const FIRST_PARTS: &[u8] = &[2, b'k', 2, b'v', 0];
+
+/// Whether the record is the first one, and has its parts in one piece.
+fn is_spanned(bytes: &Bytes, found: &SpannedRecord) -> bool
+    requires { IsSpanOf bytes.now found.now.span found.now.headers }
+{
+    let record = RecordRef::packed(bytes, &found.span, &found.headers);
+    is_record(&record, &FIRST[0]) && record.parts() == Some(FIRST_PARTS)
+}
+
 /// How many bytes the first record takes, where it is read as a span of the batch's bytes.
 fn first_span(alloc: Global) -> Option<usize> {
     let bytes = Bytes::copy_from_slice(alloc, CLIENT_FOUR).ok()?;
@@ -80,7 +93,7 @@ fn first_span(alloc: Global) -> Option<usize> {
         return None;
     }
     match read_span(alloc, &bytes, bytes.as_slice(), HEADER, 0) {
-        Ok((span, used)) if is_record(&RecordRef::packed(&bytes, &span), &FIRST[0]) => Some(used),
+        Ok((found, used)) if is_spanned(&bytes, &found) => Some(used),
         _ => None,
     }
 }
