@@ -24,6 +24,7 @@ pub(crate) struct RowNumbers {
 
 impl RowNumbers {
     /// Those of the row of an emission of the record at a place.
+    #[inline(always)]
     pub(crate) fn of(place: &Place, number: usize) -> RowNumbers
         requires place { IsPlace place.now }
         requires few { number < MAX_EMISSIONS }

@@ -20,6 +20,7 @@ use machine_spec::Place;
 use std::alloc::AllocError;
 
 /// The output partition of what a program emitted.
+#[inline(always)]
 fn out_of(emitted: &Emitted) -> usize
     ensures { (given : Record) → (emission_in given emitted.now).out ≡ result }
 {
@@ -31,6 +32,7 @@ fn out_of(emitted: &Emitted) -> usize
 
 /// Adds the row of what a program emitted for a record to its output, where that is one of the outputs from
 /// `first` on.
+#[inline(always)]
 fn push_row<'a>(
     all: &mut [RowRefs<'a>],
     first: usize,
@@ -52,6 +54,7 @@ fn push_row<'a>(
 
 /// Adds the rows of what a program emitted for a record to their outputs. Nothing is left in the list, but its
 /// room.
+#[inline(always)]
 fn push_rows<'a>(
     all: &mut [RowRefs<'a>],
     first: usize,
@@ -74,6 +77,7 @@ fn push_rows<'a>(
 
 /// Adds the rows of a record to their outputs: those of what the program emitted, where its run keeps
 /// that. Returns what became of the record. The list keeps its room.
+#[inline(always)]
 pub(crate) fn push_outcome<'a>(
     all: &mut [RowRefs<'a>],
     first: usize,

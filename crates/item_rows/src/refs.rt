@@ -32,6 +32,7 @@ pub(crate) struct Slot<'a> {
 }
 
 /// A row but for its parts, which a made record has or the given one.
+#[inline(always)]
 fn slot_for<'a>(place: &Place, number: usize, given: &Given<'a>, made: Option<usize>) -> Slot<'a>
     requires place { IsPlace place.now }
     requires few { number < MAX_EMISSIONS }
@@ -163,6 +164,7 @@ impl<'a> RowRefs<'a> {
     }
 
     /// Adds the row of a record as it is.
+    #[inline(always)]
     fn push_given(
         &mut self,
         place: &Place,
