@@ -167,9 +167,7 @@ impl BookRow {
         ensures { result ≡ self.now }
     {
         match &self.parts {
-            Parts::Given { logged, index } => {
-                self.numbers.with_record(&logged.record(*index))
-            }
+            Parts::Given { logged, index } => { self.numbers.with_record(&logged.record(*index)) }
             Parts::Made { made, index } => {
                 let emission = &made.list[*index];
                 let key = NullableBytes::of(&emission.key);

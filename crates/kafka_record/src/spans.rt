@@ -14,7 +14,7 @@ pub struct Extent {
     pub end: u32,
 }
 
-/// A record's timestamp delta, and where its parts are in a buffer. It has no headers as values.
+/// A record's timestamp delta, and where its parts are in a buffer.
 #[derive(Clone, Copy)]
 pub struct Span {
     pub timestamp_delta: i64,
