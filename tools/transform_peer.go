@@ -2,15 +2,18 @@
 // record batches out, by sarama's codec, on one core. transform_speed.py builds it, with the codec's entries exported.
 //
 // transform_peer forward|keep|key|value IN OUT ..
+// transform_peer forward|keep|key|value    times a batch in memory, and prints the nanoseconds a record
 package main
 
 import (
 	"bufio"
+	"bytes"
 	"encoding/binary"
 	"fmt"
 	"io"
 	"os"
 	"runtime"
+	"time"
 
 	"github.com/Shopify/sarama"
 )
@@ -100,8 +103,69 @@ func next(in io.Reader) *sarama.RecordBatch {
 	return batch
 }
 
+// transform routes, filters or forwards the records of a batch.
+func transform(kind string, batch *sarama.RecordBatch, outs []*output) {
+	if kind == "forward" {
+		outs[0].write(batch, batch.Records)
+		return
+	}
+	if kind == "keep" {
+		outs[0].write(batch, kept(batch.Records))
+		return
+	}
+	routed := byKey
+	if kind == "value" {
+		routed = byValue
+	}
+	var parts [4][]*sarama.Record
+	for _, r := range batch.Records {
+		q := routed(r)
+		parts[q] = append(parts[q], r)
+	}
+	for q, records := range parts {
+		outs[q].write(batch, records)
+	}
+}
+
+// made is a batch of 10,000 records of 64 bytes and a key, as bench_path's first shape.
+func made() []byte {
+	batch := &sarama.RecordBatch{Version: 2, ProducerID: -1, ProducerEpoch: -1, FirstSequence: -1, LastOffsetDelta: 9999,
+		FirstTimestamp: time.UnixMilli(1700000000000), MaxTimestamp: time.UnixMilli(1700000000000)}
+	for i := 0; i < 10000; i++ {
+		value := bytes.Repeat([]byte{"AB"[i%2]}, 64)
+		batch.Records = append(batch.Records, &sarama.Record{OffsetDelta: int64(i), Key: []byte(fmt.Sprintf("%08d", i)), Value: value})
+	}
+	raw, err := sarama.EncodeBatch(batch)
+	check(err)
+	return raw
+}
+
+// timed prints how long a record of a batch in memory takes in the best of the turns of two seconds.
+func timed(kind string) {
+	raw, best, outs := made(), time.Hour, []*output{}
+	for q := 0; q < 4; q++ {
+		outs = append(outs, &output{bufio.NewWriter(io.Discard), 0})
+	}
+	for end := time.Now().Add(2 * time.Second); time.Now().Before(end); {
+		start := time.Now()
+		for i := 0; i < 8; i++ {
+			batch, err := sarama.DecodeBatch(raw)
+			check(err)
+			transform(kind, batch, outs)
+		}
+		if turn := time.Since(start); turn < best {
+			best = turn
+		}
+	}
+	fmt.Printf("%.1f\n", float64(best.Nanoseconds())/80000)
+}
+
 func main() {
 	runtime.GOMAXPROCS(1)
+	if len(os.Args) == 2 {
+		timed(os.Args[1])
+		return
+	}
 	file, err := os.Open(os.Args[2])
 	check(err)
 	in := bufio.NewReaderSize(file, 65536)
@@ -111,27 +175,8 @@ func main() {
 		check(err)
 		outs = append(outs, &output{bufio.NewWriterSize(file, 65536), 0})
 	}
-	routed := byKey
-	if os.Args[1] == "value" {
-		routed = byValue
-	}
 	for batch := next(in); batch != nil; batch = next(in) {
-		if os.Args[1] == "forward" {
-			outs[0].write(batch, batch.Records)
-			continue
-		}
-		if os.Args[1] == "keep" {
-			outs[0].write(batch, kept(batch.Records))
-			continue
-		}
-		var parts [4][]*sarama.Record
-		for _, r := range batch.Records {
-			q := routed(r)
-			parts[q] = append(parts[q], r)
-		}
-		for q, records := range parts {
-			outs[q].write(batch, records)
-		}
+		transform(os.Args[1], batch, outs)
 	}
 	for _, o := range outs {
 		check(o.file.Flush())
