@@ -28,7 +28,8 @@ returns c =
     let here : Totals = c.counts.result.now in
     let all : List (List Row) = c.in_ok-rows.rows.rows in
     let counts : AreItemCounts old.input (length old.outlets.items) (Some c.args.program.now) old.offset
-    (Records c.args.batch) here = search rules in
+    (Records c.args.batch) here =
+    search (rules, c.counts.ensures, c.in_ok-rows.ensures.counts, c.in_ok-packed.ensures) in
     let rows : AreItemRows (origin_of (flow_of old)) (Some c.args.program.now) (Records c.args.batch) all =
     search rules in
     let put : InEach old.outlets.items c.put_each.new.outlets (λ output. Fills (rows_in all output)) = search rules in
