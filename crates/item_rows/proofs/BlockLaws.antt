@@ -14,8 +14,13 @@ use Rattle.machine_spec.specs.declared.{outcome.Outcome.Outcome, outcome.Place.P
 use Rattle.machine_spec.specs.Image.{Program}
 use Rattle.machine_spec.specs.Meaning.{IsPlace}
 use Rattle.verifier_spec.proofs.Whole.{negative}
+use Rattle.std.proofs.lemmas.Option.{same_Some}
+use Rattle.helpers.specs.declared.emitted.Emitted.{Emitted}
+use Rattle.helpers.specs.declared.emitted.Emitted.TheVariants.{Given, Made}
+use Rattle.exec.specs.declared.ending.Ending.{Ending}
+use Rattle.exec.specs.declared.ending.Ending.TheVariants.{Kept, Rejected}
 use Rattle.exec.specs.Abreast.{AreGiven}
-use Rattle.exec.specs.Endings.{Ended, outcome_in, outcomes_of}
+use Rattle.exec.specs.Endings.{Ended, kept_alone, outcome_in, outcomes_of}
 use Rattle.log_item.specs.Programs.{RunsSafelyOnEach}
 use Rattle.log_spec.specs.declared.row.Row.{Row}
 use Rattle.log_spec.specs.Logs.{timestamp_of, place_of, rows_of, FitsRecord, IsRecordRows, IsRecordsRows}
@@ -454,3 +459,14 @@ is_part records done count le =
       rest = sym parts;
       more = ap (take (done + count)) (sym whole) ∙ take_at (front ++ here) later (done + count) both;
     }
+
+-- ---- a record that is kept as it is
+
+-- what it emitted
+pub alone_is : (ending : Ending) (emitted : List Emitted) (out : ℕ) → Some out ≡ kept_alone ending emitted →
+    (ending ≡ Kept) × (emitted ≡ Given out ∷ [])
+alone_is Kept [] out is = absurd cc
+alone_is Kept (Made emission ∷ rest) out is = absurd cc
+alone_is Kept (Given other ∷ []) out is = (refl, ap (λ (o : ℕ). Given o ∷ []) (sym (same_Some out other is)))
+alone_is Kept (Given other ∷ more ∷ rest) out is = absurd cc
+alone_is (Rejected code) emitted out is = absurd cc

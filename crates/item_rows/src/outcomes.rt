@@ -1,12 +1,12 @@
 //! The rows that emissions give, and what became of their records.
 
-ghost use Rattle.std.specs.Prelude.{◌==◌, if◌then◌else◌, [], ◌∷◌, ◌≡◌, ℕ, ◌+◌, ◌<◌, ◌≤◌, ◌^◌, length, map, get_or, IfOk, OnOk};
+ghost use Rattle.std.specs.Prelude.{◌==◌, if◌then◌else◌, [], ◌∷◌, ◌≡◌, ◌≢◌, ℕ, ◌+◌, ◌<◌, ◌≤◌, ◌^◌, length, map, get_or, slice_get, Some, IfOk, OnOk};
 ghost use Rattle.machine_spec.specs.declared.limits.TheConstants.{MAX_EMISSIONS};
 ghost use Rattle.machine_spec.specs.declared.outcome.Place.{Place};
 ghost use Rattle.wire_spec.specs.declared.record.Record.{Record};
 ghost use Rattle.helpers.specs.Emitted.{emission_in, emissions_in};
 ghost use Rattle.machine_spec.specs.Meaning.{IsPlace};
-ghost use Rattle.exec.specs.Endings.{outcome_with, outcomes_of};
+ghost use Rattle.exec.specs.Endings.{Ended, outcome_in, outcome_with, outcomes_of};
 ghost use Rattle.log_spec.specs.Logs.{row_of, rows_to, rows_of};
 ghost use Rattle.fates.specs.Fates.{fate_of};
 ghost use Rattle.item_rows.specs.ItemRows.{Adds};
@@ -53,7 +53,7 @@ fn push_row<'a>(
 }
 
 /// Adds the rows of what a program emitted for a record to their outputs. Nothing is left in the list, but its
-/// room.
+/// room. Where there is nothing, this takes a test alone.
 #[inline(always)]
 fn push_rows<'a>(
     all: &mut [RowRefs<'a>],
@@ -67,6 +67,9 @@ fn push_rows<'a>(
     ensures rows { OnOk result (Adds first all.old all.new (λ output here. here ≡ rows_to output place.now 0 (emissions_in given.now list.old.items))) }
     ensures none { list.new.items ≡ [] }
 {
+    if list.is_empty() {
+        return Ok(());
+    }
     let mut number = 0;
     for emitted in list.drain(..) {
         push_row(all, first, place, number, given, emitted)?;
@@ -99,9 +102,41 @@ pub(crate) fn push_outcome<'a>(
     }
 }
 
+/// Adds the rows of a record of a block to their outputs, by how its run ended. Returns what became of the
+/// record. Most records are kept as they are or not at all. What another one emitted goes through a list,
+/// whose room is used again.
+#[inline(always)]
+fn push_ended<'a>(
+    all: &mut [RowRefs<'a>],
+    first: usize,
+    place: &Place,
+    given: &Given<'a>,
+    block: &mut Block,
+    index: usize,
+    emitted: &mut EmittedList,
+) -> Result<Fate, AllocError>
+    requires place { IsPlace place.now }
+    requires within { index < length block.old }
+    ensures pushed { (ended : Ended) → slice_get block.old index ≡ Some ended → IfOk result (λ fate. (fate ≡ fate_of (outcome_in given.now ended))
+        × Adds first all.old all.new (λ output here. here ≡ rows_of output place.now (outcome_in given.now ended))) }
+    ensures others { (other : ℕ) → other ≢ index → slice_get block.new other ≡ slice_get block.old other }
+    ensures length { length block.new ≡ length block.old }
+{
+    match block.kept_alone(index) {
+        Some(out) => {
+            push_row(all, first, place, 0, given, Emitted::Given { out })?;
+            Ok(Fate::Kept)
+        }
+        None => {
+            let ending = block.take(index, emitted);
+            let fate = push_outcome(all, first, place, given, ending, emitted)?;
+            Ok(fate)
+        }
+    }
+}
+
 /// Adds the rows of the records of a block, each at its place, by the outcomes of its last run, and
-/// counts the records: those of a batch from number `from` on. What each of them emitted goes through a
-/// list, whose room is used again.
+/// counts the records: those of a batch from number `from` on.
 pub(crate) fn push_outcomes<'a>(
     first: usize,
     places: &[Place],
@@ -121,9 +156,8 @@ pub(crate) fn push_outcomes<'a>(
 {
     let _few = logged.len();
     for index in 0..places.len() {
-        let ending = block.take(index, emitted);
         let given = Given::new(logged, from + index);
-        let fate = push_outcome(all, first, &places[index], &given, ending, emitted)?;
+        let fate = push_ended(all, first, &places[index], &given, block, index, emitted)?;
         counts.add(fate)?;
     }
     Ok(())

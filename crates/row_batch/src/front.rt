@@ -17,6 +17,7 @@ pub fn blank(alloc: Global, room: usize) -> Result<Vec<u8>, AllocError>
 
 /// As many bytes as are before the records of a batch, where there are fewer. It fails only where memory
 /// runs out; then nothing changes.
+#[inline(always)]
 pub fn pad(bytes: &mut Vec<u8>) -> Result<(), AllocError>
     ensures ok { OnOk result (bytes.new.items ≡ padded bytes.old.items) }
     ensures err { OnErr result (bytes.new.items ≡ bytes.old.items) }

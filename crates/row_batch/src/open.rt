@@ -128,6 +128,7 @@ impl OpenBatch {
 }
 
 /// The base timestamp with one row more.
+#[inline(always)]
 fn base_for(base: u64, count: usize, row: &RowRef) -> u64
     ensures { result ≡ base_with base count row.now }
 {

@@ -11,7 +11,7 @@ use batch::{HEADER, MAX_BATCH, MAX_RECORDS};
 use kafka_record::{NullableBytes, size_of_parts, write_parts, write_spelled};
 use log_spec::RowRef;
 use std::alloc::AllocError;
-use wire_spec::TIMESTAMP_END;
+use wire_spec::{Headers, TIMESTAMP_END};
 
 /// About how many bytes a record has without its key, value and headers.
 const LIKELY_RECORD: usize = 12;
@@ -30,6 +30,7 @@ pub struct Extent {
 }
 
 /// How far a timestamp is past a base timestamp.
+#[inline(always)]
 fn delta(base: u64, timestamp: u64) -> i64
     requires base { base < TIMESTAMP_END }
     requires timestamp { timestamp < TIMESTAMP_END }
@@ -58,7 +59,7 @@ fn put_row(base: u64, row: &RowRef, place: usize, out: &mut Vec<u8>) -> Result<(
 }
 
 /// How many bytes a row takes as the record with this place in a batch with this base timestamp.
-#[inline(never)]
+#[inline(always)]
 fn row_size(base: u64, row: &RowRef, place: usize) -> usize
     requires base { base < TIMESTAMP_END }
     requires place { place < MAX_RECORDS }
@@ -71,8 +72,8 @@ fn row_size(base: u64, row: &RowRef, place: usize) -> usize
     size_of_parts(delta, &key, &value, row.headers, place as i32)
 }
 
-/// Whether a batch of this size may have no room for a row. Where it returns false, the headers may still
-/// be too much for it.
+/// Whether a batch of this size may have no room for a row. Where it returns false, headers may still be too
+/// much for it.
 #[inline(always)]
 fn may_be_full(size: usize, row: &RowRef) -> bool {
     size.saturating_add(likely_parts(row)) > NEARLY_FULL
@@ -143,18 +144,20 @@ pub fn put_most<L: RowList>(
     })
 }
 
-/// About how many bytes a row takes in a batch without its headers.
+/// About how many bytes a row takes in a batch, without its headers where they are apart from the rest.
 #[inline(always)]
 fn likely_parts(row: &RowRef) -> usize {
+    if let Some(parts) = row.parts {
+        return LIKELY_RECORD.saturating_add(parts.len());
+    }
     let key = row.key.map_or(0, |key| key.len());
     let value = row.value.map_or(0, |value| value.len());
     LIKELY_RECORD.saturating_add(key).saturating_add(value)
 }
 
-/// About how many bytes a batch of `most` rows like this one has, and no more than a batch may have.
-pub fn likely_size(row: &RowRef, most: usize) -> usize {
-    let mut bytes = likely_parts(row);
-    let headers = row.headers;
+/// About how many bytes headers take.
+fn likely_headers(headers: &Headers) -> usize {
+    let mut bytes: usize = 0;
     for header in &headers.list {
         let value = header.value.as_ref().map_or(0, |value| value.len());
         bytes = bytes
@@ -162,6 +165,16 @@ pub fn likely_size(row: &RowRef, most: usize) -> usize {
             .saturating_add(header.key.len())
             .saturating_add(value);
     }
+    bytes
+}
+
+/// About how many bytes a batch of `most` rows like this one has, and no more than a batch may have.
+pub fn likely_size(row: &RowRef, most: usize) -> usize {
+    let headers = match row.parts {
+        Some(_) => 0,
+        None => likely_headers(row.headers),
+    };
+    let bytes = likely_parts(row).saturating_add(headers);
     HEADER
         .saturating_add(bytes.saturating_mul(most))
         .min(MAX_BATCH)

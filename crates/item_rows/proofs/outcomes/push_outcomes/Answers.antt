@@ -1,7 +1,8 @@
 use Rattle.std.proofs.Common.{◌≡◌, ◌<◌, ◌+◌, ◌++◌, List, length, map, take, get_or, slice_get, Some, sym, ap, subst, ◌∙◌}
 use Rattle.std.proofs.Common.{arith, [], ◌∷◌}
 use Rattle.std.proofs.lemmas.List.{length-map, length-take, map-append, take_more, get_or_default}
-use Rattle.std.proofs.lemmas.Option.{get_or_from_slice_get}
+use Rattle.std.proofs.lemmas.Option.{slice_get-get_or, get_or_from_slice_get}
+use Rattle.exec.specs.declared.ending.Ending.TheVariants.{Kept}
 use Rattle.machine_spec.specs.declared.{outcome.Outcome.Outcome, outcome.Place.Place}
 use Rattle.exec.specs.Endings.{Ended, outcome_in, outcomes_of}
 use Rattle.fates.specs.declared.fate.Fate.{Fate}
@@ -17,14 +18,17 @@ use Rattle.item_rows.proofs.outcomes.push_outcomes.Goals as goal
 abbrev nowhere : Place
 nowhere = record { partition = 0; offset = 0; timestamp = 0; outputs = 0 }
 
-pub take-ending-requires : goal.take-ending-requires
-take-ending-requires c = omega (arith, c.loop-index.invariant.long, c.requires.places, c.loop-index-test.true)
+no_ending : Ended
+no_ending = record { ending = Kept; emitted = [] }
+
+pub push_ended-requires-clause-within : goal.push_ended-requires-clause-within
+push_ended-requires-clause-within c = omega (arith, c.loop-index.invariant.long, c.requires.places, c.loop-index-test.true)
 
 pub new-given-requires : goal.new-given-requires
 new-given-requires c = omega (arith, c.requires.places, c.requires.records, c.loop-index-test.true)
 
-pub push_outcome-requires : goal.push_outcome-requires
-push_outcome-requires c = c.requires.ranges c.loop-index.index nowhere c.loop-index-test.true
+pub push_ended-requires-clause-place : goal.push_ended-requires-clause-place
+push_ended-requires-clause-place c = c.requires.ranges c.loop-index.index nowhere c.loop-index-test.true
 
 pub add-requires : goal.add-requires
 add-requires c =
@@ -47,10 +51,11 @@ pub loop-index-preserved : goal.loop-index-preserved
 loop-index-preserved c =
     let first = c.args.first in let places = c.args.places.now in let block = c.args.block.now in let all_records =
     c.args.logged.now.records in let records = records_from c.args.from (length block) all_records in
-    let outcomes = outcomes_of records block in let k = c.loop-index.index in let inv = c.loop-index.invariant in let done = take k outcomes in let ended : Ended = record {
-      ending = c.take-ending.result;
-      emitted = c.take-ending.new.emitted;
-    } in let given = c.new-given.result in
+    let outcomes = outcomes_of records block in let k = c.loop-index.index in let inv = c.loop-index.invariant in let done = take k outcomes in
+    let in_block : k < length block = omega (arith, c.loop-index-test.true, c.requires.places) in
+    let ended = get_or block k no_ending in let there : slice_get block k ≡ Some ended =
+    slice_get-get_or block k no_ending in_block in
+    let pushed = c.in_ok-fate.ensures.pushed ended (inv.left k (omega arith) ∙ there) in let given = c.new-given.result in
     let outcome = outcome_in given ended in let place = get_or places k nowhere in
     let lt : k < length places = c.loop-index-test.true in
     let long = between_long all_records c.args.from (length block) c.requires.records in
@@ -58,21 +63,21 @@ loop-index-preserved c =
     let at = between_at all_records c.args.from (length block) k given (omega (arith, lt, c.requires.places))
     c.requires.records c.new-given.ensures in
     let here : slice_get outcomes k ≡ Some outcome = outcome_here records block k given ended
-    (omega (arith, lt, c.requires.places, long)) (omega (arith, lt, c.requires.places)) at (sym (inv.left k (omega arith)) ∙ c.take-ending.ensures.ended) in
+    (omega (arith, lt, c.requires.places, long)) (omega (arith, lt, c.requires.places)) at there in
     let longer : take (k + 1) outcomes ≡ done ++ outcome ∷ [] = take_more outcomes k outcome within
     ∙ ap (λ (o : Outcome). done ++ o ∷ []) (get_or_from_slice_get outcomes k outcome outcome here) in
     let one : AreFatesMore (fate_of outcome ∷ []) c.loop-index.counts c.add.new.self =
     one_fate (fate_of outcome) c.loop-index.counts c.add.new.self
     (subst (λ (f : Fate). (fates : List Fate) → AreCounts fates c.loop-index.counts →
-    AreCounts (fates ++ f ∷ []) c.add.new.self) c.in_ok-fate.ensures.0 c.in_ok-add.ensures.counts)
+    AreCounts (fates ++ f ∷ []) c.add.new.self) pushed.0 c.in_ok-add.ensures.counts)
     c.in_ok-add.ensures.records in record {
-      long = c.take-ending.ensures.length ∙ inv.long;
-      left = λ j le. c.take-ending.ensures.others j (λ same. absurd (omega (arith, le, same)))
+      long = c.push_ended.ensures.length ∙ inv.long;
+      left = λ j le. c.push_ended.ensures.others j (λ same. absurd (omega (arith, le, same)))
           ∙ inv.left j (omega (arith, le));
-      rows = subst (λ (os : List Outcome). Adds first c.args.all.now c.push_outcome.new.all
+      rows = subst (λ (os : List Outcome). Adds first c.args.all.now c.push_ended.new.all
           (λ q here. here ≡ rows_of_each q places os)) (sym longer)
           (outcome_more first places outcomes k place outcome c.args.all.now c.loop-index.all
-          c.push_outcome.new.all lt within (get_or_default places k nowhere place lt) inv.rows c.in_ok-fate.ensures.1);
+          c.push_ended.new.all lt within (get_or_default places k nowhere place lt) inv.rows pushed.1);
       counts = subst (λ (os : List Outcome). AreFatesMore (map fate_of os) c.args.counts.now c.add.new.self) (sym longer)
           (subst (λ (fs : List Fate). AreFatesMore fs c.args.counts.now c.add.new.self)
           (sym (map-append fate_of done (outcome ∷ [])))
