@@ -25,7 +25,8 @@ fn is_zero(form: &Decoded) -> bool {
 fn is_guard(form: &Decoded) -> bool {
     matches!(
         form,
-        Decoded::IfLessNumber {
+        Decoded::IfStrictNumber {
+            greater: false,
             dst: 2,
             constant: 1,
             slots: 1,
