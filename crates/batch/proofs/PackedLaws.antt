@@ -1,5 +1,6 @@
 -- Entries of a batch's records, and the records that they are.
-use Rattle.std.proofs.Common.{◌≡◌, ◌∙◌, ℕ, zero, suc, ◌+◌, ◌<◌, List, [], ◌∷◌, ◌++◌, length, get_or, slice_get, Some, take}
+use Rattle.std.proofs.Common.{◌≡◌, ◌∙◌, ℕ, zero, suc, ◌+◌, ◌<◌, List, [], ◌∷◌, ◌++◌, length, get_or, slice_get, Some}
+use Rattle.std.proofs.Common.{take}
 use Rattle.std.proofs.Common.{Bool, true, false, Result, Ok, Err, refl, sym, ap, subst, arith}
 use Rattle.std.specs.Prelude.{pos, None}
 use Rattle.std.proofs.lemmas.List.{map_push, take_more}
@@ -112,13 +113,18 @@ module _ (bytes : List ℕ) where
 
 -- ---- the batch of a header and of entries
 
-pub untimely : (bytes slice : List ℕ) (lists lists' : List (List Header)) (entries entries' : List Entry) (late : Bool) →
+pub untimely : (bytes slice : List ℕ) (lists lists' : List (List Header)) (entries entries' : List Entry)
+    (late : Bool) →
     slice ≡ bytes → lists' ≡ lists → entries' ≡ entries →
     late ≡ is_mistimed slice (entry_records slice lists' entries') → late ≡ true →
     answer (Err Timestamp) ≡ timed_at bytes (entry_records bytes lists entries)
 unfolding timed_at
 untimely bytes slice lists lists' entries entries' late same same_lists same_entries is late_is =
-    let late' : is_mistimed bytes (entry_records bytes lists entries) ≡ true = rw (← same, ← same_lists, ← same_entries) (sym is ∙ late_is) in
+    let late' : is_mistimed bytes (entry_records bytes lists entries) ≡ true = rw (
+      ← same,
+      ← same_lists,
+      ← same_entries,
+    ) (sym is ∙ late_is) in
     rw late' refl
 
 pub headed_ok : (bytes slice : List ℕ) (lists lists' : List (List Header)) (entries entries' : List Entry) (head : Head)

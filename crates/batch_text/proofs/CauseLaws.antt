@@ -1,5 +1,6 @@
 -- The bytes after some records, and the words on one.
-use Rattle.std.proofs.Common.{◌≡◌, ℕ, zero, suc, ◌-◌, ◌<◌, ◌==◌, false, List, ◌++◌, length, take, drop, arith, ap, subst, refl, ◌∙◌}
+use Rattle.std.proofs.Common.{◌≡◌, ℕ, zero, suc, ◌-◌, ◌<◌, ◌==◌, false, List, ◌++◌, length, take, drop, arith, ap}
+use Rattle.std.proofs.Common.{subst, refl, ◌∙◌}
 use Rattle.std.specs.Prelude.{Option, Some, None, codes}
 use Rattle.std.proofs.lemmas.List.{take_all, length-drop}
 use Rattle.wire_spec.specs.BatchReading.{record_count}

@@ -1,5 +1,6 @@
 -- Batches that are listed one after the other.
-use Rattle.std.proofs.Common.{◌≡◌, ℕ, ◌+◌, ◌≤◌, List, [], ◌∷◌, ◌++◌, length, Option, Some, None, Result, Ok, Err, refl, sym, ap}
+use Rattle.std.proofs.Common.{◌≡◌, ℕ, ◌+◌, ◌≤◌, List, [], ◌∷◌, ◌++◌, length, Option, Some, None, Result, Ok, Err, refl}
+use Rattle.std.proofs.Common.{sym, ap}
 use Rattle.std.proofs.Common.{subst, ◌∙◌, append-nil, append_assoc, arith}
 use Rattle.std.specs.Prelude.{All}
 use Rattle.std.specs.Io.KnownBytes.{Appends, Consumes, IsAtEnd}
@@ -18,7 +19,8 @@ use Rattle.batch_text.specs.Listings.{text_of, texts_of, bytes_of, Lists, IsFoun
 use Rattle.batch_text.specs.Listings.{fault_at, IsUnlisted}
 
 -- what is known after some batches
-pub record Underway (listing : Listing) (known before left after : Option (List ℕ)) (batches position : ℕ) : Type 0 where
+pub record Underway (listing : Listing) (known before left after : Option (List ℕ))
+    (batches position : ℕ) : Type 0 where
   pub done : List Batch
   pub fit : All BatchFits done
   pub taken : Consumes known left (bytes_of done)

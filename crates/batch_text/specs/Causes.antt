@@ -1,5 +1,5 @@
--- Why bytes begin with no batch, in words. The bytes are the first of those, as many as show that: a batch by its length,
--- or its header where that is refused by its length.
+-- Why bytes begin with no batch, in words. The bytes are the first of those, as many as show that: a batch by its
+-- length, or its header where that is refused by its length.
 use Rattle.std.specs.Prelude.{ℕ, zero, suc, ◌-◌, ◌/◌, ◌%◌, ℤ, pos, negsuc, Bool, true, false, ◌==◌, ◌&&◌, nat_lt}
 use Rattle.std.specs.Prelude.{if◌then◌else◌, List, ◌++◌, length, drop, Option, Some, None, Result, Ok, Err, codes}
 use Rattle.std.specs.Prelude.{decimal}
@@ -40,7 +40,8 @@ is_old bytes = nat_lt 16 (length bytes) && nat_lt (magic bytes) 2
 abbrev pub magic_cause : List ℕ → List ℕ
 magic_cause bytes =
     codes "magic " ++ (decimal (magic bytes)
-    ++ (if nat_lt (magic bytes) 2 then codes ", a message set of Kafka before 0.11" else codes ", which no Kafka writes"))
+    ++ (if nat_lt (magic bytes) 2 then codes ", a message set of Kafka before 0.11" else codes
+    ", which no Kafka writes"))
 
 -- why batchLength is below 49: the bytes are zeros, or of an older format; else the number that it is
 abbrev pub length_cause : List ℕ → List ℕ

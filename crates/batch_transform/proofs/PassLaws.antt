@@ -66,7 +66,8 @@ none_passed program bytes start count zero is = record {
 }
 
 pub one_passed : (program : Program) (bytes : List ℕ) (start : Stream) (rest : List ℕ) (count : ℕ) (old : Stream)
-    (left : List ℕ) (new : Stream) → HavePassed program bytes start rest count old → TakesOne program rest old left new →
+    (left : List ℕ) (new : Stream) → HavePassed program bytes start rest count old →
+    TakesOne program rest old left new →
     HavePassed program bytes start left (count + 1) new
 one_passed program bytes start rest count old left new so_far one = record {
   batches = so_far.batches ++ one.batch ∷ [];

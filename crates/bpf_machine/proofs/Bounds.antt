@@ -18,7 +18,8 @@ use Rattle.machine_spec.specs.declared.instruction.Instruction.TheVariants.{Jump
 use Rattle.machine_spec.specs.Arithmetic.{signed}
 use Rattle.machine_spec.specs.Values.{Value, Nothing, Number, Address, Registers, operand, moved_value, moves_address}
 use Rattle.machine_spec.specs.Values.{is_subtraction, displacement, result_of, changed_value, is_taken, extended_value}
-use Rattle.machine_spec.specs.Image.{Program, helpers_of, slot_count, slot_after, first_slots_from, first_slots, is_first_slot}
+use Rattle.machine_spec.specs.Image.{Program, helpers_of, slot_count, slot_after, first_slots_from, first_slots}
+use Rattle.machine_spec.specs.Image.{is_first_slot}
 use Rattle.machine_spec.specs.Image.{jump_target, distance_of}
 use Rattle.machine_spec.specs.Machine.{Input, State, Access, with_register, entry_register, value_loaded, helper_of}
 use Rattle.machine_spec.specs.Machine.{effect_of, after_call, state_after_call, slot_after_jump, state_after}
@@ -92,7 +93,8 @@ module _ (program : Program) (input : Input) (s : State) (within : s.slot < slot
       goes_if (is_taken width test (s.registers dst) (operand width s.registers source)) offset free.jump
   goes_further (Jump distance) other free = goes_landing (distance_of distance) (not-false _ free.jump)
   goes_further (Wide a b) other free = (omega arith, omega arith)
-  goes_further (Call number) other free = goes_called (helper_of number) (is_helper (helpers_of program.table) number free.helper)
+  goes_further (Call number) other free = goes_called (helper_of number)
+      (is_helper (helpers_of program.table) number free.helper)
   goes_further Exit other free = absurd (other refl)
 
 -- ---- addresses

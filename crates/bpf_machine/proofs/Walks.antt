@@ -1,6 +1,7 @@
 -- A walk over the first slots of an image, and bytes written one after the other.
 use Rattle.std.proofs.Common.{◌≡◌, ◌≢◌, ℕ, zero, suc, ◌+◌, ◌-◌, ◌<◌, ◌≤◌, Bool, true, false, ◌&&◌, ◌||◌, nat_lt, nat_le}
-use Rattle.std.proofs.Common.{◌==◌, List, length, slice_set, replicate, Option, Some, refl, sym, ap, ◌∙◌, subst, ⊎_elim, arith}
+use Rattle.std.proofs.Common.{◌==◌, List, length, slice_set, replicate, Option, Some, refl, sym, ap, ◌∙◌, subst, ⊎_elim}
+use Rattle.std.proofs.Common.{arith}
 use Rattle.std.specs.Prelude.{slice_get, option_and_then, slice_index, unwrap_or}
 use Rattle.std.specs.List.{list_any}
 use Rattle.std.proofs.Math.Bool.{or-false}
@@ -55,7 +56,8 @@ module _ (image : List ℕ) (target : ℕ) where
 
   -- where a walk does not come to a slot any more, it is marked if it is a first slot
   pub marks_all : (marks : List Bool) (steps slot : ℕ) → comes steps slot ≡ false
-      → marked_or_comes marks steps slot ≡ is_first_slot image target → is_marked marks target ≡ is_first_slot image target
+      → marked_or_comes marks steps slot ≡ is_first_slot image target →
+      is_marked marks target ≡ is_first_slot image target
   marks_all marks steps slot past is =
       sym (ap (λ b. is_marked marks target || b) past ∙ or-false (is_marked marks target)) ∙ is
 

@@ -68,7 +68,8 @@ same_refusal table live name is =
     (same_length table live is)
     ∙ ap (λ (n : ℕ). first_refusal (has_name table name) (length table) n name) (same_count table live name is))
 
-pub refused_alike : (table : ProgramTable) (live : LiveTable) (name : List ℕ) (program : Program) (first : Option Refusal) →
+pub refused_alike : (table : ProgramTable) (live : LiveTable) (name : List ℕ) (program : Program)
+    (first : Option Refusal) →
     IsLive table live → IsLiveRefusal live name program first → IsLoadRefusal table name program first
 refused_alike table live name program first is h =
     subst (λ (early : Option Refusal). IsFirstRefusal early program first) (same_refusal table live name is) h
@@ -79,7 +80,8 @@ next_number table live name is = ap (λ (n : ℕ). n + 1) (same_count table live
 
 -- ---- what a load leaves
 
-in_place : (entry : Entry) (version : Version) (table : ProgramTable) (live : LiveTable) (name : List ℕ) (program : Program)
+in_place : (entry : Entry) (version : Version) (table : ProgramTable) (live : LiveTable)
+    (name : List ℕ) (program : Program)
     (number : ℕ) → bytes_eq entry.name name ≡ true
     → IsLast entry version → IsLive table live → number ≡ length (programs_of (entry ∷ table) name) + 1
     → IsLive (with_program (entry ∷ table) name program)
@@ -93,7 +95,8 @@ in_place entry version table live name program number f last rest e =
     omega (arith, count, length-append entry.programs (program ∷ [])) in
     rw (f, same) (record { name_is = named; number_is = longer; earlier = entry.programs; program_is = refl }, rest)
 
-further : (entry : Entry) (version : Version) (table : ProgramTable) (live : LiveTable) (name : List ℕ) (program : Program)
+further : (entry : Entry) (version : Version) (table : ProgramTable) (live : LiveTable)
+    (name : List ℕ) (program : Program)
     (number : ℕ) → bytes_eq entry.name name ≡ false
     → IsLast entry version → number ≡ length (programs_of (entry ∷ table) name) + 1
     → (number ≡ length (programs_of table name) + 1 →

@@ -36,7 +36,8 @@ pub disassembled : {X : Type 0} (view : X → List ℕ) (answer : Result X Refus
 disassembled view (Ok text) said status before after is told =
     subst (λ (r : Result (List ℕ) Refused). PrintsAs (λ (t : List ℕ). t) r status before after) (sym is) told
 disassembled view (Err (refused.Image fault)) said status before after is told =
-    subst (λ (r : Result (List ℕ) Refused). PrintsAs (λ (t : List ℕ). t) r status before after) (sym (is (λ e. cc))) told
+    subst (λ (r : Result (List ℕ) Refused). PrintsAs (λ (t : List ℕ). t) r status before after)
+    (sym (is (λ e. cc))) told
 disassembled view (Err refused.Memory) said status before after is (inl is_failed) =
     failed said status before after is_failed
 disassembled view (Err refused.Memory) said status before after is (inr (same, kept)) =

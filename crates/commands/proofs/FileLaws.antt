@@ -1,5 +1,6 @@
 -- What the files of a transform have.
-use Rattle.std.proofs.Common.{◌≡◌, ◌≢◌, ◌⊎◌, ℕ, ◌+◌, ◌<◌, ◌≤◌, Bool, true, false, List, [], ◌∷◌, ◌++◌, length, Option, Some, None}
+use Rattle.std.proofs.Common.{◌≡◌, ◌≢◌, ◌⊎◌, ℕ, ◌+◌, ◌<◌, ◌≤◌, Bool, true, false, List, [], ◌∷◌, ◌++◌, length, Option}
+use Rattle.std.proofs.Common.{Some, None}
 use Rattle.std.proofs.Common.{Result, Ok, Err, refl, sym, ap, subst, inl, inr, ⊎_elim, ◌∙◌, arith}
 use Rattle.std.specs.Prelude.{◌-◌, All, IfSome, string_bytes}
 use Rattle.std.specs.declared.string.String.{String}
@@ -30,7 +31,8 @@ use Rattle.commands.specs.declared.status.Status.{Status}
 use Rattle.commands.specs.declared.status.Status.TheVariants.{Failed}
 use Rattle.command_line.specs.Calls.{names_of, AreDistinct}
 use Rattle.commands.specs.FileTransforms.{KeepsOthers, HasRows, IsFresh, HasWritten, HaveWritten, StreamsAs}
-use Rattle.commands.specs.FileTransforms.{Overfills, TransformsAs, CallTransforms, IsUnloaded, status_of, status_of_halt}
+use Rattle.commands.specs.FileTransforms.{Overfills, TransformsAs, CallTransforms, IsUnloaded, status_of}
+use Rattle.commands.specs.FileTransforms.{status_of_halt}
 use Rattle.commands.specs.Images.{first_bytes}
 use Rattle.commands.specs.Listings.{source_of}
 
@@ -97,7 +99,8 @@ held_more names before after index done last distinct is earlier now kept output
         let at : output_at (done ++ last ∷ []) output ≡ last =
         get_or_push done last (outflow None (waiting 0 [])) output (omega (arith, same, is)) in
         subst (λ (o : Outflow). HasWritten o (after (word_at names (output + 2)))) (sym at)
-        (subst (λ (k : ℕ). k + 2 < length names → HasWritten last (after (word_at names (k + 2)))) (sym same) now within)
+        (subst (λ (k : ℕ). k + 2 < length names → HasWritten last (after (word_at names (k + 2))))
+        (sym same) now within)
 
 -- ---- What a file has of rows
 
@@ -181,8 +184,12 @@ all_broken program batches fresh now output why files law new broken stops held 
         × FillsSome rows (output_at fresh q) (output_at now q)
     here is =
         subst (λ (k : ℕ). (rows : List Row) × AreRows 0 k (length fresh) program 0 batches rows
-        × FillsSome rows (output_at fresh k) (output_at now k)) (sym is)
-        (broken.here.0, broken.here.1, stops broken.here.0 (output_at fresh output) (output_at now output) broken.here.2)
+        × FillsSome rows (output_at fresh k) (output_at now k)) (sym is) (
+          broken.here.0,
+          broken.here.1,
+          stops broken.here.0 (output_at fresh output)
+              (output_at now output) broken.here.2,
+        )
 
     there : q ≢ output → (rows : List Row) × AreRows 0 q (length fresh) program 0 batches rows
         × FillsSome rows (output_at fresh q) (output_at now q)
@@ -201,7 +208,8 @@ overfills : (program : Program) (batches : List Batch) (fresh now : List Outflow
 overfills program batches fresh now output law new broken =
     let rows = broken.here.0 in
     let many : IsTooMany (with_rows (waiting 0 []) rows) =
-    subst (λ (o : Outflow). IsTooMany (with_rows o.waits rows)) (fresh_at fresh output new broken.within) broken.here.2.0
+    subst (λ (o : Outflow). IsTooMany (with_rows o.waits rows)) (fresh_at fresh output new broken.within)
+    broken.here.2.0
     in (
       broken.within,
       rows,
@@ -334,7 +342,8 @@ pub called : (table : Table) (names : List (List ℕ)) (stdin : Option (List ℕ
     (AreDistinct names → (bytes : List ℕ) → source_of (word_at names 1) stdin (mid (word_at names 1)) ≡ Some bytes →
     StreamsAs program bytes (length names - 2) status (λ output. after (word_at names (output + 2)))) →
     CallTransforms table names stdin before after status
-called table names stdin before mid after status program first is loaded kept streams distinct image bytes known source =
+called table names stdin before mid after status program first is loaded kept streams distinct
+    image bytes known source =
     let image_is : before first ≡ Some image =
     subst (λ (n : List ℕ). before n ≡ Some image) (sym is) known in
     let source_is : source_of (word_at names 1) stdin (mid (word_at names 1)) ≡ Some bytes =

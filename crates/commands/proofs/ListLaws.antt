@@ -22,7 +22,8 @@ listed_kept listing bytes batches rest before mid after is keeps = record {
   written = Appends-kept before mid after (texts_of listing 0 batches) is.written keeps;
 }
 
-kept : (listing : Listing) (bytes : List ℕ) (before mid after : Option (List ℕ)) (result : Result (Unit {0}) ListFault) →
+kept : (listing : Listing) (bytes : List ℕ) (before mid after : Option (List ℕ))
+    (result : Result (Unit {0}) ListFault) →
     ListsKnown listing bytes before result mid → Keeps mid after → ListsKnown listing bytes before result after
 kept listing bytes before mid after (Ok done) is keeps =
     (is.0, listed_kept listing bytes is.0 [] before mid after is.1 keeps)

@@ -86,7 +86,8 @@ appended (Some xs) (Some ys) (Some zs) text more first second =
     second ∙ ap (λ (front : List ℕ). front ++ more) first ∙ append_assoc xs text more
 
 -- a file whose known bytes are the same is read as the same image
-same_image : (files now : List ℕ → Option (List ℕ)) → ((name : List ℕ) → now name ≡ files name) → (file image : List ℕ) →
+same_image : (files now : List ℕ → Option (List ℕ)) → ((name : List ℕ) → now name ≡ files name) →
+    (file image : List ℕ) →
     IsImageIn now (File file) image → IsImageIn files (File file) image
 same_image files now kept file image held = λ bytes known. held bytes (kept file ∙ known)
 

@@ -34,8 +34,8 @@ use Rattle.commands.specs.Stops as stops
 
 -- ---- what a file has
 
--- the rows that a program gives to an output partition of batches, one after the other: those of the log of the program's
--- mark and the batches
+-- the rows that a program gives to an output partition of batches, one after the other: those of the log of the
+-- program's mark and the batches
 abbrev pub AreRows : Program → List Batch → ℕ → ℕ → List Row → Type 0
 AreRows program batches outputs output rows = (name : List ℕ) (version : ℕ) →
     IsRowsOf 0 output outputs (log_of name version program batches) (1 + length batches) rows
@@ -70,9 +70,9 @@ abbrev pub Overfills : Program → List Batch → ℕ → ℕ → Type 0
 Overfills program batches outputs output = (output < outputs) × (rows : List Row)
     × AreRows program batches outputs output rows × (2 ^ 63 < length rows)
 
--- Why a program is run on no more batches, at the bytes that are left: none are; or they begin with no batch, and why; or
--- offsets are used up, those of the input partition or of an output partition. Nothing is said where a file or memory
--- failed.
+-- Why a program is run on no more batches, at the bytes that are left: none are; or they begin with no batch, and why;
+-- or offsets are used up, those of the input partition or of an output partition. Nothing is said where a file or
+-- memory failed.
 abbrev pub EndsAt : Program → List Batch → ℕ → Result (Unit {0}) StreamFault → List ℕ → Type 0
 EndsAt program batches outputs (Ok done) rest = rest ≡ []
 EndsAt program batches outputs (Err (fault.Read (read.Batch why))) rest = BeginsBadly (Some rest) why

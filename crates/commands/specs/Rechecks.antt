@@ -67,8 +67,8 @@ pub record IsTold (files : List ℕ → Option (List ℕ)) (line : List ℕ) (to
   pub image : IsImageIn files (File told.file) told.program.image
   pub verdict : IsVerdict told.program told.verdict
 
--- What is told of a program of a file, answered by whether it is refused, or by why nothing could be told. Nothing is said
--- of what was printed where standard output or memory failed.
+-- What is told of a program of a file, answered by whether it is refused, or by why nothing could be told. Nothing is
+-- said of what was printed where standard output or memory failed.
 abbrev pub ImageTells : List ℕ → Program → Option (List ℕ) → Option (List ℕ) → Result Bool Stop → Type 0
 ImageTells file program before after (Ok refused) = (verdict : Result ℕ LoadFault) × IsVerdict program verdict
     × (refused ≡ is_err verdict) × Appends before after (verdict_line file verdict)

@@ -6,7 +6,8 @@ use Rattle.explain.specs.Meetings.{after_step, step, lost_within}
 
 module _ (table : Table) (code : List Placed) (claims : Claims) (r : ℕ) where
   next_within : (left more j : ℕ) → left ≡ suc more →
-      lost_within table code claims r left j ≡ after_step (lost_within table code claims r more) (step table code claims r j)
+      lost_within table code claims r left j ≡ after_step (lost_within table code claims r more)
+      (step table code claims r j)
   unfolding lost_within
   next_within left more j e = ap (λ (n : ℕ). lost_within table code claims r n j) e
 
@@ -23,4 +24,5 @@ module _ (table : Table) (code : List Placed) (claims : Claims) (r : ℕ) where
   none_left total n j past = nothing_left (total - n) j (omega arith)
 
   pub all_left : (total j : ℕ) → lost_within table code claims r (total - 0) j ≡ lost_within table code claims r total j
-  all_left total j = ap (λ (n : ℕ). lost_within table code claims r n j) (let all : total - 0 ≡ total = omega arith in all)
+  all_left total j = ap (λ (n : ℕ). lost_within table code claims r n j)
+      (let all : total - 0 ≡ total = omega arith in all)

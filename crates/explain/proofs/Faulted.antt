@@ -132,7 +132,8 @@ rows_reasoned : (helpers : List Helper) (code : List Placed) (claims : Claims) (
     kind ≢ Check.Notes → is_some (reason_of placed known kind) ≡ true
 rows_reasoned helpers code claims k placed None kind proper e other = elim
     (either (shape_checks code k placed) [] kind e) [
-      | inl shape ↦ first_reasoned (shape_reason placed) (shape_checks code k placed) kind (shape_reasoned code k placed)
+      | inl shape ↦ first_reasoned (shape_reason placed) (shape_checks code k placed) kind
+          (shape_reasoned code k placed)
           shape
       | inr none ↦ absurd (none-some kind none)
     ]
@@ -151,7 +152,8 @@ rows_reasoned helpers code claims k placed (Some s) kind proper e other =
 
 -- ---- the fault of a code
 
-module _ (helpers : List Helper) (code : List Placed) (claims : Claims) (proper : (k : ℕ) (s : Abstract) → k < length code →
+module _ (helpers : List Helper) (code : List Placed) (claims : Claims)
+    (proper : (k : ℕ) (s : Abstract) → k < length code →
     claim_at claims k ≡ Some s → is_proper s ≡ true) where
   at_reasoned : (k : ℕ) (placed : Placed) (kind : Check) → slice_get code k ≡ Some placed →
       failed_at helpers code claims k placed ≡ Some kind → kind ≢ Check.Notes →
@@ -229,7 +231,8 @@ module _ (program : Program) (code : List Placed) (f : VerifyFault) where
       let fault = code_fault_is read refused.fault_is in
       let some : 0 < length code = number_below code 0 0 (number_of_zero program.image code of) in
       code_reasoned helpers code (joined_states helpers code) (λ k s below is. proper k s below
-      (sym (claim_joined helpers code k below) ∙ is)) f fault (fault_is_other helpers program.image code of f some fault)
+      (sym (claim_joined helpers code k below) ∙ is)) f fault
+      (fault_is_other helpers program.image code of f some fault)
 
 -- ---- where it is
 

@@ -102,7 +102,8 @@ operand_wrong s width operation dst source (Abs.Num low high) is e = source_miss
 operand_wrong s width operation dst source (Abs.Len region) is e = source_missing s width source (ap not e)
 operand_wrong s width operation dst source (Abs.Addr region low high) is e =
     elim (cases_Bool (moves_address width operation)) [
-      | inl moved ↦ ap is_some (cond-true (moves_address width operation) _ _ moved) ∙ moves s width operation dst source
+      | inl moved ↦ ap is_some (cond-true (moves_address width operation) _ _ moved)
+          ∙ moves s width operation dst source
       | inr other ↦ ap is_some (cond-false (moves_address width operation) _ _ other)
           ∙ number_missing s dst (ap (λ (k : Abs). not (is_number_kind k)) is)
     ]

@@ -60,7 +60,8 @@ listed_next : (n : ℕ) → Some (n + 1) ≡ listed_count (n + 1)
 listed_next n = rw (add-one) refl
 
 pub rejected_more : (fates : List Fate) (r u k code : ℕ) (old new : List (ℕ × ℕ)) → AreCounts fates (totals r u k old) →
-    IsSet code (Some (unwrap_or (rejected_by code old) 0 + 1)) old new → AreCounts (fates ++ Rejected code ∷ []) (totals (r + 1) u k new)
+    IsSet code (Some (unwrap_or (rejected_by code old) 0 + 1)) old new → AreCounts (fates ++ Rejected code ∷ [])
+    (totals (r + 1) u k new)
 rejected_more fates r u k code old new h more = record {
   records_are = omega (arith, h.records_are, length_push fates (Rejected code));
   unprogrammed_are = omega (arith, h.unprogrammed_are, counted_no is_unprogrammed fates (Rejected code) refl);

@@ -157,7 +157,8 @@ module _ (run : BatchRun) (offset : ℕ) where
   run_then given others one two three were are sum before after = record {
     rows = adds_then run.first one two three (Rows offset given) (Rows (offset + length given) others)
         (Rows offset (given ++ others)) before.rows after.rows
-        (λ output here later h is. rows_joined input outputs (program_in run) batch offset output given others here later
+        (λ output here later h is. rows_joined input outputs (program_in run) batch offset
+        output given others here later
         h is);
     fates = before.fates ++ after.fates;
     fates_are = fates_joined input outputs (program_in run) batch offset given others before.fates after.fates
@@ -307,11 +308,13 @@ meant_run run offset program given outcomes old new were are same meant adds mor
       rows = adds_as run.first old new (λ output here. here ≡ rows_of_each output
           (places_from input outputs batch offset given) outcomes)
           (λ output here. IsRecordsRows input output outputs (program_in run) batch offset given here) adds
-          (λ output here is. subst (λ (p : Option Program). IsRecordsRows input output outputs p batch offset given here)
+          (λ output here is. subst (λ (p : Option Program). IsRecordsRows input output outputs
+          p batch offset given here)
           (sym same) (subst (λ (rs : List Row). IsRecordsRows input output outputs (Some program) batch offset given rs)
           (sym is) (rows_meant input outputs program batch output offset given outcomes meant)));
       fates = map fate_of outcomes;
-      fates_are = subst (λ (p : Option Program). AreRecordsFates input outputs p batch offset given (map fate_of outcomes))
+      fates_are = subst (λ (p : Option Program). AreRecordsFates input outputs p batch offset
+          given (map fate_of outcomes))
           (sym same) (fates_meant input outputs program batch offset given outcomes meant);
       counts = more;
     }

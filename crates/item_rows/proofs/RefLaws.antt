@@ -1,5 +1,6 @@
 -- Rows whose parts stay where they are: one more of them.
-use Rattle.std.proofs.Common.{◌≡◌, ℕ, zero, suc, ◌+◌, ◌<◌, ◌≤◌, List, [], ◌∷◌, ◌++◌, length, get_or, slice_get, Option, Some}
+use Rattle.std.proofs.Common.{◌≡◌, ℕ, zero, suc, ◌+◌, ◌<◌, ◌≤◌, List, [], ◌∷◌, ◌++◌, length, get_or, slice_get, Option}
+use Rattle.std.proofs.Common.{Some}
 use Rattle.std.proofs.Common.{None, take, refl, sym, ap, subst, ◌∙◌, arith}
 use Rattle.std.proofs.lemmas.Option.{get_or_from_slice_get}
 use Rattle.std.proofs.lemmas.List.{map-append, get_or_append_left, get_or-append-add, length-map, take_more}
@@ -94,7 +95,8 @@ made_more made slots slot emission row all last is =
 -- ---- the rows of the first slots
 
 -- one slot more, whose row is added at the end
-pub one_taken : (made : List Emission) (slots : List Slot) (index : ℕ) (rows more : List Row) (slot : Slot) (row : Row) →
+pub one_taken : (made : List Emission) (slots : List Slot) (index : ℕ) (rows more : List Row)
+    (slot : Slot) (row : Row) →
     rows ≡ take index (rows_by made slots) → index < length slots → slot ≡ get_or slots index slot →
     row ≡ row_in made slot → more ≡ rows ++ row ∷ [] → more ≡ take (index + 1) (rows_by made slots)
 one_taken made slots index rows more slot row are lt is row_is more_is =

@@ -1,5 +1,6 @@
 -- Some records of a batch, one after the other.
-use Rattle.std.specs.Prelude.{◌≡◌, ℕ, ◌+◌, ◌-◌, ◌<◌, ◌≤◌, ◌^◌, List, [], ◌∷◌, ◌++◌, length, take, drop, Option, option_map}
+use Rattle.std.specs.Prelude.{◌≡◌, ℕ, ◌+◌, ◌-◌, ◌<◌, ◌≤◌, ◌^◌, List, [], ◌∷◌, ◌++◌, length, take, drop, Option}
+use Rattle.std.specs.Prelude.{option_map}
 use Rattle.std.specs.List.{AllByRecursion}
 use Rattle.wire_spec.specs.declared.{limits.TheConstants.TIMESTAMP_END, record.Record.Record, record.Batch.Batch}
 use Rattle.machine_spec.specs.declared.{outcome.Outcome.Outcome, outcome.Place.Place}
@@ -58,6 +59,7 @@ pub record HaveRun (run : BatchRun) (offset : ℕ) (given : List Record) (old ne
   pub rows : Adds run.first old new (λ output here. IsRecordsRows run.origin.now.input output run.origin.now.outputs
       (program_in run) run.batch.now offset given here)
   pub fates : List Fate
-  pub fates_are : AreRecordsFates run.origin.now.input run.origin.now.outputs (program_in run) run.batch.now offset given
+  pub fates_are : AreRecordsFates run.origin.now.input run.origin.now.outputs (program_in run)
+      run.batch.now offset given
       fates
   pub counts : AreFatesMore fates were are

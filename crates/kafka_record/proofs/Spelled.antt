@@ -61,7 +61,9 @@ pub parts_in : (slice bytes : List ℕ) (start a b c end : ℕ) (key value : Opt
 parts_in slice bytes start a b c end key value n m hs same number fits k v count counted low high =
     parts_are bytes start a b c end (option_map (extent_bytes bytes) key) (option_map (extent_bytes bytes) value) n hs
     (subst IsBytes same fits)
-    (subst (λ (s : List ℕ). nullable_at MAX_KEY (drop start s) ≡ Some (option_map (extent_bytes s) key, drop a s)) same k)
-    (subst (λ (s : List ℕ). nullable_at MAX_VALUE (drop a s) ≡ Some (option_map (extent_bytes s) value, drop b s)) same v)
+    (subst (λ (s : List ℕ). nullable_at MAX_KEY (drop start s) ≡ Some (option_map (extent_bytes s) key, drop a s))
+    same k)
+    (subst (λ (s : List ℕ). nullable_at MAX_VALUE (drop a s) ≡ Some (option_map (extent_bytes s) value, drop b s))
+    same v)
     (subst (λ (s : List ℕ). varint_at (drop b s) ≡ Some (n, drop c s)) same count)
     (subst (λ (z : ℤ). counted_at z (drop c bytes) ≡ Some (hs, drop end bytes)) number counted) low high

@@ -44,7 +44,8 @@ spelled_is time time' delta delta' t d old a b new parts same_time same_delta t_
       length-append (varint delta') parts,
       length-append (varlong time') (varint delta' ++ parts),
     ) in
-    let row : new ≡ ((old ++ varint (pos (1 + t + d + length parts))) ++ 0 ∷ (varlong time' ++ varint delta')) ++ parts =
+    let row : new ≡ ((old ++ varint (pos (1 + t + d + length parts))) ++ 0 ∷ (varlong time' ++ varint delta'))
+    ++ parts =
     cc in
     row ∙ rw (long, same_time, same_delta) (simp append_assoc)
 

@@ -113,7 +113,8 @@ ran (Some program) (Some headers) asked key value (Ok given) before after (suc n
   λ memory kind. absurd (kind (runs.1 memory).0),
   λ kind. (runs.1 (λ e. omega (arith, e, kind))).1,
 )
-ran (Some program) (Some headers) asked key value (Err fault) before after zero gives runs = absurd (gives.0 (sym runs.1))
+ran (Some program) (Some headers) asked key value (Err fault) before after zero gives
+    runs = absurd (gives.0 (sym runs.1))
 ran (Some program) (Some headers) asked key value (Err fault) before after (suc number) gives runs = (
   runs.0,
   λ memory kind. runs.1 ∙ gives.1 (λ e. memory (runs.1 ∙ e)),

@@ -54,7 +54,8 @@ number_is (stop.Batch why) = batch_is why
 number_is stop.Full = (omega arith, λ e. omega (arith, e))
 number_is stop.Memory = (omega arith, λ e. omega (arith, e))
 
-faulted : (program : Program) (source : Source) (bytes : List ℕ) (before : Option Object) (told : Stopped) (number : ℕ) →
+faulted : (program : Program) (source : Source) (bytes : List ℕ) (before : Option Object)
+    (told : Stopped) (number : ℕ) →
     0 < number → (number ≡ KIND → ⊥) → (number ≢ MEMORY → IsStop source bytes told number) →
     TransformsSource program source bytes before before told number
 faulted program source bytes before told zero some kind why = absurd (omega (arith, some))

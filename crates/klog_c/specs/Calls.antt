@@ -1,7 +1,8 @@
 -- What the calls of C's answer. A number is 0 where the call did its work.
 use Rattle.std.specs.Prelude.{◌≡◌, ◌≢◌, ℕ, zero, suc, ◌%◌, pos, Bool, true, false}
 use Rattle.std.specs.Prelude.{not, ◌&&◌, ◌==◌, nat_le, nat_lt, if◌then◌else◌}
-use Rattle.std.specs.Prelude.{List, [], ◌∷◌, ◌++◌, length, Option, Some, None, option_map, is_none, Result, Ok, Err, string_bytes}
+use Rattle.std.specs.Prelude.{List, [], ◌∷◌, ◌++◌, length, Option, Some, None, option_map, is_none, Result, Ok, Err}
+use Rattle.std.specs.Prelude.{string_bytes}
 use Rattle.wire_spec.specs.declared.{record.Header.Header, record.Record.Record}
 use Rattle.wire_spec.specs.declared.limits.TheConstants.{MAX_KEY, MAX_VALUE, TIMESTAMP_END}
 use Rattle.wire_spec.specs.RecordSpelling.{RecordFits}

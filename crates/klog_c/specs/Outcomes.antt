@@ -34,7 +34,8 @@ CopiesAt part (Some outcome) at before after number = CopiesPart part (emission_
 -- contains no outcome
 abbrev pub TellsHeader : Option Outcome → ℕ → ℕ → HeaderTold → ℕ → Type 0
 TellsHeader None at header told number = number ≡ KIND
-TellsHeader (Some outcome) at header told number = TellsOneHeader (header_at (emission_at outcome at) header) told number
+TellsHeader (Some outcome) at header told number = TellsOneHeader (header_at (emission_at outcome at) header)
+    told number
 
 -- a part of a header of an emission, by their numbers; a null value has no bytes
 abbrev pub CopiesHeader :

@@ -4,7 +4,8 @@ use Rattle.std.specs.Prelude.{slice_get, Option, Some, None}
 use Rattle.std.specs.Prelude.{Result, Ok, Err, IsSome, unsigned_abs}
 use Rattle.machine_spec.specs.declared.{instruction.Instruction.Instruction, instruction.Placed.Placed}
 use Rattle.wire_spec.specs.declared.record.Record.{Record}
-use Rattle.machine_spec.specs.declared.{outcome.Outcome.Outcome, outcome.Place.Place, helper.Argument.Argument, summary.Summary.Summary}
+use Rattle.machine_spec.specs.declared.{outcome.Outcome.Outcome, outcome.Place.Place, helper.Argument.Argument}
+use Rattle.machine_spec.specs.declared.{summary.Summary.Summary}
 use Rattle.machine_spec.specs.declared.summary.Direction.TheVariants.{Read, Write}
 use Rattle.machine_spec.specs.Values.{Registers}
 use Rattle.machine_spec.specs.Summaries.{summary_of}

@@ -409,7 +409,8 @@ jumps =
     ∷ []
 
 abbrev jumped : ℕ → List (Option End)
-jumped opcode = map (λ number. run 9 (program_of (jump_over opcode number) One) (of_value (Some (7 ∷ 8 ∷ 9 ∷ [])))) (2 ∷ 3 ∷ 4 ∷ [])
+jumped opcode = map (λ number. run 9 (program_of (jump_over opcode number) One) (of_value (Some (7 ∷ 8 ∷ 9 ∷ []))))
+    (2 ∷ 3 ∷ 4 ∷ [])
 
 jumps_hold : map (λ row. jumped row.0) jumps ≡ map (λ row. map Some row.1) jumps
 unfolding read_slot read_fields template_of is_left_out first_slots trap_at state_after

@@ -10,7 +10,8 @@ use Rattle.log_spec.specs.declared.event.Refusal.{Refusal}
 use Rattle.log_spec.specs.declared.event.Refusal.TheVariants as refusal
 use Rattle.std.specs.Arc.{arc_value}
 use Rattle.std.specs.Str.{bytes_eq}
-use Rattle.log_spec.specs.Catalogue.{ProgramTable, programs_of, program_named, with_program, has_name, is_name, name_refusal}
+use Rattle.log_spec.specs.Catalogue.{ProgramTable, programs_of, program_named, with_program, has_name, is_name}
+use Rattle.log_spec.specs.Catalogue.{name_refusal}
 use Rattle.log_spec.specs.Catalogue.{IsProgramRefusal, IsFirstRefusal, IsLoadRefusal, Entry as Loaded}
 use Rattle.program_table.specs.declared.table.Entry.{Entry}
 use Rattle.program_table.specs.Tables.{entry_view, table_view, version_of}
@@ -65,7 +66,8 @@ with_program-found (entry ∷ entries) (suc i) d changed name program lt h e sam
     rw p.0 (ap (λ (rest : ProgramTable). entry_view entry ∷ rest)
     (with_program-found entries i d changed name program below p.1 e same more))
 
-pub programs_of-absent : (table : ProgramTable) (name : List ℕ) → has_name table name ≡ false → programs_of table name ≡ []
+pub programs_of-absent : (table : ProgramTable) (name : List ℕ) → has_name table name ≡ false →
+    programs_of table name ≡ []
 programs_of-absent [] name h = refl
 programs_of-absent (entry ∷ table) name h =
     let p = or_false (bytes_eq entry.name name) (has_name table name) h in
@@ -106,7 +108,8 @@ refusal_full table name form new le =
     let full : nat_le 64 (length table) ≡ true = grind (arith, nat_tests) in
     rw (form, new, full) refl
 
-refusal_form : (table : ProgramTable) (name : List ℕ) → is_name name ≡ false → name_refusal table name ≡ Some refusal.Name
+refusal_form : (table : ProgramTable) (name : List ℕ) → is_name name ≡ false →
+    name_refusal table name ≡ Some refusal.Name
 refusal_form table name form = rw form refl
 
 -- a refusal before the image is read is the load's

@@ -46,7 +46,8 @@ module _ (base : ℕ) (rows : List Row) (count latest : ℕ) (old out new : List
       omega (arith, ap length put.0, length-append out (record_spelling (pos count) (record_of base row))) in
       record {
         up_to = subst (λ (n : ℕ). UpTo base rows (count + 1) n (max latest row.timestamp)) long
-            (next_up_to base rows count (length out) latest (length (record_spelling (pos count) (record_of base row))) row
+            (next_up_to base rows count (length out) latest (length (record_spelling (pos count) (record_of base row)))
+            row
             so_far.up_to lt is refl (omega (arith, long, put.1)) time);
         put_are = row_written base rows count row old out new lt is so_far.put_are put.0;
       }
@@ -60,7 +61,8 @@ module _ (base : ℕ) (rows : List Row) (count latest : ℕ) (old out new : List
     put_are = put.0 ∙ so_far.put_are;
   }
 
-pub all_put : (base : ℕ) (rows : List Row) (count latest : ℕ) (old out : List ℕ) → SoFar base rows count latest old out →
+pub all_put : (base : ℕ) (rows : List Row) (count latest : ℕ) (old out : List ℕ) →
+    SoFar base rows count latest old out →
     count ≡ length rows → HasPut base rows count latest old out
 all_put base rows count latest old out so_far whole = record {
   measured = ends_after base rows count (length out) latest so_far.up_to whole;

@@ -238,7 +238,8 @@ next_latest base rows count latest row lt is so_far =
     sym (ap greatest more ∙ (top ∙ (ap (int_max (pos latest)) (stamp_again base row.timestamp)
     ∙ later latest row.timestamp)))
 
-module _ (base : ℕ) (rows : List Row) (count size latest len : ℕ) (row : Row) (so_far : UpTo base rows count size latest)
+module _ (base : ℕ) (rows : List Row) (count size latest len : ℕ) (row : Row)
+    (so_far : UpTo base rows count size latest)
     (lt : count < length rows) (is : row ≡ get_or rows count row)
     (len_is : len ≡ length (record_spelling (pos count) (record_of base row))) where
   grown : size + len ≡ size_with (map (record_of base) (take (count + 1) rows))
@@ -323,7 +324,8 @@ based place base rows = record {
 -- the bytes that were written are those of the batch
 pub written_is : (place : ℕ) (rows : List Row) (count size latest : ℕ) (g : ℤ) (n : ℕ) (begun written all : List ℕ) →
     1 ≤ count → IsMeasured (first_timestamp rows) rows count size latest → g ≡ pos latest → n ≡ count →
-    begun ≡ front_of (head_of place (first_timestamp rows)) size ++ header_of (head_of place (first_timestamp rows)) g n →
+    begun ≡ front_of (head_of place (first_timestamp rows)) size ++ header_of (head_of place (first_timestamp rows))
+    g n →
     written ≡ begun ++ records_spelling 0 (map (record_of (first_timestamp rows)) (take count rows)) →
     all ≡ take 17 written ++ (to_be_bytes w32 (checksum (drop 21 written)) ++ drop 21 written) →
     all ≡ batch_spelling (batch_of place (take count rows))

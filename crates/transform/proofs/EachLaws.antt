@@ -30,7 +30,8 @@ module _ (Holds : ℕ → Outflow → Outflow → Type 0) where
     where
       earlier : (q : ℕ) → q < length old → q < n → Holds q (output_at old q) (output_at new q)
       earlier q lt before =
-          subst (Holds q (output_at old q)) (sym (one.others q (omega (arith, first.count)) (λ e. omega (arith, e, before))))
+          subst (Holds q (output_at old q)) (sym (one.others q (omega (arith, first.count))
+          (λ e. omega (arith, e, before))))
           (first.done q lt before)
 
       now : (q : ℕ) → q < length old → q ≡ n → Holds q (output_at old q) (output_at new q)
@@ -56,7 +57,8 @@ module _ (Holds : ℕ → Outflow → Outflow → Type 0) where
         let stays : output_at new q ≡ output_at mid q = one.others q (omega (arith, first.count, lt)) not in
         subst (Partly q (output_at old q)) (sym stays)
         (⊎_elim (λ before. less q (output_at old q) (output_at mid q) (first.done q lt before))
-        (λ le. subst (Partly q (output_at old q)) (sym (first.left q lt le)) (none q (output_at old q))) (cases_lt q n));
+        (λ le. subst (Partly q (output_at old q)) (sym (first.left q lt le)) (none q (output_at old q)))
+        (cases_lt q n));
   }
 
 -- the rows of an output partition

@@ -50,13 +50,15 @@ not_put output rows old any new why within puts =
       others = λ other lt not. get_or-set_other old output other new none not;
     }
 
-pub put_stopped : (k : ℕ) (all : List (List Row)) (rows : List Row) (old mid new : List Outflow) (why : TransformFault) →
+pub put_stopped : (k : ℕ) (all : List (List Row)) (rows : List Row) (old mid new : List Outflow)
+    (why : TransformFault) →
     rows ≡ rows_in all k → InFirst k old mid (λ q. Fills (rows_in all q)) → PutsOne k rows mid (Err why) new →
     PutsEach all old (Err why) new
 put_stopped k all rows old mid new (fault.Output number cause) same first (at, one) =
     let here : InOne mid new k (λ x. StopsFilling (rows_in all k) x cause) (λ other. Stays) =
     subst (λ (rs : List Row). InOne mid new k (λ x. StopsFilling rs x cause) (λ other. Stays)) same one in
-    subst (λ (n : ℕ). InOne old new n (λ x. StopsFilling (rows_in all n) x cause) (λ other. FillsSome (rows_in all other)))
+    subst (λ (n : ℕ). InOne old new n (λ x. StopsFilling (rows_in all n) x cause)
+    (λ other. FillsSome (rows_in all other)))
     (sym at)
     (first_stops (λ q. Fills (rows_in all q)) k old mid new (λ x. StopsFilling (rows_in all k) x cause)
     (λ q. FillsSome (rows_in all q)) first here (λ q x y h. fills_some (rows_in all q) x y h)

@@ -64,8 +64,10 @@ none_follows start program = record {
 }
 
 -- the rows of one more batch
-rows_then : (start old : Flow) (program : Program) (batches : List Batch) (batch : Batch) (q : ℕ) (all : List (List Row))
-    (rows : List Row) → Follows start program batches old → AreItemRows (origin_of old) (Some program) (Records batch) all →
+rows_then : (start old : Flow) (program : Program) (batches : List Batch) (batch : Batch)
+    (q : ℕ) (all : List (List Row))
+    (rows : List Row) → Follows start program batches old → AreItemRows (origin_of old)
+    (Some program) (Records batch) all →
     q < length start.outputs → AreFlowRows start program batches q rows →
     AreFlowRows start program (batches ++ batch ∷ []) q (rows ++ rows_in all q)
 rows_then start old program batches batch q all rows follows are lt before =
@@ -103,7 +105,8 @@ one_follows start old new program batches batch follows (all, are, put, input, o
 }
 
 pub one_stops : (start old new : Flow) (program : Program) (batches : List Batch) (batch : Batch) (output : ℕ)
-    (why : OutletFault) → Follows start program batches old → Pushes program batch old (Err (fault.Output output why)) new →
+    (why : OutletFault) → Follows start program batches old → Pushes program batch old
+    (Err (fault.Output output why)) new →
     Broken start program (batches ++ batch ∷ []) new.outputs output why
 one_stops start old new program batches batch output why follows (all, are, put) =
     let within : output < length start.outputs = omega (arith, put.within, follows.count) in record {
@@ -125,7 +128,8 @@ one_stops start old new program batches batch output why follows (all, are, put)
           );
     }
 
-pub end_finishes : (start old new : Flow) (program : Program) (batches : List Batch) → Follows start program batches old →
+pub end_finishes : (start old new : Flow) (program : Program) (batches : List Batch) →
+    Follows start program batches old →
     EndsFlow old (Ok tt) new → Finished start program batches new.outputs
 end_finishes start old new program batches follows (ends, stays) = record {
   count = ends.count ∙ follows.count;

@@ -1,5 +1,6 @@
 -- The rows of batches as those of a log.
-use Rattle.std.proofs.Common.{◌≡◌, ℕ, zero, suc, ◌+◌, List, [], ◌∷◌, ◌++◌, length, map, Some, slice_get, refl, sym, ap, subst, ◌∙◌}
+use Rattle.std.proofs.Common.{◌≡◌, ℕ, zero, suc, ◌+◌, List, [], ◌∷◌, ◌++◌, length, map, Some, slice_get, refl, sym, ap}
+use Rattle.std.proofs.Common.{subst, ◌∙◌}
 use Rattle.std.proofs.Common.{append_assoc, append-nil, arith}
 use Rattle.std.proofs.lemmas.Option.{same_Some}
 use Rattle.wire_spec.specs.declared.record.Batch.{Batch}
@@ -75,7 +76,8 @@ rows_more input output outputs program offset [] batch rows here none is =
       ap (λ (rs : List Row). rs ++ here) none ∙ sym (append-nil here),
     )
 rows_more input output outputs program offset (first ∷ batches) batch rows here are is =
-    let at : offset + records_of (first ∷ batches) ≡ (offset + length first.records) + records_of batches = omega arith in
+    let at : offset + records_of (first ∷ batches) ≡ (offset + length first.records) + records_of batches = omega
+    arith in
     let later = rows_more input output outputs program (offset + length first.records) batches batch are.1 here are.3
     (subst (λ (o : ℕ). IsItemRows input output outputs (Some program) o (Records batch) here) at is) in (
       are.0,

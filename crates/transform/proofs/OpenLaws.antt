@@ -1,6 +1,7 @@
 -- The rows that wait are one batch that is being filled: what adding a row and writing the batch do.
 use Rattle.std.proofs.Common.{◌≡◌, ℕ, suc, ◌+◌, ◌<◌, ◌≤◌, ◌^◌, Bool, true, false, List, [], ◌∷◌, length, drop, Option}
-use Rattle.std.proofs.Common.{Result, Ok, Err, map, slice_get, slice_index_or, Some, refl, sym, ap, subst, ◌∙◌, append-nil, drop-cons, arith}
+use Rattle.std.proofs.Common.{Result, Ok, Err, map, slice_get, slice_index_or, Some, refl, sym, ap, subst, ◌∙◌}
+use Rattle.std.proofs.Common.{append-nil, drop-cons, arith}
 use Rattle.std.specs.Io.KnownBytes.{Appends}
 use Rattle.std.proofs.lemmas.List.{drop_at, drop_all, length-append, length-drop}
 use Rattle.std.proofs.lemmas.Option.{get_or_from_slice_get}
@@ -211,6 +212,12 @@ puts_all old new before after (Err fault.Write) (bytes, batch, begun) = (
     written = begun;
   },
 )
-puts_all old new before after (Err fault.Memory) same =
-    (λ e. absurd cc, (old, subst (λ (h : Option (List ℕ)). WroteBatches old before old h) (sym same) (batches_none old before)))
+puts_all old new before after (Err fault.Memory) same = (
+  λ e. absurd cc,
+  (
+    old,
+    subst (λ (h : Option (List ℕ)). WroteBatches old before old h) (sym same)
+        (batches_none old before),
+  ),
+)
 puts_all old new before after (Err fault.Full) never = absurd never

@@ -1,5 +1,6 @@
 -- Batches of the rows of an output, one after the other, and what a writer has of them.
-use Rattle.std.proofs.Common.{◌≡◌, ℕ, ◌+◌, ◌<◌, ◌≤◌, List, [], ◌∷◌, ◌++◌, length, take, Option, refl, sym, ap, subst, ◌∙◌}
+use Rattle.std.proofs.Common.{◌≡◌, ℕ, ◌+◌, ◌<◌, ◌≤◌, List, [], ◌∷◌, ◌++◌, length, take, Option, refl, sym, ap, subst}
+use Rattle.std.proofs.Common.{◌∙◌}
 use Rattle.std.proofs.Common.{append_assoc, ⊎_elim, inl, inr, arith}
 use Rattle.std.specs.List.{concat}
 use Rattle.std.specs.Io.KnownBytes.{Appends}
@@ -94,7 +95,8 @@ all_with old new more (bytes ∷ others) are = (
       (all_with (rest_after old are.0) new more others are.3),
 )
 
-pub wrote_with : (old new : Waiting) (before after : Option (List ℕ)) (more : List Row) → WroteFull old before new after →
+pub wrote_with : (old new : Waiting) (before after : Option (List ℕ)) (more : List Row) →
+    WroteFull old before new after →
     WroteFull (with_rows old more) before (with_rows new more) after
 wrote_with old new before after more wrote = record {
   batches = wrote.batches;

@@ -92,7 +92,12 @@ gave_more old mid new given batch gave (going, loses, counts) = record {
       same_used so_far.0 batch counts.used next.0 (counts.at_front so_far.0 so_far.2) next.1 in
       let there = (batch_at-taken so_far.0 batch next.0 next.1).there in
       let rest_is : length rest + next.0 ≡ length so_far.0 =
-      omega (arith, there, length-drop next.0 so_far.0, ap length (same_Some (drop next.0 so_far.0) rest (sym next.2 ∙ after))) in
+      omega (
+        arith,
+        there,
+        length-drop next.0 so_far.0,
+        ap length (same_Some (drop next.0 so_far.0) rest (sym next.2 ∙ after)),
+      ) in
       let fewer = no_longer known given so_far.0 so_far.1 in
       let counted = gave.bytes known so_far.0 before so_far.2 (omega (arith, short, rest_is)) in
       let one : new.given.bytes ≡ min (mid.given.bytes + counts.used) (2 ^ 64 - 1) =
@@ -122,7 +127,8 @@ begun program first start is_open = record {
 }
 
 pub goes_on : (program : Program) (first : Inlet) (start : Flow) (mid after : Inlet) (old new : Flow) (batch : Batch) →
-    Underway program first start mid old → ReadsBatch mid (Ok (Some batch)) after → Pushes program batch old (Ok tt) new →
+    Underway program first start mid old → ReadsBatch mid (Ok (Some batch)) after →
+    Pushes program batch old (Ok tt) new →
     Underway program first start after new
 goes_on program first start mid after old new batch so_far reads pushes = record {
   batches = so_far.batches ++ batch ∷ [];

@@ -16,8 +16,8 @@ abbrev pub Begins : Option (List ℕ) → List Batch → Option (List ℕ) → T
 Begins before batches after = (bytes : List ℕ) → before ≡ Some bytes →
     (rest : List ℕ) × AreBatches bytes batches rest × (after ≡ Some rest)
 
--- A reader gave these batches, one after the other, and no others. Its bytes, where they are known, begin with them, and
--- it counted as many batches more, and as many bytes as they have; nothing is said of a count of 2^64 or more.
+-- A reader gave these batches, one after the other, and no others. Its bytes, where they are known, begin with them,
+-- and it counted as many batches more, and as many bytes as they have; nothing is said of a count of 2^64 or more.
 pub record Gave (old : Inlet) (given : List Batch) (new : Inlet) : Type 0 where
   pub begins : Begins (left_of old) given (left_of new)
   pub batches : old.given.batches + length given < 2 ^ 64 → new.given.batches ≡ old.given.batches + length given

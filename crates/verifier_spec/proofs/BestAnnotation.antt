@@ -197,7 +197,8 @@ module _ (helpers : List Helper) (image : List ℕ) (code : List Placed) (is_cod
       (passed : failed_check helpers placed.instruction s ≡ None) (shape : first_of (shape_checks code k placed) ≡ None)
     where
       shapes : (leads_nowhere code placed.slot (jump_of placed.instruction) ≡ false)
-          × (leads_back (jump_of placed.instruction) ≡ false) × (runs_off code k (summary_of placed.instruction) ≡ false)
+          × (leads_back (jump_of placed.instruction) ≡ false) ×
+          (runs_off code k (summary_of placed.instruction) ≡ false)
       shapes =
           none_of_three (leads_nowhere code placed.slot (jump_of placed.instruction))
           (leads_back (jump_of placed.instruction)) (runs_off code k (summary_of placed.instruction))

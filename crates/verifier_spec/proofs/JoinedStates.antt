@@ -123,7 +123,8 @@ module _ (helpers : List Helper) (code : List Placed) where
           ∙ (ap (λ (own : Option Abstract). with_instruction helpers code j k (Some placed) own before) claim
           ∙ ap (λ (failed : Option Check). if_passed failed before (with_edges code j k placed s before)) passed)
 
-      pub falls_known : is_edge_covered (falls_to placed.instruction s) (known_after helpers code (suc k) (k + 1)) ≡ true
+      pub falls_known : is_edge_covered (falls_to placed.instruction s)
+          (known_after helpers code (suc k) (k + 1)) ≡ true
       falls_known =
           let j = k + 1 in
           let before = known_after helpers code k j in

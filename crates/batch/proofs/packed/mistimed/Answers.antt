@@ -18,7 +18,8 @@ returns-else-not-is_timestamp c =
     let top_is : top ≡ max_timestamp c.args.bytes.now = to_z-of_z w64 c.i64_at-greatest.result top_fits
     ∙ c.i64_at-greatest.ensures in
     ap not (c.is_same.ensures ∙ ap (int_eq top) (to_z-of_z w64 c.in-Some.time time_fits))
-    ∙ mistimed_when c.args.bytes.now (entry_records c.args.bytes.now c.args.headers.now c.args.entries.now) base top c.in-Some.time base_is top_is c.in-Some.ensures
+    ∙ mistimed_when c.args.bytes.now (entry_records c.args.bytes.now c.args.headers.now c.args.entries.now) base top
+    c.in-Some.time base_is top_is c.in-Some.ensures
     c.if-not-is_timestamp.ensures
 
 pub returns-in-None : goal.returns-in-None
@@ -26,5 +27,6 @@ returns-in-None c =
     let base_fits : FitsSigned w64 c.i64_at-base.result = search rules in
     let base_is : to_z w64 (of_z w64 c.i64_at-base.result) ≡ base_timestamp c.args.bytes.now =
     to_z-of_z w64 c.i64_at-base.result base_fits ∙ c.i64_at-base.ensures in
-    mistimed_without c.args.bytes.now (entry_records c.args.bytes.now c.args.headers.now c.args.entries.now) (to_z w64 (of_z w64 c.i64_at-base.result)) base_is
+    mistimed_without c.args.bytes.now (entry_records c.args.bytes.now c.args.headers.now c.args.entries.now)
+    (to_z w64 (of_z w64 c.i64_at-base.result)) base_is
     c.in-None.ensures

@@ -1,4 +1,5 @@
-use Rattle.std.proofs.Common.{rules, ◌≡◌, ◌+ℤ◌, ℤ, ◌+◌, ◌<◌, ◌≤◌, Some, None, sym, ap, ◌∙◌, subst, FitsSigned, to_z, of_z}
+use Rattle.std.proofs.Common.{rules, ◌≡◌, ◌+ℤ◌, ℤ, ◌+◌, ◌<◌, ◌≤◌, Some, None, sym, ap, ◌∙◌, subst, FitsSigned, to_z}
+use Rattle.std.proofs.Common.{of_z}
 use Rattle.std.proofs.Common.{int_cmp, length, get_or, arith}
 use Rattle.std.specs.Int.{w64, int_max}
 use Rattle.std.specs.Ordering.{ord_max}
@@ -22,9 +23,15 @@ returns-in_err-time c =
     let missing : None ≡ when_timestamp (c.args.base +ℤ entry.span.timestamp_delta) =
     rw (← base, ← delta) c.in_err-time.ensures in
     let lt : c.loop-entry.entry-index < length rs =
-    omega (arith, c.loop-entry-test.true, length-map c.args.entries.now (entry_record c.args.bytes.now c.args.headers.now)) in
+    omega (
+      arith,
+      c.loop-entry-test.true,
+      length-map c.args.entries.now
+          (entry_record c.args.bytes.now c.args.headers.now),
+    ) in
     c.from_residual.ensures ∙ sym (one_wrong c.args.base rs c.loop-entry.entry-index r lt
-    (record_or c.args.bytes.now c.args.headers.now c.args.entries.now c.loop-entry.entry-index entry r c.loop-entry-test.true
+    (record_or c.args.bytes.now c.args.headers.now c.args.entries.now c.loop-entry.entry-index
+    entry r c.loop-entry-test.true
     (get_or_default c.args.entries.now c.loop-entry.entry-index no_entry entry c.loop-entry-test.true)) missing)
 
 pub loop-entry-preserved : goal.loop-entry-preserved
@@ -48,9 +55,15 @@ loop-entry-preserved c =
     let so_far : UpTo c.args.base rs c.loop-entry.entry-index g =
     subst (λ (b : ℤ). UpTo b rs c.loop-entry.entry-index g) base c.loop-entry.invariant in
     let lt : c.loop-entry.entry-index < length rs =
-    omega (arith, c.loop-entry-test.true, length-map c.args.entries.now (entry_record c.args.bytes.now c.args.headers.now)) in
+    omega (
+      arith,
+      c.loop-entry-test.true,
+      length-map c.args.entries.now
+          (entry_record c.args.bytes.now c.args.headers.now),
+    ) in
     let step = one_more c.args.base rs c.loop-entry.entry-index r c.in_ok-time.time g lt
-    (record_or c.args.bytes.now c.args.headers.now c.args.entries.now c.loop-entry.entry-index entry r c.loop-entry-test.true
+    (record_or c.args.bytes.now c.args.headers.now c.args.entries.now c.loop-entry.entry-index
+    entry r c.loop-entry-test.true
     (get_or_default c.args.entries.now c.loop-entry.entry-index no_entry entry c.loop-entry-test.true)) found so_far in
     subst (λ (b : ℤ). UpTo b rs (c.loop-entry.entry-index + 1) (to_z w64 (of_z w64 c.max-greatest.result))) (sym base)
     (subst (λ (z : ℤ). UpTo c.args.base rs (c.loop-entry.entry-index + 1) z) (sym top) step)
@@ -60,7 +73,12 @@ returns c =
     let rs = entry_records c.args.bytes.now c.args.headers.now c.args.entries.now in
     let base : to_z w64 (of_z w64 c.args.base) ≡ c.args.base = to_z-of_z w64 c.args.base c.ranges.base in
     let le : length rs ≤ c.loop-entry.entry-index =
-    omega (arith, c.loop-entry-test.false, length-map c.args.entries.now (entry_record c.args.bytes.now c.args.headers.now)) in
+    omega (
+      arith,
+      c.loop-entry-test.false,
+      length-map c.args.entries.now
+          (entry_record c.args.bytes.now c.args.headers.now),
+    ) in
     sym (at_end c.args.base rs c.loop-entry.entry-index (to_z w64 c.loop-entry.greatest-bits) le
     (subst (λ (b : ℤ). UpTo b rs c.loop-entry.entry-index (to_z w64 c.loop-entry.greatest-bits)) base
     c.loop-entry.invariant))

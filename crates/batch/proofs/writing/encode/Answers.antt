@@ -1,4 +1,5 @@
-use Rattle.std.proofs.Common.{rules, ◌≡◌, ℕ, ℤ, ◌+◌, List, ◌++◌, All, length, sym, ap, subst, ◌∙◌, to_z, of_z, FitsSigned}
+use Rattle.std.proofs.Common.{rules, ◌≡◌, ℕ, ℤ, ◌+◌, List, ◌++◌, All, length, sym, ap, subst, ◌∙◌, to_z, of_z}
+use Rattle.std.proofs.Common.{FitsSigned}
 use Rattle.std.proofs.Common.{arith}
 use Rattle.std.specs.Int.{w64}
 use Rattle.std.proofs.lemmas.Int.{to_z-of_z}

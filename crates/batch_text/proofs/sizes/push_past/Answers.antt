@@ -10,8 +10,10 @@ returns-in_ok-push_count-in-Value c =
     (string_bytes c.push_count-in-Value.new.text) (string_bytes c.push_str-in-Value.new.self)
     (count_field (codes " has a value of ") c.args.sizes.value) (codes " bytes, 1048576 at most")
     (count_field (codes " has a value of ") c.args.sizes.value ++ codes " bytes, 1048576 at most")
-    c.in_ok-push_count-in-Value.ensures (str_pushed c.push_str-in-Value.result (string_bytes c.push_count-in-Value.new.text)
-    (string_bytes c.push_str-in-Value.new.self) (codes " bytes, 1048576 at most") c.push_str-in-Value.ensures.bytes) refl)
+    c.in_ok-push_count-in-Value.ensures (str_pushed c.push_str-in-Value.result
+    (string_bytes c.push_count-in-Value.new.text)
+    (string_bytes c.push_str-in-Value.new.self) (codes " bytes, 1048576 at most") c.push_str-in-Value.ensures.bytes)
+    refl)
 
 pub returns-in_ok-push_count-in-Headers : goal.returns-in_ok-push_count-in-Headers
 returns-in_ok-push_count-in-Headers c =
@@ -19,8 +21,10 @@ returns-in_ok-push_count-in-Headers c =
     (string_bytes c.push_count-in-Headers.new.text) (string_bytes c.push_str-in-Headers.new.self)
     (count_field (codes " has ") c.args.sizes.headers) (codes " headers, 16 at most")
     (count_field (codes " has ") c.args.sizes.headers ++ codes " headers, 16 at most")
-    c.in_ok-push_count-in-Headers.ensures (str_pushed c.push_str-in-Headers.result (string_bytes c.push_count-in-Headers.new.text)
-    (string_bytes c.push_str-in-Headers.new.self) (codes " headers, 16 at most") c.push_str-in-Headers.ensures.bytes) refl)
+    c.in_ok-push_count-in-Headers.ensures (str_pushed c.push_str-in-Headers.result
+    (string_bytes c.push_count-in-Headers.new.text)
+    (string_bytes c.push_str-in-Headers.new.self) (codes " headers, 16 at most") c.push_str-in-Headers.ensures.bytes)
+    refl)
 
 pub returns-in-Other : goal.returns-in-Other
 returns-in-Other c =

@@ -9,7 +9,8 @@ returns-in_err-pass_one c =
     let why = c.in_err-pass_one.field-0.0 in
     let rest = c.loop-alloc.rest in
     let test : (length rest == 0) ≡ false = search rules in
-    let one : PassesOne c.args.program.now rest c.loop-alloc.stream (Err why) c.pass_one.new.rest c.pass_one.new.stream =
+    let one : PassesOne c.args.program.now rest c.loop-alloc.stream (Err why) c.pass_one.new.rest
+    c.pass_one.new.stream =
     search rules in
     let is : c.from_residual.result ≡ Err why = search rules in
     passed_until c.args.program.now c.args.rest.now c.args.stream.now rest c.pass_one.new.rest c.loop-alloc.count

@@ -16,7 +16,11 @@ rows-requires c = omega (arith, c.loop-output-test.true, c.requires.count, c.loo
 pub put_one-requires-clause-fit : goal.put_one-requires-clause-fit
 put_one-requires-clause-fit c =
     let all = c.args.rows.now.rows in let k = c.loop-output.output in
-    let within : k < length c.args.outlets.now = omega (arith, c.loop-output-test.true, c.loop-output.invariant.count) in
+    let within : k < length c.args.outlets.now = omega (
+      arith,
+      c.loop-output-test.true,
+      c.loop-output.invariant.count,
+    ) in
     subst (All RowFits) (sym (rows_at k all c.rows.result.now c.rows.ensures)) (c.requires.fit k within)
 
 pub loop-output-preserved : goal.loop-output-preserved

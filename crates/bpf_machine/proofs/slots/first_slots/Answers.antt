@@ -30,7 +30,8 @@ loop-steps-preserved c =
     let inside : l.slot < length l.marks.items = omega (arith, l.invariant.size) in
     record {
       size = length-set l.marks.items l.slot true ∙ l.invariant.size;
-      each = λ t. ap (λ s. is_marked (slice_set l.marks.items l.slot true) t || comes image t steps s) c.slot_after-slot.ensures
+      each = λ t. ap (λ s. is_marked (slice_set l.marks.items l.slot true) t || comes image t steps s)
+          c.slot_after-slot.ensures
           ∙ marks_on image t l.marks.items steps (count - l._steps) l.slot more within inside (l.invariant.each t);
     }
 

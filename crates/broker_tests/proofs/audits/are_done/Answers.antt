@@ -21,5 +21,6 @@ job_send Id members id =
 
 pub map_vec-requires-send-J : goal.map_vec-requires-send-J
 map_vec-requires-send-J g c κs within =
-    let job : IsSend (Job.the_row (param 0 g.row.Id) g.Id.Names) = job_send (param 0 g.row.Id) g.Id.Names c.type_bounds.send-Id in
+    let job : IsSend (Job.the_row (param 0 g.row.Id) g.Id.Names) = job_send (param 0 g.row.Id)
+    g.Id.Names c.type_bounds.send-Id in
     search (job, rules) depth 40

@@ -13,7 +13,8 @@ returns-in-Err-clause-told g c =
     stopped (g.F.Files.bytes c.args.files.now) (g.F.Files.bytes c.loop-index.files) (texts c.args.lines.now)
     c.loop-index.index c.piece.result.now c.loop-index.refused (g.O.Write.contents c.args.stdout.now)
     (g.O.Write.contents c.loop-index.stdout) (g.O.Write.contents c.recheck_line.new.stdout)
-    c.saturating_add-line.result c.in-Err.stop c.loop-index.invariant within c.piece.ensures c.in-Err.ensures.told number
+    c.saturating_add-line.result c.in-Err.stop c.loop-index.invariant within
+    c.piece.ensures c.in-Err.ensures.told number
 
 pub returns-in-Err-clause-kept : goal.returns-in-Err-clause-kept
 returns-in-Err-clause-kept g c = λ other. c.in-Err.ensures.kept other ∙ c.loop-index.invariant.kept other

@@ -13,7 +13,8 @@ use Rattle.item_rows.proofs.outcomes.push_ended.Goals as goal
 
 pub returns-in_ok-push_row-in-Some-clause-pushed : goal.returns-in_ok-push_row-in-Some-clause-pushed
 returns-in_ok-push_row-in-Some-clause-pushed c = λ ended at.
-    let first = c.args.first in let place = c.args.place.now in let one = c.args.all.now in let two = c.push_row.new.all in
+    let first = c.args.first in let place = c.args.place.now in let one = c.args.all.now in
+    let two = c.push_row.new.all in
     let given = c.args.given.now in
     let is = alone_is ended.ending ended.emitted c.in-Some.out (sym c.in-Some.is ∙ c.kept_alone.ensures ended at) in
     subst (λ (e : Ending). (fate.Kept ≡ fate_of (outcome_with e (emissions_in given ended.emitted)))

@@ -16,7 +16,8 @@ returns-in_ok-push_rows-in-Kept c =
     let first = c.args.first in let place = c.args.place.now in let one = c.args.all.now in let two =
     c.push_rows.new.all in let given = c.args.given.now in let emissions =
     emissions_in given c.args.emitted.now in
-    let adds = subst (λ (es : List Emitted). Adds first one two (λ q here. here ≡ rows_to q place 0 (emissions_in given es)))
+    let adds = subst (λ (es : List Emitted). Adds first one two
+    (λ q here. here ≡ rows_to q place 0 (emissions_in given es)))
     c.emitted.view_is c.in_ok-push_rows-in-Kept.ensures.rows in
     subst (λ (e : Ending). (fate.Kept ≡ fate_of (outcome_with e emissions))
     × Adds first one two (λ q here. here ≡ rows_of q place (outcome_with e emissions)))

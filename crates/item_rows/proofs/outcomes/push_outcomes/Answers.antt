@@ -1,4 +1,5 @@
-use Rattle.std.proofs.Common.{◌≡◌, ◌<◌, ◌+◌, ◌++◌, List, length, map, take, get_or, slice_get, Some, sym, ap, subst, ◌∙◌}
+use Rattle.std.proofs.Common.{◌≡◌, ◌<◌, ◌+◌, ◌++◌, List, length, map, take, get_or, slice_get, Some, sym, ap, subst}
+use Rattle.std.proofs.Common.{◌∙◌}
 use Rattle.std.proofs.Common.{arith, [], ◌∷◌}
 use Rattle.std.proofs.lemmas.List.{length-map, length-take, map-append, take_more, get_or_default}
 use Rattle.std.proofs.lemmas.Option.{slice_get-get_or, get_or_from_slice_get}
@@ -22,7 +23,12 @@ no_ending : Ended
 no_ending = record { ending = Kept; emitted = [] }
 
 pub push_ended-requires-clause-within : goal.push_ended-requires-clause-within
-push_ended-requires-clause-within c = omega (arith, c.loop-index.invariant.long, c.requires.places, c.loop-index-test.true)
+push_ended-requires-clause-within c = omega (
+  arith,
+  c.loop-index.invariant.long,
+  c.requires.places,
+  c.loop-index-test.true,
+)
 
 pub new-given-requires : goal.new-given-requires
 new-given-requires c = omega (arith, c.requires.places, c.requires.records, c.loop-index-test.true)
@@ -51,11 +57,13 @@ pub loop-index-preserved : goal.loop-index-preserved
 loop-index-preserved c =
     let first = c.args.first in let places = c.args.places.now in let block = c.args.block.now in let all_records =
     c.args.logged.now.records in let records = records_from c.args.from (length block) all_records in
-    let outcomes = outcomes_of records block in let k = c.loop-index.index in let inv = c.loop-index.invariant in let done = take k outcomes in
+    let outcomes = outcomes_of records block in let k = c.loop-index.index in let inv = c.loop-index.invariant in
+    let done = take k outcomes in
     let in_block : k < length block = omega (arith, c.loop-index-test.true, c.requires.places) in
     let ended = get_or block k no_ending in let there : slice_get block k ≡ Some ended =
     slice_get-get_or block k no_ending in_block in
-    let pushed = c.in_ok-fate.ensures.pushed ended (inv.left k (omega arith) ∙ there) in let given = c.new-given.result in
+    let pushed = c.in_ok-fate.ensures.pushed ended (inv.left k (omega arith) ∙ there) in
+    let given = c.new-given.result in
     let outcome = outcome_in given ended in let place = get_or places k nowhere in
     let lt : k < length places = c.loop-index-test.true in
     let long = between_long all_records c.args.from (length block) c.requires.records in
@@ -78,7 +86,8 @@ loop-index-preserved c =
           (λ q here. here ≡ rows_of_each q places os)) (sym longer)
           (outcome_more first places outcomes k place outcome c.args.all.now c.loop-index.all
           c.push_ended.new.all lt within (get_or_default places k nowhere place lt) inv.rows pushed.1);
-      counts = subst (λ (os : List Outcome). AreFatesMore (map fate_of os) c.args.counts.now c.add.new.self) (sym longer)
+      counts = subst (λ (os : List Outcome). AreFatesMore (map fate_of os) c.args.counts.now c.add.new.self)
+          (sym longer)
           (subst (λ (fs : List Fate). AreFatesMore fs c.args.counts.now c.add.new.self)
           (sym (map-append fate_of done (outcome ∷ [])))
           (fates_then (map fate_of done) (fate_of outcome ∷ []) c.args.counts.now c.loop-index.counts c.add.new.self

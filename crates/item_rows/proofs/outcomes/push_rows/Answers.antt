@@ -11,7 +11,8 @@ use Rattle.item_rows.proofs.outcomes.push_rows.Goals as goal
 
 pub loop-emitted-preserved : goal.loop-emitted-preserved
 loop-emitted-preserved c =
-    let inv = c.loop-emitted.invariant in let done = c.loop-emitted.yielded in let emitted = c.in-Some.emitted in let given =
+    let inv = c.loop-emitted.invariant in let done = c.loop-emitted.yielded in
+    let emitted = c.in-Some.emitted in let given =
     c.args.given.now in let emission = emission_in given emitted in let first = c.args.first in let place =
     c.args.place.now in
     let long : c.loop-emitted.number ≡ length (emissions_in given done) =
@@ -22,7 +23,8 @@ loop-emitted-preserved c =
       append_assoc done (emitted ∷ []) (drain_items c.next.new.self)
           ∙ (ap (λ (es : List Emitted). done ++ es) (sym c.in-Some.ensures.steps.0) ∙ inv.3),
       omega (arith, length-append done (emitted ∷ []), inv.4),
-      subst (λ (es : List Emission). Adds first c.args.all.now c.push_row.new.all (λ q here. here ≡ rows_to q place 0 es))
+      subst (λ (es : List Emission). Adds first c.args.all.now c.push_row.new.all
+          (λ q here. here ≡ rows_to q place 0 es))
           (sym (map-append (emission_in given) done (emitted ∷ [])))
           (emissions_more first place c.loop-emitted.number (emissions_in given done) emission c.args.all.now
           c.loop-emitted.all c.push_row.new.all long inv.5 c.in_ok-push_row.ensures),

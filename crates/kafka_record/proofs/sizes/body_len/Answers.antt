@@ -20,7 +20,8 @@ headers_len-headers-requires-clause-fit c =
 
 sum_is : (c : goal.After-headers_len-headers) →
     1 + c.len64-timestamp.result + c.len32-offset.result + (c.nullable_len-key.result + c.nullable_len-value.result)
-    + c.len32-count.result + c.headers_len-headers.result ≡ length (record_body c.args.delta (record_with c.args.timestamp_delta c.args.key.now c.args.value.now c.args.headers.now))
+    + c.len32-count.result + c.headers_len-headers.result ≡ length
+    (record_body c.args.delta (record_with c.args.timestamp_delta c.args.key.now c.args.value.now c.args.headers.now))
 sum_is c =
     let list = c.slice_of-list.result.now in
     let same : list ≡ c.args.headers.now = c.slice_of-list.ensures in
@@ -32,14 +33,20 @@ sum_is c =
     let n = c.len32-count.ensures.size ∙ ap (λ (z : ℤ). length (varint z)) (to_z_pos w32 (length list) few)
     ∙ ap (λ (hs : List Header). length (varint (pos (length hs)))) same in
     let h = c.headers_len-headers.ensures.size ∙ ap (λ (hs : List Header). length (flat_map header hs)) same in
-    length_is c.args.delta (record_with c.args.timestamp_delta c.args.key.now c.args.value.now c.args.headers.now) c.len64-timestamp.result c.len32-offset.result c.nullable_len-key.result
+    length_is c.args.delta (record_with c.args.timestamp_delta c.args.key.now c.args.value.now c.args.headers.now)
+    c.len64-timestamp.result c.len32-offset.result c.nullable_len-key.result
     c.nullable_len-value.result c.len32-count.result c.headers_len-headers.result t d c.nullable_len-key.ensures
     c.nullable_len-value.ensures n h
 
 small : (c : goal.After-headers_len-headers) →
     1 + c.len64-timestamp.result + c.len32-offset.result + (c.nullable_len-key.result + c.nullable_len-value.result)
     + c.len32-count.result + c.headers_len-headers.result ≤ MAX_BODY_SIZE
-small c = omega (arith, sum_is c, length-record_body c.args.delta (record_with c.args.timestamp_delta c.args.key.now c.args.value.now c.args.headers.now) c.requires)
+small c = omega (
+  arith,
+  sum_is c,
+  length-record_body c.args.delta (record_with c.args.timestamp_delta c.args.key.now
+      c.args.value.now c.args.headers.now) c.requires,
+)
 
 pub overflow_add-result-3 : goal.overflow_add-result-3
 overflow_add-result-3 c = omega (arith, small c)

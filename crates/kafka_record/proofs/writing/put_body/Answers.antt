@@ -16,7 +16,8 @@ put_counted-requires-clause-fit c =
 
 pub returns-clause-ok : goal.returns-clause-ok
 returns-clause-ok c =
-    on_ok_weaker c.put_counted.result (λ e. body_is c.args.delta _ _ (record_with c.args.timestamp_delta c.args.key.now c.args.value.now c.args.headers.now) c.slice_of.result.now
+    on_ok_weaker c.put_counted.result (λ e. body_is c.args.delta _ _ (record_with c.args.timestamp_delta c.args.key.now
+    c.args.value.now c.args.headers.now) c.slice_of.result.now
     c.args.out.now.items c.put_deltas.new.out.items c.put_nullable.new.out.items c.put_nullable-2.new.out.items
     c.put_counted.new.out.items (to_z-of_z w32 c.args.delta c.ranges.delta)
     (to_z-of_z w64 c.args.timestamp_delta c.requires.timestamp) c.slice_of.ensures

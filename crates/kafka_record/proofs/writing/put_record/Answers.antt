@@ -11,7 +11,8 @@ use Rattle.kafka_record.proofs.writing.put_record.Goals as goal
 pub returns-clause-ok : goal.returns-clause-ok
 returns-clause-ok c =
     let old = c.args.out.now.items in
-    let body : ℤ → ℤ → List ℕ = λ d t. record_body d (record_with t c.args.key.now c.args.value.now c.args.headers.now) in
+    let body : ℤ → ℤ → List ℕ = λ d t. record_body d (record_with t c.args.key.now c.args.value.now c.args.headers.now)
+    in
     let delta = c.args.delta in
     let time = c.args.timestamp_delta in
     let same : body (to_z w32 (of_z w32 delta)) (to_z w64 (of_z w64 time)) ≡ body delta time =

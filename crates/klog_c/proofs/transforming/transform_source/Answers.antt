@@ -23,5 +23,6 @@ returns-in-Err c =
     let is = stopped c.args.program.now c.args.source.now c.args.bytes.now before place why stops in
     subst (λ (n : ℕ). TransformsSource c.args.program.now c.args.source.now c.args.bytes.now before before
     c.stopped_at.result n) (sym c.stop_number.ensures)
-    (subst (λ (told : Stopped). TransformsSource c.args.program.now c.args.source.now c.args.bytes.now before before told
+    (subst (λ (told : Stopped). TransformsSource c.args.program.now c.args.source.now
+    c.args.bytes.now before before told
     (stop_number why)) (sym c.stopped_at.ensures) is)

@@ -10,7 +10,8 @@ pub returns-in-Err : goal.returns-in-Err
 returns-in-Err c =
     let items = c.args.entries.now.items in
     let lt = has_room items c.if-is_full.ensures.value c.is_full.ensures.fits in (
-      λ ne. refused_program (table_view items) c.args.name.now (program_of c.args.image.now c.args.table) (Some c.in-Err.refusal)
+      λ ne. refused_program (table_view items) c.args.name.now (program_of c.args.image.now c.args.table)
+          (Some c.in-Err.refusal)
           (refusal_new (table_view items) c.args.name.now c.requires.form c.requires.new lt)
           (c.in-Err.ensures.refused ne),
       refl,
@@ -27,5 +28,6 @@ returns-in-Ok-add_entry c =
       ap (λ (programs : List Program). length programs + 1) (sym none),
       c.in-Ok-add_entry.ensures.ok ∙ ap (λ (program : Program). table_view items
           ++ record { name = c.args.name.now; programs = program ∷ [] } ∷ []) c.in-Ok.ensures.program
-          ∙ sym (with_program-absent (table_view items) c.args.name.now (program_of c.args.image.now c.args.table) c.requires.new),
+          ∙ sym (with_program-absent (table_view items) c.args.name.now (program_of c.args.image.now c.args.table)
+          c.requires.new),
     )

@@ -37,7 +37,8 @@ returns-in-Err c =
     let few : length d.programs.items < 2 ^ 32 - 1 = omega (arith, count, d.programs.ok.0) in
     let first = refusal_here items c.args.place d c.args.name.now c.requires.form c.requires.inside c.requires.first
     (c.requires.named d) c.index-entries-place.is few in (
-      λ ne. refused_program (table_view items) c.args.name.now (program_of c.args.image.now c.args.table) (Some c.in-Err.refusal)
+      λ ne. refused_program (table_view items) c.args.name.now (program_of c.args.image.now c.args.table)
+          (Some c.in-Err.refusal)
           first (c.in-Err.ensures.refused ne),
       refl,
     )
@@ -72,6 +73,7 @@ returns-in-Ok-add_program c =
       refused_program (table_view items) c.args.name.now (program_of c.args.image.now c.args.table) None first
           c.in-Ok.ensures.accepted,
       omega (arith, versions, count, d.programs.ok.0),
-      sym (with_program-found items c.args.place m c.add_program.new.entry c.args.name.now (program_of c.args.image.now c.args.table)
+      sym (with_program-found items c.args.place m c.add_program.new.entry c.args.name.now
+          (program_of c.args.image.now c.args.table)
           c.requires.inside c.requires.first (c.requires.named m) c.add_program.ensures.name more),
     )

@@ -20,7 +20,8 @@ put_most-requires-clause-base g c =
     omega (
       arith,
       ap (λ (r : Row). r.timestamp) c.earliest.view_is,
-      part_first all c.args.first c.args.most c.row-earliest.result c.requires.there c.requires.some c.row-earliest.ensures,
+      part_first all c.args.first c.args.most c.row-earliest.result c.requires.there c.requires.some
+          c.row-earliest.ensures,
       first_fits rows c.requires.fit,
     )
 
@@ -31,7 +32,8 @@ head-head-requires-clause-base g c =
     omega (
       arith,
       ap (λ (r : Row). r.timestamp) c.earliest.view_is,
-      part_first all c.args.first c.args.most c.row-earliest.result c.requires.there c.requires.some c.row-earliest.ensures,
+      part_first all c.args.first c.args.most c.row-earliest.result c.requires.there c.requires.some
+          c.row-earliest.ensures,
       first_fits rows c.requires.fit,
     )
 
@@ -47,7 +49,8 @@ begin-requires-clause-some g c =
     let rows = part all c.args.first c.args.most in
     let made = c.in_ok-put.put in
     let same = ap (λ (r : Row). r.timestamp) c.earliest.view_is
-    ∙ part_first all c.args.first c.args.most c.row-earliest.result c.requires.there c.requires.some c.row-earliest.ensures in
+    ∙ part_first all c.args.first c.args.most c.row-earliest.result c.requires.there c.requires.some
+    c.row-earliest.ensures in
     let long = part_length all c.args.first c.args.most c.requires.there in
     let size = length c.put_most.new.out.items in
     some_measured rows made.count size made.latest (omega (arith, long, c.requires.some)) c.requires.fit
@@ -76,7 +79,8 @@ returns g c =
     let whole = c.with_front-whole.result.items in
     let same : c.earliest.inside.timestamp ≡ base =
     ap (λ (r : Row). r.timestamp) c.earliest.view_is
-    ∙ part_first all c.args.first c.args.most c.row-earliest.result c.requires.there c.requires.some c.row-earliest.ensures in
+    ∙ part_first all c.args.first c.args.most c.row-earliest.result c.requires.there c.requires.some
+    c.row-earliest.ensures in
     let long = part_length all c.args.first c.args.most c.requires.there in
     let some : 0 < length rows = omega (arith, long, c.requires.some) in
     let few : length rows ≤ MAX_RECORDS = omega (arith, long, c.requires.few) in

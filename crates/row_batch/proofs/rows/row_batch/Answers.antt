@@ -5,7 +5,8 @@ use Rattle.row_batch.proofs.Places.{part_fits}
 use Rattle.row_batch.proofs.rows.row_batch.Goals as goal
 
 pub first_batch-requires-clause-fit : goal.first_batch-requires-clause-fit
-first_batch-requires-clause-fit g c = part_fits (g.L.RowList.rows c.args.rows.now) c.args.place c.min-most.result c.requires
+first_batch-requires-clause-fit g c = part_fits (g.L.RowList.rows c.args.rows.now) c.args.place
+    c.min-most.result c.requires
 
 pub returns : goal.returns
 returns g c =

@@ -10,7 +10,8 @@ loop-output-init g c = first_none (λ q. Empties) c.args.outlets.now
 
 pub loop-output-preserved : goal.loop-output-preserved
 loop-output-preserved g c =
-    first_more (λ q. Empties) c.loop-output.output c.args.outlets.now c.loop-output.outlets c.end_one.new.outlets Empties
+    first_more (λ q. Empties) c.loop-output.output c.args.outlets.now c.loop-output.outlets
+    c.end_one.new.outlets Empties
     c.loop-output.invariant c.in_ok-end_one.ensures (λ x y h. h)
 
 pub returns-in_err-end_one : goal.returns-in_err-end_one
@@ -22,5 +23,9 @@ returns-in_err-end_one g c =
 
 pub returns : goal.returns
 returns g c =
-    let all : length c.args.outlets.now ≤ c.loop-output.output = omega (arith, c.loop-output-test.false, c.loop-output.invariant.count) in
+    let all : length c.args.outlets.now ≤ c.loop-output.output = omega (
+      arith,
+      c.loop-output-test.false,
+      c.loop-output.invariant.count,
+    ) in
     first_all (λ q. Empties) c.loop-output.output c.args.outlets.now c.loop-output.outlets c.loop-output.invariant all

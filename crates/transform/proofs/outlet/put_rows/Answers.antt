@@ -21,7 +21,8 @@ returns-in_err-put_row g c =
     subst (λ (r : Result (Unit {0}) OutletFault). PutsFull (with_rows old rows) before r c.put_row.new.backlog after)
     (sym is)
     (put_stops old c.loop-index.backlog rows k row before (g.W.Write.contents c.loop-index.writer) after why
-    (omega (arith, c.loop-index-test.true, c.len-index-end.ensures)) at c.loop-index.invariant (c.in_err-put_row.ensures (drop (k + 1) rows)))
+    (omega (arith, c.loop-index-test.true, c.len-index-end.ensures)) at c.loop-index.invariant
+    (c.in_err-put_row.ensures (drop (k + 1) rows)))
 
 pub loop-index-preserved : goal.loop-index-preserved
 loop-index-preserved g c =
@@ -29,5 +30,6 @@ loop-index-preserved g c =
     let at : row ≡ slice_index_or rows k row = row_is rows k row c.row.ensures in
     put_next c.args.backlog.now c.loop-index.backlog c.put_row.new.backlog rows k row
     (g.W.Write.contents c.args.writer.now) (g.W.Write.contents c.loop-index.writer)
-    (g.W.Write.contents c.put_row.new.writer) (omega (arith, c.loop-index-test.true, c.len-index-end.ensures)) at c.loop-index.invariant
+    (g.W.Write.contents c.put_row.new.writer) (omega (arith, c.loop-index-test.true, c.len-index-end.ensures))
+    at c.loop-index.invariant
     (c.in_ok-put_row.ensures (drop (k + 1) rows))

@@ -14,7 +14,8 @@ returns-in_err-next_batch g c =
     let why = c.in_err-next_batch.field-0.0 in
     let reads : ReadsBatch c.loop.reader (Err why) c.next_batch.new.reader = search rules in
     let is : c.from_residual.result ≡ Err (fault.Read why) = search rules in
-    unread c.args.program.now c.args.reader.now c.args.stream.now c.loop.reader c.next_batch.new.reader c.loop.stream why
+    unread c.args.program.now c.args.reader.now c.args.stream.now c.loop.reader
+    c.next_batch.new.reader c.loop.stream why
     c.from_residual.result c.loop.invariant reads is
 
 pub returns-in_err-push_packed-in-Some : goal.returns-in_err-push_packed-in-Some

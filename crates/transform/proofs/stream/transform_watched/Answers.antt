@@ -16,4 +16,5 @@ returns-in-Err g c =
     let whole : is_broken c.push_all-pushed.result ≡ false = sym c.is_broken.ensures ∙ c.if-is_broken.false in
     let ends : EndsFlow c.push_all-pushed.new.stream (Err c.in-Err.fault) c.end.new.self = search rules in
     unwritten c.args.program.now c.args.reader.now c.args.stream.now c.push_all-pushed.result
-    c.push_all-pushed.new.reader c.push_all-pushed.new.stream c.end.new.self c.in-Err.fault whole c.push_all-pushed.ensures ends
+    c.push_all-pushed.new.reader c.push_all-pushed.new.stream c.end.new.self c.in-Err.fault whole
+    c.push_all-pushed.ensures ends

@@ -19,7 +19,8 @@ returns-in-Ok-clause-gives c =
     let cut_is : Cuts c.fill.new.ready (Ok c.in-Ok.batch) c.cut_packed.new.ready = search rules in
     let after_is : stream c.cut_packed.new.ready c.fill.new.next.items c.self.inside.fault
     ≡ Open (c.cut_packed.new.ready ++ c.fill.new.next.items) = search rules in
-    gives_batch c.args.self.now _ c.fill.new.ready c.fill.new.next.items c.cut_packed.new.ready c.in-Ok.batch old_is after_is
+    gives_batch c.args.self.now _ c.fill.new.ready c.fill.new.next.items c.cut_packed.new.ready
+    c.in-Ok.batch old_is after_is
     whole cut_is
 
 pub returns-in-Err-clause-gives : goal.returns-in-Err-clause-gives
@@ -29,7 +30,8 @@ returns-in-Err-clause-gives c =
     let cut_is : Cuts c.fill.new.ready (Err c.in-Err.fault) c.cut_packed.new.ready = search rules in
     let left_is : stream c.cut_packed.new.ready c.fill.new.next.items c.self.inside.fault
     ≡ Open (c.cut_packed.new.ready ++ c.fill.new.next.items) = search rules in
-    let after_is : c.refuse.new.self ≡ after_fault (Open (c.cut_packed.new.ready ++ c.fill.new.next.items)) c.in-Err.fault =
+    let after_is : c.refuse.new.self ≡ after_fault (Open (c.cut_packed.new.ready ++ c.fill.new.next.items))
+    c.in-Err.fault =
     c.refuse.ensures.new ∙ ap (λ (s : Stream). after_fault s c.in-Err.fault) left_is in
     subst (λ (fault : BatchFault). Gives c.args.self.now (Err fault) c.refuse.new.self) (sym c.refuse.ensures.fault)
     (gives_refusal c.args.self.now c.refuse.new.self c.fill.new.ready c.fill.new.next.items c.cut_packed.new.ready

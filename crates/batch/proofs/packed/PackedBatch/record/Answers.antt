@@ -14,7 +14,8 @@ few batch bytes lists entries head index is lt =
 pub record_of-requires : goal.record_of-requires
 record_of-requires c =
     subst (λ (lists : List (List Header)). IsEntryOf c.self.inside.bytes lists c.index.result.now)
-    (sym c.as_slice.ensures.value) (entry_at c.self.inside.bytes c.self.inside.headers.items c.self.inside.entries.items c.args.index
+    (sym c.as_slice.ensures.value) (entry_at c.self.inside.bytes c.self.inside.headers.items
+    c.self.inside.entries.items c.args.index
     c.index.result.now c.self.invariant
     (few c.args.self.now c.self.inside.bytes c.self.inside.headers.items c.self.inside.entries.items c.self.inside.head
     c.args.index c.self.view_is c.requires) c.index.ensures)

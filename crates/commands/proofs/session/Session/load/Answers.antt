@@ -14,4 +14,5 @@ returns-clause-loaded g c =
     after c.in_ok-version.ensures text
     (line_printed c.load_text.result string_bytes before after (load_line c.args.name.now version)
     c.in_ok-print_line.ensures.ok
-    (subst (λ (t : List ℕ). IfOk c.load_text.result (λ made. string_bytes made ≡ load_line t version)) text c.load_text.ensures))
+    (subst (λ (t : List ℕ). IfOk c.load_text.result (λ made. string_bytes made ≡ load_line t version))
+    text c.load_text.ensures))

@@ -1,4 +1,5 @@
-use Rattle.std.proofs.Common.{◌≡◌, ℕ, ◌+◌, ◌<◌, ◌≤◌, ◌++◌, List, length, map, take, drop, get_or, sym, ap, subst, ◌∙◌, arith}
+use Rattle.std.proofs.Common.{◌≡◌, ℕ, ◌+◌, ◌<◌, ◌≤◌, ◌++◌, List, length, map, take, drop, get_or, sym, ap, subst, ◌∙◌}
+use Rattle.std.proofs.Common.{arith}
 use Rattle.std.proofs.lemmas.List.{take-append-drop, length-take-le}
 use Rattle.wire_spec.specs.declared.record.Record.{Record}
 use Rattle.machine_spec.specs.declared.outcome.Place.{Place}
@@ -52,12 +53,19 @@ pub push_outcomes-requires-clause-ranges : goal.push_outcomes-requires-clause-ra
 push_outcomes-requires-clause-ranges c =
     let inv = c.loop-done.invariant in let run = c.args.self.now in let done = c.loop-done.done in
     let records = run.batch.now.records in let here = c.as_slice.result.now in
-    let le : done + c.min-count.result ≤ length records = omega (arith, inv.0, c.len-total.ensures.count, c.min-count.ensures) in
-    let same : here ≡ records_from done c.min-count.result records = c.as_slice.ensures.value ∙ c.in_ok-records.ensures in
+    let le : done + c.min-count.result ≤ length records = omega (
+      arith,
+      inv.0,
+      c.len-total.ensures.count,
+      c.min-count.ensures,
+    ) in
+    let same : here ≡ records_from done c.min-count.result records = c.as_slice.ensures.value
+    ∙ c.in_ok-records.ensures in
     let first = subst (λ (gs : List Record). CanRun run (run.origin.now.offset + done) gs c.loop-done.counts) (sym same)
     (can_here run done c.args.all.now c.loop-done.all c.args.counts.now c.loop-done.counts c.requires.run inv.0 inv.1
     c.min-count.result le) in
-    let few : c.offset_of.result + length here ≤ _ = subst (λ (o : ℕ). o + length here ≤ _) (sym c.offset_of.ensures) first.few in
+    let few : c.offset_of.result + length here ≤ _ = subst (λ (o : ℕ). o + length here ≤ _)
+    (sym c.offset_of.ensures) first.few in
     let given = places_given run.origin.now run.batch.now first.origin c.offset_of.result here first.fits few in
     subst (λ (ps : List Place). (k : ℕ) (p : Place) → k < length ps → IsPlace (get_or ps k p))
     (sym (c.as_slice-in-loop-done.ensures.value ∙ c.in_ok-places.ensures.places))
@@ -67,8 +75,14 @@ pub push_outcomes-requires-clause-few : goal.push_outcomes-requires-clause-few
 push_outcomes-requires-clause-few c =
     let inv = c.loop-done.invariant in let run = c.args.self.now in let done = c.loop-done.done in
     let records = run.batch.now.records in let here = c.as_slice.result.now in
-    let le : done + c.min-count.result ≤ length records = omega (arith, inv.0, c.len-total.ensures.count, c.min-count.ensures) in
-    let same : here ≡ records_from done c.min-count.result records = c.as_slice.ensures.value ∙ c.in_ok-records.ensures in
+    let le : done + c.min-count.result ≤ length records = omega (
+      arith,
+      inv.0,
+      c.len-total.ensures.count,
+      c.min-count.ensures,
+    ) in
+    let same : here ≡ records_from done c.min-count.result records = c.as_slice.ensures.value
+    ∙ c.in_ok-records.ensures in
     let can = can_here run done c.args.all.now c.loop-done.all c.args.counts.now c.loop-done.counts c.requires.run inv.0
     inv.1 c.min-count.result le in
     omega (arith, can.counted, ap length same, c.in_ok-places.ensures.long)

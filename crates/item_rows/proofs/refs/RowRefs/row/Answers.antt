@@ -9,7 +9,8 @@ use Rattle.item_rows.proofs.refs.RowRefs.row.Goals as goal
 
 pub row_of_slot-requires : goal.row_of_slot-requires
 row_of_slot-requires c =
-    let made = c.self.inside.made.items in let slots = c.self.inside.slots.items in let slot = c.index-slot.result.now in
+    let made = c.self.inside.made.items in let slots = c.self.inside.slots.items in
+    let slot = c.index-slot.result.now in
     let lt : c.args.index < length slots =
     omega (arith, c.requires, ap length c.self.view_is, length-map slots (row_in made)) in
     subst (λ (es : List Emission). IsWithin (length es) slot.made) (sym c.deref.ensures.value)
@@ -17,7 +18,8 @@ row_of_slot-requires c =
 
 pub returns : goal.returns
 returns c =
-    let made = c.self.inside.made.items in let slots = c.self.inside.slots.items in let slot = c.index-slot.result.now in
+    let made = c.self.inside.made.items in let slots = c.self.inside.slots.items in
+    let slot = c.index-slot.result.now in
     let lt : c.args.index < length slots =
     omega (arith, c.requires, ap length c.self.view_is, length-map slots (row_in made)) in
     let here : slice_get (rows_by made slots) c.args.index ≡ Some c.row_of_slot.result =

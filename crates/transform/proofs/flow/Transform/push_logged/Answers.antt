@@ -46,7 +46,8 @@ invariant_of-self-2 g c =
     subst (λ (os : List Outflow). IsFlow (flow old.input (old.offset + c.records.result) os c.add_all.new.self))
     (sym same)
     (still_flow before c.records.result c.put_each.new.outlets c.add_all.new.self c.self.invariant many
-    (omega (arith, counted, more, c.in_ok-add_all.ensures.records)) (omega (arith, more, c.len-fits.ensures.fits.count)) room)
+    (omega (arith, counted, more, c.in_ok-add_all.ensures.records))
+    (omega (arith, more, c.len-fits.ensures.fits.count)) room)
 
 pub returns : goal.returns
 returns g c =
