@@ -82,7 +82,7 @@ fn put_header(out: &mut Vec<u8>, batch: &Batch, count: u32, greatest: i64) -> Re
 
 /// The bytes of a batch up to its records, with 0 in the place of the checksum: those of a batch of `size`
 /// bytes with the fields of `head`, this number of records and this greatest timestamp. The records of
-/// `head` are not looked at. There is room for `size` bytes. It fails only where memory runs out.
+/// `head` are not looked at. There is room for no more. It fails only where memory runs out.
 pub fn begin(
     alloc: Global,
     head: &Batch,
@@ -95,7 +95,7 @@ pub fn begin(
     requires some { 0 < count }
     ensures { IfOk result (λ out. out.items ≡ front_of «head».now size ++ header_of «head».now greatest count) }
 {
-    let mut out = Vec::with_capacity(alloc, size)?;
+    let mut out = Vec::with_capacity(alloc, HEADER)?;
     put_front(&mut out, head, size)?;
     put_header(&mut out, head, count, greatest)?;
     Ok(out)
@@ -126,9 +126,16 @@ pub fn encode(alloc: Global, batch: &Batch) -> Result<Vec<u8>, AllocError>
     ensures { IfOk result (λ v. v.items ≡ batch_spelling «batch».now) }
 {
     let records = batch.records.list.as_slice();
-    let size = HEADER + records_len(records);
+    let records_size = records_len(records);
     let greatest = greatest_of(base_of(batch), records);
-    let mut out = begin(alloc, batch, size, records.len() as u32, greatest)?;
+    let mut out = begin(
+        alloc,
+        batch,
+        HEADER + records_size,
+        records.len() as u32,
+        greatest,
+    )?;
+    out.reserve_exact(records_size)?;
     put_records(&mut out, records)?;
     Ok(finish(out))
 }

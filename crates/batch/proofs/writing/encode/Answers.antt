@@ -15,7 +15,8 @@ pub begin-requires-clause-most : goal.begin-requires-clause-most
 begin-requires-clause-most c =
     let b = c.args.batch.now in
     let same : c.as_slice-records.result.now ≡ b.records = search rules in
-    let size : c.records_len-size.result ≡ length (records_spelling 0 b.records) = c.records_len-size.ensures.size
+    let size : c.records_len-records_size.result ≡ length
+    (records_spelling 0 b.records) = c.records_len-records_size.ensures.size
     ∙ ap (λ (rs : List Record). length (records_spelling 0 rs)) same in
     omega (arith, size, spelling_length b, c.requires.few_bytes)
 
@@ -31,9 +32,9 @@ returns c =
     let rs = c.as_slice-records.result.now in
     let g = c.greatest_of-greatest.result in
     let same : rs ≡ b.records = search rules in
-    let n = 61 + c.records_len-size.result in
+    let n = 61 + c.records_len-records_size.result in
     let size : n ≡ 61 + length (records_spelling 0 b.records) =
-    ap (λ (k : ℕ). 61 + k) (c.records_len-size.ensures.size
+    ap (λ (k : ℕ). 61 + k) (c.records_len-records_size.ensures.size
     ∙ ap (λ (x : List Record). length (records_spelling 0 x)) same) in
     let base_fits : FitsSigned w64 c.base_of.result = search rules in
     let base : to_z w64 (of_z w64 c.base_of.result) ≡ b.base_timestamp =
@@ -42,7 +43,9 @@ returns c =
     let top : to_z w64 (of_z w64 g) ≡ greatest (timestamps b.base_timestamp b.records) = to_z-of_z w64 g top_fits
     ∙ c.greatest_of-greatest.ensures ∙ ap (λ (t : ℤ). greatest (timestamps t rs)) base
     ∙ ap (λ (x : List Record). greatest (timestamps b.base_timestamp x)) same in
+    let reserved : c.reserve_exact.new.self.items ≡ c.in_ok-out.out.items = search rules in
     let written : c.put_records.new.out.items ≡ c.in_ok-out.out.items ++ records_spelling 0 b.records =
-    c.in_ok-put_records.ensures ∙ ap (λ (x : List Record). c.in_ok-out.out.items ++ records_spelling 0 x) same in
+    c.in_ok-put_records.ensures ∙ ap (λ (front : List ℕ). front ++ records_spelling 0 rs) reserved
+    ∙ ap (λ (x : List Record). c.in_ok-out.out.items ++ records_spelling 0 x) same in
     finished_is b n (length rs) (to_z w64 (of_z w64 g)) c.in_ok-out.out.items c.put_records.new.out.items
     c.finish.result.items size top (ap length same) c.in_ok-out.ensures written c.finish.ensures
