@@ -103,8 +103,8 @@ pub(crate) fn push_outcome<'a>(
 }
 
 /// Adds the rows of a record of a block to their outputs, by how its run ended. Returns what became of the
-/// record. Most records are kept as they are or not at all. What another one emitted goes through a list,
-/// whose room is used again.
+/// record. Most records are rejected, or kept as they are or not at all. What another one emitted goes through
+/// a list, whose room is used again.
 #[inline(always)]
 fn push_ended<'a>(
     all: &mut [RowRefs<'a>],
@@ -122,6 +122,9 @@ fn push_ended<'a>(
     ensures others { (other : ℕ) → other ≢ index → slice_get block.new other ≡ slice_get block.old other }
     ensures length { length block.new ≡ length block.old }
 {
+    if let Ending::Rejected(code) = block.ending(index) {
+        return Ok(Fate::Rejected(code));
+    }
     match block.kept_alone(index) {
         Some(out) => {
             push_row(all, first, place, 0, given, Emitted::Given { out })?;
