@@ -165,7 +165,7 @@ impl fmt::Display for Reason {
                     f,
                     count,
                     count_kind,
-                    "name bytes that may be outside what is known to be there, or not set",
+                    "name bytes that may lie outside the region, or may not be set",
                 )
             }
             Reason::WrongRoom(address, kind, count, count_kind) => {
