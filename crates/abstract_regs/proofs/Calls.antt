@@ -1,16 +1,14 @@
 -- The kinds of registers after a call.
 use Rattle.std.proofs.Common.{◌≡◌, ℕ, ◌+◌, ◌<◌, Bool, true, false, List, [], ◌∷◌, length, get_or, drop, slice_index_or}
 use Rattle.std.proofs.Common.{refl, ap, subst, add-one, arith}
-use Rattle.std.proofs.lemmas.Bool.{and_from, or_parts}
-use Rattle.std.specs.List.{list_all, list_any, fold}
-use Rattle.std.proofs.Math.Seq.{drop-cons}
+use Rattle.std.proofs.{lemmas.Bool.or_parts, Math.Seq.drop-cons}
+use Rattle.std.specs.List.{list_any, fold}
 use Rattle.machine_spec.specs.declared.helper.Argument.{Argument}
 use Rattle.verifier_spec.specs.declared.{state.Abs.Abs, state.Abstract.Abstract, state.StackSet.StackSet}
 use Rattle.verifier_spec.specs.declared.state.Abs.TheVariants as abs
-use Rattle.verifier_spec.specs.Kinds.{is_proper_kind}
-use Rattle.verifier_spec.specs.States.{is_proper}
-use Rattle.verifier_spec.specs.Transfer.{after_call_kinds}
-use Rattle.verifier_spec.proofs.Proper.{proper_parts, proper_from, kind_from}
+use Rattle.verifier_spec.specs.{Kinds.is_proper_kind, States.is_proper, Transfer.after_call_kinds}
+use Rattle.verifier_spec.proofs.{Proper.proper_parts, Proper.proper_from, Edges.called_kinds_proper}
+use Rattle.verifier_spec.proofs.Edges.{called_length}
 
 -- of eleven registers the first six are set and the last five kept
 pub after_call_eleven : (kinds : List Abs) (answer : Abs) → length kinds ≡ 11 →
@@ -32,24 +30,13 @@ after_call_eleven (k0 ∷ k1 ∷ k2 ∷ k3 ∷ k4 ∷ k5 ∷ k6 ∷ k7 ∷ k8 �
 after_call_eleven (k0 ∷ k1 ∷ k2 ∷ k3 ∷ k4 ∷ k5 ∷ k6 ∷ k7 ∷ k8 ∷ k9 ∷ k10 ∷ k11 ∷ rest) answer count =
     absurd (omega arith)
 
-pub after_call_all : (kinds : List Abs) (answer : Abs) → length kinds ≡ 11 → list_all is_proper_kind kinds ≡ true →
-    is_proper_kind answer ≡ true → list_all is_proper_kind (after_call_kinds kinds answer) ≡ true
-after_call_all kinds answer count all one = rw (after_call_eleven kinds answer count)
-    (and_from _ _ one (and_from _ _ (kind_from kinds 6 all)
-    (and_from _ _ (kind_from kinds 7 all) (and_from _ _ (kind_from kinds 8 all)
-    (and_from _ _ (kind_from kinds 9 all) (and_from _ _ (kind_from kinds 10 all) refl))))))
-
-pub after_call_length : (kinds : List Abs) (answer : Abs) → length kinds ≡ 11 →
-    length (after_call_kinds kinds answer) ≡ 11
-after_call_length kinds answer count = rw (after_call_eleven kinds answer count) refl
-
 pub called_proper : (s : Abstract) (answer : Abs) (set : StackSet) → is_proper s ≡ true → is_proper_kind answer ≡ true →
     is_proper (record s { registers = after_call_kinds s.registers answer; set = set }) ≡ true
 called_proper s answer set proper one =
     let p = proper_parts s proper in
     proper_from _ (record {
-      eleven = after_call_length s.registers answer p.eleven;
-      kinds = after_call_all s.registers answer p.eleven p.kinds one;
+      eleven = called_length s.registers answer p.eleven;
+      kinds = called_kinds_proper s.registers answer p.eleven p.kinds one;
       key = p.key;
       value = p.value;
     })

@@ -4,15 +4,12 @@ use Rattle.std.proofs.lemmas.Bool.{not-false, and_parts}
 use Rattle.machine_spec.specs.declared.{operation.Width.Width, operation.Operation.Operation, instruction.Size.Size}
 use Rattle.machine_spec.specs.declared.{instruction.Source.Source, instruction.Region.Region}
 use Rattle.machine_spec.specs.declared.{helper.TheConstants.HELPERS, helper.Helper.Helper}
+use Rattle.machine_spec.specs.declared.summary.Direction.TheVariants.{Write}
 use Rattle.machine_spec.specs.declared.instruction.Instruction.TheVariants.{Compute, Store, Call}
 use Rattle.std.specs.List.{list_any}
-use Rattle.machine_spec.specs.Machine.{signature_of, helper_of}
-use Rattle.machine_spec.specs.Traps.{arguments_of}
-use Rattle.machine_spec.specs.Values.{moves_address}
-use Rattle.verifier_spec.specs.declared.{state.Abs.Abs, state.Abstract.Abstract}
+use Rattle.machine_spec.specs.{Machine.signature_of, Machine.helper_of, Traps.arguments_of, Values.moves_address}
+use Rattle.verifier_spec.specs.{declared.state.Abs.Abs, declared.state.Abstract.Abstract, Kinds.kind_at, Kinds.range_of}
 use Rattle.verifier_spec.specs.declared.state.Abs.TheVariants as abs
-use Rattle.verifier_spec.specs.Kinds.{kind_at, range_of}
-use Rattle.machine_spec.specs.declared.summary.Direction.TheVariants.{Write}
 use Rattle.verifier_spec.specs.Checks.{source_kind, can_move, can_compute_kinds, reach_at, may_leave_stack}
 use Rattle.verifier_spec.specs.Checks.{is_wrong_argument_kind, failed_check}
 use Rattle.verifier_spec.proofs.Safety.{passes}

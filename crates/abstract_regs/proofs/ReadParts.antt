@@ -5,9 +5,7 @@ use Rattle.machine_spec.specs.declared.{helper.Argument.Argument, summary.Summar
 use Rattle.machine_spec.specs.Traps.{operand_registers, base_registers, condition_registers, argument_registers}
 use Rattle.machine_spec.specs.Traps.{call_registers}
 use Rattle.machine_spec.proofs.ReadParts.{read_parts, any_of_each}
-use Rattle.verifier_spec.specs.declared.state.Abstract.{Abstract}
-use Rattle.verifier_spec.specs.Kinds.{kind_at, is_unknown}
-use Rattle.verifier_spec.specs.Checks.{reads_unknown}
+use Rattle.verifier_spec.specs.{declared.state.Abstract.Abstract, Kinds.kind_at, Kinds.is_unknown, Checks.reads_unknown}
 
 pub reads_parts : (m : Summary) (s : Abstract) →
     reads_unknown m s ≡ ((((list_any (λ r. is_unknown (kind_at s r)) (operand_registers m.takes) || list_any

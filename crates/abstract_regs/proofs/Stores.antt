@@ -3,14 +3,11 @@ use Rattle.std.proofs.Common.{◌≡◌, ℕ, ◌+◌, ◌^◌, ◌==◌, Some, 
 use Rattle.std.proofs.Common.{unsigned_abs, arith}
 use Rattle.std.specs.Ordering.{int_eq}
 use Rattle.std.proofs.lemmas.Bool.{and_parts, or_parts, not-false, false≢true}
-use Rattle.std.proofs.lemmas.Bool.Decides.{Decides-int_eq}
-use Rattle.std.proofs.lemmas.Int.{ints}
-use Rattle.machine_spec.specs.declared.{instruction.Region.Region, instruction.Size.Size}
+use Rattle.std.proofs.{lemmas.Bool.Decides.Decides-int_eq, lemmas.Int.ints}
+use Rattle.machine_spec.specs.{declared.instruction.Region.Region, declared.instruction.Size.Size}
+use Rattle.machine_spec.specs.{declared.summary.Direction.TheVariants.Write, Values.byte_count, Traps.is_stack}
 use Rattle.machine_spec.specs.declared.instruction.Region.TheVariants as region
 use Rattle.machine_spec.specs.declared.instruction.Size.TheVariants as size
-use Rattle.machine_spec.specs.declared.summary.Direction.TheVariants.{Write}
-use Rattle.machine_spec.specs.Values.{byte_count}
-use Rattle.machine_spec.specs.Traps.{is_stack}
 use Rattle.verifier_spec.specs.declared.interval.Interval.{Interval}
 use Rattle.verifier_spec.specs.declared.state.Abs.TheVariants as abs
 use Rattle.verifier_spec.specs.Checks.{reach_at, may_leave_stack, named_reach, may_be_wrong_room}

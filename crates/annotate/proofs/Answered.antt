@@ -1,12 +1,9 @@
 -- What the loader's parts answer, as the load's answer.
-use Rattle.std.proofs.Common.{◌≡◌, ◌≢◌, List, Option, Ok, Err, sym, ap, ◌∙◌}
-use Rattle.std.specs.Prelude.{option_map}
-use Rattle.machine_spec.specs.declared.{instruction.IsaFault.IsaFault}
-use Rattle.machine_spec.specs.declared.{instruction.Placed.Placed}
+use Rattle.std.proofs.Common.{◌≡◌, ◌≢◌, List, Option, Ok, Err, sym, ap, ◌∙◌, option_map}
+use Rattle.machine_spec.specs.declared.{instruction.IsaFault.IsaFault, instruction.Placed.Placed}
 use Rattle.machine_spec.specs.Image.{Program, helpers_of, read_image}
 use Rattle.machine_spec.specs.declared.instruction.IsaFault.TheVariants as isa
-use Rattle.verifier_spec.specs.declared.fault.VerifyFault.{VerifyFault}
-use Rattle.verifier_spec.specs.Annotation.{Claims, fault_of}
+use Rattle.verifier_spec.specs.{declared.fault.VerifyFault.VerifyFault, Annotation.Claims, Annotation.fault_of}
 use Rattle.verifier_spec.specs.JoinedStates.{joined_states}
 use Rattle.verifier_spec.specs.declared.fault.LoadFault.TheVariants.{Isa, Verify}
 use Rattle.verifier_spec.specs.Loading.{load_fault, code_fault, IsRefusedWith}

@@ -1,25 +1,19 @@
 -- The joined states of an image's code are best: within every annotation's, and none has one where they have a fault.
-use Rattle.std.proofs.Common.{◌≡◌, ◌≢◌, ℕ, zero, suc, ◌<◌, ◌≤◌, true, List, [], ◌∷◌, length, Option, Some, None, Ok}
+use Rattle.std.proofs.Common.{◌≡◌, ◌≢◌, ℕ, ◌<◌, ◌≤◌, true, List, length, Option, Some, Ok}
 use Rattle.std.proofs.Common.{refl, sym, ap, ◌∙◌, subst, inl, inr, arith}
-use Rattle.std.proofs.lemmas.Bool.{cases_lt}
-use Rattle.std.proofs.lemmas.Option.{none-some}
+use Rattle.std.proofs.{lemmas.Bool.cases_lt, lemmas.Option.none-some}
 use Rattle.machine_spec.specs.declared.{helper.Helper.Helper, instruction.Placed.Placed}
 use Rattle.machine_spec.specs.Image.{Program, helpers_of, read_image, IsCodeOf}
 use Rattle.machine_spec.proofs.Slots.{number_of_zero, number_below}
 use Rattle.verifier_spec.specs.declared.{state.Abstract.Abstract, fault.VerifyFault.VerifyFault}
+use Rattle.verifier_spec.specs.declared.fault.LoadFault.TheVariants.{Verify}
 use Rattle.verifier_spec.specs.declared.fault.Check.TheVariants as check
 use Rattle.verifier_spec.specs.Annotation.{Claims, claim_at, is_edge_covered, fault_of, IsAnnotation}
-use Rattle.verifier_spec.specs.JoinedStates.{joined_states}
+use Rattle.verifier_spec.specs.{JoinedStates.joined_states, Loading.IsAccepted, Loading.IsRefusedWith}
 use Rattle.verifier_spec.proofs.JoinedStates.{length-joined_states, claim_joined}
 use Rattle.verifier_spec.proofs.BestAnnotation.{AreJoinedProper, known_below, no_fault, fault_is_other}
-use Rattle.verifier_spec.specs.declared.fault.LoadFault.TheVariants.{Verify}
-use Rattle.verifier_spec.specs.Loading.{IsAccepted, IsRefusedWith}
 use Rattle.annotate.proofs.Answered.{claimed_fault}
-
-claim_past : (claims : Claims) (k : ℕ) → length claims ≤ k → claim_at claims k ≡ None
-claim_past [] k le = refl
-claim_past (first ∷ claims) zero le = absurd (omega arith)
-claim_past (first ∷ claims) (suc k) le = claim_past claims k (omega arith)
+use Rattle.notes.proofs.Lookups.{claim_at_past}
 
 -- within every annotation's
 pub joined_best : (helpers : List Helper) (code : List Placed) (claims : Claims) → claims ≡ joined_states helpers code →
@@ -33,7 +27,7 @@ joined_best helpers code claims is proper other annotation k =
           (known_below helpers code other annotation proper k k)
       | inr past ↦
           let le : length (joined_states helpers code) ≤ k = omega (arith, past, length-joined_states helpers code) in
-          subst P (sym (claim_past (joined_states helpers code) k le)) refl
+          subst P (sym (claim_at_past (joined_states helpers code) k le)) refl
     ])
 
 module _ (program : Program) (code : List Placed) (is_code : IsCodeOf program.image code) where

@@ -1,61 +1,19 @@
 -- Lists of claims, and what one instruction of a pass changes.
-use Rattle.std.proofs.Common.{◌≡◌, ◌≢◌, ℕ, zero, suc, ◌+◌, ◌<◌, ◌≤◌, min, true, false, ◌==◌, List, [], ◌∷◌, length}
-use Rattle.std.proofs.Common.{get_or, set, slice_get, replicate, Option, Some, None, refl, sym, ap, ◌∙◌, subst, inl}
-use Rattle.std.proofs.Common.{inr, arith, length-set}
-use Rattle.std.proofs.lemmas.Bool.{cond-true, cond-false, cases_eq, eq-eqb, eqb-true, cases_Bool, cases_lt}
-use Rattle.std.proofs.lemmas.Option.{slice_get_within}
-use Rattle.std.specs.Prelude.{IfSome}
-use Rattle.std.proofs.lemmas.List.{length-replicate}
-use Rattle.machine_spec.specs.declared.{helper.Helper.Helper, instruction.Placed.Placed}
-use Rattle.verifier_spec.specs.declared.state.Abstract.{Abstract}
-use Rattle.verifier_spec.specs.Annotation.{Claims, claim_at}
+use Rattle.std.proofs.Common.{◌≡◌, ◌≢◌, ℕ, zero, suc, ◌+◌, ◌<◌, ◌≤◌, min, true, ◌==◌, List, length, set, slice_get}
+use Rattle.std.proofs.Common.{replicate, Option, Some, None, refl, sym, ap, ◌∙◌, subst, inl, inr, arith, length-set}
+use Rattle.std.proofs.Common.{IfSome}
+use Rattle.std.proofs.lemmas.Bool.{cond-true, cond-false, cases_eq, eq-eqb, eqb-true, cases_Bool, cases_lt, ne_eqb}
+use Rattle.std.proofs.{lemmas.Option.slice_get_within, lemmas.List.length-replicate}
+use Rattle.machine_spec.specs.{declared.helper.Helper.Helper, declared.instruction.Placed.Placed, Image.target_of}
+use Rattle.verifier_spec.specs.{declared.state.Abstract.Abstract, Annotation.Claims, Annotation.claim_at}
+use Rattle.verifier_spec.specs.{States.is_proper, States.entry_state, Checks.failed_check, Checks.jump_of}
+use Rattle.verifier_spec.specs.{Transfer.falls_to, Transfer.jumps_to}
 use Rattle.verifier_spec.specs.JoinedStates.{joined_claims, with_edge, with_edges, if_passed, with_instruction}
 use Rattle.verifier_spec.specs.JoinedStates.{known_after, joined_states}
-use Rattle.verifier_spec.specs.States.{is_proper, entry_state}
-use Rattle.verifier_spec.specs.Checks.{failed_check, jump_of}
-use Rattle.verifier_spec.specs.Transfer.{falls_to, jumps_to}
-use Rattle.machine_spec.specs.Image.{target_of}
 use Rattle.verifier_spec.proofs.JoinedStates.{length-joined_states, claim_joined}
 use Rattle.notes.specs.Derived.{HasEachClaim}
 use Rattle.annotate.specs.Passing.{IsPassed}
-
-pub claim_at-get_or : (claims : Claims) (k : ℕ) (d : Option Abstract) → k < length claims →
-    claim_at claims k ≡ get_or claims k d
-claim_at-get_or [] k d lt = absurd (omega arith)
-claim_at-get_or (first ∷ claims) zero d lt = refl
-claim_at-get_or (first ∷ claims) (suc k) d lt =
-    let below : k < length claims = omega arith in
-    claim_at-get_or claims k d below
-
-pub claim_at-set : (claims : Claims) (k : ℕ) (new : Option Abstract) → k < length claims →
-    claim_at (set claims k new) k ≡ new
-claim_at-set [] k new lt = absurd (omega arith)
-claim_at-set (first ∷ claims) zero new lt = refl
-claim_at-set (first ∷ claims) (suc k) new lt = claim_at-set claims k new (omega arith)
-
-pub claim_at-set_other : (claims : Claims) (k j : ℕ) (new : Option Abstract) → j ≢ k →
-    claim_at (set claims k new) j ≡ claim_at claims j
-claim_at-set_other [] k j new other = refl
-claim_at-set_other (first ∷ claims) zero zero new other = absurd (other refl)
-claim_at-set_other (first ∷ claims) zero (suc j) new other = refl
-claim_at-set_other (first ∷ claims) (suc k) zero new other = refl
-claim_at-set_other (first ∷ claims) (suc k) (suc j) new other =
-    claim_at-set_other claims k j new (λ same. other (ap (λ (n : ℕ). suc n) same))
-
-pub same_claims : (a b : Claims) → length a ≡ length b → ((j : ℕ) → j < length a → claim_at a j ≡ claim_at b j) → a ≡ b
-same_claims [] [] long each = refl
-same_claims [] (y ∷ b) long each = absurd (omega arith)
-same_claims (x ∷ a) [] long each = absurd (omega arith)
-same_claims (x ∷ a) (y ∷ b) long each =
-    let first : x ≡ y = each 0 (omega arith) in
-    let rest : a ≡ b = same_claims a b (omega arith) (λ j under. each (suc j) (omega arith)) in
-    cc
-
-not_eq : (x y : ℕ) → x ≢ y → (x == y) ≡ false
-not_eq x y other = elim (cases_Bool (x == y)) [
-  | inl same ↦ absurd (other (eqb-true x y same))
-  | inr apart ↦ apart
-]
+use Rattle.notes.proofs.{Steps.claim_at-set, Steps.claim_at-set_other, Derived.same_claims, Joined.edge_elsewhere}
 
 other_claim : (claims : Claims) (k : ℕ) (s : Abstract) (j : ℕ) → j ≢ k →
     with_edge j (Some k) (Some s) (claim_at claims j) ≡ claim_at claims j
@@ -84,13 +42,6 @@ claim_at-replicate zero j = refl
 claim_at-replicate (suc n) zero = refl
 claim_at-replicate (suc n) (suc j) = claim_at-replicate n j
 
--- an edge that leads elsewhere changes nothing
-edge_elsewhere : (j : ℕ) (target : Option ℕ) (state claim : Option Abstract) → ((t : ℕ) → target ≡ Some t → t ≢ j) →
-    with_edge j target state claim ≡ claim
-edge_elsewhere j None state known elsewhere = refl
-edge_elsewhere j (Some t) state known elsewhere =
-    cond-false (t == j) (joined_claims known state) known (not_eq t j (elsewhere t refl))
-
 -- ---- the pass
 
 module _ (helpers : List Helper) where
@@ -106,7 +57,7 @@ module _ (helpers : List Helper) where
         subst P (sym first) (claim_at-set (replicate n None) 0 (Some entry_state) long)
     | inr later ↦
         claim_at-set_other (replicate n None) 0 j (Some entry_state) later ∙ claim_at-replicate n j
-        ∙ sym (cond-false (j == 0) (Some entry_state) None (not_eq j 0 later))
+        ∙ sym (cond-false (j == 0) (Some entry_state) None (ne_eqb j 0 later))
   ]
 
   pub first_passed : (code : List Placed) → 0 < length code →

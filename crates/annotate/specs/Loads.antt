@@ -4,11 +4,9 @@ use Rattle.machine_spec.specs.Image.{Program, helpers_of, read_image, IsCodeOf}
 use Rattle.machine_spec.specs.declared.instruction.IsaFault.TheVariants as isa
 use Rattle.verifier_spec.specs.declared.fault.Check.TheVariants as check
 use Rattle.verifier_spec.specs.Annotation.{Claims, claim_at, is_edge_covered, IsAnnotation}
-use Rattle.verifier_spec.specs.JoinedStates.{joined_states}
-use Rattle.verifier_spec.specs.Run.{Annotated}
-use Rattle.verifier_spec.specs.declared.fault.LoadFault.{LoadFault}
-use Rattle.verifier_spec.specs.declared.fault.LoadFault.TheVariants.{Isa, Verify}
+use Rattle.verifier_spec.specs.{JoinedStates.joined_states, Run.Annotated, declared.fault.LoadFault.LoadFault}
 use Rattle.verifier_spec.specs.Loading.{IsRefusedWith}
+use Rattle.verifier_spec.specs.declared.fault.LoadFault.TheVariants.{Isa, Verify}
 
 -- The program that was accepted: its table, and the code of its image with its joined states. They are an annotation,
 -- and within those of every other one; what is unreached is within anything.

@@ -1,10 +1,8 @@
 -- What a pass over the first instructions leaves.
-use Rattle.std.specs.Prelude.{◌≡◌, ℕ, ◌<◌, min, true, List, length, Option, Some}
+use Rattle.std.specs.Prelude.{◌≡◌, ℕ, ◌<◌, min, true, List, length, Some}
 use Rattle.machine_spec.specs.declared.{helper.Helper.Helper, instruction.Placed.Placed}
 use Rattle.notes.specs.Derived.{HasEachClaim}
-use Rattle.verifier_spec.specs.declared.state.Abstract.{Abstract}
-use Rattle.verifier_spec.specs.States.{is_proper}
-use Rattle.verifier_spec.specs.Annotation.{Claims, claim_at}
+use Rattle.verifier_spec.specs.{declared.state.Abstract.Abstract, States.is_proper, Annotation.Claims}
 use Rattle.verifier_spec.specs.JoinedStates.{known_after}
 
 -- After the first k instructions those have their joined states, which are in their ranges, and each later one has what

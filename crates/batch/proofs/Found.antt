@@ -1,13 +1,9 @@
 -- What a function that reads found, by the laws of batches.
-use Rattle.std.proofs.Common.{◌≡◌, ◌≤◌, ℕ, List, ◌++◌, length, take, Result, Ok, Err, ap, subst, ◌∙◌}
-use Rattle.std.specs.Prelude.{IfOk}
-use Rattle.wire_spec.specs.declared.{fault.BatchFault.BatchFault, record.Batch.Batch}
-use Rattle.wire_spec.specs.BatchSpelling.{BatchFits, batch_spelling}
-use Rattle.wire_spec.specs.BatchReading.{batch_at}
-use Rattle.wire_spec.proofs.Varints.{IsBytes}
-use Rattle.wire_spec.proofs.BatchLaws.{batch_takes, batch_again}
-use Rattle.wire_spec.specs.Memory.{AnswersAs}
+use Rattle.std.proofs.Common.{◌≡◌, ◌≤◌, ℕ, List, ◌++◌, length, take, Result, Ok, Err, ap, subst, ◌∙◌, IfOk}
+use Rattle.wire_spec.specs.{declared.fault.BatchFault.BatchFault, declared.record.Batch.Batch, BatchSpelling.BatchFits}
+use Rattle.wire_spec.specs.{BatchSpelling.batch_spelling, BatchReading.batch_at, Memory.AnswersAs}
 use Rattle.wire_spec.specs.declared.fault.BatchFault.TheVariants.{Memory}
+use Rattle.wire_spec.proofs.{Varints.IsBytes, BatchLaws.batch_takes, BatchLaws.batch_again}
 
 pub is_found : (bytes : List ℕ) (r : Result (Batch × ℕ) BatchFault) → IsBytes bytes →
     AnswersAs Memory (λ x. x) r (batch_at bytes) →

@@ -1,16 +1,11 @@
 -- The greatest timestamp of the records so far, as a loop finds it.
 use Rattle.std.proofs.Common.{◌≡◌, ℕ, ◌+◌, ◌≤◌, ◌<◌, Bool, true, false, cond, ◌||◌, List, [], ◌∷◌, ◌++◌, length, get_or}
-use Rattle.std.proofs.Common.{take, Some, None, refl, sym, ap, subst, ◌∙◌, arith, int_cmp}
-use Rattle.std.specs.Prelude.{ℤ, pos, ◌+ℤ◌, not}
-use Rattle.std.specs.Int.{int_max}
-use Rattle.std.specs.Ordering.{ord_max, int_eq}
-use Rattle.std.proofs.lemmas.Int.{ints}
-use Rattle.std.specs.List.{list_all}
+use Rattle.std.proofs.Common.{take, Some, None, refl, sym, ap, subst, ◌∙◌, arith, int_cmp, ℤ, pos, ◌+ℤ◌, not}
+use Rattle.std.specs.{Int.int_max, Ordering.ord_max, Ordering.int_eq, List.list_all}
+use Rattle.std.proofs.{lemmas.Int.ints, lemmas.List.Sums.fold-append}
 use Rattle.std.proofs.lemmas.List.{take_more, map_push, take_all}
 use Rattle.std.proofs.lemmas.List.Folds.{list_all-append, list_all-map, list_all_at}
-use Rattle.std.proofs.lemmas.List.Sums.{fold-append}
-use Rattle.wire_spec.specs.declared.record.Record.{Record}
-use Rattle.wire_spec.specs.BatchSpelling.{timestamps, greatest}
+use Rattle.wire_spec.specs.{declared.record.Record.Record, BatchSpelling.timestamps, BatchSpelling.greatest}
 use Rattle.wire_spec.specs.BatchReading.{base_timestamp, max_timestamp, is_timestamp, is_mistimed}
 use Rattle.batch.specs.Latest.{when_timestamp, latest_of}
 
@@ -18,9 +13,6 @@ use Rattle.batch.specs.Latest.{when_timestamp, latest_of}
 pub record UpTo (base : ℤ) (rs : List Record) (i : ℕ) (g : ℤ) : Type 0 where
   pub each : list_all is_timestamp (timestamps base (take i rs)) ≡ true
   pub greatest : g ≡ greatest (timestamps base (take i rs))
-
-pub from_none : (base : ℤ) (rs : List Record) → UpTo base rs 0 (pos 0)
-from_none base rs = record { each = refl; greatest = refl }
 
 more : (base : ℤ) (rs : List Record) (i : ℕ) (r : Record) → i < length rs → r ≡ get_or rs i r
     → timestamps base (take (i + 1) rs) ≡ timestamps base (take i rs) ++ (base +ℤ r.timestamp_delta) ∷ []

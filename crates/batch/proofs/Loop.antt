@@ -1,13 +1,11 @@
 -- Reading records one after the other, as a loop does.
 use Rattle.std.proofs.Common.{◌≡◌, ℕ, suc, ◌-◌, ◌+◌, ◌<◌, List, [], ◌∷◌, ◌++◌, Result, Ok, Err, refl, sym, ap, ◌∙◌}
-use Rattle.std.proofs.Common.{append_assoc, arith}
-use Rattle.std.specs.Prelude.{pos}
+use Rattle.std.proofs.Common.{append_assoc, arith, pos}
 use Rattle.std.proofs.lemmas.List.{append-nil}
 use Rattle.wire_spec.specs.declared.{fault.BatchFault.BatchFault, record.Record.Record}
 use Rattle.wire_spec.specs.declared.fault.BatchFault.TheVariants as faults
-use Rattle.wire_spec.specs.RecordReading.{record_at}
+use Rattle.wire_spec.specs.{RecordReading.record_at, Memory.IsFault}
 use Rattle.wire_spec.specs.BatchReading.{◌>>=◌, record_or, records_at}
-use Rattle.wire_spec.specs.Memory.{IsFault}
 
 -- what was read before, and what is still read
 abbrev pub with_front : List Record → Result (List Record) BatchFault → Result (List Record) BatchFault

@@ -1,13 +1,11 @@
 -- Entries of a batch's records, and the records that they are.
 use Rattle.std.proofs.Common.{◌≡◌, ◌∙◌, ℕ, zero, suc, ◌+◌, ◌<◌, List, [], ◌∷◌, ◌++◌, length, get_or, slice_get, Some}
-use Rattle.std.proofs.Common.{take}
-use Rattle.std.proofs.Common.{Bool, true, false, Result, Ok, Err, refl, sym, ap, subst, arith}
-use Rattle.std.specs.Prelude.{pos, None}
+use Rattle.std.proofs.Common.{take, Bool, true, false, Result, Ok, Err, refl, sym, ap, subst, arith, pos, None}
 use Rattle.std.proofs.lemmas.List.{map_push, take_more}
-use Rattle.wire_spec.specs.declared.{fault.BatchFault.BatchFault, record.Header.Header, record.Record.Record}
-use Rattle.wire_spec.specs.declared.{record.Batch.Batch}
-use Rattle.wire_spec.specs.declared.fault.BatchFault.TheVariants.{Timestamp}
-use Rattle.wire_spec.specs.BatchReading.{is_mistimed, timed_at}
+use Rattle.wire_spec.specs.{declared.fault.BatchFault.BatchFault, declared.record.Header.Header}
+use Rattle.wire_spec.specs.{declared.record.Record.Record, declared.record.Batch.Batch}
+use Rattle.wire_spec.specs.{declared.fault.BatchFault.TheVariants.Timestamp, BatchReading.is_mistimed}
+use Rattle.wire_spec.specs.BatchReading.{timed_at}
 use Rattle.kafka_record.specs.Spans.{spanned, IsSpanOf}
 use Rattle.batch.specs.declared.{packed.Head.Head, packed.Entry.Entry}
 use Rattle.batch.specs.Packed.{entry_record, entry_records, headed, IsListed, IsEntryOf, AreEntriesOf, IsHeadOf}

@@ -1,24 +1,18 @@
 -- Batches within their limits.
 use Rattle.std.proofs.lemmas.Bool.{leb-true, le-leb}
-use Rattle.std.proofs.Common.{◌≡◌, ℕ, ◌+◌, ◌≤◌, ◌<◌, true, List, [], ◌∷◌, length, All, IsTrue, suc, Some, None, sym}
-use Rattle.std.proofs.Common.{subst, ◌∙◌, arith}
-use Rattle.std.specs.Prelude.{ℤ, FitsSigned, ◌↔◌, nat_le}
+use Rattle.std.proofs.Common.{◌≡◌, ℕ, ◌+◌, ◌≤◌, ◌<◌, true, List, length, All, IsTrue, Some, None, sym}
+use Rattle.std.proofs.Common.{subst, ◌∙◌, arith, ℤ, FitsSigned, ◌↔◌, nat_le}
 use Rattle.std.specs.Int.{w16, w32, w64}
 use Rattle.std.specs.List.{AllByRecursion, list_all}
 use Rattle.wire_spec.specs.declared.{record.Record.Record, record.Batch.Batch}
-use Rattle.wire_spec.specs.RecordSpelling.{RecordFits}
+use Rattle.wire_spec.specs.{RecordSpelling.RecordFits, BatchReading.is_timestamp}
 use Rattle.wire_spec.specs.BatchSpelling.{IsTimestamp, BatchFits, timestamps, greatest, records_spelling}
-use Rattle.wire_spec.specs.declared.limits.TheConstants.{MAX_BATCH, MAX_RECORDS}
 use Rattle.wire_spec.specs.BatchSpelling.{batch_spelling}
-use Rattle.wire_spec.specs.BatchReading.{is_timestamp}
+use Rattle.wire_spec.specs.declared.limits.TheConstants.{MAX_BATCH, MAX_RECORDS}
 use Rattle.wire_spec.proofs.BatchLaws.{IsTimestamp-from, AllByRecursion-from, length-covered, records_length}
 use Rattle.batch.specs.Latest.{latest_of}
-use Rattle.batch.proofs.Latest.{in_time}
-use Rattle.batch.proofs.Written.{latest_some}
-
-pub recursion_from_All : {X : Type 0} (P : X → Type 0) (xs : List X) → All P xs → AllByRecursion P xs
-recursion_from_All P [] h = tt
-recursion_from_All P (x ∷ xs) h = (h 0 x (omega arith), recursion_from_All P xs (λ k d lt. h (suc k) d (omega arith)))
+use Rattle.batch.proofs.{Latest.in_time, Written.latest_some}
+use Rattle.kafka_record.proofs.Within.{recursion_from_All}
 
 pub all_in_time : (base : ℤ) (rs : List Record) (t : ℤ) → true ≡ is_timestamp base → Some t ≡ latest_of base rs →
     IsTimestamp base × AllByRecursion IsTimestamp (timestamps base rs)

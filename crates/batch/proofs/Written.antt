@@ -1,19 +1,16 @@
 -- Writing one part after the other.
 use Rattle.std.proofs.Common.{◌≡◌, ℕ, suc, ◌+◌, ◌-◌, ◌≤◌, ◌<◌, List, [], ◌∷◌, ◌++◌, length, get_or, take, drop, Option}
-use Rattle.std.proofs.Common.{Some, refl, sym, ap, ◌∙◌, append_assoc, arith}
-use Rattle.std.specs.Prelude.{ℤ, pos, FitsSigned}
+use Rattle.std.proofs.Common.{Some, refl, sym, ap, ◌∙◌, append_assoc, arith, ℤ, pos, FitsSigned}
 use Rattle.std.specs.Int.{Width, w16, w32, w64, to_be_bytes, cast_signed, cast_unsigned}
 use Rattle.std.specs.List.{AllByRecursion}
 use Rattle.std.proofs.lemmas.Int.{to_z-of_z}
-use Rattle.std.proofs.lemmas.List.{take_more, take_all, append-nil, length-append, length-take, length-drop}
+use Rattle.std.proofs.lemmas.List.{take_more, append-nil, length-append, length-take, length-drop}
 use Rattle.wire_spec.specs.declared.{record.Record.Record, record.Batch.Batch}
-use Rattle.wire_spec.specs.Checksum.{checksum}
-use Rattle.wire_spec.specs.RecordSpelling.{record_spelling}
+use Rattle.wire_spec.specs.{Checksum.checksum, RecordSpelling.record_spelling}
 use Rattle.wire_spec.specs.BatchSpelling.{IsTimestamp, timestamps, greatest, signed, records_spelling}
 use Rattle.wire_spec.specs.BatchSpelling.{checksummed_bytes, batch_spelling}
 use Rattle.wire_spec.proofs.BatchLaws.{list_all-from, records_length}
-use Rattle.batch.specs.Latest.{latest_of}
-use Rattle.batch.specs.Heads.{front_of, header_of}
+use Rattle.batch.specs.{Latest.latest_of, Heads.front_of, Heads.header_of}
 
 -- two parts in a row
 pub row : (old mid new a b : List ℕ) → mid ≡ old ++ a → new ≡ mid ++ b → new ≡ old ++ (a ++ b)
@@ -62,9 +59,6 @@ pub items_more : (rs : List Record) (i : ℕ) (r : Record) (old out new : List �
 items_more rs i r old out new lt e so_far here =
     row old out new (records_spelling 0 (take i rs)) (record_spelling (pos i) r) so_far here
     ∙ ap (λ (s : List ℕ). old ++ s) (sym (spelling_more rs i r lt e))
-
-pub all_of : (rs : List Record) (i : ℕ) → length rs ≤ i → records_spelling 0 (take i rs) ≡ records_spelling 0 rs
-all_of rs i le = ap (records_spelling 0) (take_all i rs le)
 
 pub latest_some : (base : ℤ) (rs : List Record) → AllByRecursion IsTimestamp (timestamps base rs) →
     latest_of base rs ≡ Some (greatest (timestamps base rs))
@@ -120,18 +114,6 @@ pub finished_is : (b : Batch) (size n : ℕ) (g : ℤ) (begun written all : List
 finished_is b size n g begun written all long top count e1 e2 e3 =
     spelled_is b size (front_of b size) written all long refl
     (covered_is b b.records g n (front_of b size) begun written refl top count e1 e2) e3
-
--- the checksum and all before it are there from the beginning on
-pub begun_long : (b : Batch) (size n : ℕ) (g : ℤ) (begun more written : List ℕ) →
-    begun ≡ front_of b size ++ header_of b g n → written ≡ begun ++ more → 21 ≤ length written
-begun_long b size n g begun more written e1 e2 =
-    omega (
-      arith,
-      ap length e2,
-      ap length e1,
-      length-append begun more,
-      length-append (front_of b size) (header_of b g n),
-    )
 
 pub header_is : (b : Batch) (g : ℤ) (n : ℕ) (o0 o1 o2 o3 o4 o5 o6 o7 o8 : List ℕ) → FitsSigned w64 b.base_timestamp →
     FitsSigned w64 g → FitsSigned w64 b.producer_id → FitsSigned w16 b.producer_epoch → FitsSigned w32 b.base_sequence →

@@ -1,7 +1,6 @@
 -- The batches that bytes begin with, one after the other.
 use Rattle.std.specs.Prelude.{◌≡◌, ℕ, List, [], ◌∷◌, drop, Ok}
-use Rattle.wire_spec.specs.declared.record.Batch.{Batch}
-use Rattle.wire_spec.specs.BatchReading.{batch_at}
+use Rattle.wire_spec.specs.{declared.record.Batch.Batch, BatchReading.batch_at}
 
 -- the bytes begin with these batches, one after the other, and these bytes are left
 abbrev pub AreBatches : List ℕ → List Batch → List ℕ → Type 0

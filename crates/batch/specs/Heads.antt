@@ -1,8 +1,7 @@
 -- What is before the records of a batch.
 use Rattle.std.specs.Prelude.{ℕ, ◌-◌, ℤ, List, ◌∷◌, ◌++◌}
 use Rattle.std.specs.Int.{w16, w32, w64, to_be_bytes}
-use Rattle.wire_spec.specs.declared.record.Batch.{Batch}
-use Rattle.wire_spec.specs.BatchSpelling.{signed}
+use Rattle.wire_spec.specs.{declared.record.Batch.Batch, BatchSpelling.signed}
 
 -- the header from attributes on, of a batch with this greatest timestamp and this number of records
 abbrev pub header_of : Batch → ℤ → ℕ → List ℕ

@@ -1,8 +1,7 @@
 -- The greatest timestamp of records, where each is in range.
 use Rattle.std.specs.Prelude.{ℤ, List, Option, Some, None, if◌then◌else◌}
 use Rattle.std.specs.List.{list_all}
-use Rattle.wire_spec.specs.declared.record.Record.{Record}
-use Rattle.wire_spec.specs.BatchSpelling.{timestamps, greatest}
+use Rattle.wire_spec.specs.{declared.record.Record.Record, BatchSpelling.timestamps, BatchSpelling.greatest}
 use Rattle.wire_spec.specs.BatchReading.{is_timestamp}
 
 -- a number of milliseconds, if it is from 0 to 2^62 - 1

@@ -1,9 +1,8 @@
 -- Batches and pieces of bytes of which the rest is read later.
-use Rattle.std.proofs.Common.{◌≡◌, ℕ, ◌-◌, List, [], ◌++◌, length, drop, Option, Some, None, Result, Ok, Err, refl}
-use Rattle.std.proofs.Common.{sym, ap, subst, ◌∙◌, arith}
+use Rattle.std.proofs.Common.{◌≡◌, ℕ, ◌-◌, List, [], ◌++◌, length, drop, Option, Some, None, Result, Ok, Err, refl, sym}
+use Rattle.std.proofs.Common.{ap, subst, ◌∙◌, arith}
 use Rattle.std.specs.Io.KnownBytes.{prepend_known}
-use Rattle.std.proofs.lemmas.Option.{same_Some}
-use Rattle.std.proofs.lemmas.List.{drop-append-le, length-drop}
+use Rattle.std.proofs.{lemmas.Option.same_Some, lemmas.List.drop-append-le, lemmas.List.length-drop}
 use Rattle.wire_spec.specs.declared.{record.Batch.Batch, fault.BatchFault.BatchFault}
 use Rattle.wire_spec.specs.declared.fault.BatchFault.TheVariants.{Short}
 use Rattle.wire_spec.specs.BatchReading.{size_at, IsPart, batch_at}
@@ -13,7 +12,7 @@ use Rattle.batch.proofs.FeedLaws.{batch_at-taken}
 use Rattle.batch_reader.specs.declared.reader.Position.{Position}
 use Rattle.batch_reader.specs.Readings.{with_batch, left, SameLeft, LosesBatch, BeginsBadly, CountsBatch, CountsCut}
 
-ok_not_err : {A E : Type 0} (x : A) (e : E) → Ok x ≡ Err e → ⊥
+pub ok_not_err : {A E : Type 0} (x : A) (e : E) → Ok x ≡ Err e → ⊥
 ok_not_err x e h = absurd cc
 
 same_err : {A E : Type 0} (d e : E) → ◌≡◌ {A = Result A E} (Err d) (Err e) → d ≡ e

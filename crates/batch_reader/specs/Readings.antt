@@ -1,10 +1,9 @@
 -- Record batches that are read one after the other.
-use Rattle.std.specs.Prelude.{◌≡◌, ◌≢◌, ℕ, ◌+◌, ◌-◌, ◌^◌, min, Bool, true, false, List, [], length, drop, Option}
-use Rattle.std.specs.Prelude.{Some, None, Result, Ok, Err, ⊤}
+use Rattle.std.specs.Prelude.{◌≡◌, ◌≢◌, ℕ, ◌+◌, ◌-◌, ◌^◌, min, Bool, true, false, List, [], length, drop, Option, Some}
+use Rattle.std.specs.Prelude.{None, Result, Ok, Err, ⊤}
 use Rattle.std.specs.Io.KnownBytes.{prepend_known, IsAtEnd}
-use Rattle.wire_spec.specs.declared.{record.Batch.Batch, fault.BatchFault.BatchFault}
+use Rattle.wire_spec.specs.{declared.record.Batch.Batch, declared.fault.BatchFault.BatchFault, BatchReading.batch_at}
 use Rattle.wire_spec.specs.declared.fault.BatchFault.TheVariants.{Memory as NoMemory, Short}
-use Rattle.wire_spec.specs.BatchReading.{batch_at}
 use Rattle.batch.specs.Streams.{Stream, Open, pending_bytes}
 use Rattle.batch_reader.specs.declared.{reader.Position.Position, reader.ReadFault.ReadFault}
 use Rattle.batch_reader.specs.declared.reader.ReadFault.TheVariants as fault

@@ -1,7 +1,6 @@
 -- The bytes after some records, and the words on one.
 use Rattle.std.proofs.Common.{◌≡◌, ℕ, zero, suc, ◌-◌, ◌<◌, ◌==◌, false, List, ◌++◌, length, take, drop, arith, ap}
-use Rattle.std.proofs.Common.{subst, refl, ◌∙◌}
-use Rattle.std.specs.Prelude.{Option, Some, None, codes}
+use Rattle.std.proofs.Common.{subst, refl, ◌∙◌, Option, Some, None, codes}
 use Rattle.std.proofs.lemmas.List.{take_all, length-drop}
 use Rattle.wire_spec.specs.BatchReading.{record_count}
 use Rattle.batch_text.specs.Lines.{count_field}

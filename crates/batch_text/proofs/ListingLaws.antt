@@ -1,22 +1,15 @@
 -- Batches that are listed one after the other.
-use Rattle.std.proofs.Common.{◌≡◌, ℕ, ◌+◌, ◌≤◌, List, [], ◌∷◌, ◌++◌, length, Option, Some, None, Result, Ok, Err, refl}
-use Rattle.std.proofs.Common.{sym, ap}
-use Rattle.std.proofs.Common.{subst, ◌∙◌, append-nil, append_assoc, arith}
-use Rattle.std.specs.Prelude.{All}
-use Rattle.std.specs.Io.KnownBytes.{Appends, Consumes, IsAtEnd}
-use Rattle.std.proofs.KnownBytes.{Appends-nil, Appends-trans, Consumes-nil, Consumes-trans}
-use Rattle.std.proofs.lemmas.Option.{same_Some}
-use Rattle.std.proofs.lemmas.List.{length-append}
-use Rattle.std.proofs.lemmas.List.Concat.{flat_map-append}
-use Rattle.std.proofs.lemmas.List.Elements.{All-push, All-nil}
-use Rattle.wire_spec.specs.declared.record.Batch.{Batch}
-use Rattle.wire_spec.specs.BatchSpelling.{BatchFits, batch_spelling}
-use Rattle.batch_text.specs.declared.listing.{Listing.Listing, ListFault.ListFault}
+use Rattle.std.proofs.Common.{◌≡◌, ℕ, ◌+◌, ◌≤◌, List, [], ◌∷◌, ◌++◌, length, Option, Some, None, Result, Err, refl, sym}
+use Rattle.std.proofs.Common.{ap, subst, ◌∙◌, append-nil, append_assoc, arith, All}
+use Rattle.std.specs.Io.KnownBytes.{Appends, Consumes}
+use Rattle.std.proofs.{KnownBytes.Appends-trans, KnownBytes.Consumes-trans, lemmas.List.length-append}
+use Rattle.std.proofs.{lemmas.List.Concat.flat_map-append, lemmas.List.Elements.All-push}
+use Rattle.wire_spec.specs.{declared.record.Batch.Batch, BatchSpelling.BatchFits, BatchSpelling.batch_spelling}
+use Rattle.batch_text.specs.declared.{listing.Listing.Listing, listing.ListFault.ListFault, next.Found.Found}
+use Rattle.batch_text.specs.declared.next.NextFault.{NextFault}
 use Rattle.batch_text.specs.declared.listing.ListFault.TheVariants as fault
-use Rattle.batch_text.specs.declared.next.{Found.Found, NextFault.NextFault}
 use Rattle.batch_text.specs.declared.next.NextFault.TheVariants as next
-use Rattle.batch_text.specs.Listings.{text_of, texts_of, bytes_of, Lists, IsFound, Takes}
-use Rattle.batch_text.specs.Listings.{fault_at, IsUnlisted}
+use Rattle.batch_text.specs.Listings.{text_of, texts_of, bytes_of, Lists, IsFound, Takes, fault_at, IsUnlisted}
 
 -- what is known after some batches
 pub record Underway (listing : Listing) (known before left after : Option (List ℕ))
@@ -28,17 +21,6 @@ pub record Underway (listing : Listing) (known before left after : Option (List 
   pub count : batches ≡ length done
   pub size : position ≡ length (bytes_of done)
   pub few : batches ≤ position
-
-pub begun : (listing : Listing) (known before : Option (List ℕ)) → Underway listing known before known before 0 0
-begun listing known before = record {
-  done = [];
-  fit = All-nil BatchFits;
-  taken = Consumes-nil known;
-  written = Appends-nil before;
-  count = refl;
-  size = refl;
-  few = omega arith;
-}
 
 bytes_more : (batches : List Batch) (batch : Batch) →
     bytes_of (batches ++ batch ∷ []) ≡ bytes_of batches ++ batch_spelling batch
@@ -92,24 +74,6 @@ rest_is : (left : Option (List ℕ)) (bytes front : List ℕ) → Consumes (Some
     (rest : List ℕ) × (left ≡ Some rest) × (bytes ≡ front ++ rest)
 rest_is None bytes front given = absurd given
 rest_is (Some rest) bytes front given = (rest, refl, given)
-
-at_end : (left : Option (List ℕ)) (rest : List ℕ) → left ≡ Some rest → IsAtEnd left → rest ≡ []
-at_end None rest is end = absurd cc
-at_end (Some all) rest is end = sym (same_Some all rest is) ∙ end
-
-pub ends : (listing : Listing) (known before left after : Option (List ℕ)) (batches position : ℕ) →
-    Underway listing known before left after batches position → IsAtEnd left →
-    Lists listing known before (Ok tt) after
-ends listing known before left after batches position so_far end bytes is =
-    let split = rest_is left bytes (bytes_of so_far.done)
-    (subst (λ (k : Option (List ℕ)). Consumes k left (bytes_of so_far.done)) is so_far.taken) in (
-      so_far.done,
-      record {
-        fit = so_far.fit;
-        bytes_are = split.2 ∙ ap (λ (l : List ℕ). bytes_of so_far.done ++ l) (at_end left split.0 split.1 end);
-        written = so_far.written;
-      },
-    )
 
 pub refused : (listing : Listing) (known before left after rest : Option (List ℕ)) (batches position : ℕ)
     (why : NextFault) → Underway listing known before left after batches position → Takes left (Err why) rest →

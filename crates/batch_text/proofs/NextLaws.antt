@@ -1,32 +1,16 @@
 -- The next batch of known bytes, of which some were read and not given yet.
 use Rattle.std.proofs.Common.{◌≡◌, ℕ, List, [], ◌∷◌, ◌++◌, Option, Some, None, Result, Ok, Err, refl, sym, ap, subst}
-use Rattle.std.proofs.Common.{◌∙◌}
-use Rattle.std.proofs.Common.{append-nil, append_assoc, ◌⊎◌, inl, inr, length, ◌<◌, arith}
-use Rattle.std.proofs.lemmas.Option.{same_Some}
-use Rattle.std.proofs.lemmas.List.{nil_from_length}
+use Rattle.std.proofs.Common.{◌∙◌, append-nil, ◌⊎◌, inl, inr, length, ◌<◌, arith}
+use Rattle.std.proofs.{lemmas.Option.same_Some, lemmas.List.nil_from_length, KnownBytes.prepend_known-read}
+use Rattle.std.proofs.KnownBytes.{prepend_known-end}
 use Rattle.std.specs.Io.KnownBytes.{Keeps, Consumes, IsAtEnd, prepend_known}
-use Rattle.std.proofs.KnownBytes.{prepend_known-read, prepend_known-end}
 use Rattle.wire_spec.specs.declared.fault.BatchFault.{BatchFault}
 use Rattle.wire_spec.specs.declared.fault.BatchFault.TheVariants as faults
 use Rattle.wire_spec.specs.BatchReading.{size_at, IsPart, batch_at}
 use Rattle.wire_spec.proofs.MoreBytes.{batch_at-append}
-use Rattle.batch_text.specs.declared.next.{Found.Found, NextFault.NextFault}
+use Rattle.batch_text.specs.declared.{next.Found.Found, next.NextFault.NextFault}
 use Rattle.batch_text.specs.declared.next.NextFault.TheVariants as next
 use Rattle.batch_text.specs.Listings.{IsFound, BeginBadly, Cuts, Takes, IsUnread}
-
--- what a reader gave is kept after what was read before
-pub prepend_consumed : (a b : Option (List ℕ)) (old new bytes : List ℕ) → Consumes a b bytes → new ≡ old ++ bytes →
-    Keeps (prepend_known old a) (prepend_known new b)
-prepend_consumed None b old new bytes given is = tt
-prepend_consumed (Some x) None old new bytes given is = absurd given
-prepend_consumed (Some x) (Some y) old new bytes given is =
-    ap (λ (l : List ℕ). l ++ y) is ∙ append_assoc old bytes y ∙ ap (λ (l : List ℕ). old ++ l) (sym given)
-
-pub prepend_kept : (a b : Option (List ℕ)) (bytes : List ℕ) → Keeps a b →
-    Keeps (prepend_known bytes a) (prepend_known bytes b)
-prepend_kept None b bytes keeps = tt
-prepend_kept (Some x) None bytes keeps = absurd keeps
-prepend_kept (Some x) (Some y) bytes keeps = ap (λ (l : List ℕ). bytes ++ l) keeps
 
 pub taken : (a b : Option (List ℕ)) (old new : List ℕ) (found : Found) → Keeps a (prepend_known old b) →
     IsFound found × (old ≡ found.bytes ++ new) → IsFound found × Consumes a (prepend_known new b) found.bytes

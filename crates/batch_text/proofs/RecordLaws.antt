@@ -1,8 +1,7 @@
 -- Records as rows.
-use Rattle.std.proofs.Common.{◌≡◌, ℕ, [], ◌∷◌, ap, arith}
-use Rattle.std.specs.Prelude.{ℤ, pos, negsuc, ◌-ℤ◌}
+use Rattle.std.proofs.Common.{◌≡◌, ℕ, [], ◌∷◌, ap, arith, ℤ, pos, negsuc, ◌-ℤ◌}
 use Rattle.std.proofs.lemmas.Int.{ints}
-use Rattle.wire_spec.specs.declared.{record.Batch.Batch}
+use Rattle.wire_spec.specs.declared.record.Batch.{Batch}
 use Rattle.log_spec.specs.declared.row.Row.{Row}
 use Rattle.row_batch.specs.RowBatches.{batch_of}
 

@@ -1,24 +1,20 @@
 -- Texts that are written one after the other.
-use Rattle.std.proofs.Common.{◌≡◌, List, ◌++◌, Result, Ok, Err, length, sym, ap, ◌∙◌, append_assoc, refl}
+use Rattle.std.proofs.Common.{◌≡◌, List, ◌++◌, Result, Ok, Err, length, sym, ap, ◌∙◌, refl}
 use Rattle.std.specs.Prelude.{ℕ, OnOk, codes, is_ok, if◌then◌else◌}
 use Rattle.wire_spec.specs.BatchReading.{base_offset, leader_epoch, base_timestamp, max_timestamp, producer_id}
 use Rattle.wire_spec.specs.BatchReading.{producer_epoch, base_sequence, record_count}
 use Rattle.batch_text.specs.Lines.{count_field, field, place_part, time_part, producer_part}
-
-pub two : (old mid new first second : List ℕ) → mid ≡ old ++ first → new ≡ mid ++ second →
-    new ≡ old ++ (first ++ second)
-two old mid new first second one other =
-    other ∙ ap (λ (l : List ℕ). l ++ second) one ∙ append_assoc old first second
+use Rattle.batch.proofs.Written.{row}
 
 pub four : (old m1 m2 m3 new a b c d : List ℕ) → m1 ≡ old ++ a → m2 ≡ m1 ++ b → m3 ≡ m2 ++ c → new ≡ m3 ++ d →
     new ≡ old ++ (a ++ (b ++ (c ++ d)))
 four old m1 m2 m3 new a b c d e1 e2 e3 e4 =
-    two old m1 new a (b ++ (c ++ d)) e1 (two m1 m2 new b (c ++ d) e2 (two m2 m3 new c d e3 e4))
+    row old m1 new a (b ++ (c ++ d)) e1 (row m1 m2 new b (c ++ d) e2 (row m2 m3 new c d e3 e4))
 
 pub pushed : {E : Type 0} (result : Result (Unit {0}) E) (old mid new first second whole : List ℕ) →
     mid ≡ old ++ first → OnOk result (new ≡ mid ++ second) → whole ≡ first ++ second → OnOk result (new ≡ old ++ whole)
 pushed (Ok done) old mid new first second whole one other is =
-    two old mid new first second one other ∙ ap (λ (l : List ℕ). old ++ l) (sym is)
+    row old mid new first second one other ∙ ap (λ (l : List ℕ). old ++ l) (sym is)
 pushed (Err e) old mid new first second whole one other is = tt
 
 pub pushed_four : {E : Type 0} (result : Result (Unit {0}) E) (old m1 m2 m3 new a b c d whole : List ℕ) →

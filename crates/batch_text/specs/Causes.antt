@@ -3,17 +3,13 @@
 use Rattle.std.specs.Prelude.{ℕ, zero, suc, ◌-◌, ◌/◌, ◌%◌, ℤ, pos, negsuc, Bool, true, false, ◌==◌, ◌&&◌, nat_lt}
 use Rattle.std.specs.Prelude.{if◌then◌else◌, List, ◌++◌, length, drop, Option, Some, None, Result, Ok, Err, codes}
 use Rattle.std.specs.Prelude.{decimal}
-use Rattle.std.specs.Int.{w32, cast_signed}
-use Rattle.std.specs.List.{list_all}
-use Rattle.std.specs.Fmt.{signed_decimal}
-use Rattle.batch_text.specs.Lines.{count_field, field}
-use Rattle.batch_text.specs.declared.sizes.{Sizes.Sizes, Past.Past}
-use Rattle.wire_spec.specs.declared.fault.{BatchFault.BatchFault, VarintFault.VarintFault}
+use Rattle.std.specs.{Int.w32, Int.cast_signed, List.list_all, Fmt.signed_decimal}
+use Rattle.batch_text.specs.{Lines.count_field, Lines.field, declared.sizes.Sizes.Sizes, declared.sizes.Past.Past}
+use Rattle.wire_spec.specs.declared.{fault.BatchFault.BatchFault, fault.VarintFault.VarintFault}
 use Rattle.wire_spec.specs.declared.fault.BatchFault.TheVariants as fault
 use Rattle.wire_spec.specs.declared.fault.VarintFault.TheVariants as varint
 use Rattle.wire_spec.specs.declared.limits.TheConstants.{MAX_KEY, MAX_VALUE, MAX_HEADERS}
-use Rattle.wire_spec.specs.Checksum.{checksum}
-use Rattle.wire_spec.specs.Varint.{read_varint}
+use Rattle.wire_spec.specs.{Checksum.checksum, Varint.read_varint}
 use Rattle.wire_spec.specs.RecordReading.{◌>>=◌, varint_at, varlong_at}
 use Rattle.wire_spec.specs.BatchReading.{batch_length, magic, crc, attributes, last_offset_delta, base_timestamp}
 use Rattle.wire_spec.specs.BatchReading.{max_timestamp, record_count}

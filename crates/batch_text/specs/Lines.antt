@@ -1,13 +1,10 @@
 -- The line of a batch, and the lines of its records.
 use Rattle.std.specs.Prelude.{ℕ, ℤ, unsigned_abs, ◌==◌, if◌then◌else◌, List, [], ◌∷◌, ◌++◌, length, codes, decimal}
-use Rattle.std.specs.List.{flat_map}
-use Rattle.std.specs.Fmt.{signed_decimal}
-use Rattle.wire_spec.specs.declared.{record.Record.Record, record.Batch.Batch}
-use Rattle.wire_spec.specs.BatchSpelling.{batch_spelling}
+use Rattle.std.specs.{List.flat_map, Fmt.signed_decimal}
+use Rattle.wire_spec.specs.{declared.record.Record.Record, declared.record.Batch.Batch, BatchSpelling.batch_spelling}
 use Rattle.wire_spec.specs.BatchReading.{base_offset, leader_epoch, base_timestamp, max_timestamp, producer_id}
 use Rattle.wire_spec.specs.BatchReading.{producer_epoch, base_sequence, record_count}
-use Rattle.log_spec.specs.declared.row.Row.{Row}
-use Rattle.log_spec.specs.Logs.{timestamp_of}
+use Rattle.log_spec.specs.{declared.row.Row.Row, Logs.timestamp_of}
 use Rattle.row_batch.specs.RowBatches.{batch_of}
 use Rattle.script.specs.Texts.{bytes_text, hex_text}
 

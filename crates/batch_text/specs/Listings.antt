@@ -1,16 +1,14 @@
 -- The text of the batches that bytes are.
 use Rattle.std.specs.Prelude.{◌≡◌, ◌≢◌, ℕ, ◌+◌, ◌≤◌, All, List, [], ◌∷◌, ◌++◌, length, Option, Some, None, Result, Ok}
-use Rattle.std.specs.Prelude.{Err}
-use Rattle.std.specs.Prelude.{⊤}
+use Rattle.std.specs.Prelude.{Err, ⊤}
 use Rattle.std.specs.List.{flat_map}
 use Rattle.std.specs.Io.KnownBytes.{Appends, Consumes, IsAtEnd}
 use Rattle.wire_spec.specs.declared.{fault.BatchFault.BatchFault, record.Batch.Batch}
-use Rattle.wire_spec.specs.BatchSpelling.{BatchFits, batch_spelling}
-use Rattle.wire_spec.specs.BatchReading.{batch_at}
-use Rattle.batch_text.specs.Lines.{batch_line, record_lines}
-use Rattle.batch_text.specs.declared.listing.{Listing.Listing, ListFault.ListFault, Position.Position}
+use Rattle.wire_spec.specs.{BatchSpelling.BatchFits, BatchSpelling.batch_spelling, BatchReading.batch_at}
+use Rattle.batch_text.specs.{Lines.batch_line, Lines.record_lines, declared.listing.Listing.Listing}
+use Rattle.batch_text.specs.{declared.listing.ListFault.ListFault, declared.listing.Position.Position}
+use Rattle.batch_text.specs.{declared.next.Found.Found, declared.next.NextFault.NextFault}
 use Rattle.batch_text.specs.declared.listing.ListFault.TheVariants as fault
-use Rattle.batch_text.specs.declared.next.{Found.Found, NextFault.NextFault}
 use Rattle.batch_text.specs.declared.next.NextFault.TheVariants as next
 
 -- the text of a batch that begins at a position of a file

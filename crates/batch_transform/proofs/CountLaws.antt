@@ -1,20 +1,16 @@
 -- How many batches some bytes are.
-use Rattle.std.proofs.Common.{◌≡◌, ℕ, ◌+◌, ◌≤◌, List, [], ◌∷◌, ◌++◌, length, take, drop, ltb}
-use Rattle.std.proofs.Common.{Option, Some, None, Ok, refl, sym, ap, subst, ◌∙◌, arith}
+use Rattle.std.proofs.Common.{◌≡◌, ℕ, ◌+◌, ◌≤◌, List, [], ◌∷◌, ◌++◌, length, take, drop, ltb, Option, Some, None, Ok}
+use Rattle.std.proofs.Common.{refl, sym, ap, subst, ◌∙◌, arith}
 use Rattle.std.specs.{Int.w32, List.concat}
-use Rattle.std.proofs.lemmas.Bool.{le-ltb, ltb-false}
-use Rattle.std.proofs.lemmas.List.{drop_at, length-drop}
+use Rattle.std.proofs.{lemmas.Bool.le-ltb, lemmas.Bool.ltb-false, lemmas.List.drop_at, lemmas.List.length-drop}
 use Rattle.std.proofs.lemmas.Option.{same_Some}
-use Rattle.wire_spec.specs.declared.record.Batch.{Batch}
-use Rattle.wire_spec.specs.BatchSpelling.{batch_spelling}
+use Rattle.wire_spec.specs.{declared.record.Batch.Batch, BatchSpelling.batch_spelling}
 use Rattle.wire_spec.specs.BatchReading.{◌>>=◌, number_at, whole_at, size_at, batch_at}
-use Rattle.wire_spec.proofs.Varints.{IsBytes, IsBytes-drop}
-use Rattle.wire_spec.proofs.RecordLaws.{guard_some}
+use Rattle.wire_spec.proofs.{Varints.IsBytes, Varints.IsBytes-drop, RecordLaws.guard_some}
 use Rattle.wire_spec.proofs.BatchLaws.{bind_ok, ok_is, Sized, size_taken, batch_again}
 use Rattle.batch.specs.Batches.{AreBatches as Begins}
 use Rattle.row_batch.specs.RowBatches.{batch_of}
-use Rattle.transform.specs.Backlogs.{Waiting, rest_after}
-use Rattle.transform.specs.Outlets.{AreBatches as AreRowBatches}
+use Rattle.transform.specs.{Backlogs.Waiting, Backlogs.rest_after, Outlets.AreBatches as AreRowBatches}
 use Rattle.batch_transform.specs.Passes.{first_size, AreCounted}
 
 abbrev some : ℕ → Option ℕ

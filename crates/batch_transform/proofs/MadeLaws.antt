@@ -1,8 +1,7 @@
 -- What output partitions hold in the end, of the rows of all batches.
-use Rattle.std.proofs.Common.{◌≡◌, ℕ, zero, suc, ◌+◌, ◌<◌, List, [], ◌∷◌, ◌++◌, length, Option, Some, refl}
-use Rattle.std.proofs.Common.{slice_get, sym, subst, ◌∙◌, arith}
-use Rattle.std.specs.List.{concat}
-use Rattle.std.specs.Io.KnownBytes.{Appends}
+use Rattle.std.proofs.Common.{◌≡◌, ℕ, zero, suc, ◌+◌, ◌<◌, List, [], ◌∷◌, ◌++◌, length, Option, Some, refl, slice_get}
+use Rattle.std.proofs.Common.{sym, subst, ◌∙◌, arith}
+use Rattle.std.specs.{List.concat, Io.KnownBytes.Appends}
 use Rattle.std.proofs.lemmas.Option.{same_Some}
 use Rattle.machine_spec.specs.Image.{Program}
 use Rattle.wire_spec.specs.declared.record.Batch.{Batch}
@@ -11,13 +10,12 @@ use Rattle.log_spec.specs.declared.row.Row.{Row}
 use Rattle.batch.specs.Batches.{AreBatches as Begins}
 use Rattle.fates.specs.Totals.{AreCountsWith}
 use Rattle.item_rows.specs.declared.origin.Origin.{Origin}
-use Rattle.transform.specs.Backlogs.{waiting}
-use Rattle.transform.specs.Outlets.{Outflow, outflow}
+use Rattle.transform.specs.{Backlogs.waiting, Outlets.Outflow, Outlets.outflow}
 use Rattle.transform.specs.Transforms.{flow, output_at, InEach, Empties, AreRows, AreFates, FillsAll}
 use Rattle.transform.proofs.{OutletLaws.total, FollowLaws.end_finishes}
-use Rattle.batch_transform.specs.declared.{stream.Stream.Stream, pass.Transformed.Transformed}
-use Rattle.batch_transform.specs.declared.{ending.OutputBatches.OutputBatches}
-use Rattle.batch_transform.specs.Transformed.{AreOutputBatches, IsTransformed}
+use Rattle.batch_transform.specs.{declared.stream.Stream.Stream, declared.pass.Transformed.Transformed}
+use Rattle.batch_transform.specs.{declared.ending.OutputBatches.OutputBatches, Transformed.AreOutputBatches}
+use Rattle.batch_transform.specs.Transformed.{IsTransformed}
 use Rattle.batch_transform.specs.Passes.{flow_of, StartsAt, HavePassed, Ends, AreEnds, Finishes}
 use Rattle.batch_transform.proofs.CountLaws.{spelled}
 

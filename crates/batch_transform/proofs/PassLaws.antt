@@ -1,25 +1,21 @@
 -- Batches that were transformed one after the other.
-use Rattle.std.proofs.Common.{◌≡◌, ℕ, ◌+◌, ◌-◌, ◌<◌, ◌≤◌, false, List, [], ◌∷◌, ◌++◌, length, drop, Some, refl}
-use Rattle.std.proofs.Common.{Result, Ok, Err, sym, ap, subst, ◌∙◌, arith}
-use Rattle.std.specs.Prelude.{◌==◌}
+use Rattle.std.proofs.Common.{◌≡◌, ℕ, ◌+◌, ◌-◌, ◌<◌, ◌≤◌, false, List, [], ◌∷◌, ◌++◌, length, drop, Some, refl, Result}
+use Rattle.std.proofs.Common.{Ok, Err, sym, ap, subst, ◌∙◌, arith, ◌==◌}
 use Rattle.std.proofs.lemmas.List.{length-append, length-drop}
-use Rattle.wire_spec.specs.declared.record.Batch.{Batch}
-use Rattle.wire_spec.specs.BatchReading.{batch_at}
+use Rattle.wire_spec.specs.{declared.record.Batch.Batch, BatchReading.batch_at}
 use Rattle.machine_spec.specs.Image.{Program}
-use Rattle.log_spec.specs.Logs.{Records}
+use Rattle.log_spec.specs.{Logs.Records, declared.row.Row.Row}
 use Rattle.batch.specs.Batches.{AreBatches as Begins}
 use Rattle.fates.specs.declared.fate.Fate.{Fate}
 use Rattle.fates.specs.Totals.{Totals, AreCounts, AreItemCounts}
 use Rattle.wire_spec.specs.declared.limits.TheConstants.{TIMESTAMP_END, MAX_RECORDS}
-use Rattle.log_spec.specs.declared.row.Row.{Row}
-use Rattle.item_rows.specs.ItemRows.{rows_in, AreItemRows}
+use Rattle.item_rows.specs.{ItemRows.rows_in, ItemRows.AreItemRows, declared.origin.Origin.Origin}
 use Rattle.transform.specs.Transforms.{Flow, IsFlow, origin_of, InEach, Fills, Pushes}
-use Rattle.transform.proofs.CountLaws.{batch_counted, counts_batch}
-use Rattle.transform.proofs.FollowLaws.{none_follows, one_follows}
-use Rattle.item_rows.specs.declared.origin.Origin.{Origin}
-use Rattle.batch_transform.specs.declared.{stream.Stream.Stream, fault.Stop.Stop, fault.BatchPlace.BatchPlace}
+use Rattle.transform.proofs.{CountLaws.batch_counted, CountLaws.counts_batch, FollowLaws.none_follows}
+use Rattle.transform.proofs.FollowLaws.{one_follows}
+use Rattle.batch_transform.specs.{declared.stream.Stream.Stream, declared.fault.Stop.Stop}
+use Rattle.batch_transform.specs.{declared.fault.BatchPlace.BatchPlace, Transformed.EndsAt, Transformed.StopsAt}
 use Rattle.batch_transform.specs.declared.fault.Stop.TheVariants as stop
-use Rattle.batch_transform.specs.Transformed.{EndsAt, StopsAt}
 use Rattle.batch_transform.specs.Passes.{flow_of, IsStream, StartsAt, TakesOne, HavePassed, PassesOne, PassesAll}
 
 -- ---- one batch

@@ -1,20 +1,18 @@
 -- What is known between two batches, and of each step.
-use Rattle.std.specs.Prelude.{◌≡◌, ◌≢◌, ℕ, ◌+◌, ◌<◌, ◌≤◌, List, [], ◌∷◌, length, drop, slice_index, Option}
-use Rattle.std.specs.Prelude.{Some, None, Result, Ok, Err, ⊤, nat_lt, if◌then◌else◌}
+use Rattle.std.specs.Prelude.{◌≡◌, ◌≢◌, ℕ, ◌+◌, ◌<◌, ◌≤◌, List, [], ◌∷◌, length, drop, slice_index, Option, Some, None}
+use Rattle.std.specs.Prelude.{Result, Ok, Err, ⊤, nat_lt, if◌then◌else◌}
 use Rattle.std.specs.Int.{w32}
-use Rattle.wire_spec.specs.declared.record.Batch.{Batch}
-use Rattle.wire_spec.specs.declared.fault.BatchFault.TheVariants.{Memory as NoMemory}
+use Rattle.wire_spec.specs.{declared.record.Batch.Batch, declared.fault.BatchFault.TheVariants.Memory as NoMemory}
+use Rattle.wire_spec.specs.{BatchReading.number_at, BatchReading.batch_at}
 use Rattle.wire_spec.specs.declared.limits.TheConstants.{TIMESTAMP_END, MAX_RECORDS}
-use Rattle.wire_spec.specs.BatchReading.{number_at, batch_at}
 use Rattle.machine_spec.specs.Image.{Program}
 use Rattle.batch.specs.Batches.{AreBatches as Begins}
 use Rattle.fates.specs.Totals.{AreCounts}
 use Rattle.item_rows.specs.declared.origin.Origin.{Origin}
-use Rattle.transform.specs.Backlogs.{waiting}
-use Rattle.transform.specs.Outlets.{Outflow, outflow}
+use Rattle.transform.specs.{Backlogs.waiting, Outlets.Outflow, Outlets.outflow}
 use Rattle.transform.specs.Transforms.{Flow, flow, IsFlow, output_at, Pushes, Follows, Empties}
 use Rattle.batch_transform.specs.declared.{fault.Stop.Stop, stream.Stream.Stream, pass.Transformed.Transformed}
-use Rattle.batch_transform.specs.declared.{ending.OutputBatches.OutputBatches}
+use Rattle.batch_transform.specs.declared.ending.OutputBatches.{OutputBatches}
 use Rattle.batch_transform.specs.declared.fault.Stop.TheVariants as stop
 
 -- a stream without its blocks: the input partition, the offset of its next record, the output partitions, and the

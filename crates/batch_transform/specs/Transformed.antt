@@ -1,20 +1,18 @@
 -- What a program makes of record batches in memory.
 use Rattle.std.specs.Prelude.{◌≡◌, ◌≢◌, ℕ, ◌+◌, ◌<◌, List, [], length, slice_get, Some, Result, Ok, Err, ⊤}
 use Rattle.std.specs.List.{concat}
-use Rattle.wire_spec.specs.declared.record.Batch.{Batch}
-use Rattle.wire_spec.specs.declared.fault.BatchFault.TheVariants.{Memory as NoMemory}
-use Rattle.wire_spec.specs.declared.limits.TheConstants.{TIMESTAMP_END, MAX_RECORDS}
+use Rattle.wire_spec.specs.{declared.record.Batch.Batch, declared.fault.BatchFault.TheVariants.Memory as NoMemory}
 use Rattle.wire_spec.specs.BatchReading.{batch_at}
+use Rattle.wire_spec.specs.declared.limits.TheConstants.{TIMESTAMP_END, MAX_RECORDS}
 use Rattle.machine_spec.specs.Image.{Program}
 use Rattle.log_spec.specs.declared.row.Row.{Row}
 use Rattle.batch.specs.Batches.{AreBatches as Begins}
 use Rattle.fates.specs.Totals.{AreCountsWith}
 use Rattle.item_rows.specs.declared.origin.Origin.{Origin}
-use Rattle.transform.specs.Backlogs.{Waiting, waiting}
-use Rattle.transform.specs.Outlets.{AreBatches as AreRowBatches}
+use Rattle.transform.specs.{Backlogs.Waiting, Backlogs.waiting, Outlets.AreBatches as AreRowBatches}
 use Rattle.transform.specs.Transforms.{AreRows, AreFates, records_of}
 use Rattle.batch_transform.specs.declared.{fault.Stop.Stop, fault.BatchPlace.BatchPlace, pass.Transformed.Transformed}
-use Rattle.batch_transform.specs.declared.{ending.OutputBatches.OutputBatches}
+use Rattle.batch_transform.specs.declared.ending.OutputBatches.{OutputBatches}
 use Rattle.batch_transform.specs.declared.fault.Stop.TheVariants as stop
 
 -- the rows that batches give to an output, all of them in record batches of which each takes as many as it can

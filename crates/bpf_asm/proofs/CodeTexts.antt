@@ -1,20 +1,17 @@
 -- The text of an image's code says that image.
-use Rattle.std.proofs.Common.{◌*◌, ◌≡◌, ℕ, suc, ◌+◌, ◌<◌, ◌≤◌, List, [], ◌∷◌, length, Option, Some}
-use Rattle.std.proofs.Common.{Result, Ok, refl, true}
-use Rattle.std.proofs.Common.{sym, ap, ◌∙◌, arith, leb, append_assoc}
-use Rattle.std.specs.Prelude.{slice_get}
+use Rattle.std.proofs.Common.{◌*◌, ◌≡◌, ℕ, suc, ◌+◌, ◌<◌, ◌≤◌, List, [], ◌∷◌, length, Some, Ok, refl, true, sym, ap}
+use Rattle.std.proofs.Common.{◌∙◌, arith, leb, append_assoc, slice_get}
 use Rattle.std.specs.List.{slice_split}
-use Rattle.std.proofs.lemmas.{Bool.le-leb, List.length-append}
-use Rattle.machine_spec.specs.declared.{instruction.Instruction.Instruction, instruction.Placed.Placed}
-use Rattle.machine_spec.specs.declared.limits.TheConstants.{MAX_SLOTS}
+use Rattle.std.proofs.{lemmas.Bool.le-leb, lemmas.List.length-append}
+use Rattle.machine_spec.specs.{declared.instruction.Placed.Placed, declared.limits.TheConstants.MAX_SLOTS}
 use Rattle.machine_spec.specs.Image.{IsCodeOf}
 use Rattle.bpf_isa.specs.{Code.AreBytes, Spelling.spelling, Spelling.image_bytes}
 use Rattle.bpf_isa.proofs.{Bytes.form_read, Slots.sized, Walk.code_spelled, Walk.placed_registers}
-use Rattle.bpf_asm.specs.declared.fault.LineFault.{LineFault}
-use Rattle.bpf_asm.specs.{Reading.is_line_feed, Reading.read_line, Writing.line_of, Writing.line_text, Writing.text_of}
-use Rattle.bpf_asm.specs.Images.{before_bytes, with_line, lines_image, some_image, image_of}
-use Rattle.bpf_asm.proofs.{Lines.if_fits, Ranges.IsSaid, Ranges.slot_held, LineTexts.split_at, LineTexts.line_again}
-use Rattle.bpf_asm.proofs.{LineTexts.line_feeds}
+use Rattle.bpf_asm.specs.Reading.{is_line_feed, read_line}
+use Rattle.bpf_asm.specs.Writing.{line_of, line_text, text_of}
+use Rattle.bpf_asm.specs.Images.{lines_image, some_image, image_of}
+use Rattle.bpf_asm.proofs.Ranges.{IsSaid, slot_held}
+use Rattle.bpf_asm.proofs.LineTexts.{split_at, line_again, line_feeds}
 
 abbrev AreSaid : List Placed → Type 0
 AreSaid code = (k : ℕ) (p : Placed) → slice_get code k ≡ Some p → IsSaid p.instruction
@@ -43,14 +40,9 @@ lines_again (p ∷ code) number size are fits =
     let is = are 0 p refl in
     let all : length (image_bytes (p ∷ code)) ≡ length (spelling i) + length (image_bytes code) =
     length-append (spelling i) (image_bytes code) in
-    let here : leb (size + length (spelling i)) (8 * MAX_SLOTS) ≡ true = le-leb _ _ (omega (arith, all)) in
-    let later = lines_again code (number + 1) (size + length (spelling i)) (λ k. are (suc k)) (omega (arith, all)) in
-    ap (lines_image number size) (lines_of p code is)
-    ∙ ap (λ (r : Result (Option Instruction) LineFault). with_line number size r
-    (λ size. lines_image (number + 1) size (slice_split is_line_feed (text_of code))))
-    (line_again i is.registers is.held)
-    ∙ ap (if_fits number size i (λ size. lines_image (number + 1) size (slice_split is_line_feed (text_of code)))) here
-    ∙ ap (before_bytes (spelling i)) later
+    let here : leb (size + length (spelling i)) (8 * MAX_SLOTS) ≡ true = le-leb _ _ (omega arith) in
+    let later = lines_again code (number + 1) (size + length (spelling i)) (λ k. are (suc k)) (omega arith) in
+    rw (lines_of p code is, line_again i is.registers is.held, here, later)
 
 some_bytes : (image : List ℕ) → 0 < length image → some_image (Ok image) ≡ Ok image
 some_bytes [] some = absurd (omega arith)
@@ -63,5 +55,5 @@ text_again image code fits is =
     let size = sized image is.size in
     let same = code_spelled image code fits is in
     let whole : length (image_bytes code) ≡ length image = ap length (sym same) in
-    let lines = lines_again code 1 0 (said image code fits is) (omega (arith, whole, size.whole, size.few)) in
-    ap some_image (lines ∙ ap Ok (sym same)) ∙ some_bytes image (omega (arith, size.whole, size.some))
+    let lines = lines_again code 1 0 (said image code fits is) (omega arith) in
+    ap some_image (lines ∙ ap Ok (sym same)) ∙ some_bytes image (omega arith)

@@ -1,15 +1,13 @@
 -- The image of a text decodes to the instructions of the text's lines.
-use Rattle.std.proofs.Common.{◌*◌, ◌≡◌, ℕ, ◌+◌, ◌<◌, ◌≤◌, leb, List, [], ◌∷◌, ◌++◌, length, Option}
-use Rattle.std.proofs.Common.{Some, None, Result, Ok}
-use Rattle.std.proofs.Common.{Err, refl, ap, subst, ◌∙◌, arith}
-use Rattle.std.specs.{List.cons_option, List.slice_split}
-use Rattle.std.proofs.lemmas.{Bool.leb-true, List.length-append}
+use Rattle.std.proofs.Common.{◌*◌, ◌≡◌, ℕ, ◌+◌, ◌<◌, ◌≤◌, leb, List, [], ◌∷◌, ◌++◌, length, Option, Some, None, Result}
+use Rattle.std.proofs.Common.{Ok, Err, refl, ap, subst, ◌∙◌, arith, IfOk}
+use Rattle.std.specs.List.{cons_option, slice_split}
+use Rattle.std.proofs.{lemmas.Bool.cond_both, lemmas.Bool.leb-true, lemmas.Result.IfOk-at_ok, lemmas.List.length-append}
 use Rattle.machine_spec.specs.declared.{instruction.Instruction.Instruction, limits.TheConstants.MAX_SLOTS}
 use Rattle.bpf_isa.specs.Spelling.{spelling}
-use Rattle.bpf_isa.proofs.Cases.{on_choice}
-use Rattle.bpf_asm.specs.declared.{fault.LineFault.LineFault, fault.AsmFault.AsmFault}
+use Rattle.bpf_asm.specs.{declared.fault.LineFault.LineFault, declared.fault.AsmFault.AsmFault, Reading.is_line_feed}
+use Rattle.bpf_asm.specs.Reading.{read_line}
 use Rattle.bpf_asm.specs.declared.fault.AsmFault.TheVariants as asm
-use Rattle.bpf_asm.specs.{Reading.is_line_feed, Reading.read_line}
 use Rattle.bpf_asm.specs.Images.{before_bytes, with_line, lines_image, some_image, image_of}
 use Rattle.bpf_asm.specs.Decoding.{if_said, said_by, instructions_of, without_slots, decoded_image}
 use Rattle.bpf_asm.proofs.{Ranges.IsSaid, SaidLines.line_said}
@@ -25,47 +23,37 @@ abbrev all_bytes : List ℕ → Result (List ℕ) AsmFault
 all_bytes bytes = Ok bytes
 
 -- an instruction's bytes before those of others
-spelled_before : (i : Instruction) (others : List Instruction) (size : ℕ) (bytes : List ℕ)
-    (r : Result (List ℕ) AsmFault) → IsSaid i →
-    ((later : List ℕ) → r ≡ Ok later → AreSpelled others (size + length (spelling i)) later) →
-    before_bytes (spelling i) r ≡ Ok bytes → AreSpelled (i ∷ others) size bytes
-spelled_before i others size bytes (Err f) said rest e = absurd cc
-spelled_before i others size bytes (Ok later) said rest e =
-    let are = rest later refl in
-    let same : spelling i ++ later ≡ bytes = cc in
-    subst (AreSpelled (i ∷ others) size) same
-    (record {
+spelled_before : (i : Instruction) (others : List Instruction) (size : ℕ) (r : Result (List ℕ) AsmFault) → IsSaid i →
+    IfOk r (AreSpelled others (size + length (spelling i))) →
+    IfOk (before_bytes (spelling i) r) (AreSpelled (i ∷ others) size)
+spelled_before i others size (Err f) said are = tt
+spelled_before i others size (Ok later) said are =
+    record {
       said = (said, are.said);
       spelled = ap (λ (l : List ℕ). spelling i ++ l) are.spelled;
-      few = omega
-          (arith, are.few, length-append (spelling i) later);
-    })
+      few = omega (arith, length-append (spelling i) later);
+    }
 
-line_spelled : (line : List ℕ) (lines : List (List ℕ)) (number size : ℕ) (bytes : List ℕ)
-    (r : Result (Option Instruction) LineFault) → read_line line ≡ r → size ≤ 8 * MAX_SLOTS →
-    ((size : ℕ) (bytes : List ℕ) → size ≤ 8 * MAX_SLOTS → lines_image (number + 1) size lines ≡ Ok bytes →
-    AreSpelled (said_by lines) size bytes) →
-    with_line number size r (λ size. lines_image (number + 1) size lines) ≡ Ok bytes →
-    AreSpelled (cons_option (if_said r) (said_by lines)) size bytes
-line_spelled line lines number size bytes (Err f) is small rest e = absurd cc
-line_spelled line lines number size bytes (Ok None) is small rest e = rest size bytes small e
-line_spelled line lines number size bytes (Ok (Some i)) is small rest e =
+line_spelled : (line : List ℕ) (lines : List (List ℕ)) (number size : ℕ) (r : Result (Option Instruction) LineFault) →
+    read_line line ≡ r → size ≤ 8 * MAX_SLOTS →
+    ((size : ℕ) → size ≤ 8 * MAX_SLOTS →
+    IfOk (lines_image (number + 1) size lines) (AreSpelled (said_by lines) size)) →
+    IfOk (with_line number size r (λ size. lines_image (number + 1) size lines))
+    (AreSpelled (cons_option (if_said r) (said_by lines)) size)
+line_spelled line lines number size (Err f) is small rest = tt
+line_spelled line lines number size (Ok None) is small rest = rest size small
+line_spelled line lines number size (Ok (Some i)) is small rest =
     let after = size + length (spelling i) in
-    on_choice (leb after (8 * MAX_SLOTS)) (before_bytes (spelling i) (lines_image (number + 1) after lines))
-    (Err (asm.Size number)) (all_bytes bytes)
-    (AreSpelled (i ∷ said_by lines) size bytes) e
-    (λ within. spelled_before i (said_by lines) size bytes (lines_image (number + 1) after lines) (line_said line i is)
-    (λ later. rest after later (leb-true after (8 * MAX_SLOTS) within)))
-    (λ _. λ e. absurd cc)
+    cond_both (leb after (8 * MAX_SLOTS)) _ (Err (asm.Size number))
+    (λ r. IfOk r (AreSpelled (i ∷ said_by lines) size))
+    (λ within. spelled_before i (said_by lines) size _ (line_said line i is)
+    (rest after (leb-true after (8 * MAX_SLOTS) within))) (λ _. tt)
 
-lines_spelled : (lines : List (List ℕ)) (number size : ℕ) (bytes : List ℕ) → size ≤ 8 * MAX_SLOTS →
-    lines_image number size lines ≡ Ok bytes → AreSpelled (said_by lines) size bytes
-lines_spelled [] number size bytes small e =
-    let none : [] ≡ bytes = cc in
-    subst (AreSpelled [] size) none (record { said = tt; spelled = refl; few = omega arith })
-lines_spelled (line ∷ lines) number size bytes small e =
-    line_spelled line lines number size bytes (read_line line) refl small
-    (λ size. lines_spelled lines (number + 1) size) e
+lines_spelled : (lines : List (List ℕ)) (number size : ℕ) → size ≤ 8 * MAX_SLOTS →
+    IfOk (lines_image number size lines) (AreSpelled (said_by lines) size)
+lines_spelled [] number size small = record { said = tt; spelled = refl; few = omega arith }
+lines_spelled (line ∷ lines) number size small =
+    line_spelled line lines number size (read_line line) refl small (lines_spelled lines (number + 1))
 
 some_bytes : (r : Result (List ℕ) AsmFault) (image : List ℕ) → some_image r ≡ Ok image →
     (r ≡ Ok image) × (0 < length image)
@@ -81,7 +69,7 @@ image_decodes text image e =
     let instructions = instructions_of text in
     let lines = slice_split is_line_feed text in
     let some = some_bytes (lines_image 1 0 lines) image e in
-    let are = lines_spelled lines 1 0 image (omega arith) some.0 in
+    let are = IfOk-at_ok (AreSpelled instructions 0) some.0 (lines_spelled lines 1 0 (omega arith)) in
     let size = ap length are.spelled in
-    let read = image_read instructions are.said (omega (arith, size, some.1)) (omega (arith, size, are.few)) in
+    let read = image_read instructions are.said (omega arith) (omega arith) in
     ap decoded_image are.spelled ∙ ap without_slots read ∙ ap Ok (placed_instructions 0 instructions)

@@ -1,28 +1,25 @@
 -- The line of an instruction reads as that instruction.
-use Rattle.std.proofs.Common.{◌≡◌, ℕ, zero, suc, ◌+◌, ◌-◌, ◌^◌, ◌<◌, ◌≤◌, Bool, true, false, ◌&&◌, ◌==◌, not, cond}
-use Rattle.std.proofs.Common.{List, [], ◌∷◌, ◌++◌, length, map, take, drop, get_or, Option, Some, None, Result, Ok, Err}
-use Rattle.std.proofs.Common.{refl, sym, ap, subst, ◌∙◌, arith, ltb}
-use Rattle.std.specs.List.{position_or_len, slice_split, onto_first, before_first, after_first}
-use Rattle.std.proofs.Math.{Seq.take-append_seam, Seq.drop-append-add, Seq.get_or-append_right}
-use Rattle.std.proofs.lemmas.{Bool.and_from, Bool.and_parts, Bool.lt-ltb, Bool.le-ltb, List.Folds.list_all-append}
-use Rattle.std.proofs.lemmas.List.{append_assoc, length-append, append-nil, take_all, take_more}
+use Rattle.std.proofs.Common.{◌≡◌, ℕ, ◌+◌, ◌-◌, ◌^◌, ◌<◌, ◌≤◌, Bool, true, false, ◌&&◌, ◌==◌, not, cond, List, [], ◌∷◌}
+use Rattle.std.proofs.Common.{◌++◌, length, map, take, get_or, Option, Some, None, Ok, refl, sym, ap, ◌∙◌, arith, ltb}
+use Rattle.std.specs.List.{position_or_len, slice_split, onto_first, before_first}
+use Rattle.std.proofs.{Math.Seq.take-append_seam, Math.Seq.drop-append-add, lemmas.List.Folds.list_all-append}
+use Rattle.std.proofs.lemmas.Bool.{and_parts, lt-ltb, le-ltb}
+use Rattle.std.proofs.lemmas.List.{append_assoc, length-append, append-nil, take_all}
 use Rattle.machine_spec.specs.declared.{operation.Change.Change, instruction.Distance.Distance}
 use Rattle.machine_spec.specs.declared.{instruction.Source.Source, instruction.Instruction.Instruction}
-use Rattle.machine_spec.specs.declared.operation.Change.TheVariants.{Negate, Order, SignExtend}
+use Rattle.machine_spec.specs.declared.operation.Change.TheVariants.{SignExtend}
 use Rattle.machine_spec.specs.declared.instruction.Distance.TheVariants.{Short, Long}
 use Rattle.machine_spec.specs.declared.instruction.Source.TheVariants.{Register, Immediate}
 use Rattle.machine_spec.specs.declared.instruction.Instruction.TheVariants.{Move, Compute, Load, Unary, Store, JumpIf}
 use Rattle.machine_spec.specs.declared.instruction.Instruction.TheVariants.{Jump, Wide, Call, Exit}
-use Rattle.bpf_isa.specs.{Spelling.HasRegisters, Spelling.source_register}
-use Rattle.bpf_asm.specs.declared.fault.LineFault.{LineFault}
-use Rattle.bpf_asm.specs.{Faults.both, Faults.read_as, Operands.read_source, Operands.source_text, Words.word_of}
-use Rattle.bpf_asm.specs.{Words.form_named}
+use Rattle.bpf_isa.specs.Spelling.{HasRegisters, source_register}
+use Rattle.bpf_asm.specs.{Faults.read_as, Operands.read_source, Operands.source_text, Words.word_of, Words.form_named}
 use Rattle.bpf_asm.specs.Reading.{is_space, is_comma, is_line_feed, after_spaces, before_spaces, rest_of, read_change}
 use Rattle.bpf_asm.specs.Reading.{read_stored, read_distance, read_operands, read_form, some_read, read_trimmed}
 use Rattle.bpf_asm.specs.Reading.{read_line}
 use Rattle.bpf_asm.specs.Writing.{change_operands, jump_text, operands_of, joined_by_commas, operands_text, line_of}
-use Rattle.bpf_asm.proofs.{Scanning.before_other, Ranges.RangedSource, Ranges.RangedChange, Ranges.RangedDistance}
-use Rattle.bpf_asm.proofs.{Ranges.IsHeld}
+use Rattle.bpf_asm.proofs.Scanning.{before_other, last_of, all_at}
+use Rattle.bpf_asm.proofs.Ranges.{RangedSource, RangedChange, RangedDistance, IsHeld}
 use Rattle.bpf_asm.proofs.PlainTexts.{fails, first_at, first_none, implied, is_plain, are_plain, IsOperand}
 use Rattle.bpf_asm.proofs.PlainTexts.{natural_operand, register_operand, number_operand, distance_operand}
 use Rattle.bpf_asm.proofs.PlainTexts.{place_operand}
@@ -55,55 +52,34 @@ not_true false e = refl
 
 pub split_at : (p : ℕ → Bool) (xs : List ℕ) (y : ℕ) (ys : List ℕ) → fails p xs ≡ true → p y ≡ true →
     slice_split p (xs ++ y ∷ ys) ≡ xs ∷ slice_split p ys
-split_at p [] y ys e is = ap (λ (b : Bool). cond b ([] ∷ slice_split p ys) (onto_first y (slice_split p ys))) is
+split_at p [] y ys e is = rw is
 split_at p (x ∷ xs) y ys e is =
     let parts = and_parts (not (p x)) (fails p xs) e in
-    ap (λ (b : Bool). cond b ([] ∷ slice_split p (xs ++ y ∷ ys)) (onto_first x (slice_split p (xs ++ y ∷ ys))))
-    (not_true (p x) parts.0)
-    ∙ ap (onto_first x) (split_at p xs y ys parts.1 is)
+    rw (not_true (p x) parts.0, split_at p xs y ys parts.1 is)
 
 split_none : (p : ℕ → Bool) (xs : List ℕ) → fails p xs ≡ true → slice_split p xs ≡ xs ∷ []
 split_none p [] e = refl
-split_none p (x ∷ xs) e =
-    let parts = and_parts (not (p x)) (fails p xs) e in
-    ap (λ (b : Bool). cond b ([] ∷ slice_split p xs) (onto_first x (slice_split p xs))) (not_true (p x) parts.0)
-    ∙ ap (onto_first x) (split_none p xs parts.1)
+split_none p (x ∷ xs) e = let parts = and_parts (not (p x)) (fails p xs) e in
+    rw (not_true (p x) parts.0, split_none p xs parts.1)
 
 -- ---- spaces
 
 pub no_spaces : (text : List ℕ) → are_plain text ≡ true → after_spaces text ≡ text
 no_spaces [] e = refl
-no_spaces (b ∷ text) e =
-    let first = (plain_parts b (and_parts (is_plain b) (are_plain text) e).0).0 in
-    ap (λ (is : Bool). cond is (after_spaces text) (b ∷ text)) (not_true (is_space b) first)
-
-last_of : (text : List ℕ) → 0 < length text → text ≡ take (length text - 1) text ++ get_or text (length text - 1) 0 ∷ []
-last_of text some =
-    let back : length text - 1 + 1 ≡ length text = omega arith in
-    sym (take_all (length text) text (omega arith))
-    ∙ subst (λ (k : ℕ). take k text ≡ take (length text - 1) text ++ get_or text (length text - 1) 0 ∷ []) back
-    (take_more text (length text - 1) 0 (omega arith))
-
-plain_at : (text : List ℕ) (k : ℕ) → are_plain text ≡ true → k < length text → is_plain (get_or text k 0) ≡ true
-plain_at [] k e l = absurd (omega arith)
-plain_at (b ∷ text) zero e l = (and_parts (is_plain b) (are_plain text) e).0
-plain_at (b ∷ text) (suc k) e l = plain_at text k (and_parts (is_plain b) (are_plain text) e).1 (omega arith)
+no_spaces (b ∷ text) e = rw (not_true (is_space b) (plain_parts b (and_parts (is_plain b) (are_plain text) e).0).0)
 
 -- no space ends a text that ends in an operand
 pub ends : (front text : List ℕ) → IsOperand text → before_spaces (front ++ text) ≡ front ++ text
 ends front text is =
-    let whole = front ++ text in
     let some = is.some in
-    let size : length whole ≡ length front + length text = length-append front text in
-    let place : get_or whole (length whole - 1) 0 ≡ get_or text (length whole - 1 - length front) 0 =
-    get_or-append_right front text (length whole - 1) 0 (omega (arith, size, some)) in
-    let last = plain_at text (length whole - 1 - length front) is.plain (omega (arith, size, some)) in
-    let other = not_true (is_space (get_or whole (length whole - 1) 0))
-    (ap (λ (b : ℕ). not (is_space b)) place
-    ∙ (plain_parts (get_or text (length whole - 1 - length front) 0) last).0) in
-    let split = last_of whole (omega (arith, size, some)) in
-    ap before_spaces split ∙ before_other (take (length whole - 1) whole) (get_or whole (length whole - 1) 0) other
-    ∙ sym split
+    let init = take (length text - 1) text in
+    let b = get_or text (length text - 1) 0 in
+    let whole : text ≡ init ++ b ∷ [] = sym (take_all (length text) text (omega arith))
+    ∙ last_of text (length text) some (omega arith) in
+    let split : front ++ text ≡ (front ++ init) ++ b ∷ [] = ap (λ t. front ++ t) whole
+    ∙ sym (append_assoc front init (b ∷ [])) in
+    let other = not_true (is_space b) (plain_parts b (all_at is_plain text _ is.plain (omega arith))).0 in
+    ap before_spaces split ∙ before_other (front ++ init) b other ∙ sym split
 
 -- ---- operands
 
@@ -118,14 +94,12 @@ onto_space (part ∷ parts) text texts e = e
 
 pub joined_again : (text : List ℕ) (texts : List (List ℕ)) → AreOperands (text ∷ texts) →
     map after_spaces (slice_split is_comma (joined_by_commas (text ∷ texts))) ≡ text ∷ texts
-joined_again text [] are = ap (map after_spaces) (split_none is_comma text (not_comma text are.0.plain))
-    ∙ ap (λ (t : List ℕ). t ∷ []) (no_spaces text are.0.plain)
+joined_again text [] are =
+    rw (split_none is_comma text (not_comma text are.0.plain), no_spaces text are.0.plain)
 joined_again text (next ∷ texts) are =
     let rest = joined_by_commas (next ∷ texts) in
-    let later = onto_space (slice_split is_comma rest) next texts (joined_again next texts are.1) in
-    ap (map after_spaces) (split_at is_comma text 44 (32 ∷ rest) (not_comma text are.0.plain) refl)
-    ∙ ap (λ (t : List ℕ). t ∷ map after_spaces (onto_first 32 (slice_split is_comma rest))) (no_spaces text are.0.plain)
-    ∙ ap (λ (ts : List (List ℕ)). text ∷ ts) later
+    rw (split_at is_comma text 44 (32 ∷ rest) (not_comma text are.0.plain) refl, no_spaces text are.0.plain)
+    (ap (λ ts. text ∷ ts) (onto_space (slice_split is_comma rest) next texts (joined_again next texts are.1)))
 
 -- the last operand of some, and what is before it
 joined_ends : (front text : List ℕ) (texts : List (List ℕ)) → AreOperands (text ∷ texts) →
@@ -140,16 +114,10 @@ feeds_joined : (text : List ℕ) (texts : List (List ℕ)) → AreOperands (text
     fails is_line_feed (joined_by_commas (text ∷ texts)) ≡ true
 feeds_joined text [] are = not_feed text are.0.plain
 feeds_joined text (next ∷ texts) are =
-    list_all-append (λ b. not (is_line_feed b)) text (44 ∷ 32 ∷ joined_by_commas (next ∷ texts))
-    ∙ and_from (fails is_line_feed text) _ (not_feed text are.0.plain) (feeds_joined next texts are.1)
+    rw (list_all-append _ text (44 ∷ 32 ∷ joined_by_commas (next ∷ texts)), not_feed text are.0.plain)
+    (feeds_joined next texts are.1)
 
 -- ---- lines
-
--- a word, its form and operands that read as an instruction of that form
-record IsLine (word : List ℕ) (texts : List (List ℕ)) (form i : Instruction) : Type 0 where
-  named : Named word form
-  are : AreOperands texts
-  reads : read_operands form texts ≡ Ok i
 
 word_plain : (word : List ℕ) → is_word word ≡ true → are_plain word ≡ true
 word_plain [] e = absurd cc
@@ -161,11 +129,10 @@ word_some (b ∷ word) e = omega arith
 
 pub no_feeds : (word : List ℕ) (texts : List (List ℕ)) → is_word word ≡ true → AreOperands texts →
     fails is_line_feed (word ++ operands_text texts) ≡ true
-no_feeds word [] is are = list_all-append (λ b. not (is_line_feed b)) word []
-    ∙ and_from (fails is_line_feed word) true (not_feed word (word_plain word is)) refl
+no_feeds word [] is are = rw (append-nil word) (not_feed word (word_plain word is))
 no_feeds word (text ∷ texts) is are =
-    list_all-append (λ b. not (is_line_feed b)) word (32 ∷ joined_by_commas (text ∷ texts))
-    ∙ and_from (fails is_line_feed word) _ (not_feed word (word_plain word is)) (feeds_joined text texts are)
+    rw (list_all-append _ word (32 ∷ joined_by_commas (text ∷ texts)), not_feed word (word_plain word is))
+    (feeds_joined text texts are)
 
 -- a line that begins with a word has no space before it and is no comment
 begins : (word rest : List ℕ) (form : Option Instruction)
@@ -177,59 +144,34 @@ begins [] rest form named is trimmed = absurd cc
 begins (b ∷ word) rest form named is trimmed =
     let parts = and_parts (are_plain (b ∷ word)) (not (b == 35)) is in
     let first = not_true (is_space b) (plain_parts b (and_parts (is_plain b) (are_plain word) parts.0).0).0 in
-    ap (λ (s : Bool). read_trimmed (before_spaces (cond s (after_spaces (word ++ rest)) (b ∷ (word ++ rest))))) first
-    ∙ ap read_trimmed trimmed
-    ∙ ap (λ (s : Bool). cond s (Ok None) (some_read (read_form (form_named (before_first is_space (b ∷ (word ++ rest))))
-    (rest_of (b ∷ (word ++ rest)))))) (not_true (b == 35) parts.1)
-    ∙ ap (λ (f : Option Instruction). some_read (read_form f (rest_of (b ∷ (word ++ rest))))) named
+    ap (λ s. read_trimmed (before_spaces (cond s (after_spaces (word ++ rest)) (b ∷ (word ++ rest))))) first
+    ∙ ap read_trimmed trimmed ∙ rw (not_true (b == 35) parts.1, named)
 
-abbrev rest_at : List ℕ → Bool → Option (List ℕ)
-rest_at line there = cond there (Some (after_first is_space line)) None
-
-line_alone : (word : List ℕ) (form i : Instruction) → IsLine word [] form i → read_line (word ++ []) ≡ Ok (Some i)
-line_alone word form i line =
-    let is = line.named.1 in
-    let plain = word_plain word is in
-    let whole : word ++ [] ≡ word = append-nil word in
+line_read : (word : List ℕ) (texts : List (List ℕ)) (form i : Instruction) → Named word form → AreOperands texts →
+    read_operands form texts ≡ Ok i → read_line (word ++ operands_text texts) ≡ Ok (Some i)
+line_read word [] form i named are reads =
+    let plain = word_plain word named.1 in
+    let whole = append-nil word in
     let all : position_or_len is_space word ≡ length word = first_none is_space word (not_space word plain) in
-    let first : before_first is_space (word ++ []) ≡ word = ap (before_first is_space) whole
-    ∙ take_all (position_or_len is_space word) word (omega (arith, all)) in
-    let none : ltb (position_or_len is_space word) (length word) ≡ false =
-    le-ltb (position_or_len is_space word) (length word) (omega (arith, all)) in
-    let rest : rest_of (word ++ []) ≡ None = ap rest_of whole ∙ ap (rest_at word) none in
-    let trimmed : before_spaces (word ++ []) ≡ word ++ [] = ap before_spaces whole
-    ∙ ends [] word (record { plain = plain; some = word_some word is }) ∙ sym whole in
-    begins word [] (Some form) (ap form_named first ∙ line.named.0) is trimmed
-    ∙ ap (λ (r : Option (List ℕ)). some_read (read_form (Some form) r)) rest ∙ ap some_read line.reads
-
-line_with : (word text : List ℕ) (texts : List (List ℕ)) (form i : Instruction) → IsLine word (text ∷ texts) form i →
-    read_line (word ++ operands_text (text ∷ texts)) ≡ Ok (Some i)
-line_with word text texts form i line =
-    let is = line.named.1 in
+    let first : before_first is_space (word ++ []) ≡ word =
+    rw whole (take_all (position_or_len is_space word) word (omega arith)) in
+    let rest : rest_of (word ++ []) ≡ None =
+    rw (whole, le-ltb (position_or_len is_space word) (length word) (omega arith)) in
+    let trimmed = ends [] word (record { plain = plain; some = word_some word named.1 }) in
+    begins word [] (Some form) (rw first named.0) named.1 (rw whole trimmed) ∙ rw (rest, reads)
+line_read word (text ∷ texts) form i named are reads =
     let operands = joined_by_commas (text ∷ texts) in
     let whole = word ++ 32 ∷ operands in
     let place : position_or_len is_space whole ≡ length word =
-    first_at is_space word 32 operands (not_space word (word_plain word is)) refl in
-    let first : before_first is_space whole ≡ word = ap (λ (k : ℕ). take k whole) place
-    ∙ take-append_seam word (32 ∷ operands) in
-    let size : length whole ≡ length word + suc (length operands) = length-append word (32 ∷ operands) in
-    let there : ltb (position_or_len is_space whole) (length whole) ≡ true =
-    lt-ltb (position_or_len is_space whole) (length whole) (omega (arith, place, size)) in
-    let after : after_first is_space whole ≡ operands = ap (λ (k : ℕ). drop (k + 1) whole) place
-    ∙ drop-append-add word (32 ∷ operands) 1 in
-    let rest : rest_of whole ≡ Some operands = ap (rest_at whole) there ∙ ap Some after in
-    let front : word ++ 32 ∷ operands ≡ (word ++ 32 ∷ []) ++ operands = simp append_assoc in
-    let trimmed : before_spaces whole ≡ whole = ap before_spaces front
-    ∙ joined_ends (word ++ 32 ∷ []) text texts line.are ∙ sym front in
-    begins word (32 ∷ operands) (Some form) (ap form_named first ∙ line.named.0) is trimmed
-    ∙ ap (λ (r : Option (List ℕ)). some_read (read_form (Some form) r)) rest
-    ∙ ap (λ (ts : List (List ℕ)). some_read (read_operands form ts)) (joined_again text texts line.are)
-    ∙ ap some_read line.reads
-
-line_read : (word : List ℕ) (texts : List (List ℕ)) (form i : Instruction) → IsLine word texts form i →
-    read_line (word ++ operands_text texts) ≡ Ok (Some i)
-line_read word [] form i line = line_alone word form i line
-line_read word (text ∷ texts) form i line = line_with word text texts form i line
+    first_at is_space word 32 operands (not_space word (word_plain word named.1)) refl in
+    let first : before_first is_space whole ≡ word = rw place (take-append_seam word (32 ∷ operands)) in
+    let there : ltb (length word) (length whole) ≡ true =
+    lt-ltb _ _ (omega (arith, length-append word (32 ∷ operands))) in
+    let rest : rest_of whole ≡ Some operands = rw (place, there) (ap Some (drop-append-add word (32 ∷ operands) 1)) in
+    let front : whole ≡ (word ++ 32 ∷ []) ++ operands = simp append_assoc in
+    let trimmed : before_spaces whole ≡ whole = rw front (joined_ends (word ++ 32 ∷ []) text texts are) in
+    begins word (32 ∷ operands) (Some form) (rw first named.0) named.1 trimmed
+    ∙ rw (rest, joined_again text texts are, reads)
 
 -- ---- the operands of an instruction
 
@@ -256,31 +198,14 @@ jump_operand : (distance : Distance) → RangedDistance distance → IsOperand (
 jump_operand (Short slots) ranged = distance_operand (2 ^ 15) slots (omega arith) ranged
 jump_operand (Long slots) ranged = distance_operand (2 ^ 31) slots (omega arith) ranged
 
-both_ok : {A B C : Type 0} (make : A × B → C) (x : Result A LineFault) (y : Result B LineFault) (a : A) (b : B) →
-    x ≡ Ok a → y ≡ Ok b → read_as make (both x y) ≡ Ok (make (a, b))
-both_ok make x y a b p q = ap (λ r. read_as make (both r y)) p ∙ ap (λ r. read_as make (both (Ok a) r)) q
-
-same_reading : {A : Type 0} (r : Result A LineFault) → r ≡ read_as (λ a. a) r
-same_reading (Ok a) = refl
-same_reading (Err f) = refl
-
 change_again : (change : Change) (dst src : ℕ) → dst ≤ 10 → src ≤ 10 → RangedChange change dst src →
     read_change change (change_operands change dst src) ≡ Ok (Unary change dst src)
-change_again (Negate width) dst src small source ranged =
-    ap (read_as (λ r. Unary (Negate width) r r)) (register_again dst small)
-    ∙ ap (λ (r : ℕ). Ok (Unary (Negate width) dst r)) (sym ranged)
-change_again (Order order width) dst src small source ranged =
-    ap (read_as (λ r. Unary (Order order width) r r)) (register_again dst small)
-    ∙ ap (λ (r : ℕ). Ok (Unary (Order order width) dst r)) (sym ranged)
-change_again (SignExtend width part) dst src small source ranged =
-    both_ok (λ p. Unary (SignExtend width part) p.0 p.1) _ _ dst src (register_again dst small)
-    (register_again src source)
+change_again (SignExtend _ _) dst src small source ranged = rw (register_again dst small, register_again src source)
+change_again _ dst src small source ranged = rw (register_again dst small, ranged)
 
 change_are : (change : Change) (dst src : ℕ) → dst ≤ 10 → src ≤ 10 → AreOperands (change_operands change dst src)
-change_are (Negate width) dst src small source = (register_operand dst small, tt)
-change_are (Order order width) dst src small source = (register_operand dst small, tt)
-change_are (SignExtend width part) dst src small source =
-    (register_operand dst small, (register_operand src source, tt))
+change_are (SignExtend _ _) dst src small source = (register_operand dst small, (register_operand src source, tt))
+change_are _ dst src small source = (register_operand dst small, tt)
 
 pub operands_are : (i : Instruction) → HasRegisters i → IsHeld i → AreOperands (operands_of i)
 operands_are (Move width dst source) r h = (register_operand dst r.dst, (source_operand source r.src h.ranged, tt))
@@ -304,35 +229,24 @@ operands_are (Call n) r h = (number_operand n h.ranged, tt)
 operands_are Exit r h = tt
 
 operands_again : (i : Instruction) → HasRegisters i → IsHeld i → read_operands (form_of i) (operands_of i) ≡ Ok i
-operands_again (Move width dst source) r h =
-    both_ok (λ p. Move width p.0 p.1) _ _ dst source (register_again dst r.dst) (source_again source r.src h.ranged)
+operands_again (Move width dst source) r h = rw (register_again dst r.dst, source_again source r.src h.ranged)
 operands_again (Compute width operation dst source) r h =
-    both_ok (λ p. Compute width operation p.0 p.1) _ _ dst source (register_again dst r.dst)
-    (source_again source r.src h.ranged)
+    rw (register_again dst r.dst, source_again source r.src h.ranged)
 operands_again (Load size extension dst base offset) r h =
-    both_ok (λ p. Load size extension p.0 p.1.0 p.1.1) _ _ dst (base, offset) (register_again dst r.dst)
-    (place_again base offset r.src h.ranged)
+    rw (register_again dst r.dst, place_again base offset r.src h.ranged)
 operands_again (Unary change dst src) r h = change_again change dst src r.dst r.changed h.ranged
 operands_again (Store size base offset source) r h =
-    both_ok (λ p. Store size p.0.0 p.0.1 p.1) _ _ (base, offset) source (place_again base offset r.dst h.ranged.0)
-    (stored_again source r.src h.ranged.1)
+    rw (place_again base offset r.dst h.ranged.0, stored_again source r.src h.ranged.1)
 operands_again (JumpIf width test dst source offset) r h =
-    let two = both_ok (λ p. p) _ _ dst source (register_again dst r.dst) (source_again source r.src h.ranged.0) in
-    both_ok (λ p. JumpIf width test p.0.0 p.0.1 p.1) _ _ (dst, source) offset (same_reading _ ∙ two)
-    (short_again offset h.ranged.1)
-operands_again (Jump distance) r h = ap (read_as Jump) (distance_again distance h.ranged)
-operands_again (Wide dst n) r h =
-    both_ok (λ p. Wide p.0 p.1) _ _ dst n (register_again dst r.dst) (wide_again n h.ranged)
-operands_again (Call n) r h = ap (read_as Call) (immediate_again n h.ranged)
+    rw (register_again dst r.dst, source_again source r.src h.ranged.0, short_again offset h.ranged.1)
+operands_again (Jump distance) r h = rw (distance_again distance h.ranged)
+operands_again (Wide dst n) r h = rw (register_again dst r.dst, wide_again n h.ranged)
+operands_again (Call n) r h = rw (immediate_again n h.ranged)
 operands_again Exit r h = refl
 
 pub line_again : (i : Instruction) → HasRegisters i → IsHeld i → read_line (line_of i) ≡ Ok (Some i)
-line_again i registers is = line_read (word_of i) (operands_of i) (form_of i) i
-    (record {
-      named = word_named i is.form;
-      are = operands_are i registers is;
-      reads = operands_again i registers is;
-    })
+line_again i registers is = line_read (word_of i) (operands_of i) (form_of i) i (word_named i is.form)
+    (operands_are i registers is) (operands_again i registers is)
 
 -- a line has no line feed
 pub line_feeds : (i : Instruction) → HasRegisters i → IsHeld i → fails is_line_feed (line_of i) ≡ true

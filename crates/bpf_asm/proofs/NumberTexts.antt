@@ -1,11 +1,11 @@
 -- Numbers and distances read back as they were written.
-use Rattle.std.proofs.Common.{◌≡◌, ℕ, zero, suc, ◌^◌, ◌<◌, ℤ, pos, negsuc, Bool, true, false, ◌||◌, ◌==◌, not, min}
-use Rattle.std.proofs.Common.{cond, List, [], ◌∷◌, length, drop, get_or, Option, Some, None, refl, ap, ◌∙◌, arith, leb}
-use Rattle.std.specs.Prelude.{slice_index, decimal}
+use Rattle.std.proofs.Common.{◌≡◌, ℕ, zero, suc, ◌^◌, ◌<◌, ℤ, pos, negsuc, true, false, ◌||◌, ◌==◌, not, min, List, []}
+use Rattle.std.proofs.Common.{◌∷◌, length, get_or, Some, refl, ap, ◌∙◌, arith, leb, slice_index, decimal}
 use Rattle.std.specs.{Int.IsInRange, List.list_all, Char.is_ascii_digit, Fmt.signed_decimal, Str.Parse.AllDigits}
-use Rattle.std.specs.{Str.Parse.digits_value}
-use Rattle.std.proofs.lemmas.{Bool.and_from, Bool.le-leb, Bool.lt-ltb, Bool.ne_eqb, Fmt.decimal_is_IsNumeral}
-use Rattle.std.proofs.lemmas.{Fmt.decimal_digit, Fmt.first_decimal, Str.Parse.digit_from_value, Str.Parse.digit_at}
+use Rattle.std.specs.Str.Parse.{digits_value}
+use Rattle.std.proofs.lemmas.Bool.{and_from, le-leb, lt-ltb, ne_eqb, or_right}
+use Rattle.std.proofs.lemmas.Fmt.{decimal_is_IsNumeral, decimal_digit, first_decimal}
+use Rattle.std.proofs.lemmas.Str.Parse.{digit_from_value, digit_at}
 use Rattle.bpf_asm.specs.Numbers.{is_digits, is_natural, natural, positive, negative, written_number, distance_of}
 use Rattle.bpf_asm.specs.Numbers.{distance_text}
 
@@ -27,26 +27,21 @@ decimal_digits n small =
 pub decimal_first : (n : ℕ) → n < 2 ^ 64 → IsInRange 48 57 (get_or (decimal n) 0 0)
 decimal_first n small = let numeral = (decimal_is_IsNumeral n small).0 in digit_at (decimal n) 0 numeral.1 numeral.0
 
-or_other : (a b : Bool) → b ≡ true → (a || b) ≡ true
-or_other true b h = refl
-or_other false b h = h
-
 -- the first digit is 0 only where it is alone
 decimal_natural : (n : ℕ) → n < 2 ^ 64 → ((length (decimal n) == 1) || not (slice_index (decimal n) 0 == 48)) ≡ true
-decimal_natural zero small = ap (λ (ds : List ℕ). (length ds == 1) || not (slice_index ds 0 == 48))
-    (decimal_digit 0 (omega arith))
+decimal_natural zero small = rw (decimal_digit 0 (omega arith))
 decimal_natural (suc n) small =
     let first = first_decimal (suc n) (omega arith) small in
-    or_other (length (decimal (suc n)) == 1) _ (ap not
-    (ne_eqb (get_or (decimal (suc n)) 0 0) 48 (λ e. omega (arith, e, first))))
+    or_right (length (decimal (suc n)) == 1) _ (ap not
+    (ne_eqb (get_or (decimal (suc n)) 0 0) 48 (λ e. omega arith)))
 
 pub natural_decimal : (n : ℕ) → n < 2 ^ 64 → natural (decimal n) ≡ Some n
 natural_decimal n small =
     let is : is_natural (decimal n) ≡ true =
     and_from (is_digits (decimal n)) _ (decimal_digits n small) (decimal_natural n small) in
     let value : digits_value 10 (decimal n) ≡ n = (decimal_is_IsNumeral n small).1 in
-    let capped : min (digits_value 10 (decimal n)) (2 ^ 64) ≡ n = omega (arith, value, small) in
-    ap (λ (b : Bool). cond b (Some (min (digits_value 10 (decimal n)) (2 ^ 64))) None) is ∙ ap Some capped
+    let capped : min (digits_value 10 (decimal n)) (2 ^ 64) ≡ n = omega arith in
+    rw (is, capped)
 
 -- ---- signs
 
@@ -55,17 +50,14 @@ abbrev pub Fits : ℕ → ℤ → Type 0
 Fits m (pos n) = n < m
 Fits m (negsuc n) = n < m
 
-abbrev signed_by : List ℕ → Bool → Option ℤ
-signed_by text minus = cond minus (negative (natural (drop 1 text))) (positive (natural text))
-
 pub natural_again : (n : ℕ) → n < 2 ^ 64 → written_number (decimal n) ≡ Some (pos n)
 natural_again n small =
     let none : (slice_index (decimal n) 0 == 45) ≡ false =
-    ne_eqb (get_or (decimal n) 0 0) 45 (λ e. omega (arith, e, (decimal_first n small).0)) in
-    ap (signed_by (decimal n)) none ∙ ap positive (natural_decimal n small)
+    ne_eqb (get_or (decimal n) 0 0) 45 (λ e. omega (arith, (decimal_first n small).0)) in
+    rw (none, natural_decimal n small)
 
 negative_some : (n : ℕ) → negative (Some (suc n)) ≡ Some (negsuc n)
-negative_some n = ap (λ (b : Bool). cond b None (Some (negsuc n))) (ne_eqb (suc n) 0 (λ e. omega (arith, e)))
+negative_some n = rw (ne_eqb (suc n) 0 (λ e. omega arith))
 
 pub number_again : (m : ℕ) (z : ℤ) → m < 2 ^ 64 → Fits m z → written_number (signed_decimal z) ≡ Some z
 number_again m (pos n) below fits = natural_again n (omega arith)

@@ -1,12 +1,12 @@
 -- Texts in which no byte parts a line: no space, no comma and no line feed.
-use Rattle.std.proofs.Common.{◌≡◌, ℕ, suc, ◌+◌, ◌^◌, ◌<◌, ◌≤◌, ℤ, pos, negsuc, Bool, true, false, ◌&&◌, ◌==◌, not, cond}
-use Rattle.std.proofs.Common.{List, [], ◌∷◌, ◌++◌, length, refl, ap, ◌∙◌, arith, leb}
-use Rattle.std.specs.Prelude.{decimal}
+use Rattle.std.proofs.Common.{◌≡◌, ℕ, suc, ◌+◌, ◌^◌, ◌<◌, ◌≤◌, ℤ, pos, negsuc, Bool, true, false, ◌&&◌, ◌==◌, not}
+use Rattle.std.proofs.Common.{List, [], ◌∷◌, ◌++◌, length, refl, arith, leb, decimal}
 use Rattle.std.specs.{Char.is_ascii_digit, Fmt.signed_decimal, List.list_all, List.position_or_len}
-use Rattle.std.proofs.lemmas.{Bool.and_from, Bool.and_parts, Bool.ne_eqb, Bool.leb-true, List.Folds.list_all-append}
-use Rattle.std.proofs.lemmas.{Fmt.decimal_nonempty}
-use Rattle.bpf_asm.specs.{Numbers.distance_text, Operands.register_text, Operands.place_text, Operands.is_sign}
-use Rattle.bpf_asm.proofs.{NumberTexts.Fits, NumberTexts.decimal_digits}
+use Rattle.std.proofs.lemmas.Bool.{and_from, and_parts, ne_eqb, leb-true}
+use Rattle.std.proofs.{lemmas.List.Folds.list_all-append, lemmas.Fmt.decimal_nonempty}
+use Rattle.bpf_asm.specs.Numbers.{distance_text}
+use Rattle.bpf_asm.specs.Operands.{register_text, place_text, is_sign}
+use Rattle.bpf_asm.proofs.NumberTexts.{Fits, decimal_digits}
 
 -- ---- bytes that fail a test
 
@@ -15,18 +15,18 @@ fails p text = list_all (λ b. not (p b)) text
 
 pub first_at : (p : ℕ → Bool) (xs : List ℕ) (y : ℕ) (ys : List ℕ) → fails p xs ≡ true → p y ≡ true →
     position_or_len p (xs ++ y ∷ ys) ≡ length xs
-first_at p [] y ys e is = ap (λ (b : Bool). cond (not b) (1 + position_or_len p ys) 0) is
+first_at p [] y ys e is = rw is
 first_at p (x ∷ xs) y ys e is =
     let parts = and_parts (not (p x)) (fails p xs) e in
     let rest = first_at p xs y ys parts.1 is in
-    ap (λ (b : Bool). cond b (1 + position_or_len p (xs ++ y ∷ ys)) 0) parts.0 ∙ omega (arith, rest)
+    rw parts.0 (omega arith)
 
 pub first_none : (p : ℕ → Bool) (xs : List ℕ) → fails p xs ≡ true → position_or_len p xs ≡ length xs
 first_none p [] e = refl
 first_none p (x ∷ xs) e =
     let parts = and_parts (not (p x)) (fails p xs) e in
     let rest = first_none p xs parts.1 in
-    ap (λ (b : Bool). cond b (1 + position_or_len p xs) 0) parts.0 ∙ omega (arith, rest)
+    rw parts.0 (omega arith)
 
 -- a test that holds of each byte of which another one does
 pub implied : (p q : ℕ → Bool) → ((b : ℕ) → p b ≡ true → q b ≡ true) → (xs : List ℕ) → list_all p xs ≡ true →
@@ -39,10 +39,10 @@ implied p q h (x ∷ xs) e = let parts = and_parts (p x) (list_all p xs) e in
 digit_other : (c b : ℕ) → c ≤ 47 → is_ascii_digit b ≡ true → (b == c) ≡ false
 digit_other c b low digit =
     let parts = and_parts (leb 48 b) (leb b 57) digit in
-    ne_eqb b c (λ e. omega (arith, e, leb-true 48 b parts.0))
+    ne_eqb b c (λ e. omega (arith, leb-true 48 b parts.0))
 
 digit_unsigned : (b : ℕ) → is_ascii_digit b ≡ true → not (is_sign b) ≡ true
-digit_unsigned b digit = rw (digit_other 43 b (omega arith) digit, digit_other 45 b (omega arith) digit) refl
+digit_unsigned b digit = rw (digit_other 43 b (omega arith) digit, digit_other 45 b (omega arith) digit)
 
 digits_of : (n : ℕ) → n < 2 ^ 64 → list_all is_ascii_digit (decimal n) ≡ true
 digits_of n small = (and_parts _ (list_all is_ascii_digit (decimal n)) (decimal_digits n small)).1
@@ -64,12 +64,9 @@ pub record IsOperand (text : List ℕ) : Type 0 where
   pub some : 0 < length text
 
 digit_plain : (b : ℕ) → is_ascii_digit b ≡ true → is_plain b ≡ true
-digit_plain b digit = rw (
-  digit_other 32 b (omega arith) digit,
-  digit_other 44 b (omega arith) digit,
-  digit_other 10 b
-      (omega arith) digit,
-) refl
+digit_plain b digit =
+    let other = λ (c : ℕ) (low : c ≤ 47). digit_other c b low digit in
+    rw (other 32 (omega arith), other 44 (omega arith), other 10 (omega arith))
 
 plain_digits : (n : ℕ) → n < 2 ^ 64 → are_plain (decimal n) ≡ true
 plain_digits n small = implied is_ascii_digit is_plain digit_plain (decimal n) (digits_of n small)
@@ -96,7 +93,7 @@ pub distance_operand : (m : ℕ) (z : ℤ) → m < 2 ^ 64 → Fits m z → IsOpe
 distance_operand m z below fits = record { plain = plain_distance m z below fits; some = some_distance z }
 
 pub both_plain : (xs ys : List ℕ) → are_plain xs ≡ true → are_plain ys ≡ true → are_plain (xs ++ ys) ≡ true
-both_plain xs ys one other = list_all-append is_plain xs ys ∙ and_from (are_plain xs) (are_plain ys) one other
+both_plain xs ys one other = rw (list_all-append is_plain xs ys, one, other)
 
 pub place_operand : (base : ℕ) (offset : ℤ) → base ≤ 10 → Fits (2 ^ 15) offset → IsOperand (place_text base offset)
 place_operand base offset small fits =

@@ -1,25 +1,19 @@
 -- What a slot of an image can hold: the forms that there are, and the ranges of their numbers.
-use Rattle.std.proofs.Common.{◌≡◌, ℕ, ◌+◌, ◌*◌, ◌^◌, ◌<◌, ◌%◌, ℤ, pos, negsuc, Bool, true, false, List, [], ◌∷◌, Option}
-use Rattle.std.proofs.Common.{Some, None, Ok, refl, sym, subst, arith, ◌==◌, cond}
-use Rattle.std.specs.Prelude.{option_map, FitsSigned, find}
-use Rattle.std.specs.{List.list_all, Int.w16, Int.w32, Int.from_le_bytes, Int.cast_unsigned, Ordering.int_eq}
-use Rattle.std.proofs.Math.Facts.{sfits_to_z}
-use Rattle.std.proofs.lemmas.{Bool.and_parts, Int.of_z-to_z, Option.same_Some, Option.none-some}
-use Rattle.machine_spec.specs.declared.{operation.Width.Width, operation.Operation.Operation}
-use Rattle.machine_spec.specs.declared.{operation.SwappedWidth.SwappedWidth, operation.ExtendedWidth.ExtendedWidth}
-use Rattle.machine_spec.specs.declared.{operation.ByteOrder.ByteOrder, operation.Change.Change, instruction.Size.Size}
-use Rattle.machine_spec.specs.declared.{instruction.Extension.Extension, instruction.Distance.Distance}
-use Rattle.machine_spec.specs.declared.{instruction.Source.Source, instruction.Instruction.Instruction}
-use Rattle.machine_spec.specs.declared.{opcode.TheConstants.TEMPLATES}
-use Rattle.machine_spec.specs.declared.operation.Width.TheVariants.{Bits32, Bits64}
+use Rattle.std.proofs.Common.{IfSome, ◌≡◌, ℕ, ◌+◌, ◌*◌, ◌^◌, ◌<◌, ◌%◌, ℤ, pos, negsuc, Bool, true, false, List, [], ◌∷◌}
+use Rattle.std.proofs.Common.{Option, Some, None, Ok, refl, sym, subst, arith, ◌==◌, cond, FitsSigned, find}
+use Rattle.std.specs.{List.list_all, Ordering.int_eq}
+use Rattle.std.specs.Int.{w16, w32, from_le_bytes, cast_unsigned}
+use Rattle.std.proofs.{Math.Facts.sfits_to_z, lemmas.Bool.and_parts, lemmas.Int.of_z-to_z, lemmas.Option.same_Some}
+use Rattle.std.proofs.lemmas.Option.{none-some}
+use Rattle.machine_spec.specs.declared.{operation.Width.Width, operation.ExtendedWidth.ExtendedWidth}
+use Rattle.machine_spec.specs.declared.{operation.Change.Change, instruction.Size.Size, instruction.Extension.Extension}
+use Rattle.machine_spec.specs.declared.{instruction.Distance.Distance, instruction.Source.Source}
+use Rattle.machine_spec.specs.declared.{instruction.Instruction.Instruction, opcode.TheConstants.TEMPLATES}
+use Rattle.machine_spec.specs.declared.{operation.Operation.TheVariants.Add, operation.Width.TheVariants.Bits32}
+use Rattle.machine_spec.specs.declared.{instruction.Size.TheVariants.Double, instruction.Extension.TheVariants.Sign}
 use Rattle.machine_spec.specs.declared.operation.Change.TheVariants.{Negate, Order, SignExtend}
-use Rattle.machine_spec.specs.declared.operation.Operation.TheVariants.{Add, Sub, Mul, Div, SignedDiv, Or, And}
-use Rattle.machine_spec.specs.declared.operation.Operation.TheVariants.{LeftShift, RightShift, Mod, SignedMod, Xor}
-use Rattle.machine_spec.specs.declared.operation.Operation.TheVariants.{ArithmeticRightShift}
 use Rattle.machine_spec.specs.declared.operation.SwappedWidth.TheVariants as swapped
 use Rattle.machine_spec.specs.declared.operation.ExtendedWidth.TheVariants as extended
-use Rattle.machine_spec.specs.declared.instruction.Size.TheVariants.{Byte, Half, Word, Double}
-use Rattle.machine_spec.specs.declared.instruction.Extension.TheVariants.{Zero, Sign}
 use Rattle.machine_spec.specs.declared.instruction.Distance.TheVariants.{Short, Long}
 use Rattle.machine_spec.specs.declared.instruction.Source.TheVariants.{Register, Immediate}
 use Rattle.machine_spec.specs.declared.instruction.Instruction.TheVariants.{Move, Compute, Load, Unary, Store, JumpIf}
@@ -27,29 +21,22 @@ use Rattle.machine_spec.specs.declared.instruction.Instruction.TheVariants.{Jump
 use Rattle.machine_spec.specs.Opcodes.{Fields, opcode_of, is_other_kind, template_of, filled_source, chosen_operation}
 use Rattle.machine_spec.specs.Opcodes.{extended_by, extending, swapped_by, with_fields}
 use Rattle.machine_spec.specs.Image.{byte_at, word_at, upper_at, fields_at, read_slot}
-use Rattle.bpf_isa.specs.{Code.AreBytes, Spelling.source_imm, Spelling.operation_offset, Spelling.spelled_fields}
-use Rattle.bpf_isa.specs.{Spelling.HasRegisters}
-use Rattle.bpf_isa.proofs.{Bytes.slot_read, Bytes.second}
+use Rattle.bpf_isa.specs.Code.{AreBytes}
+use Rattle.bpf_isa.specs.Spelling.{source_imm, spelled_fields, HasRegisters}
+use Rattle.bpf_isa.proofs.{Bytes.slot_read, Bytes.second, Cases.on_choice, Cases.all_made}
 use Rattle.bpf_asm.proofs.NumberTexts.{Fits}
 
 -- ---- forms
 
 -- no opcode sign-extends eight bytes
 abbrev pub is_load : Size → Extension → Bool
-is_load size Zero = true
-is_load Byte Sign = true
-is_load Half Sign = true
-is_load Word Sign = true
 is_load Double Sign = false
+is_load _ _ = true
 
 -- no move of 32 bits extends 32
 abbrev pub is_change : Change → Bool
-is_change (Negate _) = true
-is_change (Order _ _) = true
 is_change (SignExtend Bits32 extended.Bits32) = false
-is_change (SignExtend Bits32 extended.Bits16) = true
-is_change (SignExtend Bits32 extended.Bits8) = true
-is_change (SignExtend Bits64 _) = true
+is_change _ = true
 
 abbrev pub is_form : Instruction → Bool
 is_form (Load size extension _ _ _) = is_load size extension
@@ -64,9 +51,8 @@ RangedSource (Immediate imm) = Fits (2 ^ 31) imm
 
 -- a negation and a byte order change the register that they read
 abbrev pub RangedChange : Change → ℕ → ℕ → Type 0
-RangedChange (Negate _) dst src = src ≡ dst
-RangedChange (Order _ _) dst src = src ≡ dst
 RangedChange (SignExtend _ _) dst src = Unit {0}
+RangedChange _ dst src = src ≡ dst
 
 abbrev pub RangedDistance : Distance → Type 0
 RangedDistance (Short slots) = Fits (2 ^ 15) slots
@@ -89,18 +75,15 @@ pub record IsHeld (i : Instruction) : Type 0 where
   pub form : is_form i ≡ true
   pub ranged : Ranged i
 
-held : (i j : Instruction) → Some i ≡ Some j → is_form i ≡ true → Ranged i → IsHeld j
-held i j e form ranged = subst IsHeld (same_Some i j e) (record { form = form; ranged = ranged })
-
 -- ---- the fields of a slot
 
 fits_16 : (z : ℤ) → FitsSigned w16 z → Fits (2 ^ 15) z
-fits_16 (pos n) fits = omega (arith, fits.sfits)
-fits_16 (negsuc n) fits = omega (arith, fits.sfits)
+fits_16 (pos n) fits = fits.sfits
+fits_16 (negsuc n) fits = fits.sfits
 
 fits_32 : (z : ℤ) → FitsSigned w32 z → Fits (2 ^ 31) z
-fits_32 (pos n) fits = omega (arith, fits.sfits)
-fits_32 (negsuc n) fits = omega (arith, fits.sfits)
+fits_32 (pos n) fits = fits.sfits
+fits_32 (negsuc n) fits = fits.sfits
 
 pub record AreRanged (f : Fields) : Type 0 where
   pub offset : Fits (2 ^ 15) f.offset
@@ -138,91 +121,65 @@ module _ (f : Fields) (ranged : AreRanged f) where
   source_ranged (Register _) = tt
   source_ranged (Immediate _) = ranged.imm
 
-  extends_held : (width : Width) (part : Option ExtendedWidth) (i : Instruction) →
-      extending width f.dst f.src part ≡ Some i → IsHeld i
-  extends_held Bits32 None i e = absurd (none-some i e)
-  extends_held Bits32 (Some extended.Bits8) i e =
-      held (Unary (SignExtend Bits32 extended.Bits8) f.dst f.src) i e refl tt
-  extends_held Bits32 (Some extended.Bits16) i e =
-      held (Unary (SignExtend Bits32 extended.Bits16) f.dst f.src) i e refl tt
-  extends_held Bits32 (Some extended.Bits32) i e = absurd (none-some i e)
-  extends_held Bits64 None i e = absurd (none-some i e)
-  extends_held Bits64 (Some part) i e = held (Unary (SignExtend Bits64 part) f.dst f.src) i e refl tt
+  extends_held : (width : Width) (part : Option ExtendedWidth) → IfSome (extending width f.dst f.src part) IsHeld
+  extends_held Bits32 (Some extended.Bits32) = tt
+  extends_held Bits32 (Some extended.Bits16) = record { form = refl; ranged = tt }
+  extends_held _ (Some _) = record { form = refl; ranged = tt }
+  extends_held _ None = tt
 
-  moves_held : (width : Width) (zero_offset : Bool) (i : Instruction) →
-      cond zero_offset (Some (Move width f.dst (Register f.src))) (extending width f.dst f.src (extended_by f.offset))
-      ≡ Some i → IsHeld i
-  moves_held width true i e = held (Move width f.dst (Register f.src)) i e refl tt
-  moves_held width false i e = extends_held width (extended_by f.offset) i e
+  moves_held : (width : Width) (zero_offset : Bool) →
+      IfSome (cond zero_offset (Some (Move width f.dst (Register f.src)))
+      (extending width f.dst f.src (extended_by f.offset))) IsHeld
+  moves_held width true = record { form = refl; ranged = tt }
+  moves_held width false = extends_held width (extended_by f.offset)
 
-  orders_held : (order : ByteOrder) (width : Option SwappedWidth) (i : Instruction) →
-      option_map (λ w. Unary (Order order w) f.dst f.dst) width ≡ Some i → IsHeld i
-  orders_held order None i e = absurd (none-some i e)
-  orders_held order (Some width) i e = held (Unary (Order order width) f.dst f.dst) i e refl refl
-
-  computes_held : (width : Width) (source : Source) (operation : Option Operation) (i : Instruction) →
-      option_map (λ o. Compute width o f.dst (filled_source source f)) operation ≡ Some i → IsHeld i
-  computes_held width source None i e = absurd (none-some i e)
-  computes_held width source (Some operation) i e =
-      held (Compute width operation f.dst (filled_source source f)) i e refl (source_ranged source)
-
-  wide_held : (upper : Option ℕ) (i : Instruction) → ((n : ℕ) → upper ≡ Some n → n < 2 ^ 32) →
-      option_map (λ u. Wide f.dst (u * 2 ^ 32 + cast_unsigned w32 f.imm)) upper ≡ Some i → IsHeld i
-  wide_held None i small e = absurd (none-some i e)
-  wide_held (Some u) i small e =
-      let lower = ranged.bits in
-      let upper : u < 2 ^ 32 = small u refl in
-      held (Wide f.dst (u * 2 ^ 32 + cast_unsigned w32 f.imm)) i e refl (omega (arith, lower, upper))
-
-  pub filled_held : (template i : Instruction) → is_form template ≡ true → with_fields template f ≡ Some i → IsHeld i
-  filled_held (Move width _ (Register _)) i form e = moves_held width (int_eq f.offset (pos 0)) i e
-  filled_held (Move width _ (Immediate _)) i form e = held (Move width f.dst (Immediate f.imm)) i e refl ranged.imm
-  filled_held (Compute width operation _ source) i form e =
-      computes_held width source (chosen_operation operation f.offset) i e
-  filled_held (Load size extension _ _ _) i form e =
-      held (Load size extension f.dst f.src f.offset) i e form ranged.offset
-  filled_held (Unary (Negate width) _ _) i form e = held (Unary (Negate width) f.dst f.dst) i e refl refl
-  filled_held (Unary (Order order _) _ _) i form e = orders_held order (swapped_by f.imm) i e
-  filled_held (Unary (SignExtend width _) _ _) i form e = moves_held width (int_eq f.offset (pos 0)) i e
-  filled_held (Store size _ _ source) i form e =
-      held (Store size f.dst f.offset (filled_source source f)) i e refl (ranged.offset, source_ranged source)
-  filled_held (JumpIf width test _ source _) i form e =
-      held (JumpIf width test f.dst (filled_source source f) f.offset) i e refl (source_ranged source, ranged.offset)
-  filled_held (Jump (Short _)) i form e = held (Jump (Short f.offset)) i e refl ranged.offset
-  filled_held (Jump (Long _)) i form e = held (Jump (Long f.imm)) i e refl ranged.imm
-  filled_held (Wide _ _) i form e = wide_held f.upper i ranged.upper e
-  filled_held (Call _) i form e = held (Call f.imm) i e refl ranged.imm
-  filled_held Exit i form e = held Exit i e refl tt
+  filled_held : (template : Instruction) → is_form template ≡ true → IfSome (with_fields template f) IsHeld
+  filled_held (Move width _ (Register _)) form = moves_held width (int_eq f.offset (pos 0))
+  filled_held (Move width _ (Immediate _)) form = record { form = refl; ranged = ranged.imm }
+  filled_held (Compute width operation _ source) form =
+      all_made (λ o. Compute width o f.dst (filled_source source f)) IsHeld (chosen_operation operation f.offset)
+      (λ _ _. record { form = refl; ranged = source_ranged source })
+  filled_held (Load size extension _ _ _) form = record { form = form; ranged = ranged.offset }
+  filled_held (Unary (Negate width) _ _) form = record { form = refl; ranged = refl }
+  filled_held (Unary (Order order _) _ _) form =
+      all_made (λ w. Unary (Order order w) f.dst f.dst) IsHeld (swapped_by f.imm)
+      (λ _ _. record { form = refl; ranged = refl })
+  filled_held (Unary (SignExtend width _) _ _) form = moves_held width (int_eq f.offset (pos 0))
+  filled_held (Store size _ _ source) form = record { form = refl; ranged = (ranged.offset, source_ranged source) }
+  filled_held (JumpIf width test _ source _) form =
+      record { form = refl; ranged = (source_ranged source, ranged.offset) }
+  filled_held (Jump (Short _)) form = record { form = refl; ranged = ranged.offset }
+  filled_held (Jump (Long _)) form = record { form = refl; ranged = ranged.imm }
+  filled_held (Wide _ _) form =
+      all_made (λ u. Wide f.dst (u * 2 ^ 32 + cast_unsigned w32 f.imm)) IsHeld f.upper
+      (λ u at. let below = ranged.upper u at in record { form = refl; ranged = omega arith })
+  filled_held (Call _) form = record { form = refl; ranged = ranged.imm }
+  filled_held Exit form = record { form = refl; ranged = tt }
 
 -- ---- the templates
 
 -- what is found in a list of which all pass a test passes it
 pub found_passes : {A : Type 0} (p q : A → Bool) (xs : List A) (x : A) → list_all q xs ≡ true → find p xs ≡ Some x →
     q x ≡ true
-found_passes p q [] x all e = absurd (none-some x e)
-found_passes {A} p q (y ∷ xs) x all e =
+found_passes p q [] x all e = absurd cc
+found_passes p q (y ∷ xs) x all e =
     let parts = and_parts (q y) (list_all q xs) all in
-    from (p y) (found_passes p q xs x parts.1) e
-  where
-    from : (b : Bool) → (find p xs ≡ Some x → q x ≡ true) → cond b (Some y) (find p xs) ≡ Some x → q x ≡ true
-    from true later e = subst (λ z. q z ≡ true) (same_Some y x e) (and_parts (q y) (list_all q xs) all).0
-    from false later e = later e
+    on_choice (p y) (Some y) (find p xs) (Some x) (q x ≡ true) e
+    (λ _ e. subst (λ z. q z ≡ true) (same_Some y x e) parts.0) (λ _ e. found_passes p q xs x parts.1 e)
 
 template_form : (f : Fields) (template : Instruction) → template_of f ≡ Some template → is_form template ≡ true
 unfolding template_of
-template_form f template e = from (is_other_kind f) e
-  where
-    from : (b : Bool) → cond b None (find (λ t. opcode_of t == f.opcode) TEMPLATES) ≡ Some template →
-        is_form template ≡ true
-    from true e = absurd (none-some template e)
-    from false e = found_passes (λ t. opcode_of t == f.opcode) is_form TEMPLATES template refl e
+template_form f template e =
+    on_choice (is_other_kind f) None (find (λ t. opcode_of t == f.opcode) TEMPLATES) (Some template)
+    (is_form template ≡ true) e (λ _ e. absurd cc)
+    (λ _. found_passes (λ t. opcode_of t == f.opcode) is_form TEMPLATES template refl)
 
 pub slot_held : (image : List ℕ) (slot : ℕ) (i : Instruction) → AreBytes image → read_slot image slot ≡ Ok i → IsHeld i
 slot_held image slot i fits e =
     let f = fields_at image slot in
     let read = slot_read image slot i e in
-    filled_held f (fields_ranged image slot fits) read.template i (template_form f read.template read.found)
-    read.is_filled
+    subst (λ made. IfSome made IsHeld) read.is_filled (filled_held f (fields_ranged image slot fits) read.template
+    (template_form f read.template read.found))
 
 -- ---- the fields that an instruction is spelled with
 
@@ -240,43 +197,19 @@ source_fits : (source : Source) → RangedSource source → Fits (2 ^ 31) (sourc
 source_fits (Register _) ranged = omega arith
 source_fits (Immediate imm) ranged = ranged
 
-selection_fits : (operation : Operation) → Fits (2 ^ 15) (operation_offset operation)
-selection_fits Add = omega arith
-selection_fits Sub = omega arith
-selection_fits Mul = omega arith
-selection_fits Div = omega arith
-selection_fits SignedDiv = omega arith
-selection_fits Or = omega arith
-selection_fits And = omega arith
-selection_fits LeftShift = omega arith
-selection_fits RightShift = omega arith
-selection_fits Mod = omega arith
-selection_fits SignedMod = omega arith
-selection_fits Xor = omega arith
-selection_fits ArithmeticRightShift = omega arith
-
-change_fits : (change : Change) (dst src : ℕ) → FitSlots (spelled_fields (Unary change dst src))
-change_fits (Negate width) dst src = record { offset = omega arith; imm = omega arith }
-change_fits (Order order swapped.Bits16) dst src = record { offset = omega arith; imm = omega arith }
-change_fits (Order order swapped.Bits32) dst src = record { offset = omega arith; imm = omega arith }
-change_fits (Order order swapped.Bits64) dst src = record { offset = omega arith; imm = omega arith }
-change_fits (SignExtend width extended.Bits8) dst src = record { offset = omega arith; imm = omega arith }
-change_fits (SignExtend width extended.Bits16) dst src = record { offset = omega arith; imm = omega arith }
-change_fits (SignExtend width extended.Bits32) dst src = record { offset = omega arith; imm = omega arith }
-
 pub spelled_fit : (i : Instruction) → Ranged i → FitSlots (spelled_fields i)
-spelled_fit (Move width dst source) ranged = record { offset = omega arith; imm = source_fits source ranged }
-spelled_fit (Compute width operation dst source) ranged =
-    record { offset = selection_fits operation; imm = source_fits source ranged }
-spelled_fit (Load size extension dst base offset) ranged = record { offset = ranged; imm = omega arith }
-spelled_fit (Unary change dst src) ranged = change_fits change dst src
-spelled_fit (Store size base offset source) ranged = record { offset = ranged.0; imm = source_fits source ranged.1 }
-spelled_fit (JumpIf width test dst source offset) ranged =
-    record { offset = ranged.1; imm = source_fits source ranged.0 }
-spelled_fit (Jump (Short slots)) ranged = record { offset = ranged; imm = omega arith }
-spelled_fit (Jump (Long slots)) ranged = record { offset = omega arith; imm = ranged }
-spelled_fit (Wide dst n) ranged =
+spelled_fit (Move _ _ source) ranged = record { offset = omega arith; imm = source_fits source ranged }
+spelled_fit (Compute _ Add _ source) ranged = record { offset = omega arith; imm = source_fits source ranged }
+spelled_fit (Compute _ _ _ source) ranged = record { offset = omega arith; imm = source_fits source ranged }
+spelled_fit (Load _ _ _ _ _) ranged = record { offset = ranged; imm = omega arith }
+spelled_fit (Unary (Order _ swapped.Bits16) _ _) ranged = record { offset = omega arith; imm = omega arith }
+spelled_fit (Unary (SignExtend _ extended.Bits8) _ _) ranged = record { offset = omega arith; imm = omega arith }
+spelled_fit (Store _ _ _ source) ranged = record { offset = ranged.0; imm = source_fits source ranged.1 }
+spelled_fit (JumpIf _ _ _ source _) ranged = record { offset = ranged.1; imm = source_fits source ranged.0 }
+spelled_fit (Jump (Short _)) ranged = record { offset = ranged; imm = omega arith }
+spelled_fit (Jump (Long _)) ranged = record { offset = omega arith; imm = ranged }
+spelled_fit (Wide _ n) ranged =
     let lower : n % 2 ^ 32 < 2 ^ 32 = omega arith in
     record { offset = omega arith; imm = fits_32 _ (sfits_to_z {w = w32} (record { fits = lower })) }
-spelled_fit (Call n) ranged = record { offset = omega arith; imm = ranged }
-spelled_fit Exit ranged = record { offset = omega arith; imm = omega arith }
+spelled_fit (Call _) ranged = record { offset = omega arith; imm = ranged }
+spelled_fit _ ranged = record { offset = omega arith; imm = omega arith }

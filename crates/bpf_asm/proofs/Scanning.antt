@@ -1,17 +1,14 @@
 -- Walking over a text byte by byte.
 use Rattle.std.proofs.Common.{◌≡◌, ℕ, zero, suc, ◌+◌, ◌-◌, ◌*◌, ◌^◌, ◌<◌, ◌≤◌, Bool, true, false, cond, not, map, ◌==◌}
-use Rattle.std.proofs.Common.{leb, Some, None, Err, List, [], ◌∷◌, ◌++◌, length, get_or, drop, take, min, refl, sym, ap}
-use Rattle.std.proofs.Common.{subst, ◌∙◌, arith}
-use Rattle.std.proofs.Math.{Seq.drop-cons, ListN.drop_of_length-le}
-use Rattle.std.specs.Prelude.{reverse}
-use Rattle.std.specs.{List.position_or_len, List.slice_split, List.onto_first, List.list_all}
-use Rattle.std.specs.{Str.Parse.digits_value_after, Char.digit_value}
-use Rattle.std.specs.Char.{is_ascii_digit}
-use Rattle.std.proofs.lemmas.{List.take_more, List.reverse-append, List.reverse-reverse, List.drop-take}
-use Rattle.std.proofs.lemmas.{List.Splits.slice_split_first, Bool.and_parts, Bool.and_from, Bool.leb-true, Bool.eq-eqb}
-use Rattle.std.proofs.lemmas.{Str.digit_value_digit}
-use Rattle.bpf_asm.specs.declared.fault.LineFault.TheVariants as fault
-use Rattle.bpf_asm.specs.{Operands.read_between, Operands.read_place}
+use Rattle.std.proofs.Common.{leb, Some, None, List, [], ◌∷◌, ◌++◌, length, get_or, drop, take, min, refl, sym, ap}
+use Rattle.std.proofs.Common.{◌∙◌, arith, reverse, add-one}
+use Rattle.std.proofs.{Math.Seq.drop-cons, Math.ListN.drop_of_length-le, lemmas.List.Splits.slice_split_first}
+use Rattle.std.proofs.lemmas.Str.{digit_value_digit}
+use Rattle.std.specs.List.{position_or_len, slice_split, onto_first, list_all}
+use Rattle.std.specs.{Str.Parse.digits_value_after, Char.digit_value, Char.is_ascii_digit}
+use Rattle.std.proofs.lemmas.List.{take_more, reverse-append, reverse-reverse, drop-take}
+use Rattle.std.proofs.lemmas.Bool.{and_parts, leb-true, eq-eqb}
+use Rattle.bpf_asm.specs.Operands.{read_between, read_place}
 use Rattle.bpf_asm.specs.Reading.{is_space, is_comma, after_spaces, before_spaces, operands_in, single, is_empty}
 
 -- ---- the first byte that passes a test
@@ -21,74 +18,53 @@ abbrev pub Passed : (ℕ → Bool) → List ℕ → ℕ → Type 0
 Passed p text k = position_or_len p text ≡ k + position_or_len p (drop k text)
 
 front_of : (text : List ℕ) (k : ℕ) → k < length text → drop k text ≡ get_or text k 0 ∷ drop (k + 1) text
-front_of text k h = let one : suc k ≡ k + 1 = omega arith in
-    subst (λ j. drop k text ≡ get_or text k 0 ∷ drop j text) one (drop-cons text k 0 h)
-
-pub passed_none : (p : ℕ → Bool) (text : List ℕ) → Passed p text 0
-passed_none p text = omega arith
+front_of text k h = rw add-one (drop-cons text k 0 h)
 
 pub passed_more : (p : ℕ → Bool) (text : List ℕ) (k : ℕ) → k < length text → p (get_or text k 0) ≡ false →
     Passed p text k → Passed p text (k + 1)
 passed_more p text k h fails before =
     let first : position_or_len p (drop k text) ≡ 1 + position_or_len p (drop (k + 1) text) =
-    ap (position_or_len p) (front_of text k h)
-    ∙ ap (λ (b : Bool). cond (not b) (1 + position_or_len p (drop (k + 1) text)) 0) fails in
-    omega (arith, before, first)
+    rw (front_of text k h, fails) in
+    omega arith
 
 pub passed_here : (p : ℕ → Bool) (text : List ℕ) (k : ℕ) → k < length text → p (get_or text k 0) ≡ true →
     Passed p text k → position_or_len p text ≡ k
 passed_here p text k h passes before =
-    let first : position_or_len p (drop k text) ≡ 0 =
-    ap (position_or_len p) (front_of text k h)
-    ∙ ap (λ (b : Bool). cond (not b) (1 + position_or_len p (drop (k + 1) text)) 0) passes in
-    omega (arith, before, first)
+    let first : position_or_len p (drop k text) ≡ 0 = rw (front_of text k h, passes) in
+    omega arith
 
 pub passed_all : (p : ℕ → Bool) (text : List ℕ) (k : ℕ) → length text ≤ k → Passed p text k → position_or_len p text ≡ k
 passed_all p text k h before =
-    let rest : position_or_len p (drop k text) ≡ 0 = ap (position_or_len p) (drop_of_length-le text {i = k} h) in
-    omega (arith, before, rest)
+    let rest : position_or_len p (drop k text) ≡ 0 = rw (drop_of_length-le text {i = k} h) in
+    omega arith
 
 -- ---- spaces before a text
 
 pub spaces_more : (text : List ℕ) (k : ℕ) → k < length text → get_or text k 0 ≡ 32 →
     after_spaces text ≡ after_spaces (drop k text) → after_spaces text ≡ after_spaces (drop (k + 1) text)
 spaces_more text k h space before =
-    before ∙ ap after_spaces (front_of text k h ∙ ap (λ (b : ℕ). b ∷ drop (k + 1) text) space)
-
-abbrev on_byte : ℕ → List ℕ → Bool → List ℕ
-on_byte b rest is = cond is (after_spaces rest) (b ∷ rest)
+    rw (before, front_of text k h, space)
 
 pub spaces_end : (text : List ℕ) (k : ℕ) → k < length text → is_space (get_or text k 0) ≡ false →
     after_spaces text ≡ after_spaces (drop k text) → after_spaces text ≡ drop k text
 spaces_end text k h other before =
-    before ∙ ap after_spaces (front_of text k h) ∙ ap (on_byte (get_or text k 0) (drop (k + 1) text)) other
-    ∙ sym (front_of text k h)
-
-pub spaces_all : (text : List ℕ) (k : ℕ) → length text ≤ k → after_spaces text ≡ after_spaces (drop k text) →
-    after_spaces text ≡ drop k text
-spaces_all text k h before = let none : drop k text ≡ [] = drop_of_length-le text {i = k} h in before
-    ∙ ap after_spaces none ∙ sym none
+    rw (before, front_of text k h, other)
 
 -- ---- spaces at the end of a text
 
 before_space : (xs : List ℕ) → before_spaces (xs ++ 32 ∷ []) ≡ before_spaces xs
-before_space xs = ap (λ (r : List ℕ). reverse (after_spaces r)) (reverse-append xs (32 ∷ []))
-
-abbrev turned : List ℕ → ℕ → Bool → List ℕ
-turned xs b is = reverse (cond is (after_spaces (reverse xs)) (b ∷ reverse xs))
+before_space xs = rw (reverse-append xs (32 ∷ []))
 
 pub before_other : (xs : List ℕ) (b : ℕ) → is_space b ≡ false → before_spaces (xs ++ b ∷ []) ≡ xs ++ b ∷ []
 before_other xs b other =
     let back : reverse (xs ++ b ∷ []) ≡ b ∷ reverse xs = reverse-append xs (b ∷ []) in
-    ap (λ (r : List ℕ). reverse (after_spaces r)) back ∙ ap (turned xs b) other ∙ ap reverse (sym back)
-    ∙ reverse-reverse (xs ++ b ∷ [])
+    rw (back, other) (ap reverse (sym back) ∙ reverse-reverse (xs ++ b ∷ []))
 
-last_of : (text : List ℕ) (end : ℕ) → 0 < end → end ≤ length text →
+pub last_of : (text : List ℕ) (end : ℕ) → 0 < end → end ≤ length text →
     take end text ≡ take (end - 1) text ++ get_or text (end - 1) 0 ∷ []
 last_of text end some within =
     let back : end - 1 + 1 ≡ end = omega arith in
-    subst (λ (k : ℕ). take k text ≡ take (end - 1) text ++ get_or text (end - 1) 0 ∷ []) back
-    (take_more text (end - 1) 0 (omega arith))
+    rw back at (take_more text (end - 1) 0 (omega arith))
 
 pub ends_in_space : (text : List ℕ) (end : ℕ) → 0 < end → end ≤ length text → get_or text (end - 1) 0 ≡ 32 →
     before_spaces (take end text) ≡ before_spaces text → before_spaces (take (end - 1) text) ≡ before_spaces text
@@ -106,17 +82,12 @@ ends_in_other text end some within other before =
 
 -- ---- pieces
 
-onto_whole : (p : ℕ → Bool) (x : ℕ) (xs : List ℕ) (b : Bool) →
-    length (x ∷ xs) ≤ cond (not b) (1 + position_or_len p xs) 0 →
-    (length xs ≤ position_or_len p xs → slice_split p xs ≡ xs ∷ []) →
-    cond b ([] ∷ slice_split p xs) (onto_first x (slice_split p xs)) ≡ (x ∷ xs) ∷ []
-onto_whole p x xs true h rest = absurd (omega arith)
-onto_whole p x xs false h rest = ap (onto_first x) (rest (omega arith))
-
 -- a text without such a byte is one piece
 pub split_whole : (p : ℕ → Bool) (xs : List ℕ) → length xs ≤ position_or_len p xs → slice_split p xs ≡ xs ∷ []
 split_whole p [] h = refl
-split_whole p (x ∷ xs) h = onto_whole p x xs (p x) h (split_whole p xs)
+split_whole p (x ∷ xs) h = (elim (p x) as (λ b. length (x ∷ xs) ≤ cond (not b) (1 + position_or_len p xs) 0 →
+    cond b ([] ∷ slice_split p xs) (onto_first x (slice_split p xs)) ≡ (x ∷ xs) ∷ [])
+    [ true ↦ λ h. absurd (omega arith) | false ↦ λ h. rw (split_whole p xs (omega arith)) ]) h
 
 -- ---- the number that digits spell, capped
 
@@ -125,9 +96,9 @@ pub value_capped : (digits : List ℕ) (m n : ℕ) → min m (2 ^ 64) ≡ min n 
     min (digits_value_after 10 m digits) (2 ^ 64) ≡ min (digits_value_after 10 n digits) (2 ^ 64)
 value_capped [] m n same = same
 value_capped (d ∷ digits) m n same =
-    value_capped digits (m * 10 + digit_value d) (n * 10 + digit_value d) (omega (arith, same))
+    value_capped digits (m * 10 + digit_value d) (n * 10 + digit_value d) (omega arith)
 
-all_at : (p : ℕ → Bool) (xs : List ℕ) (k : ℕ) → list_all p xs ≡ true → k < length xs → p (get_or xs k 0) ≡ true
+pub all_at : (p : ℕ → Bool) (xs : List ℕ) (k : ℕ) → list_all p xs ≡ true → k < length xs → p (get_or xs k 0) ≡ true
 all_at p [] k h l = absurd (omega arith)
 all_at p (x ∷ xs) zero h l = (and_parts (p x) (list_all p xs) h).0
 all_at p (x ∷ xs) (suc k) h l = all_at p xs k (and_parts (p x) (list_all p xs) h).1 (omega arith)
@@ -145,45 +116,35 @@ pub value_more : (digits : List ℕ) (k number new : ℕ) (whole : ℕ) → k < 
 value_more digits k number new whole within all is before =
     let d = get_or digits k 0 in
     let value = digit_value_is d (all_at is_ascii_digit digits k all within) in
-    value_capped (drop (k + 1) digits) new (number * 10 + digit_value d) (omega (arith, is, value))
+    value_capped (drop (k + 1) digits) new (number * 10 + digit_value d) (omega arith)
     ∙ ap (λ (ds : List ℕ). min (digits_value_after 10 number ds) (2 ^ 64)) (sym (front_of digits k within)) ∙ before
 
 -- ---- operands
 
 -- a text has one piece at least
-pub record HasPieces (pieces : List (List ℕ)) : Type 0 where
-  pub first : List ℕ
-  pub others : List (List ℕ)
-  pub are : pieces ≡ first ∷ others
+abbrev HasPieces : List (List ℕ) → Type 0
+HasPieces pieces = (first : List ℕ) × (others : List (List ℕ)) × (pieces ≡ first ∷ others)
 
 onto_pieces : (x : ℕ) (b : Bool) (pieces : List (List ℕ)) → HasPieces (cond b ([] ∷ pieces) (onto_first x pieces))
-onto_pieces x true pieces = record { first = []; others = pieces; are = refl }
-onto_pieces x false [] = record { first = x ∷ []; others = []; are = refl }
-onto_pieces x false (piece ∷ pieces) = record { first = x ∷ piece; others = pieces; are = refl }
+onto_pieces x true pieces = ([], pieces, refl)
+onto_pieces x false [] = (x ∷ [], [], refl)
+onto_pieces x false (piece ∷ pieces) = (x ∷ piece, pieces, refl)
 
 pieces_of : (p : ℕ → Bool) (text : List ℕ) → HasPieces (slice_split p text)
-pieces_of p [] = record { first = []; others = []; are = refl }
+pieces_of p [] = ([], [], refl)
 pieces_of p (x ∷ text) = onto_pieces x (p x) (slice_split p text)
 
 pub single_no : (operand text : List ℕ) → None ≡ single (operand ∷ operands_in (Some text))
-single_no operand text =
-    let pieces = pieces_of is_comma text in
-    ap (λ (ps : List (List ℕ)). single (operand ∷ map after_spaces ps)) (sym pieces.are)
+single_no operand text = let pieces = pieces_of is_comma text in rw pieces.2
 
 pub some_operands : (text : List ℕ) → is_empty (operands_in (Some text)) ≡ false
-some_operands text =
-    let pieces = pieces_of is_comma text in
-    ap (λ (ps : List (List ℕ)). is_empty (map after_spaces ps)) pieces.are
+some_operands text = let pieces = pieces_of is_comma text in rw pieces.2
 
 pub first_operand : (text operand rest : List ℕ) (end : ℕ) → end < length text → end ≡ position_or_len is_comma text →
     operand ≡ after_spaces (take end text) → rest ≡ drop (end + 1) text →
     operands_in (Some text) ≡ operand ∷ operands_in (Some rest)
 first_operand text operand rest end within place is left =
-    ap (map after_spaces) (slice_split_first is_comma text 0 (omega arith))
-    ∙ ap (λ (k : ℕ). after_spaces (take k text) ∷ map after_spaces (slice_split is_comma (drop (k + 1) text)))
-    (sym place)
-    ∙ ap (λ (t : List ℕ). after_spaces (take end text) ∷ map after_spaces (slice_split is_comma t)) (sym left)
-    ∙ ap (λ (o : List ℕ). o ∷ map after_spaces (slice_split is_comma rest)) (sym is)
+    rw (is, left, slice_split_first is_comma text 0 (omega arith), place)
 
 pub last_operand : (text : List ℕ) (end : ℕ) → length text ≤ end → end ≡ position_or_len is_comma text →
     operands_in (Some text) ≡ after_spaces text ∷ []
@@ -196,9 +157,6 @@ pub place_is : (text : List ℕ) → 2 ≤ length text → get_or text 0 0 ≡ 9
 place_is text long opens closes =
     let one : (get_or text 0 0 == 91) ≡ true = eq-eqb (get_or text 0 0) 91 opens in
     let other : (get_or text (length text - 1) 0 == 93) ≡ true = eq-eqb (get_or text (length text - 1) 0) 93 closes in
-    let inner : drop 1 (take (1 + (length text - 1 - 1)) text) ≡ take (length text - 1 - 1) (drop 1 text) =
-    drop-take 1 (length text - 1 - 1) text in
+    let inner = drop-take 1 (length text - 1 - 1) text in
     let size : 1 + (length text - 1 - 1) ≡ length text - 1 = omega arith in
-    ap read_between (sym inner) ∙ ap (λ (k : ℕ). read_between (drop 1 (take k text))) size
-    ∙ ap (λ (b : Bool). cond b (read_between (drop 1 (take (length text - 1) text))) (Err fault.Operand))
-    (sym (and_from (get_or text 0 0 == 91) (get_or text (length text - 1) 0 == 93) one other))
+    rw (one, other, ← inner, size)

@@ -1,26 +1,22 @@
 -- Instructions that are spelled one after another are what their bytes read as.
-use Rattle.std.proofs.Common.{SFits, ◌≡◌, ℕ, zero, suc, ◌+◌, ◌*◌, ◌/◌, ◌%◌, ◌^◌, ◌<◌, ◌≤◌, ℤ, pos, negsuc, Bool, true}
-use Rattle.std.proofs.Common.{◌==◌, ◌&&◌, nat_lt, nat_le, cond, List, [], ◌∷◌, ◌++◌, length, map, Option, Some, None}
-use Rattle.std.proofs.Common.{Result, Ok, Err, refl, sym, ap, subst, ◌∙◌, arith, append_assoc, slice_index, flat_map}
+use Rattle.std.proofs.Common.{SFits, ◌≡◌, ℕ, zero, suc, ◌+◌, ◌*◌, ◌/◌, ◌%◌, ◌^◌, ◌<◌, ◌≤◌, ℤ, pos, negsuc, true, ◌==◌}
+use Rattle.std.proofs.Common.{nat_lt, List, [], ◌∷◌, ◌++◌, length, map, Option, Some, Result, Ok, refl}
+use Rattle.std.proofs.Common.{ap, subst, ◌∙◌, arith, append_assoc, slice_index, flat_map}
 use Rattle.std.specs.Int.{w16, w32, from_le_bytes, to_le_bytes, cast_signed, cast_unsigned}
-use Rattle.std.proofs.Math.Facts.{Fits-of_z}
-use Rattle.std.proofs.lemmas.{Nat.from_le_bytes-to_le_bytes_2, Nat.from_le_bytes-to_le_bytes_4, Int.to_z-of_z}
-use Rattle.std.proofs.lemmas.{List.length-append, List.get_or-append-add}
+use Rattle.std.proofs.{Math.Facts.Fits-of_z, lemmas.Nat.from_le_bytes-to_le_bytes_2}
+use Rattle.std.proofs.{lemmas.Nat.from_le_bytes-to_le_bytes_4, lemmas.Int.to_z-of_z, lemmas.List.length-append}
+use Rattle.std.proofs.lemmas.List.{get_or-append-add}
 use Rattle.std.proofs.lemmas.Bool.{and_from, lt-ltb, le-ltb, le-leb, eq-eqb}
-use Rattle.machine_spec.specs.declared.{instruction.Instruction.Instruction, instruction.Placed.Placed}
-use Rattle.machine_spec.specs.declared.{instruction.IsaFault.IsaFault, limits.TheConstants.MAX_SLOTS}
-use Rattle.machine_spec.specs.declared.instruction.Distance.TheVariants.{Short, Long}
-use Rattle.machine_spec.specs.declared.instruction.IsaFault.TheVariants as fault
-use Rattle.machine_spec.specs.declared.instruction.Instruction.TheVariants.{Move, Compute, Load, Unary, Store, JumpIf}
-use Rattle.machine_spec.specs.declared.instruction.Instruction.TheVariants.{Jump, Wide, Call, Exit}
-use Rattle.machine_spec.specs.Opcodes.{Fields}
-use Rattle.machine_spec.specs.Image.{slot_count, byte_at, word_at, upper_at, fields_at, read_fields, read_slot}
-use Rattle.machine_spec.specs.Image.{slot_after, first_slots_from, first_slots, slots_of, then_placed, read_slots}
-use Rattle.machine_spec.specs.Image.{has_size, read_image}
-use Rattle.bpf_isa.specs.{Spelling.spelled_fields, Spelling.first_bytes, Spelling.second_bytes, Spelling.spelling}
-use Rattle.bpf_isa.proofs.{Bytes.next_slot, Bytes.some_slots}
-use Rattle.bpf_asm.proofs.{NumberTexts.Fits, Ranges.IsSaid, Ranges.spelled_fit, FieldsRead.with_upper}
-use Rattle.bpf_asm.proofs.{FieldsRead.narrow_read, FieldsRead.wide_read}
+use Rattle.machine_spec.specs.{declared.instruction.Instruction.Instruction, declared.instruction.Placed.Placed}
+use Rattle.machine_spec.specs.{declared.instruction.IsaFault.IsaFault, declared.limits.TheConstants.MAX_SLOTS}
+use Rattle.machine_spec.specs.{Opcodes.Fields, declared.instruction.Distance.TheVariants.Short}
+use Rattle.machine_spec.specs.declared.instruction.Instruction.TheVariants.{Jump, Wide}
+use Rattle.machine_spec.specs.Image.{slot_count, byte_at, word_at, fields_at, read_slot, first_slots_from, first_slots}
+use Rattle.machine_spec.specs.Image.{slots_of, then_placed, read_slots, has_size, read_image}
+use Rattle.bpf_isa.specs.Spelling.{spelled_fields, first_bytes, second_bytes, spelling}
+use Rattle.bpf_isa.proofs.Bytes.{next_slot, some_slots}
+use Rattle.bpf_asm.proofs.{NumberTexts.Fits, Ranges.IsSaid, Ranges.spelled_fit}
+use Rattle.bpf_asm.proofs.FieldsRead.{with_upper, narrow_read, wide_read}
 
 -- ---- a slot
 
@@ -46,8 +42,7 @@ word_again z fits =
 -- a byte of a slot that begins after others
 byte_there : (front bytes : List ℕ) (slot k : ℕ) → length front ≡ 8 * slot →
     byte_at (front ++ bytes) slot k ≡ slice_index bytes k
-byte_there front bytes slot k long = ap (λ (n : ℕ). slice_index (front ++ bytes) (n + k)) (sym long)
-    ∙ get_or-append-add front bytes k 0
+byte_there front bytes slot k long = rw (← long) (get_or-append-add front bytes k 0)
 
 same_fields : (f : Fields) (opcode dst src : ℕ) (offset imm : ℤ) (upper : Option ℕ) → opcode ≡ f.opcode → dst ≡ f.dst →
     src ≡ f.src → offset ≡ f.offset
@@ -73,8 +68,8 @@ fields_there front rest slot i long said =
     (to_le_bytes w16 (cast_unsigned w16 f.offset)) = rw (there 2, there 3) refl in
     let imm : word_at (front ++ bytes) slot 4 ≡ from_le_bytes w32 (to_le_bytes w32 (cast_unsigned w32 f.imm)) =
     rw (there 4, there 5, there 6, there 7) refl in
-    same_fields f _ _ _ _ _ (fields_at (front ++ bytes) slot).upper (there 0) (omega (arith, registers, small))
-    (omega (arith, registers, small))
+    same_fields f _ _ _ _ _ (fields_at (front ++ bytes) slot).upper (there 0) (omega arith)
+    (omega arith)
     (ap (cast_signed w16) offset ∙ half_again f.offset fit.offset) (ap (cast_signed w32) imm ∙ word_again f.imm fit.imm)
 
 -- an instruction of one slot is read there
@@ -83,18 +78,15 @@ narrow_there : (front rest : List ℕ) (slot : ℕ) (i : Instruction) → length
 unfolding read_slot
 narrow_there front rest slot i long said one =
     let upper = (fields_at (front ++ (spelling i ++ rest)) slot).upper in
-    ap (read_fields slot) (fields_there front rest slot i long said)
-    ∙ narrow_read slot upper i said.held.form said.held.ranged said.registers one
+    rw (fields_there front rest slot i long said)
+    (narrow_read slot upper i said.held.form said.held.ranged said.registers one)
 
 -- a byte of the slot after it
 byte_after : (front bytes : List ℕ) (slot k : ℕ) → length front ≡ 8 * slot →
     byte_at (front ++ bytes) (slot + 1) k ≡ slice_index bytes (8 + k)
 byte_after front bytes slot k long =
     let place : 8 * (slot + 1) + k ≡ 8 * slot + (8 + k) = omega arith in
-    ap (λ (n : ℕ). slice_index (front ++ bytes) n) place ∙ byte_there front bytes slot (8 + k) long
-
-abbrev if_second : List ℕ → ℕ → Bool → Option ℕ
-if_second image slot is = cond is (Some (word_at image slot 4)) None
+    rw place (byte_there front bytes slot (8 + k) long)
 
 -- the upper half of a 64-bit immediate
 upper_there : (front rest : List ℕ) (slot dst n : ℕ) → length front ≡ 8 * slot → n < 2 ^ 64
@@ -111,39 +103,23 @@ upper_there front rest slot dst n long small =
     rw (after 4, after 5, after 6, after 7) refl in
     let size = length-append front bytes in
     let two : 16 ≤ length bytes = omega arith in
-    let within : slot + 1 < slot_count image = omega (arith, size, two) in
+    let within : slot + 1 < slot_count image = omega arith in
     let is = and_from (nat_lt (slot + 1) (slot_count image)) (word_at image (slot + 1) 0 == 0) (lt-ltb _ _ within)
     (eq-eqb _ _ zeros) in
-    ap (λ (b : Bool). cond b (upper_at image (slot + 1)) None) (eq-eqb _ _ opcode) ∙ ap (if_second image (slot + 1)) is
-    ∙ ap Some (half ∙ from_le_bytes-to_le_bytes_4 (n / 2 ^ 32) (omega arith))
+    rw (eq-eqb (byte_at image slot 0) 0x18 opcode, is)
+    (ap Some (half ∙ from_le_bytes-to_le_bytes_4 (n / 2 ^ 32) (omega arith)))
 
 wide_there : (front rest : List ℕ) (slot dst n : ℕ) → length front ≡ 8 * slot → IsSaid (Wide dst n)
     → read_slot (front ++ (spelling (Wide dst n) ++ rest)) slot ≡ Ok (Wide dst n)
 unfolding read_slot
 wide_there front rest slot dst n long said =
-    ap (read_fields slot) (fields_there front rest slot (Wide dst n) long said)
-    ∙ ap (λ (u : Option ℕ). read_fields slot (with_upper (spelled_fields (Wide dst n)) u))
-    (upper_there front rest slot dst n long said.held.ranged)
-    ∙ wide_read slot dst n said.held.ranged said.registers.dst
+    rw (fields_there front rest slot (Wide dst n) long said, upper_there front rest slot dst n long said.held.ranged)
+    (wide_read slot dst n said.held.ranged said.registers.dst)
 
 slot_there : (front rest : List ℕ) (slot : ℕ) (i : Instruction) → length front ≡ 8 * slot → IsSaid i →
     read_slot (front ++ (spelling i ++ rest)) slot ≡ Ok i
-slot_there front rest slot (Move width dst source) long said =
-    narrow_there front rest slot (Move width dst source) long said refl
-slot_there front rest slot (Compute width operation dst source) long said =
-    narrow_there front rest slot (Compute width operation dst source) long said refl
-slot_there front rest slot (Load size extension dst base offset) long said =
-    narrow_there front rest slot (Load size extension dst base offset) long said refl
-slot_there front rest slot (Unary change dst src) long said =
-    narrow_there front rest slot (Unary change dst src) long said refl
-slot_there front rest slot (Store size base offset source) long said =
-    narrow_there front rest slot (Store size base offset source) long said refl
-slot_there front rest slot (JumpIf width test dst source offset) long said =
-    narrow_there front rest slot (JumpIf width test dst source offset) long said refl
-slot_there front rest slot (Jump distance) long said = narrow_there front rest slot (Jump distance) long said refl
 slot_there front rest slot (Wide dst n) long said = wide_there front rest slot dst n long said
-slot_there front rest slot (Call n) long said = narrow_there front rest slot (Call n) long said refl
-slot_there front rest slot Exit long said = narrow_there front rest slot Exit long said refl
+slot_there front rest slot i long said = narrow_there front rest slot i long said refl
 
 -- ---- all slots
 
@@ -166,17 +142,8 @@ placed_instructions slot (i ∷ is) = ap (λ (l : List Instruction). i ∷ l) (p
 
 spelling_length : (i : Instruction) → length (spelling i) ≡ 8 * slots_of i
 unfolding spelling
-spelling_length (Move width dst source) = refl
-spelling_length (Compute width operation dst source) = refl
-spelling_length (Load size extension dst base offset) = refl
-spelling_length (Unary change dst src) = refl
-spelling_length (Store size base offset source) = refl
-spelling_length (JumpIf width test dst source offset) = refl
-spelling_length (Jump (Short slots)) = refl
-spelling_length (Jump (Long slots)) = refl
-spelling_length (Wide dst n) = refl
-spelling_length (Call n) = refl
-spelling_length Exit = refl
+spelling_length (Jump (Short _)) = refl
+spelling_length _ = refl
 
 -- an image has whole slots
 whole : (is : List Instruction) → length (spellings is) % 8 ≡ 0
@@ -190,14 +157,7 @@ done i = Ok i
 past : (front : List ℕ) (i : Instruction) (is : List Instruction) (slot : ℕ) → length front ≡ 8 * slot
     → slot < slot_count (front ++ (spelling i ++ spellings is))
 past front i is slot long =
-    omega (
-      arith,
-      length-append front (spelling i ++ spellings is),
-      length-append (spelling i) (spellings is),
-      spelling_length i,
-      some_slots i,
-      long,
-    )
+    omega (arith, length-append {A = ℕ}, spelling_length i, some_slots i)
 
 -- the slots from one on, after others, read as the instructions that are spelled there
 slots_read : (front : List ℕ) (is : List Instruction) (steps slot : ℕ) → AllSaid is → length front ≡ 8 * slot →
@@ -206,26 +166,20 @@ slots_read : (front : List ℕ) (is : List Instruction) (steps slot : ℕ) → A
 slots_read front [] zero slot said long enough = refl
 slots_read front [] (suc steps) slot said long enough =
     let size : length (front ++ []) ≡ length front + 0 = length-append front [] in
-    rw (le-ltb slot (slot_count (front ++ [])) (omega (arith, size))) refl
-slots_read front (i ∷ is) zero slot said long enough = absurd (omega (arith, past front i is slot long, enough))
+    rw (le-ltb slot (slot_count (front ++ [])) (omega arith)) refl
+slots_read front (i ∷ is) zero slot said long enough = absurd (omega (arith, past front i is slot long))
 slots_read front (i ∷ is) (suc steps) slot said long enough =
     let image = front ++ (spelling i ++ spellings is) in
     let here = slot_there front (spellings is) slot i long said.0 in
     let regroup = append_assoc front (spelling i) (spellings is) in
     let size = ap length regroup in
     let before : length (front ++ spelling i) ≡ 8 * (slot + slots_of i) =
-    omega (arith, length-append front (spelling i), spelling_length i, long) in
+    omega (arith, length-append front (spelling i), spelling_length i) in
     let later = slots_read (front ++ spelling i) is steps (slot + slots_of i) said.1 before
-    (omega (arith, size, some_slots i, enough)) in
-    ap (λ (b : Bool). read_slots image (cond b (slot ∷ first_slots_from image steps (slot_after image slot)) []))
-    (lt-ltb slot (slot_count image) (past front i is slot long))
-    ∙ ap (λ (next : ℕ). then_placed slot (read_slot image slot) (read_slots image (first_slots_from image steps next)))
-    (next_slot image slot i here)
-    ∙ ap (λ (r : Result Instruction IsaFault). then_placed slot r
-    (read_slots image (first_slots_from image steps (slot + slots_of i)))) here
-    ∙ ap (then_placed slot (done i)) (subst (λ bytes. read_slots bytes
-    (first_slots_from bytes steps (slot + slots_of i)) ≡ Ok
-    (placed_from (slot + slots_of i) is)) regroup later)
+    (omega (arith, some_slots i)) in
+    rw (lt-ltb slot (slot_count image) (past front i is slot long), next_slot image slot i here, here)
+    (ap (then_placed slot (done i)) (subst (λ bytes. read_slots bytes
+    (first_slots_from bytes steps (slot + slots_of i)) ≡ Ok (placed_from (slot + slots_of i) is)) regroup later))
 
 -- bytes of 1 to MAX_SLOTS slots read as the instructions that are spelled there
 pub image_read : (is : List Instruction) → AllSaid is → 0 < length (spellings is) →
@@ -235,9 +189,9 @@ image_read is said some few =
     let image = spellings is in
     let rest = whole is in
     let size : has_size image ≡ true =
-    and_from ((length image % 8 == 0) && nat_le 1 (slot_count image)) (nat_le (slot_count image) MAX_SLOTS)
-    (and_from (length image % 8 == 0) (nat_le 1 (slot_count image)) (eq-eqb _ _ rest)
-    (le-leb _ _ (omega (arith, rest, some))))
-    (le-leb _ _ (omega (arith, few))) in
-    ap (λ (b : Bool). cond b (read_slots image (first_slots_from image (slot_count image) 0)) (Err fault.Size)) size
-    ∙ slots_read [] is (slot_count image) 0 said refl (omega arith)
+    rw (
+      eq-eqb (length image % 8) 0 rest,
+      le-leb 1 (slot_count image) (omega arith),
+      le-leb (slot_count image) MAX_SLOTS (omega arith),
+    ) in
+    rw size (slots_read [] is (slot_count image) 0 said refl (omega arith))

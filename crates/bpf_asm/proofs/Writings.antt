@@ -1,10 +1,9 @@
 -- The text of code, instruction after instruction.
 use Rattle.std.proofs.Common.{◌≡◌, ℕ, zero, suc, ◌+◌, List, [], ◌∷◌, ◌++◌, take, Some, sym, ap, ◌∙◌, add-one}
-use Rattle.std.proofs.Common.{append_assoc}
-use Rattle.std.specs.Prelude.{slice_get, option_map}
-use Rattle.std.proofs.lemmas.{List.append-nil, Option.same_Some}
+use Rattle.std.proofs.Common.{append_assoc, slice_get, option_map}
+use Rattle.std.proofs.{lemmas.List.append-nil, lemmas.Option.same_Some}
 use Rattle.machine_spec.specs.declared.{instruction.Instruction.Instruction, instruction.Placed.Placed}
-use Rattle.bpf_asm.specs.{Writing.line_text, Writing.text_of}
+use Rattle.bpf_asm.specs.Writing.{line_text, text_of}
 
 one_more : (code : List Placed) (k : ℕ) (i : Instruction) →
     option_map (λ p. p.instruction) (slice_get code k) ≡ Some i →

@@ -1,11 +1,9 @@
 -- The instructions that a text says, and those that its image decodes to.
 use Rattle.std.specs.Prelude.{ℕ, List, map, filter_map, Option, None, Result, Ok, Err}
 use Rattle.std.specs.List.{slice_split}
-use Rattle.machine_spec.specs.declared.{instruction.Instruction.Instruction, instruction.Placed.Placed}
-use Rattle.machine_spec.specs.declared.{instruction.IsaFault.IsaFault}
-use Rattle.machine_spec.specs.Image.{read_image}
-use Rattle.bpf_asm.specs.declared.fault.LineFault.{LineFault}
-use Rattle.bpf_asm.specs.{Reading.is_line_feed, Reading.read_line}
+use Rattle.machine_spec.specs.{declared.instruction.Instruction.Instruction, declared.instruction.Placed.Placed}
+use Rattle.machine_spec.specs.{declared.instruction.IsaFault.IsaFault, Image.read_image}
+use Rattle.bpf_asm.specs.{declared.fault.LineFault.LineFault, Reading.is_line_feed, Reading.read_line}
 
 -- the instruction of a line, if it says one and has no fault
 abbrev pub if_said : Result (Option Instruction) LineFault → Option Instruction

@@ -5,9 +5,8 @@ use Rattle.std.specs.Prelude.{decimal}
 use Rattle.std.specs.{List.position_or_len, Fmt.signed_decimal}
 use Rattle.machine_spec.specs.declared.instruction.Source.{Source}
 use Rattle.machine_spec.specs.declared.instruction.Source.TheVariants.{Register, Immediate}
-use Rattle.bpf_asm.specs.declared.fault.LineFault.{LineFault}
+use Rattle.bpf_asm.specs.{declared.fault.LineFault.LineFault, Faults.both, Faults.read_as}
 use Rattle.bpf_asm.specs.declared.fault.LineFault.TheVariants as fault
-use Rattle.bpf_asm.specs.{Faults.both, Faults.read_as}
 use Rattle.bpf_asm.specs.Numbers.{is_digits, natural, written_number, distance_of, distance_text, is_in}
 
 -- ---- registers

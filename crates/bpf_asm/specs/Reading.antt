@@ -1,7 +1,7 @@
 -- What a line says: an instruction, nothing, or why it is refused.
 use Rattle.std.specs.Prelude.{ℕ, Bool, true, false, ◌==◌, nat_lt, if◌then◌else◌, List, [], ◌∷◌, length, map, reverse}
 use Rattle.std.specs.Prelude.{Option, Some, None, Result, Ok, Err}
-use Rattle.std.specs.{List.slice_split, List.position_or_len, List.before_first, List.after_first}
+use Rattle.std.specs.List.{slice_split, position_or_len, before_first, after_first}
 use Rattle.machine_spec.specs.declared.{operation.Change.Change, instruction.Source.Source}
 use Rattle.machine_spec.specs.declared.{instruction.Distance.Distance, instruction.Instruction.Instruction}
 use Rattle.machine_spec.specs.declared.operation.Change.TheVariants.{Negate, Order, SignExtend}
@@ -9,9 +9,8 @@ use Rattle.machine_spec.specs.declared.instruction.Source.TheVariants.{Register,
 use Rattle.machine_spec.specs.declared.instruction.Distance.TheVariants.{Short, Long}
 use Rattle.machine_spec.specs.declared.instruction.Instruction.TheVariants.{Move, Compute, Load, Unary, Store, JumpIf}
 use Rattle.machine_spec.specs.declared.instruction.Instruction.TheVariants.{Jump, Wide, Call, Exit}
-use Rattle.bpf_asm.specs.declared.fault.LineFault.{LineFault}
+use Rattle.bpf_asm.specs.{declared.fault.LineFault.LineFault, Faults.both, Faults.read_as, Words.form_named}
 use Rattle.bpf_asm.specs.declared.fault.LineFault.TheVariants as fault
-use Rattle.bpf_asm.specs.{Faults.both, Faults.read_as, Words.form_named}
 use Rattle.bpf_asm.specs.Operands.{read_register, read_immediate, read_wide, read_short, read_long, read_source}
 use Rattle.bpf_asm.specs.Operands.{read_place}
 

@@ -24,7 +24,7 @@ use Rattle.machine_spec.specs.declared.instruction.Distance.TheVariants.{Short, 
 use Rattle.machine_spec.specs.declared.instruction.Source.TheVariants.{Register, Immediate}
 use Rattle.machine_spec.specs.declared.instruction.Instruction.TheVariants.{Move, Compute, Load, Unary, Store, JumpIf}
 use Rattle.machine_spec.specs.declared.instruction.Instruction.TheVariants.{Jump, Wide, Call, Exit}
-use Rattle.machine_spec.specs.{Opcodes.Fields, Opcodes.has_signed_form, Opcodes.with_fields}
+use Rattle.machine_spec.specs.Opcodes.{Fields, has_signed_form, with_fields}
 
 -- the bits of a width
 abbrev pub width_text : Width → List ℕ

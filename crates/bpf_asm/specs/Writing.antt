@@ -7,8 +7,8 @@ use Rattle.machine_spec.specs.declared.operation.Change.TheVariants.{Negate, Ord
 use Rattle.machine_spec.specs.declared.instruction.Distance.TheVariants.{Short, Long}
 use Rattle.machine_spec.specs.declared.instruction.Instruction.TheVariants.{Move, Compute, Load, Unary, Store, JumpIf}
 use Rattle.machine_spec.specs.declared.instruction.Instruction.TheVariants.{Jump, Wide, Call, Exit}
-use Rattle.bpf_asm.specs.{Numbers.distance_text, Operands.register_text, Operands.source_text, Operands.place_text}
-use Rattle.bpf_asm.specs.{Words.word_of}
+use Rattle.bpf_asm.specs.{Numbers.distance_text, Words.word_of}
+use Rattle.bpf_asm.specs.Operands.{register_text, source_text, place_text}
 
 -- the operands of a change of one number: its register, of a sign extension dst and src
 abbrev pub change_operands : Change → ℕ → ℕ → List (List ℕ)

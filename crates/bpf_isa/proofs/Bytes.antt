@@ -1,18 +1,14 @@
 -- The bytes of a slot are the spelling of its instruction.
 use Rattle.std.proofs.Common.{◌≡◌, ◌⊎◌, ℕ, zero, suc, ◌+◌, ◌*◌, ◌/◌, ◌%◌, ◌^◌, ◌<◌, ◌≤◌, ℤ, pos, Bool, true, false}
-use Rattle.std.proofs.Common.{◌&&◌, eqb, ltb, List, [], ◌∷◌, ◌++◌, length, get_or, drop, Option, Some, None, Result, Ok}
-use Rattle.std.proofs.Common.{Err, refl, sym, ap, inl, inr, ⊎_elim, subst, ◌∙◌, append_assoc, arith}
+use Rattle.std.proofs.Common.{◌&&◌, eqb, ltb, List, [], ◌∷◌, ◌++◌, length, get_or, drop, Some, Result, Ok, Err, refl}
+use Rattle.std.proofs.Common.{sym, ap, inl, inr, ⊎_elim, subst, ◌∙◌, arith}
 use Rattle.std.specs.Int.{w16, w32, from_le_bytes, to_le_bytes, cast_signed, cast_unsigned}
-use Rattle.std.proofs.Math.Seq.{drop-cons}
-use Rattle.std.proofs.lemmas.Nat.{le_bytes_2, le_bytes_4}
-use Rattle.std.proofs.lemmas.Int.{of_z-to_z}
+use Rattle.std.proofs.{Math.Seq.drop-cons, lemmas.Nat.le_bytes_2, lemmas.Nat.le_bytes_4, lemmas.Int.of_z-to_z}
+use Rattle.std.proofs.{lemmas.List.append-nil, lemmas.Option.cond_some}
 use Rattle.std.proofs.lemmas.Bool.{eqb-true, eq-eqb, ltb-true, cases_eq, cond-true, and_parts}
-use Rattle.std.proofs.lemmas.List.{append-nil}
-use Rattle.std.proofs.lemmas.Option.{same_Some, none-some}
-use Rattle.machine_spec.specs.declared.instruction.Distance.TheVariants.{Short, Long}
-use Rattle.machine_spec.specs.declared.{instruction.Instruction.Instruction, instruction.IsaFault.IsaFault}
-use Rattle.machine_spec.specs.declared.instruction.Instruction.TheVariants.{Move, Compute, Load, Unary, Store, JumpIf}
-use Rattle.machine_spec.specs.declared.instruction.Instruction.TheVariants.{Jump, Wide, Call, Exit}
+use Rattle.machine_spec.specs.declared.{instruction.Distance.TheVariants.Short, instruction.Instruction.Instruction}
+use Rattle.machine_spec.specs.declared.instruction.IsaFault.{IsaFault}
+use Rattle.machine_spec.specs.declared.instruction.Instruction.TheVariants.{Jump, Wide}
 use Rattle.machine_spec.specs.Opcodes.{Fields, uses_of, has_zeros}
 use Rattle.machine_spec.specs.Image.{slot_count, byte_at, word_at, upper_at, fields_at, read_slot, form_at, if_read}
 use Rattle.machine_spec.specs.Image.{slot_after, slots_of}
@@ -20,7 +16,7 @@ use Rattle.machine_spec.proofs.Readings.{IsRead, read_parts, wide_template, wide
 use Rattle.machine_spec.proofs.Slots.{slot_after_form}
 use Rattle.bpf_isa.specs.Code.{AreBytes}
 use Rattle.bpf_isa.specs.Spelling.{spelled_fields, first_bytes, second_bytes, spelling, HasRegisters}
-use Rattle.bpf_isa.proofs.Cases.{on_choice, zeros, numbers}
+use Rattle.bpf_isa.proofs.Cases.{zeros, numbers}
 use Rattle.bpf_isa.proofs.Fields.{IsSpelled, filled_spelled, filled_reads}
 
 abbrev pub slot_bytes : List ℕ → ℕ → List ℕ
@@ -57,11 +53,8 @@ word_again a b c d p q r s =
     ap (to_le_bytes w32) (of_z-to_z w32 (from_le_bytes w32 (a ∷ b ∷ c ∷ d ∷ [])) below)
     ∙ le_bytes_4 (a ∷ b ∷ c ∷ d ∷ []) _ refl (four_fit a b c d p q r s) refl
 
-abbrev layout : ℕ → ℕ → List ℕ → List ℕ → List ℕ
-layout opcode registers offset imm = (opcode ∷ registers ∷ []) ++ (offset ++ imm)
-
-layout_same : (opcode a b : ℕ) (c d e f : List ℕ) → a ≡ b → c ≡ d → e ≡ f → layout opcode a c e ≡ layout opcode b d f
-layout_same opcode a b c d e f p q r = rw (p, q, r) refl
+both_same : (a b c d : List ℕ) → a ≡ b → c ≡ d → a ++ c ≡ b ++ d
+both_same a b c d p q = rw (p, q) refl
 
 bytes_again : (image : List ℕ) (slot : ℕ) → AreBytes image → first_bytes (fields_at image slot) ≡ slot_bytes image slot
 bytes_again image slot fits =
@@ -70,15 +63,12 @@ bytes_again image slot fits =
     let registers : byte 1 % 16 + 16 * (byte 1 / 16) ≡ byte 1 = omega arith in
     let offset = half_again (byte 2) (byte 3) (fit 2) (fit 3) in
     let imm = word_again (byte 4) (byte 5) (byte 6) (byte 7) (fit 4) (fit 5) (fit 6) (fit 7) in
-    layout_same (byte 0) _ _ _ _ _ _ registers offset imm
+    rw registers (ap (λ rest. byte 0 ∷ byte 1 ∷ rest) (both_same _ _ _ _ offset imm))
 
 -- the bytes of `count` slots
 abbrev pub slots_bytes : List ℕ → ℕ → ℕ → List ℕ
 slots_bytes image slot zero = []
 slots_bytes image slot (suc count) = slot_bytes image slot ++ slots_bytes image (slot + 1) count
-
-abbrev some_number : ℕ → Option ℕ
-some_number n = Some n
 
 -- a second slot that has an upper half
 pub record IsSecond (image : List ℕ) (slot upper : ℕ) : Type 0 where
@@ -88,23 +78,9 @@ pub record IsSecond (image : List ℕ) (slot upper : ℕ) : Type 0 where
 
 pub second : (image : List ℕ) (slot upper : ℕ) → upper_at image slot ≡ Some upper → IsSecond image slot upper
 second image slot upper e =
-    let test = ltb slot (slot_count image) && eqb (word_at image slot 0) 0 in
-    on_choice test (Some (word_at image slot 4)) None (some_number upper) (IsSecond image slot upper) e
-    (λ is. λ e.
-    let both = and_parts (ltb slot (slot_count image)) (eqb (word_at image slot 0) 0) is in
-    record {
-      within = ltb-true _ _ both.0;
-      zero = eqb-true _ _ both.1;
-      is = sym (same_Some (word_at image slot 4) upper e);
-    })
-    (λ _. λ e. absurd (none-some upper e))
-
-abbrev second_layout : ℕ → ℕ → ℕ → ℕ → List ℕ → List ℕ
-second_layout a b c d rest = a ∷ b ∷ c ∷ d ∷ rest
-
-second_same : (a b c d : ℕ) (rest other : List ℕ) → a ≡ 0 → b ≡ 0 → c ≡ 0 → d ≡ 0 → rest ≡ other →
-    second_layout 0 0 0 0 rest ≡ second_layout a b c d other
-second_same a b c d rest other p q r s t = rw (p, q, r, s, t) refl
+    let is = cond_some (ltb slot (slot_count image) && eqb (word_at image slot 0) 0) (word_at image slot 4) upper e in
+    let both = and_parts (ltb slot (slot_count image)) (eqb (word_at image slot 0) 0) is.0 in
+    record { within = ltb-true _ _ both.0; zero = eqb-true _ _ both.1; is = sym is.1 }
 
 word_below : (image : List ℕ) (slot : ℕ) → AreBytes image → word_at image slot 4 < 2 ^ 32
 word_below image slot fits =
@@ -117,13 +93,13 @@ second_again image slot upper fits is =
     let byte = λ (k : ℕ). byte_at image slot k in
     let fit : (k : ℕ) → byte k < 256 = λ k. fits (8 * slot + k) in
     let nothing : word_at image slot 0 ≡ 0 = is.zero in
-    let a : byte 0 ≡ 0 = omega (arith, nothing) in
-    let b : byte 1 ≡ 0 = omega (arith, nothing) in
-    let c : byte 2 ≡ 0 = omega (arith, nothing) in
-    let d : byte 3 ≡ 0 = omega (arith, nothing) in
+    let a : byte 0 ≡ 0 = omega arith in
+    let b : byte 1 ≡ 0 = omega arith in
+    let c : byte 2 ≡ 0 = omega arith in
+    let d : byte 3 ≡ 0 = omega arith in
     let half = le_bytes_4 (byte 4 ∷ byte 5 ∷ byte 6 ∷ byte 7 ∷ []) _ refl
     (four_fit (byte 4) (byte 5) (byte 6) (byte 7) (fit 4) (fit 5) (fit 6) (fit 7)) refl in
-    second_same (byte 0) (byte 1) (byte 2) (byte 3) _ _ a b c d (ap (to_le_bytes w32) is.is ∙ half)
+    rw (a, b, c, d) (ap (λ rest. 0 ∷ 0 ∷ 0 ∷ 0 ∷ rest) (ap (to_le_bytes w32) is.is ∙ half))
 
 -- ---- what was read
 
@@ -135,13 +111,13 @@ pub slot_read : (image : List ℕ) (slot : ℕ) (i : Instruction) → read_slot 
 unfolding read_slot
 slot_read image slot i e = read_parts slot (fields_at image slot) i e
 
+if_read_is : (r : Result Instruction IsaFault) (i : Instruction) → if_read r ≡ Some i → r ≡ done i
+if_read_is (Ok j) i e = cc
+if_read_is (Err f) i e = absurd cc
+
 pub form_read : (image : List ℕ) (slot : ℕ) (i : Instruction) → form_at image slot ≡ Some i →
     read_slot image slot ≡ done i
-form_read image slot i e =
-    let by : (r : Result Instruction IsaFault) → if_read r ≡ Some i →
-    r ≡ done i = λ r. elim r as (λ r. if_read r ≡ Some i → r ≡ done i)
-    [ Ok j ↦ λ e. cc | Err f ↦ λ e. absurd cc ] in
-    by (read_slot image slot) e
+form_read image slot i e = if_read_is (read_slot image slot) i e
 
 -- an instruction of one slot, whose fields are its spelling's
 record IsNarrow (image : List ℕ) (slot : ℕ) (i : Instruction) : Type 0 where
@@ -187,35 +163,24 @@ same_bytes : (f : Fields) (i : Instruction) → IsSpelled f i → first_bytes f 
 same_bytes f i is = rw (is.opcode, is.dst, is.src, is.offset, is.imm) refl
 
 no_second : (i : Instruction) → slots_of i ≡ 1 → second_bytes (spelled_fields i).upper ≡ []
-no_second (Move _ _ _) one = refl
-no_second (Compute _ _ _ _) one = refl
-no_second (Load _ _ _ _ _) one = refl
-no_second (Unary _ _ _) one = refl
-no_second (Store _ _ _ _) one = refl
-no_second (JumpIf _ _ _ _ _) one = refl
 no_second (Jump (Short _)) one = refl
-no_second (Jump (Long _)) one = refl
 no_second (Wide _ _) one = absurd cc
-no_second (Call _) one = refl
-no_second Exit one = refl
+no_second _ one = refl
 
 -- the number of a 64-bit immediate has the halves that it was made of
 wide_spelled : (f : Fields) (bits upper : ℕ) → bits < 2 ^ 32 → f.imm ≡ cast_signed w32 bits → f.opcode ≡ 0x18 →
     f.src ≡ 0 → f.offset ≡ pos 0 → IsSpelled f (Wide f.dst (upper * 2 ^ 32 + cast_unsigned w32 f.imm))
 wide_spelled f bits upper below imm opcode src offset =
     let lower : cast_unsigned w32 f.imm ≡ bits = ap (cast_unsigned w32) imm ∙ of_z-to_z w32 bits below in
-    let low : (upper * 2 ^ 32 + cast_unsigned w32 f.imm) % 2 ^ 32 ≡ bits = omega (arith, lower, below) in
+    let low : (upper * 2 ^ 32 + cast_unsigned w32 f.imm) % 2 ^ 32 ≡ bits = omega arith in
     record { opcode = opcode; dst = refl; src = src; offset = offset; imm = imm ∙ ap (cast_signed w32) (sym low) }
 
 wide_upper : (z : ℤ) (bits upper : ℕ) → bits < 2 ^ 32 → cast_unsigned w32 z ≡ bits →
     upper ≡ (upper * 2 ^ 32 + cast_unsigned w32 z) / 2 ^ 32
-wide_upper z bits upper below lower = omega (arith, lower, below)
+wide_upper z bits upper below lower = omega arith
 
 abbrev second_of : ℕ → List ℕ
 second_of upper = second_bytes (Some upper)
-
-both_same : (a b c d : List ℕ) → a ≡ b → c ≡ d → a ++ c ≡ b ++ d
-both_same a b c d p q = rw (p, q) refl
 
 narrow_same : (image : List ℕ) (slot : ℕ) (i : Instruction) → AreBytes image → IsNarrow image slot i →
     slots_bytes image slot (slots_of i) ≡ first_bytes (spelled_fields i) ++ second_bytes (spelled_fields i).upper
@@ -253,22 +218,14 @@ next_slot image slot i e = slot_after_form image slot i (ap if_read e)
 pub inside : (image : List ℕ) (slot : ℕ) (i : Instruction) → read_slot image slot ≡ done i → slot < slot_count image →
     slot + slots_of i ≤ slot_count image
 inside image slot i e lt = ⊎_elim
-    (λ (narrow : IsNarrow image slot i). omega (arith, narrow.slots))
+    (λ (narrow : IsNarrow image slot i). omega arith)
     (λ (wide : IsWide image slot i). let two : 2 ≡ slots_of i = ap slots_of wide.is in
-    omega (arith, two, wide.second.within))
+    omega arith)
     (narrow_or_wide image slot i (slot_read image slot i e))
 
 pub some_slots : (i : Instruction) → 1 ≤ slots_of i
-some_slots (Move _ _ _) = omega arith
-some_slots (Compute _ _ _ _) = omega arith
-some_slots (Load _ _ _ _ _) = omega arith
-some_slots (Unary _ _ _) = omega arith
-some_slots (Store _ _ _ _) = omega arith
-some_slots (JumpIf _ _ _ _ _) = omega arith
-some_slots (Jump _) = omega arith
 some_slots (Wide _ _) = omega arith
-some_slots (Call _) = omega arith
-some_slots Exit = omega arith
+some_slots _ = omega arith
 
 -- ---- the bytes from a slot on
 
@@ -283,18 +240,17 @@ eight : (bytes : List ℕ) (n : ℕ) → n + 8 ≤ length bytes →
     ∷ get_or bytes (n + 3) 0 ∷ get_or bytes (n + 4) 0 ∷ get_or bytes (n + 5) 0 ∷ get_or bytes (n + 6) 0
     ∷ get_or bytes (n + 7) 0 ∷ drop (n + 8) bytes
 eight bytes n long =
+    let at = λ (k : ℕ) (lt : n + k < length bytes). one_more bytes n k lt in
     rw (
-      one_more bytes n 0 (omega arith),
-      one_more bytes n 1 (omega arith),
-      one_more bytes n 2 (omega arith),
-      one_more
-          bytes n 3 (omega arith),
-      one_more bytes n 4 (omega arith),
-      one_more bytes n 5 (omega arith),
-      one_more bytes
-          n 6 (omega arith),
-      one_more bytes n 7 (omega arith),
-    ) refl
+      at 0 (omega arith),
+      at 1 (omega arith),
+      at 2 (omega arith),
+      at 3 (omega arith),
+      at 4 (omega arith),
+      at 5 (omega arith),
+      at 6 (omega arith),
+      at 7 (omega arith),
+    )
 
 pub from_slot : (image : List ℕ) (slot : ℕ) → 8 * slot + 8 ≤ length image →
     drop (8 * slot) image ≡ slot_bytes image slot ++ drop (8 * (slot + 1)) image
@@ -306,15 +262,10 @@ from_slot image slot long =
 
 pub from_slots : (image : List ℕ) (slot count : ℕ) → 8 * (slot + count) ≤ length image →
     drop (8 * slot) image ≡ slots_bytes image slot count ++ drop (8 * (slot + count)) image
-from_slots image slot zero long = let same : 8 * slot ≡ 8 * (slot + 0) = omega arith in
-    ap (λ (n : ℕ). drop n image) same
+from_slots image slot zero long = let same : 8 * slot ≡ 8 * (slot + 0) = omega arith in rw same
 from_slots image slot (suc count) long =
-    let rest = from_slots image (slot + 1) count (omega arith) in
     let end : 8 * (slot + 1 + count) ≡ 8 * (slot + suc count) = omega arith in
-    from_slot image slot (omega arith) ∙ ap (λ (l : List ℕ). slot_bytes image slot ++ l) rest
-    ∙ sym (append_assoc (slot_bytes image slot) (slots_bytes image (slot + 1) count)
-    (drop (8 * (slot + 1 + count)) image))
-    ∙ ap (λ (n : ℕ). slots_bytes image slot (suc count) ++ drop n image) end
+    rw (from_slot image slot (omega arith), from_slots image (slot + 1) count (omega arith), end)
 
 -- ---- the registers that an instruction names
 

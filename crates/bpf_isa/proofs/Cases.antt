@@ -1,4 +1,5 @@
 -- Choices, one test after the other.
+use Rattle.std.proofs.Common.{Option, Some, None, IfSome, option_map}
 use Rattle.std.proofs.Common.{◌≡◌, ℕ, ◌≤◌, Bool, true, false, ◌&&◌, ◌||◌, cond, eqb, ℤ, pos, negsuc, zero, suc, refl}
 use Rattle.std.proofs.lemmas.Bool.{and_parts, eqb-true, leb-true}
 use Rattle.machine_spec.specs.Opcodes.{Fields, Uses, is_zero, has_register, has_registers, has_zeros}
@@ -8,6 +9,12 @@ pub on_choice : {A : Type 0} (b : Bool) (x y z : A) (P : Type 0) → cond b x y 
     (b ≡ false → y ≡ z → P) → P
 on_choice true x y z P e held failed = held refl e
 on_choice false x y z P e held failed = failed refl e
+
+-- what holds of all that is made of a value holds if there is one
+pub all_made : {A B : Type 0} (make : A → B) (P : B → Type 0) (o : Option A) →
+    ((a : A) → o ≡ Some a → P (make a)) → IfSome (option_map make o) P
+all_made make P None all = tt
+all_made make P (Some a) all = all a refl
 
 zero_is : (z : ℤ) → is_zero z ≡ true → z ≡ pos 0
 zero_is (pos zero) e = refl

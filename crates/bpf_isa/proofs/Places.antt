@@ -2,8 +2,7 @@
 use Rattle.std.proofs.Common.{◌≡◌, ℕ, ◌<◌, ◌==◌, List, map, get_or, refl, ap, ◌∙◌, arith}
 use Rattle.std.specs.List.{position_or_len, range_with_len}
 use Rattle.std.proofs.lemmas.List.FromFn.{get_or-map-range_with_len}
-use Rattle.machine_spec.specs.declared.{opcode.TheConstants.TEMPLATES}
-use Rattle.machine_spec.specs.Opcodes.{opcode_of}
+use Rattle.machine_spec.specs.{declared.opcode.TheConstants.TEMPLATES, Opcodes.opcode_of}
 use Rattle.bpf_isa.specs.declared.opcode.TheConstants.{PLACES}
 
 -- the place of the first template with an opcode, or their number

@@ -1,29 +1,21 @@
 -- Reading an image slot after slot, as a loop does, and that what is read is the image's code.
-use Rattle.std.proofs.Common.{◌≡◌, ◌≢◌, ℕ, zero, suc, ◌+◌, ◌-◌, ◌<◌, ◌≤◌, true, false, cond, eqb, List, [], ◌∷◌, ◌++◌}
-use Rattle.std.proofs.Common.{length, map, Option, Some, None, Result, Ok, Err, refl, sym, ap, inl, inr, subst, ◌==◌}
-use Rattle.std.proofs.Common.{if◌then◌else◌, ◌∙◌, append_assoc, length-append, arith}
-use Rattle.std.specs.Prelude.{slice_get, option_and_then, IfOk}
+use Rattle.std.proofs.Common.{◌≡◌, ◌≢◌, ℕ, zero, suc, ◌+◌, ◌-◌, ◌<◌, ◌≤◌, true, cond, eqb, List, [], ◌∷◌, ◌++◌, length}
+use Rattle.std.proofs.Common.{map, Option, Some, None, Result, Ok, Err, refl, sym, ap, inl, inr, subst, ◌==◌}
+use Rattle.std.proofs.Common.{if◌then◌else◌, ◌∙◌, append_assoc, length-append, arith, slice_get, option_and_then, IfOk}
 use Rattle.std.proofs.lemmas.Bool.{lt-ltb, le-ltb, eq-eqb, ne_eqb, cases_eq, cond_both}
-use Rattle.std.proofs.lemmas.List.{append-nil}
-use Rattle.std.proofs.lemmas.Option.{same_Some, slice_get_past}
+use Rattle.std.proofs.{lemmas.List.append-nil, lemmas.Option.same_Some, lemmas.Option.slice_get_past}
 use Rattle.machine_spec.specs.declared.{instruction.Instruction.Instruction, instruction.Placed.Placed}
-use Rattle.machine_spec.specs.declared.{instruction.IsaFault.IsaFault}
-use Rattle.machine_spec.specs.declared.instruction.Instruction.TheVariants.{Move, Compute, Load, Unary, Store, JumpIf}
-use Rattle.machine_spec.specs.declared.instruction.Instruction.TheVariants.{Jump, Wide, Call, Exit}
+use Rattle.machine_spec.specs.declared.{instruction.IsaFault.IsaFault, instruction.Instruction.TheVariants.Wide}
 use Rattle.machine_spec.specs.declared.instruction.IsaFault.TheVariants as fault
-use Rattle.machine_spec.specs.Image.{slot_count, slot_after, first_slots_from, first_slots, has_size, read_slot}
-use Rattle.machine_spec.specs.Image.{read_slots, then_placed, read_image, form_at, if_read, slots_of, number_from}
-use Rattle.machine_spec.specs.Image.{number_at, IsCodeOf}
+use Rattle.machine_spec.specs.Image.{slot_count, first_slots_from, first_slots, has_size, read_slot, read_slots}
+use Rattle.machine_spec.specs.Image.{then_placed, read_image, form_at, if_read, slots_of, number_from, number_at}
+use Rattle.machine_spec.specs.Image.{IsCodeOf}
 use Rattle.wire_spec.specs.Memory.{AnswersAs}
 use Rattle.bpf_isa.specs.Code.{AreBytes, IsTable, IsKept}
-use Rattle.bpf_isa.proofs.Cases.{on_choice}
-use Rattle.bpf_isa.proofs.Bytes.{next_slot, form_read}
+use Rattle.bpf_isa.proofs.{Cases.on_choice, Bytes.next_slot, Bytes.form_read}
 
 abbrev Reading : Type 0
 Reading = Result (List Placed) IsaFault
-
-abbrev read_one : Instruction → Result Instruction IsaFault
-read_one i = Ok i
 
 abbrev read_all : List Placed → Reading
 read_all code = Ok code
@@ -44,11 +36,6 @@ regroup : (front : List Placed) (p : Placed) (r : Reading) →
 regroup front p (Ok code) = ap read_all (simp append_assoc)
 regroup front p (Err e) = refl
 
-open_step : (image : List ℕ) (steps slot : ℕ) → slot < slot_count image →
-    rest_from image (suc steps) slot
-    ≡ then_placed slot (read_slot image slot) (rest_from image steps (slot_after image slot))
-open_step image steps slot lt = rw (lt-ltb slot (slot_count image) lt) refl
-
 pub goes_on : (image : List ℕ) (front : List Placed) (slot : ℕ) (i : Instruction) (total : Reading) →
     length front ≤ slot → slot < slot_count image → read_slot image slot ≡ Ok i
     → with_front front (rest_from image (slot_count image - length front) slot) ≡ total
@@ -60,9 +47,7 @@ goes_on image front slot i total few lt read so_far =
     let k : slot_count image - length front ≡ suc left = omega arith in
     let opened : rest_from image (slot_count image - length front) slot
     ≡ then_placed slot (Ok i) (rest_from image left (slot + slots_of i)) =
-    ap (λ (n : ℕ). rest_from image n slot) k ∙ open_step image left slot lt
-    ∙ ap (λ (r : Result Instruction IsaFault). then_placed slot r (rest_from image left (slot_after image slot))) read
-    ∙ ap (λ (s : ℕ). then_placed slot (read_one i) (rest_from image left s)) (next_slot image slot i read) in
+    rw (k, lt-ltb slot (slot_count image) lt, next_slot image slot i read, read) in
     sym (ap (with_front front) opened ∙ regroup front p (rest_from image left (slot + slots_of i))) ∙ so_far
 
 pub ends : (image : List ℕ) (front : List Placed) (slot : ℕ) (e : IsaFault) (total : Reading) → length front ≤ slot →
@@ -71,11 +56,7 @@ pub ends : (image : List ℕ) (front : List Placed) (slot : ℕ) (e : IsaFault) 
 ends image front slot e total few lt read so_far =
     let left = slot_count image - (length front + 1) in
     let k : slot_count image - length front ≡ suc left = omega arith in
-    let opened : rest_from image (slot_count image - length front) slot ≡ Err e =
-    ap (λ (n : ℕ). rest_from image n slot) k ∙ open_step image left slot lt
-    ∙ ap (λ (r : Result Instruction IsaFault). then_placed slot r (rest_from image left (slot_after image slot)))
-    read in
-    sym so_far ∙ ap (with_front front) opened
+    rw (← so_far, k, lt-ltb slot (slot_count image) lt, read)
 
 closed : (image : List ℕ) (steps slot : ℕ) → slot_count image ≤ slot → rest_from image steps slot ≡ Ok []
 closed image zero slot le = refl
@@ -83,8 +64,7 @@ closed image (suc steps) slot le = rw (le-ltb slot (slot_count image) le) refl
 
 pub is_done : (image : List ℕ) (front : List Placed) (slot steps : ℕ) (total : Reading) → slot_count image ≤ slot →
     with_front front (rest_from image steps slot) ≡ total → total ≡ Ok front
-is_done image front slot steps total le so_far = sym so_far ∙ ap (with_front front) (closed image steps slot le)
-    ∙ ap read_all (append-nil front)
+is_done image front slot steps total le so_far = rw (← so_far, closed image steps slot le, append-nil front)
 
 -- ---- the table
 
@@ -102,8 +82,8 @@ number-push_here [] p k none = rw (eq-eqb p.slot p.slot refl) (ap some_of (omega
 number-push_here (q ∷ code) p k none =
     on_choice (eqb q.slot p.slot) (some_of k) (number_from (k + 1) code p.slot) None
     (number_from k ((q ∷ code) ++ p ∷ []) p.slot ≡ Some (k + length (q ∷ code))) none
-    (λ _. λ e. absurd cc)
-    (λ other. λ e. let rest = number-push_here code p (k + 1) e in rw other (rest ∙ ap some_of (omega arith)))
+    (λ _ e. absurd cc)
+    (λ other e. let rest = number-push_here code p (k + 1) e in rw other (rest ∙ ap some_of (omega arith)))
 
 get_push_other : (xs : List (Option ℕ)) (x : Option ℕ) (slot : ℕ) → length xs ≢ slot →
     slice_get (xs ++ x ∷ []) slot ≡ slice_get xs slot
@@ -123,43 +103,38 @@ entry numbers slot = option_and_then (λ number. number) (slice_get numbers slot
 abbrev flat : Option (Option ℕ) → Option ℕ
 flat o = option_and_then (λ number. number) o
 
+no_entry : (code : List Placed) (numbers : List (Option ℕ)) → IsTable code numbers →
+    number_at code (length numbers) ≡ None
+no_entry code numbers table = sym (table.entries (length numbers))
+    ∙ ap flat (slice_get_past numbers (length numbers) (omega arith))
+
+-- one more entry
+table_with : (code others : List Placed) (numbers : List (Option ℕ)) (x : Option ℕ) → IsTable code numbers →
+    x ≡ number_at others (length numbers) →
+    ((slot : ℕ) → length numbers ≢ slot → number_at others slot ≡ number_at code slot) →
+    IsTable others (numbers ++ x ∷ [])
+table_with code others numbers x table here there =
+    record {
+      entries = λ slot. elim (cases_eq (length numbers) slot) [
+        | inl same ↦ subst (λ (s : ℕ). entry (numbers ++ x ∷ []) s ≡ number_at others s) same
+            (ap flat (get_push_here numbers x) ∙ here)
+        | inr other ↦ ap flat (get_push_other numbers x slot other) ∙ table.entries slot ∙ sym (there slot other)
+      ];
+    }
+
 table_pushed : (code : List Placed) (numbers : List (Option ℕ)) (i : Instruction) → IsTable code numbers →
     IsTable (code ++ record { slot = length numbers; instruction = i } ∷ []) (numbers ++ Some (length code) ∷ [])
 table_pushed code numbers i table =
     let p : Placed = record { slot = length numbers; instruction = i } in
-    let more = numbers ++ Some (length code) ∷ [] in
-    let here : entry more (length numbers) ≡ number_at (code ++ p ∷ []) (length numbers) =
-    let none : number_at code (length numbers) ≡ None = sym (table.entries (length numbers))
-    ∙ ap flat (slice_get_past numbers (length numbers) (omega arith)) in
-    ap flat (get_push_here numbers (Some (length code)))
-    ∙ sym (number-push_here code p 0 none ∙ ap some_of (omega arith)) in
-    record {
-      entries = λ slot. elim (cases_eq (length numbers) slot) [
-        | inl same ↦ subst (λ (s : ℕ). entry more s ≡ number_at (code ++ p ∷ []) s) same here
-        | inr other ↦ ap flat (get_push_other numbers (Some (length code)) slot other) ∙ table.entries slot
-            ∙ sym (number-push code p 0 slot other)
-      ];
-    }
-
-pub table_push : (code : List Placed) (numbers : List (Option ℕ)) (slot n : ℕ) (i : Instruction) →
-    IsTable code numbers → slot ≡ length numbers → n ≡ length code →
-    IsTable (code ++ record { slot = slot; instruction = i } ∷ []) (numbers ++ Some n ∷ [])
-table_push code numbers slot n i table e d = rw (e, d) (table_pushed code numbers i table)
+    table_with code (code ++ p ∷ []) numbers (Some (length code)) table
+    (sym (number-push_here code p 0 (no_entry code numbers table) ∙ ap some_of (omega arith)))
+    (number-push code p 0)
 
 -- no instruction begins at the next slot
 pub table_skip : (code : List Placed) (numbers : List (Option ℕ)) → IsTable code numbers →
     IsTable code (numbers ++ None ∷ [])
 table_skip code numbers table =
-    let none : number_at code (length numbers) ≡ None = sym (table.entries (length numbers))
-    ∙ ap flat (slice_get_past numbers (length numbers) (omega arith)) in
-    let here : entry (numbers ++ None ∷ []) (length numbers) ≡ number_at code (length numbers) =
-    ap flat (get_push_here numbers None) ∙ sym none in
-    record {
-      entries = λ slot. elim (cases_eq (length numbers) slot) [
-        | inl same ↦ subst (λ (s : ℕ). entry (numbers ++ None ∷ []) s ≡ number_at code s) same here
-        | inr other ↦ ap flat (get_push_other numbers None slot other) ∙ table.entries slot
-      ];
-    }
+    table_with code code numbers None table (sym (no_entry code numbers table)) (λ _ _. refl)
 
 -- the entries of one instruction after those of the ones before it
 abbrev pub entered : List (Option ℕ) → ℕ → ℕ → List (Option ℕ)
@@ -170,7 +145,7 @@ pub table_enter : (code : List Placed) (numbers : List (Option ℕ)) (slot n : �
     → IsTable (code ++ record { slot = slot; instruction = i } ∷ []) (entered numbers n (slots_of i))
 table_enter code numbers slot n i table e d =
     let placed = code ++ record { slot = slot; instruction = i } ∷ [] in
-    let pushed = table_push code numbers slot n i table e d in
+    let pushed : IsTable placed (numbers ++ Some n ∷ []) = rw (e, d) (table_pushed code numbers i table) in
     cond_both (slots_of i == 2) (None ∷ []) [] (λ rest. IsTable placed ((numbers ++ Some n ∷ []) ++ rest))
     (λ _. table_skip placed (numbers ++ Some n ∷ []) pushed)
     (λ _. subst (IsTable placed) (sym (append-nil (numbers ++ Some n ∷ []))) pushed)
@@ -182,15 +157,7 @@ lengths numbers n rest = omega (arith, length-append (numbers ++ Some n ∷ []) 
 pub entered_length : (numbers : List (Option ℕ)) (n : ℕ) (i : Instruction) →
     length (entered numbers n (slots_of i)) ≡ length numbers + slots_of i
 entered_length numbers n (Wide _ _) = lengths numbers n (None ∷ [])
-entered_length numbers n (Move _ _ _) = lengths numbers n []
-entered_length numbers n (Compute _ _ _ _) = lengths numbers n []
-entered_length numbers n (Load _ _ _ _ _) = lengths numbers n []
-entered_length numbers n (Unary _ _ _) = lengths numbers n []
-entered_length numbers n (Store _ _ _ _) = lengths numbers n []
-entered_length numbers n (JumpIf _ _ _ _ _) = lengths numbers n []
-entered_length numbers n (Jump _) = lengths numbers n []
-entered_length numbers n (Call _) = lengths numbers n []
-entered_length numbers n Exit = lengths numbers n []
+entered_length numbers n _ = lengths numbers n []
 
 -- ---- what is read is the image's code
 
@@ -244,10 +211,6 @@ forms_read image (slot ∷ slots) code e k placed at =
 pub sized_read : (image : List ℕ) → has_size image ≡ true → read_image image ≡ read_slots image (first_slots image)
 unfolding read_image
 sized_read image size = rw size refl
-
-pub unsized_read : (image : List ℕ) → has_size image ≡ false → read_image image ≡ Err fault.Size
-unfolding read_image
-unsized_read image size = rw size refl
 
 pub is_code_from : (image : List ℕ) (code : List Placed) → has_size image ≡ true →
     read_slots image (first_slots image) ≡ Ok code → IsCodeOf image code
@@ -309,5 +272,5 @@ unfolding read_image
 read_code image code e =
     on_choice (has_size image) (read_slots image (first_slots image)) (Err fault.Size) (read_all code)
     (IsCodeOf image code) e
-    (λ size. λ e. is_code_from image code size e)
-    (λ _. λ e. absurd cc)
+    (λ size e. is_code_from image code size e)
+    (λ _ e. absurd cc)

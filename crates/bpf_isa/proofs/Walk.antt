@@ -1,18 +1,15 @@
 -- Code and image, from the first slot to the last.
-use Rattle.std.proofs.Common.{◌≡◌, ℕ, zero, suc, ◌+◌, ◌*◌, ◌<◌, ◌≤◌, Bool, true, false, cond, eqb, ltb, List, [], ◌∷◌}
-use Rattle.std.proofs.Common.{◌++◌, length, map, drop, Option, Some, None, Ok, refl, sym, ap, ◌∙◌, arith}
-use Rattle.std.specs.Prelude.{slice_get, option_map, IfSome}
-use Rattle.std.proofs.lemmas.Bool.{ltb-true, ltb-false}
-use Rattle.std.proofs.lemmas.List.{drop_all}
-use Rattle.std.proofs.lemmas.List.Concat.{flat_map-cons}
-use Rattle.std.proofs.lemmas.Option.{same_Some, slice_get-map}
+use Rattle.std.proofs.Common.{◌≡◌, ℕ, zero, suc, ◌+◌, ◌*◌, ◌<◌, ◌≤◌, eqb, ltb, List, [], ◌∷◌, length, map, drop, Option}
+use Rattle.std.proofs.Common.{Some, None, Ok, refl, sym, ap, ◌∙◌, arith, slice_get, option_map, IfSome}
+use Rattle.std.proofs.lemmas.Bool.{cond_both, ltb-true, ltb-false}
+use Rattle.std.proofs.{lemmas.List.drop_all, lemmas.List.Concat.flat_map-cons, lemmas.Option.same_Some}
+use Rattle.std.proofs.lemmas.Option.{slice_get-map}
 use Rattle.machine_spec.specs.declared.{instruction.Placed.Placed, limits.TheConstants.MAX_SLOTS}
 use Rattle.machine_spec.specs.Image.{slot_count, slot_after, first_slots_from, first_slots, read_slot, form_at}
 use Rattle.machine_spec.specs.Image.{slots_of, number_from, number_at, IsCodeOf}
 use Rattle.bpf_isa.specs.Code.{AreBytes}
 use Rattle.bpf_isa.specs.Spelling.{spelling, image_bytes, HasRegisters}
-use Rattle.bpf_isa.proofs.Cases.{on_choice}
-use Rattle.bpf_isa.proofs.Slots.{IsSized, sized}
+use Rattle.bpf_isa.proofs.{Cases.on_choice, Slots.IsSized, Slots.sized}
 use Rattle.bpf_isa.proofs.Bytes.{slots_bytes, from_slots, slot_spelled, slot_registers, form_read, next_slot, inside}
 use Rattle.bpf_isa.proofs.Bytes.{some_slots}
 
@@ -42,10 +39,8 @@ one_on image slot p code fits size within read rest =
     let long : 8 * (slot + slots_of p.instruction) ≤ length image = omega arith in
     let bytes : slots_bytes image slot (slots_of p.instruction) ≡ spelling p.instruction =
     slot_spelled image slot p.instruction fits read in
-    from_slots image slot (slots_of p.instruction) long
-    ∙ ap (λ (t : List ℕ). slots_bytes image slot (slots_of p.instruction) ++ t) rest
-    ∙ ap (λ (t : List ℕ). t ++ image_bytes code) bytes
-    ∙ sym (flat_map-cons (λ placed. spelling placed.instruction) p code)
+    rw (from_slots image slot (slots_of p.instruction) long, rest, bytes)
+    (sym (flat_map-cons (λ placed. spelling placed.instruction) p code))
 
 goes : (image : List ℕ) → AreBytes image → IsSized image → (steps slot : ℕ) (code : List Placed) →
     slot_count image ≤ slot + steps → firsts_of code ≡ first_slots_from image steps slot → AreForms image code →
@@ -55,12 +50,12 @@ goes image fits size zero slot (p ∷ code) enough e forms = absurd cc
 goes image fits size (suc steps) slot [] enough e forms =
     on_choice (ltb slot (slot_count image)) (slot ∷ first_slots_from image steps (slot_after image slot)) [] []
     (Goes image slot []) (sym e)
-    (λ _. λ e. absurd cc)
-    (λ past. λ _. ended image slot size (ltb-false _ _ past))
+    (λ _ e. absurd cc)
+    (λ past _. ended image slot size (ltb-false _ _ past))
 goes image fits size (suc steps) slot (p ∷ code) enough e forms =
     on_choice (ltb slot (slot_count image)) (slot ∷ first_slots_from image steps (slot_after image slot)) []
     (firsts_of (p ∷ code)) (Goes image slot (p ∷ code)) (sym e)
-    (λ within. λ e.
+    (λ within e.
     let here : slot ≡ p.slot = cc in
     let later : first_slots_from image steps (slot_after image slot) ≡ firsts_of code = cc in
     let read : read_slot image slot ≡ Ok p.instruction =
@@ -70,7 +65,7 @@ goes image fits size (suc steps) slot (p ∷ code) enough e forms =
     let rest = goes image fits size steps (slot + slots_of p.instruction) code (omega arith)
     (sym later ∙ ap (first_slots_from image steps) next) (λ k. forms (suc k)) in
     one_on image slot p code fits size (ltb-true _ _ within) read rest)
-    (λ _. λ e. absurd cc)
+    (λ _ e. absurd cc)
 
 pub code_spelled : (image : List ℕ) (code : List Placed) → AreBytes image → IsCodeOf image code →
     image ≡ image_bytes code
@@ -85,24 +80,19 @@ one_image image other code fits other_fits is other_is = code_spelled image code
 
 -- ---- each instruction of a code
 
+below_more : (slot bound : ℕ) (slots : List ℕ) (k s : ℕ) → slot < bound →
+    ((k : ℕ) → slice_get slots k ≡ Some s → s < bound) → slice_get (slot ∷ slots) k ≡ Some s → s < bound
+below_more slot bound slots zero s lt rest e = let same : slot ≡ s = same_Some slot s e in omega arith
+below_more slot bound slots (suc k) s lt rest e = rest k e
+
 slots_below : (image : List ℕ) (steps slot k s : ℕ) → slice_get (first_slots_from image steps slot) k ≡ Some s →
     s < slot_count image
 slots_below image zero slot k s e = absurd cc
 slots_below image (suc steps) slot k s e =
-    let within : (b : Bool) → ltb slot (slot_count image) ≡ b →
-    slice_get (cond b (slot ∷ first_slots_from image steps (slot_after image slot)) []) k ≡ Some s →
-    s < slot_count image =
-    λ b. elim b as (λ b. ltb slot (slot_count image) ≡ b →
-    slice_get (cond b (slot ∷ first_slots_from image steps (slot_after image slot)) []) k ≡ Some s →
-    s < slot_count image) [
-      | true ↦ λ lt. elim k as (λ k. slice_get (slot ∷ first_slots_from image steps (slot_after image slot)) k ≡ Some s
-          → s < slot_count image) [
-            | zero ↦ λ e. let same : slot ≡ s = same_Some slot s e in let below = ltb-true _ _ lt in omega arith
-            | suc k ↦ λ e. slots_below image steps (slot_after image slot) k s e
-          ]
-      | false ↦ λ _. λ e. absurd cc
-    ] in
-    within (ltb slot (slot_count image)) refl e
+    let others = first_slots_from image steps (slot_after image slot) in
+    cond_both (ltb slot (slot_count image)) (slot ∷ others) [] (λ l. slice_get l k ≡ Some s → s < slot_count image)
+    (λ lt. below_more slot (slot_count image) others k s (ltb-true _ _ lt)
+    (λ k. slots_below image steps (slot_after image slot) k s)) (λ _ e. absurd cc) e
 
 pub placed_small : (image : List ℕ) (code : List Placed) (k : ℕ) (p : Placed) → IsCodeOf image code →
     slice_get code k ≡ Some p → p.slot < MAX_SLOTS
@@ -126,8 +116,8 @@ number_below : (code : List Placed) (k slot n : ℕ) → number_from k code slot
 number_below [] k slot n e = absurd cc
 number_below (p ∷ code) k slot n e =
     on_choice (eqb p.slot slot) (Some k) (number_from (k + 1) code slot) (Some n) (n < k + length (p ∷ code)) e
-    (λ _. λ e. let same : k ≡ n = same_Some k n e in omega arith)
-    (λ _. λ e. let rest = number_below code (k + 1) slot n e in omega arith)
+    (λ _ e. let same : k ≡ n = same_Some k n e in omega arith)
+    (λ _ e. let rest = number_below code (k + 1) slot n e in omega arith)
 
 pub number_within : (code : List Placed) (slot : ℕ) (o : Option ℕ) → o ≡ number_at code slot →
     IfSome o (λ n. n < length code)

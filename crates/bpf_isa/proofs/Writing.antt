@@ -1,14 +1,11 @@
 -- Spelling code instruction after instruction, as a loop does.
 use Rattle.std.proofs.Common.{◌≡◌, ℕ, zero, suc, ◌+◌, ◌≤◌, List, [], ◌∷◌, ◌++◌, length, take, Some, sym, ap, subst, ◌∙◌}
-use Rattle.std.proofs.Common.{add-one, append_assoc}
-use Rattle.std.specs.Prelude.{slice_get, option_map}
-use Rattle.std.proofs.lemmas.List.{append-nil, take_all}
-use Rattle.std.proofs.lemmas.List.Concat.{flat_map-cons}
+use Rattle.std.proofs.Common.{add-one, append_assoc, slice_get, option_map}
+use Rattle.std.proofs.{lemmas.List.append-nil, lemmas.List.take_all, lemmas.List.Concat.flat_map-cons}
 use Rattle.std.proofs.lemmas.Option.{same_Some}
-use Rattle.machine_spec.specs.declared.{instruction.Instruction.Instruction, instruction.Placed.Placed}
+use Rattle.machine_spec.specs.{declared.instruction.Instruction.Instruction, declared.instruction.Placed.Placed}
 use Rattle.machine_spec.specs.Image.{IsCodeOf}
-use Rattle.bpf_isa.specs.Code.{AreBytes, HasImage}
-use Rattle.bpf_isa.specs.Spelling.{spelling, image_bytes}
+use Rattle.bpf_isa.specs.{Code.AreBytes, Code.HasImage, Spelling.spelling, Spelling.image_bytes}
 use Rattle.bpf_isa.proofs.Walk.{code_spelled}
 
 abbrev spelled_one : Placed → List ℕ
@@ -22,11 +19,11 @@ one_more (p ∷ code) zero i e =
     let same : p.instruction ≡ i = same_Some p.instruction i e in
     rw flat_map-cons (rw (← same) (sym (append-nil (spelling p.instruction))))
 one_more (p ∷ code) (suc k) i e =
-    let rest = one_more code k i e in
-    ap (λ (t : List ℕ). t ++ spelling i) (flat_map-cons spelled_one p (take k code))
-    ∙ append_assoc (spelling p.instruction) (image_bytes (take k code)) (spelling i)
-    ∙ ap (λ (t : List ℕ). spelling p.instruction ++ t) rest
-    ∙ sym (flat_map-cons spelled_one p (take (suc k) code))
+    rw (
+      flat_map-cons spelled_one p (take k code),
+      flat_map-cons spelled_one p (take (suc k) code),
+      ← one_more code k i e,
+    ) (append_assoc (spelling p.instruction) (image_bytes (take k code)) (spelling i))
 
 pub spelled_more : (code : List Placed) (k : ℕ) (i : Instruction) →
     option_map (λ p. p.instruction) (slice_get code k) ≡ Some i →

@@ -1,9 +1,8 @@
 -- Code as a list of placed instructions.
 use Rattle.std.specs.Prelude.{◌≡◌, ℕ, ◌<◌, List, [], ◌∷◌, slice_index, slice_get, Option, option_and_then, map, Some}
 use Rattle.std.specs.Prelude.{None, ◌==◌, if◌then◌else◌}
-use Rattle.machine_spec.specs.declared.{instruction.Instruction.Instruction, instruction.Placed.Placed}
-use Rattle.machine_spec.specs.declared.limits.TheConstants.{MAX_SLOTS}
-use Rattle.machine_spec.specs.Image.{IsCodeOf, number_at}
+use Rattle.machine_spec.specs.{declared.instruction.Instruction.Instruction, declared.instruction.Placed.Placed}
+use Rattle.machine_spec.specs.{declared.limits.TheConstants.MAX_SLOTS, Image.IsCodeOf, Image.number_at}
 
 -- each instruction with its slot, of two lists of one length
 abbrev pub placed_of : List ℕ → List Instruction → List Placed

@@ -1,8 +1,7 @@
 -- How far a run can have come: the slot grows with each step, and an address moves by less than 2^63 and 1 in each.
 use Rattle.std.proofs.Common.{◌≡◌, ◌≢◌, ℕ, zero, suc, ◌+◌, ◌*◌, ◌^◌, ◌<◌, ◌≤◌, Bool, true, false, not, ◌&&◌}
 use Rattle.std.proofs.Common.{if◌then◌else◌, nat_lt, nat_le, ◌==◌, List, [], ◌∷◌, Option, Some, None, refl, sym, subst}
-use Rattle.std.proofs.Common.{⊎_elim, arith}
-use Rattle.std.specs.Prelude.{ℤ, pos, negsuc, ◌+ℤ◌, neg_ℤ, is_none, unsigned_abs}
+use Rattle.std.proofs.Common.{⊎_elim, arith, ℤ, pos, negsuc, ◌+ℤ◌, neg_ℤ, is_none, unsigned_abs}
 use Rattle.std.specs.List.{list_any}
 use Rattle.std.proofs.lemmas.Int.{ints}
 use Rattle.std.proofs.lemmas.Bool.{cond_both, eqb-true, ltb-true, false≢true, not-false, or_cases}
@@ -15,19 +14,15 @@ use Rattle.machine_spec.specs.declared.instruction.Extension.TheVariants as exte
 use Rattle.machine_spec.specs.declared.instruction.Source.TheVariants.{Register, Immediate}
 use Rattle.machine_spec.specs.declared.instruction.Instruction.TheVariants.{Move, Compute, Load, Unary, Store, JumpIf}
 use Rattle.machine_spec.specs.declared.instruction.Instruction.TheVariants.{Jump, Wide, Call, Exit}
-use Rattle.machine_spec.specs.Arithmetic.{signed}
+use Rattle.machine_spec.specs.{Arithmetic.signed, Traps.is_valid_target, Meaning.Step, Meaning.Reaches}
 use Rattle.machine_spec.specs.Values.{Value, Nothing, Number, Address, Registers, operand, moved_value, moves_address}
 use Rattle.machine_spec.specs.Values.{is_subtraction, displacement, result_of, changed_value, is_taken, extended_value}
 use Rattle.machine_spec.specs.Image.{Program, helpers_of, slot_count, slot_after, first_slots_from, first_slots}
-use Rattle.machine_spec.specs.Image.{is_first_slot}
-use Rattle.machine_spec.specs.Image.{jump_target, distance_of}
+use Rattle.machine_spec.specs.Image.{is_first_slot, jump_target, distance_of}
 use Rattle.machine_spec.specs.Machine.{Input, State, Access, with_register, entry_register, value_loaded, helper_of}
 use Rattle.machine_spec.specs.Machine.{effect_of, after_call, state_after_call, slot_after_jump, state_after}
-use Rattle.machine_spec.specs.Traps.{is_valid_target}
-use Rattle.machine_spec.specs.Meaning.{Step, Reaches}
-use Rattle.machine_spec.proofs.Helpers.{is_helper}
+use Rattle.machine_spec.proofs.{Helpers.is_helper, Free.IsFree, Free.is_free}
 use Rattle.bpf_machine.specs.Views.{IsNear}
-use Rattle.machine_spec.proofs.Free.{IsFree, is_free}
 use Rattle.bpf_machine.proofs.Rows.{slot_within}
 
 -- ---- the slot

@@ -1,20 +1,14 @@
 -- What is known of a step and of an end, once the instruction is fetched.
 use Rattle.std.proofs.Common.{◌≡◌, ℕ, suc, ◌+◌, ◌<◌, ◌^◌, true, false, Some, refl, ap, ◌∙◌, subst, arith}
-use Rattle.machine_spec.specs.declared.{instruction.Instruction.Instruction, instruction.Trap.Trap}
-use Rattle.machine_spec.specs.declared.{outcome.Outcome.Outcome}
-use Rattle.machine_spec.specs.Image.{Program, slot_count}
-use Rattle.machine_spec.specs.Summaries.{summary_of}
+use Rattle.machine_spec.specs.{declared.instruction.Instruction.Instruction, declared.instruction.Trap.Trap}
+use Rattle.machine_spec.specs.{declared.outcome.Outcome.Outcome, Image.Program, Image.slot_count, Summaries.summary_of}
+use Rattle.machine_spec.specs.{Traps.calls_wrongly, Traps.trap_at}
 use Rattle.machine_spec.specs.Machine.{Input, State, access_of, state_after}
-use Rattle.machine_spec.specs.Traps.{calls_wrongly, trap_at}
 use Rattle.machine_spec.specs.Meaning.{Step, Reaches, outcome_of}
-use Rattle.machine_spec.proofs.Meanings.{exit_is, other_than_exit}
+use Rattle.machine_spec.proofs.{Meanings.exit_is, Meanings.other_than_exit, Free.is_free}
 use Rattle.bpf_machine.specs.declared.tracing.End.TheVariants as end
-use Rattle.bpf_machine.specs.Straight.{IsWritable}
-use Rattle.bpf_machine.specs.Advances.{IsNext, IsExit}
-use Rattle.bpf_machine.specs.Ends.{EndsOnlyIn}
-use Rattle.machine_spec.proofs.Free.{is_free}
-use Rattle.bpf_machine.proofs.Bounds.{bounded}
-use Rattle.bpf_machine.proofs.Only.{ends_only}
+use Rattle.bpf_machine.specs.{Straight.IsWritable, Advances.IsNext, Advances.IsExit, Ends.EndsOnlyIn}
+use Rattle.bpf_machine.proofs.{Bounds.bounded, Only.ends_only}
 
 module _ (program : Program) (input : Input) (s : State) where
   pub writable : (i : Instruction) → IsNext program input s i → IsWritable (access_of (summary_of i).memory s.registers)

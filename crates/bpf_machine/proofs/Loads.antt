@@ -1,10 +1,7 @@
 -- Numbers in bytes, half by half, and bytes that are not set, one by one.
 use Rattle.std.proofs.Common.{◌≡◌, ℕ, zero, suc, ◌+◌, ◌-◌, ◌*◌, ◌<◌, ◌||◌, List, [], ◌∷◌, ◌++◌, Option, unwrap_or, ap}
-use Rattle.std.proofs.Common.{◌∙◌, arith}
-use Rattle.std.specs.Prelude.{is_none}
-use Rattle.machine_spec.specs.Values.{little_endian}
-use Rattle.machine_spec.specs.Machine.{bytes_from}
-use Rattle.machine_spec.specs.Traps.{has_unset}
+use Rattle.std.proofs.Common.{◌∙◌, arith, is_none}
+use Rattle.machine_spec.specs.{Values.little_endian, Machine.bytes_from, Traps.has_unset}
 
 module _ (f : ℕ → Option ℕ) (place : ℕ) where
   pub one_byte : little_endian (bytes_from f place 1) ≡ unwrap_or (f place) 0

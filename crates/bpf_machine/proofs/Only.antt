@@ -1,16 +1,12 @@
 -- A run ends in one way.
 use Rattle.std.proofs.Common.{◌≡◌, ℕ, ◌<◌, Some, sym, ap, ◌∙◌, subst, ⊎_elim}
-use Rattle.std.proofs.lemmas.Bool.{cases_order}
-use Rattle.std.proofs.lemmas.Option.{same_Some, none-some}
+use Rattle.std.proofs.{lemmas.Bool.cases_order, lemmas.Option.same_Some, lemmas.Option.none-some}
 use Rattle.machine_spec.specs.declared.{instruction.Trap.Trap, outcome.Outcome.Outcome}
-use Rattle.machine_spec.specs.Image.{Program}
-use Rattle.machine_spec.specs.Machine.{Input, State}
-use Rattle.machine_spec.specs.Traps.{trap_at}
+use Rattle.machine_spec.specs.{Image.Program, Machine.Input, Machine.State, Traps.trap_at}
 use Rattle.machine_spec.specs.Meaning.{Step, Reaches, Means, IsTrapped}
 use Rattle.machine_spec.proofs.Meanings.{one_state, goes_past, end_stays, one_meaning}
-use Rattle.bpf_machine.specs.declared.tracing.End.{End}
+use Rattle.bpf_machine.specs.{declared.tracing.End.End, Ends.EndsIn, Ends.EndsOnlyIn}
 use Rattle.bpf_machine.specs.declared.tracing.End.TheVariants as end
-use Rattle.bpf_machine.specs.Ends.{EndsIn, EndsOnlyIn}
 
 module _ (program : Program) (input : Input) where
   -- a state is the last of its run

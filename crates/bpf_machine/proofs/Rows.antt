@@ -1,14 +1,12 @@
 -- What a state without a trap is known of.
-use Rattle.std.proofs.Common.{◌≡◌, ◌<◌, Bool, true, false, if◌then◌else◌, ◌≤◌, nat_lt, Option, Some}
-use Rattle.std.proofs.Common.{None, refl, sym, ap, ◌∙◌}
+use Rattle.std.proofs.Common.{◌≡◌, ◌<◌, Bool, true, false, if◌then◌else◌, ◌≤◌, nat_lt, Option, Some, None, refl, sym}
+use Rattle.std.proofs.Common.{ap, ◌∙◌}
 use Rattle.std.proofs.lemmas.Bool.{cond-true, cond-false, ltb-true, lt-ltb, le-ltb}
 use Rattle.std.proofs.lemmas.Option.{none-some}
-use Rattle.machine_spec.specs.declared.{instruction.Instruction.Instruction, instruction.Trap.Trap}
-use Rattle.machine_spec.specs.declared.{summary.Summary.Summary}
+use Rattle.machine_spec.specs.{declared.instruction.Instruction.Instruction, declared.instruction.Trap.Trap}
+use Rattle.machine_spec.specs.{declared.summary.Summary.Summary, Summaries.summary_of, Machine.Input, Machine.State}
 use Rattle.machine_spec.specs.declared.instruction.Trap.TheVariants as trap
 use Rattle.machine_spec.specs.Image.{Program, slot_count, form_at}
-use Rattle.machine_spec.specs.Summaries.{summary_of}
-use Rattle.machine_spec.specs.Machine.{Input, State}
 use Rattle.machine_spec.specs.Traps.{first_of, traps, trap_of, trap_at}
 
 -- its slot lies in the image

@@ -1,17 +1,15 @@
 -- A walk over the first slots of an image, and bytes written one after the other.
-use Rattle.std.proofs.Common.{◌≡◌, ◌≢◌, ℕ, zero, suc, ◌+◌, ◌-◌, ◌<◌, ◌≤◌, Bool, true, false, ◌&&◌, ◌||◌, nat_lt, nat_le}
-use Rattle.std.proofs.Common.{◌==◌, List, length, slice_set, replicate, Option, Some, refl, sym, ap, ◌∙◌, subst, ⊎_elim}
-use Rattle.std.proofs.Common.{arith}
-use Rattle.std.specs.Prelude.{slice_get, option_and_then, slice_index, unwrap_or}
+use Rattle.std.proofs.Common.{◌≡◌, ◌≢◌, ℕ, zero, suc, ◌+◌, ◌-◌, ◌<◌, ◌≤◌, Bool, true, false, ◌||◌, ◌==◌, List, length}
+use Rattle.std.proofs.Common.{slice_set, replicate, Option, Some, refl, sym, ap, ◌∙◌, subst, ⊎_elim, arith, slice_get}
+use Rattle.std.proofs.Common.{option_and_then, slice_index}
+use Rattle.std.specs.Prelude.{unwrap_or}
 use Rattle.std.specs.List.{list_any}
-use Rattle.std.proofs.Math.Bool.{or-false}
-use Rattle.std.proofs.lemmas.Bool.{cond_both, lt-ltb, le-ltb, le-leb, eq-eqb, ne_eqb, ltb-true, leb-true, and_parts}
-use Rattle.std.proofs.lemmas.Bool.{and_from, or_left, or_right, cases_eq, false≢true}
-use Rattle.std.proofs.lemmas.Option.{slice_get-get_or}
+use Rattle.std.proofs.{Math.Bool.or-false, lemmas.Option.slice_get-get_or}
+use Rattle.std.proofs.lemmas.Bool.{lt-ltb, le-ltb, eq-eqb, ne_eqb, or_left, or_right, cases_eq}
 use Rattle.machine_spec.specs.Image.{slot_count, slot_after, first_slots_from, first_slots, is_first_slot}
-use Rattle.machine_spec.specs.Machine.{stack_with_bytes}
 use Rattle.bpf_machine.specs.Views.{stack_of, is_marked}
-use Rattle.bpf_machine.proofs.Pieces.{get-set_same, get-set_other}
+use Rattle.bpf_machine.proofs.Pieces.{get-set_same}
+use Rattle.machine_spec.proofs.Slots.{set_other}
 
 module _ (image : List ℕ) (target : ℕ) where
   -- whether a walk from a slot on, of at most `steps` steps, comes to the target
@@ -50,7 +48,7 @@ module _ (image : List ℕ) (target : ℕ) where
       (ap (λ m. unwrap_or m false) (get-set_same marks slot true inside)) in
       or_left _ _ is_set ∙ sym (or_right _ _ (comes_here left slot (omega (arith, more)) within same)) ∙ before)
       (λ (other : slot ≢ target).
-      ap (λ m. unwrap_or m false || comes steps (slot_after image slot)) (get-set_other marks slot target true other)
+      ap (λ m. unwrap_or m false || comes steps (slot_after image slot)) (set_other marks slot target true other)
       ∙ ap (λ b. is_marked marks target || b) (sym (comes_later steps left slot more within other)) ∙ before)
       (cases_eq slot target)
 
@@ -73,13 +71,6 @@ pub record Wrote (old new : List (Option ℕ)) (start : ℕ) (bytes : List ℕ) 
   pub inside : (j : ℕ) → j < k → stack_of new (start + j) ≡ slice_get bytes j
   pub outside : (place : ℕ) → ((j : ℕ) → j < k → place ≢ start + j) → stack_of new place ≡ stack_of old place
 
-pub Wrote-none : (old : List (Option ℕ)) (start : ℕ) (bytes : List ℕ) → Wrote old old start bytes 0
-Wrote-none old start bytes = record {
-  size = refl;
-  inside = λ j below. absurd (omega arith);
-  outside = λ place apart. refl;
-}
-
 abbrev flat : Option (Option ℕ) → Option ℕ
 flat o = option_and_then (λ byte. byte) o
 
@@ -94,25 +85,9 @@ Wrote-more old new start bytes k wrote below within kept = record {
       ≡ slice_get bytes i) (sym same)
       (ap flat (get-set_same new (start + k) (Some (slice_index bytes k)) within)
       ∙ sym (slice_get-get_or bytes k 0 below)))
-      (λ (other : j ≢ k). ap flat (get-set_other new (start + k) (start + j) (Some (slice_index bytes k))
+      (λ (other : j ≢ k). ap flat (set_other new (start + k) (start + j) (Some (slice_index bytes k))
       (λ e. other (omega arith))) ∙ wrote.inside j (omega arith))
       (cases_eq j k);
-  outside = λ place apart. ap flat (get-set_other new (start + k) place (Some (slice_index bytes k))
+  outside = λ place apart. ap flat (set_other new (start + k) place (Some (slice_index bytes k))
       (λ e. apart k (omega arith) (sym e))) ∙ wrote.outside place (λ j less. apart j (omega arith));
 }
-
-pub Wrote-all : (old new : List (Option ℕ)) (start : ℕ) (bytes : List ℕ) → Wrote old new start bytes (length bytes) →
-    (place : ℕ) → stack_of new place ≡ stack_with_bytes (stack_of old) start bytes place
-Wrote-all old new start bytes wrote place =
-    cond_both (nat_le start place && nat_lt place (start + length bytes)) (slice_get bytes (place - start))
-    (stack_of old place) (λ b. stack_of new place ≡ b)
-    (λ inside.
-    let parts = and_parts _ _ inside in
-    let low : start ≤ place = leb-true start place parts.0 in
-    let high : place < start + length bytes = ltb-true place (start + length bytes) parts.1 in
-    let e : start + (place - start) ≡ place = omega arith in
-    ap (λ p. stack_of new p) (sym e) ∙ wrote.inside (place - start) (omega arith))
-    (λ outside. wrote.outside place (λ j less same.
-    let low : nat_le start place ≡ true = le-leb start place (omega arith) in
-    let high : nat_lt place (start + length bytes) ≡ true = lt-ltb place (start + length bytes) (omega arith) in
-    false≢true (sym outside ∙ and_from _ _ low high)))

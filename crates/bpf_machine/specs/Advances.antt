@@ -2,10 +2,7 @@
 use Rattle.std.specs.Prelude.{◌≡◌, Some, None, Result, Ok, Err}
 use Rattle.machine_spec.specs.declared.{instruction.Instruction.Instruction, instruction.Trap.Trap}
 use Rattle.machine_spec.specs.declared.instruction.Instruction.TheVariants.{Exit}
-use Rattle.machine_spec.specs.Image.{Program, form_at}
-use Rattle.machine_spec.specs.Machine.{Input, State}
-use Rattle.machine_spec.specs.Traps.{trap_at}
-use Rattle.machine_spec.specs.Meaning.{Step}
+use Rattle.machine_spec.specs.{Image.Program, Image.form_at, Machine.Input, Machine.State, Traps.trap_at, Meaning.Step}
 use Rattle.bpf_isa.specs.Spelling.{HasRegisters}
 use Rattle.bpf_machine.specs.declared.tracing.Advance.{Advance}
 use Rattle.bpf_machine.specs.declared.tracing.Advance.TheVariants as advance

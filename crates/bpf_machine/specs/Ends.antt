@@ -1,8 +1,6 @@
 -- What the run of a program ends with, be it decodable or not.
 use Rattle.std.specs.Prelude.{◌≡◌, ℕ}
-use Rattle.machine_spec.specs.Image.{Program}
-use Rattle.machine_spec.specs.Machine.{Input}
-use Rattle.machine_spec.specs.Meaning.{Means, IsTrapped}
+use Rattle.machine_spec.specs.{Image.Program, Machine.Input, Meaning.Means, Meaning.IsTrapped}
 use Rattle.bpf_machine.specs.declared.tracing.End.{End}
 use Rattle.bpf_machine.specs.declared.tracing.End.TheVariants.{Out, Trap}
 

@@ -1,10 +1,9 @@
 -- What a run of the plain machine has at hand, and its state, as the definitions of the machine name them.
-use Rattle.machine_spec.specs.Image.{Program, program_of}
-use Rattle.machine_spec.specs.Machine.{Input, State}
+use Rattle.machine_spec.specs.{Image.Program, Image.program_of, Machine.Input, Machine.State}
 use Rattle.wire_spec.specs.declared.record.Record.{Record}
 use Rattle.helpers.specs.Emitted.{emissions_in}
-use Rattle.bpf_machine.specs.declared.{memory.Run.Run, machine.Machine.Machine}
-use Rattle.bpf_machine.specs.Views.{registers_of, stack_of}
+use Rattle.bpf_machine.specs.{declared.memory.Run.Run, declared.machine.Machine.Machine, Views.registers_of}
+use Rattle.bpf_machine.specs.Views.{stack_of}
 
 -- the program that is run
 abbrev pub program_run : Run → Program

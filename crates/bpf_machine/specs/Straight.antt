@@ -1,10 +1,9 @@
 -- Forms of instructions as the plain machine's steps distinguish them.
 use Rattle.std.specs.Prelude.{◌≡◌, Bool, true, false, Option}
-use Rattle.machine_spec.specs.declared.instruction.Instruction.{Instruction}
+use Rattle.machine_spec.specs.{declared.instruction.Instruction.Instruction, Machine.Access, Traps.writes_record}
+use Rattle.machine_spec.specs.Traps.{leaves_stack}
 use Rattle.machine_spec.specs.declared.instruction.Instruction.TheVariants.{Move, Compute, Load, Unary, Store, JumpIf}
 use Rattle.machine_spec.specs.declared.instruction.Instruction.TheVariants.{Jump, Wide, Call, Exit}
-use Rattle.machine_spec.specs.Machine.{Access}
-use Rattle.machine_spec.specs.Traps.{writes_record, leaves_stack}
 
 -- bytes that may be written lie in the stack
 pub record IsWritable (access : Option Access) : Type 0 where

@@ -1,9 +1,8 @@
 -- The parts of the plain machine as the definitions of the machine name them.
 use Rattle.std.specs.Prelude.{◌≡◌, ℕ, ◌<◌, ◌^◌, Bool, false, List, Option, Some, None, slice_get, option_and_then}
 use Rattle.std.specs.Prelude.{unwrap_or, unsigned_abs}
-use Rattle.machine_spec.specs.Image.{is_first_slot}
+use Rattle.machine_spec.specs.{Image.is_first_slot, Machine.Access}
 use Rattle.machine_spec.specs.Values.{Value, Nothing, Number, Address}
-use Rattle.machine_spec.specs.Machine.{Access}
 use Rattle.bpf_machine.specs.declared.{tagged.Tagged.Tagged, memory.Span.Span}
 use Rattle.bpf_machine.specs.declared.tagged.Tagged.TheVariants as tagged
 

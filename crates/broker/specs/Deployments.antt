@@ -1,14 +1,10 @@
 -- What loads and deployments return.
 use Rattle.std.specs.Prelude.{◌≡◌, ℕ, ◌<◌, ◌≤◌, List, Option, Some, None, Result, Ok, Err}
 use Rattle.machine_spec.specs.Image.{Program}
-use Rattle.log_spec.specs.Catalogue.{Version, LiveTable}
-use Rattle.log_spec.specs.Logs.{Marked}
+use Rattle.log_spec.specs.{Catalogue.Version, Catalogue.LiveTable, Logs.Marked}
 use Rattle.part_log.specs.Parts.{Received}
-use Rattle.catalogue.specs.Catalogues.{Publishes}
-use Rattle.catalogue.specs.Faults.{IsFindFault}
-use Rattle.catalogue.specs.Finders.{Seen, Finds}
-use Rattle.catalogue.specs.Versions.{IsThisOrLater}
-use Rattle.catalogue.specs.declared.fault.CatFault.TheVariants.{NoReader}
+use Rattle.catalogue.specs.{Catalogues.Publishes, Faults.IsFindFault, Finders.Seen, Finders.Finds}
+use Rattle.catalogue.specs.{Versions.IsThisOrLater, declared.fault.CatFault.TheVariants.NoReader}
 use Rattle.broker.specs.declared.fault.BrokerFault.{BrokerFault}
 use Rattle.broker.specs.declared.fault.BrokerFault.TheVariants.{Partition, NoProgram, Memory}
 use Rattle.broker.specs.declared.fault.BrokerFault.TheVariants.{Catalogue as CatalogueRefuses, Log as LogRefuses}

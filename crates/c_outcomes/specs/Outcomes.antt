@@ -1,9 +1,8 @@
 -- What an outcome tells C.
-use Rattle.std.specs.Prelude.{◌≡◌, ℕ, zero, suc, ◌+◌, ◌≤◌, List, [], ◌++◌}
-use Rattle.std.specs.Prelude.{length, drop, slice_get, is_none, if◌then◌else◌}
-use Rattle.std.specs.Prelude.{Option, Some, None, unwrap_or}
+use Rattle.std.specs.Prelude.{◌≡◌, ℕ, zero, suc, ◌+◌, ◌≤◌, List, [], ◌++◌, length, drop, slice_get, is_none}
+use Rattle.std.specs.Prelude.{if◌then◌else◌, Option, Some, None}
 use Rattle.wire_spec.specs.declared.record.Header.{Header}
-use Rattle.machine_spec.specs.declared.{outcome.Outcome.Outcome, outcome.Emission.Emission}
+use Rattle.machine_spec.specs.{declared.outcome.Outcome.Outcome, declared.outcome.Emission.Emission, Machine.bytes_of}
 use Rattle.machine_spec.specs.declared.outcome.Outcome.TheVariants.{Kept, Rejected}
 use Rattle.c_outcomes.specs.declared.numbers.TheConstants.{RANGE, ROOM}
 use Rattle.c_outcomes.specs.declared.{emissions.Emitted.Emitted, headers.HeaderTold.HeaderTold}
@@ -17,10 +16,6 @@ code_of (Rejected code) = code
 abbrev pub emissions_of : Outcome → List Emission
 emissions_of (Kept emissions) = emissions
 emissions_of (Rejected code) = []
-
--- the bytes of a part; null has none
-abbrev pub bytes_of : Option (List ℕ) → List ℕ
-bytes_of part = unwrap_or part []
 
 -- the length of a part in bytes; 0 for null
 abbrev pub length_of : Option (List ℕ) → ℕ

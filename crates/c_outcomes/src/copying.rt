@@ -1,6 +1,7 @@
 //! Bytes that are copied to the front of a buffer.
 
 ghost use Rattle.std.specs.Prelude.{◌≡◌};
+ghost use Rattle.machine_spec.specs.Machine.{bytes_of};
 ghost use Rattle.c_outcomes.specs.Outcomes as definitions;
 
 use crate::numbers::{OK, ROOM};
@@ -29,7 +30,7 @@ pub fn copy(bytes: &[u8], buffer: &mut [u8]) -> u32
 
 /// The same of a part, which has no bytes where it is null.
 pub fn copy_part(part: &Option<Bytes>, buffer: &mut [u8]) -> u32
-    ensures { definitions.Copies (definitions.bytes_of part.now) buffer.old buffer.new result }
+    ensures { definitions.Copies (bytes_of part.now) buffer.old buffer.new result }
 {
     match part {
         None => OK,

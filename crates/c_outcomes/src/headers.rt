@@ -1,6 +1,7 @@
 //! The headers of an emission, by their numbers from 0.
 
 ghost use Rattle.std.specs.Prelude.{◌≡◌, ℕ, slice_get};
+ghost use Rattle.machine_spec.specs.Machine.{bytes_of};
 ghost use Rattle.c_outcomes.specs.Outcomes as definitions;
 
 use crate::copying::{copy, copy_part, length_of};
@@ -64,7 +65,7 @@ pub fn copy_header_key(headers: &[Header], at: usize, buffer: &mut [u8]) -> u32
 
 /// Copies the value of a header.
 pub fn copy_header_value(headers: &[Header], at: usize, buffer: &mut [u8]) -> u32
-    ensures { definitions.CopiesOneHeader (λ h. definitions.bytes_of h.value) (slice_get headers.now at) buffer.old buffer.new result }
+    ensures { definitions.CopiesOneHeader (λ h. bytes_of h.value) (slice_get headers.now at) buffer.old buffer.new result }
 {
     if at >= headers.len() {
         return RANGE;

@@ -1,22 +1,17 @@
 -- A load of the live catalogue is the core's.
 use Rattle.std.proofs.Common.{◌≡◌, ℕ, ◌+◌, Bool, true, false, List, [], ◌∷◌, ◌++◌, length, refl, sym, ap, subst, inl}
-use Rattle.std.proofs.Common.{inr, ◌∙◌, arith, length-append}
-use Rattle.std.specs.Prelude.{◌≢◌, Option, Some, None, Result, Ok, Err, is_none, not}
+use Rattle.std.proofs.Common.{inr, ◌∙◌, arith, length-append, ◌≢◌, Option, Some, None, Result, Ok, Err, is_none, not}
 use Rattle.std.specs.Str.{bytes_eq}
 use Rattle.std.proofs.lemmas.Bool.{cases_Bool}
 use Rattle.machine_spec.specs.{Image.Program, Image.program_of, declared.helper.Table.Table}
-use Rattle.log_spec.specs.declared.event.Reply.TheVariants.{Loaded}
-use Rattle.log_spec.specs.Worlds.{World}
-use Rattle.log_spec.specs.declared.event.Refusal.{Refusal}
+use Rattle.log_spec.specs.{declared.event.Reply.TheVariants.Loaded, Worlds.World, declared.event.Refusal.Refusal}
 use Rattle.log_spec.specs.declared.event.Refusal.TheVariants as refusal
 use Rattle.log_spec.specs.Catalogue.{ProgramTable, Entry, Version, LiveTable, IsLast, IsLive, among, count_of, has_name}
 use Rattle.log_spec.specs.Catalogue.{programs_of, with_program, with_version, name_refusal, live_refusal, first_refusal}
 use Rattle.log_spec.specs.Catalogue.{IsFirstRefusal, IsLoadRefusal, IsLiveRefusal}
-use Rattle.catalogue.specs.declared.fault.CatFault.{CatFault}
+use Rattle.catalogue.specs.{declared.fault.CatFault.CatFault, Faults.IsFaultOf, Catalogues.Publishes}
+use Rattle.catalogue.specs.{CoreTie.refusal_for, CoreTie.DoesInCore}
 use Rattle.catalogue.specs.declared.fault.CatFault.TheVariants as fault
-use Rattle.catalogue.specs.Faults.{IsFaultOf}
-use Rattle.catalogue.specs.Catalogues.{Publishes}
-use Rattle.catalogue.specs.CoreTie.{refusal_for, DoesInCore}
 use Rattle.catalogue.proofs.VersionLaws.{same_bytes}
 
 -- a fault that isn't for memory has a refusal behind it

@@ -1,5 +1,3 @@
 pub mod CoreLaws
-pub mod LoadFaults
-pub mod LoadLaws
 pub mod PublicationLaws
 pub mod VersionLaws

@@ -40,9 +40,6 @@ admits table views is = record {
       (at_snoc views first_readings v seat at);
 }
 
-pub first_published : IsPublished [] (first_readings ∷ [])
-first_published = admits [] [] (record { loads = []; made = refl; known = λ seat v at. absurd cc })
-
 -- a reader that looks at the table knows the loads that made it
 pub looks : (seat : ℕ) (v : Readings) → Turns IsPublished seat v (λ x. x) (λ v x y w. Reads v x w)
 looks seat v table views is at =

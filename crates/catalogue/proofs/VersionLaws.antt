@@ -1,17 +1,15 @@
 -- Versions of names: the newest of several, and what is kept of each name.
 use Rattle.std.proofs.Common.{◌≡◌, ℕ, zero, suc, ◌<◌, Bool, true, false, List, [], ◌∷◌, ◌++◌, length, take, get_or, set}
-use Rattle.std.proofs.Common.{refl, sym, ap, subst, inl, inr, ◌∙◌, arith}
-use Rattle.std.specs.Prelude.{◌≢◌, nat_lt, Some, None, Option, Result, Ok, Err, IfOk, OnOk, OnErr, if◌then◌else◌}
-use Rattle.std.proofs.lemmas.Bool.Decides.{nat_tests}
+use Rattle.std.proofs.Common.{refl, sym, ap, subst, inl, inr, ◌∙◌, arith, ◌≢◌, nat_lt, Some, None, Option, Result, Ok}
+use Rattle.std.proofs.Common.{Err, IfOk, OnOk, OnErr, if◌then◌else◌}
+use Rattle.std.proofs.{lemmas.Bool.Decides.nat_tests, lemmas.Slice.Eq.bytes_eq-Decides}
 use Rattle.std.proofs.lemmas.Bool.{cases_Bool, cond_both, false_from_ne_true}
-use Rattle.std.specs.Str.{bytes_eq}
-use Rattle.std.proofs.lemmas.Slice.Eq.{bytes_eq-Decides}
-use Rattle.std.specs.declared.sync.Arc.{Arc}
+use Rattle.std.specs.{Str.bytes_eq, declared.sync.Arc.Arc}
 use Rattle.machine_spec.specs.Image.{Program}
-use Rattle.log_item.specs.declared.{program.Program.Program as Loaded}
+use Rattle.log_item.specs.declared.program.Program.{Program as Loaded}
 use Rattle.catalogue.specs.declared.fault.CatFault.{CatFault}
 use Rattle.log_spec.specs.Catalogue.{Version, among, with_version}
-use Rattle.catalogue.specs.Versions.{number_and_program, under_name, newer, SeesNewest, Keeps, IsNoOlder, IsThisOrLater}
+use Rattle.catalogue.specs.Versions.{number_and_program, under_name, newer, SeesNewest, Keeps, IsNoOlder}
 
 none_split : (b : Bool) (x : ℕ × Program) (y : Option (ℕ × Program)) → (if b then Some x else y) ≡ None →
     (b ≡ false) × (y ≡ None)
@@ -167,27 +165,6 @@ never_back known name read old new found finds other =
     ]
 
 -- ---- what is known is found
-
-this_or_later-newer : (known : Version) (first second : Option (ℕ × Program)) → IsThisOrLater known first →
-    IsThisOrLater known (newer first second)
-this_or_later-newer known None second h = absurd h
-this_or_later-newer known (Some first) None h = h
-this_or_later-newer known (Some first) (Some second) h =
-    cond_both (nat_lt first.0 second.0) (Some second) (Some first)
-    (λ (found : Option (ℕ × Program)). IsThisOrLater known found)
-    (λ lt. let above : first.0 < second.0 = grind (arith, nat_tests) in
-    (omega (arith, h.0), λ same. absurd (omega (arith, h.0)))) (λ ge. h)
-
-pub known_found : (known : Version) (name : List ℕ) (read : Option (ℕ × Program)) (old new : List Version)
-    (found : Option (ℕ × Program)) → SeesNewest known name read old new found → known.name ≡ name →
-    IsThisOrLater known found
-known_found known name read old new found finds e =
-    let before = among old name in let mine = under_name known name in
-    let itself : mine ≡ Some (known.number, known.program) = rw (bytes_eq-same known.name name e) refl in
-    let first : IsThisOrLater known mine =
-    subst (λ (last : Option (ℕ × Program)). IsThisOrLater known last) (sym itself) (omega arith, λ _. refl) in
-    subst (λ (last : Option (ℕ × Program)). IsThisOrLater known last) (sym finds.newest)
-    (this_or_later-newer known (newer mine before) read (this_or_later-newer known mine before first))
 
 -- the same of a call that fails, too
 pub never_back-result : {Z : Type 0} (known : Version) (name : List ℕ) (read : Option (ℕ × Program))

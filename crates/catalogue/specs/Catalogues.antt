@@ -4,8 +4,7 @@ use Rattle.machine_spec.specs.Image.{Program}
 use Rattle.log_spec.specs.declared.event.Refusal.{Refusal}
 use Rattle.log_spec.specs.Catalogue.{Version, LiveTable, IsLiveRefusal, next_version, with_version}
 use Rattle.program_table.specs.Tables.{RefusedAs}
-use Rattle.catalogue.specs.declared.fault.CatFault.{CatFault}
-use Rattle.catalogue.specs.Faults.{IsFaultOf}
+use Rattle.catalogue.specs.{declared.fault.CatFault.CatFault, Faults.IsFaultOf}
 
 -- A load that isn't refused makes the name's next version; else the refusal is the first one.
 abbrev pub LoadsAs : LiveTable → List ℕ → Program → Result Version Refusal → Type 0

@@ -2,14 +2,12 @@
 use Rattle.std.specs.Prelude.{◌≡◌, ◌≢◌, ℕ, List, Option, Some, None, Result, Ok, Err}
 use Rattle.machine_spec.specs.{Image.program_of, declared.helper.Table.Table}
 use Rattle.log_spec.specs.declared.event.Event.TheVariants as event
-use Rattle.log_spec.specs.declared.event.Refusal.{Refusal}
-use Rattle.log_spec.specs.declared.event.Reply.TheVariants.{Loaded}
+use Rattle.log_spec.specs.declared.{event.Refusal.Refusal, event.Reply.TheVariants.Loaded}
 use Rattle.log_spec.specs.Catalogue.{Version, LiveTable, IsLive, with_program}
 use Rattle.log_spec.specs.Worlds.{World, IsRefusal, Happens}
-use Rattle.catalogue.specs.declared.fault.CatFault.{CatFault}
+use Rattle.catalogue.specs.{declared.fault.CatFault.CatFault, Catalogues.Publishes}
 use Rattle.log_spec.specs.declared.event.Refusal.TheVariants as refusal
 use Rattle.catalogue.specs.declared.fault.CatFault.TheVariants as fault
-use Rattle.catalogue.specs.Catalogues.{Publishes}
 
 -- The refusal of the core for which a load has this fault; none for a fault that the core doesn't have, and for memory.
 abbrev pub refusal_for : CatFault → Option Refusal

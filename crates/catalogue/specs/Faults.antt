@@ -1,9 +1,8 @@
 -- Refusals of a load as faults of the catalogue.
 use Rattle.std.specs.Prelude.{ℕ, List, Some}
 use Rattle.machine_spec.specs.Image.{Program}
-use Rattle.log_spec.specs.declared.event.Refusal.{Refusal}
+use Rattle.log_spec.specs.{declared.event.Refusal.Refusal, Catalogue.LiveTable, Catalogue.IsLiveRefusal}
 use Rattle.log_spec.specs.declared.event.Refusal.TheVariants as refusal
-use Rattle.log_spec.specs.Catalogue.{LiveTable, IsLiveRefusal}
 use Rattle.catalogue.specs.declared.fault.CatFault.{CatFault}
 use Rattle.catalogue.specs.declared.fault.CatFault.TheVariants as fault
 

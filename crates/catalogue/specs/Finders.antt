@@ -2,9 +2,7 @@
 use Rattle.std.specs.Prelude.{ℕ, List, Option}
 use Rattle.machine_spec.specs.Image.{Program}
 use Rattle.log_spec.specs.Catalogue.{Version, LiveTable, among}
-use Rattle.catalogue.specs.declared.readings.Readings.{Readings}
-use Rattle.catalogue.specs.Publications.{Reads}
-use Rattle.catalogue.specs.Versions.{SeesNewest}
+use Rattle.catalogue.specs.{declared.readings.Readings.Readings, Publications.Reads, Versions.SeesNewest}
 
 -- What contracts see of a finder: the versions that it returned, the last one of each name, and its readings of the
 -- published table.

@@ -1,10 +1,8 @@
 -- Versions of names, and the newest of several.
 use Rattle.std.specs.Prelude.{◌≡◌, ◌≢◌, ℕ, ◌≤◌, nat_lt, if◌then◌else◌, List, Option, Some, None}
-use Rattle.std.specs.Str.{bytes_eq}
-use Rattle.std.specs.Arc.{arc_value}
-use Rattle.std.specs.declared.sync.Arc.{Arc}
+use Rattle.std.specs.{Str.bytes_eq, Arc.arc_value, declared.sync.Arc.Arc}
 use Rattle.machine_spec.specs.Image.{Program}
-use Rattle.log_item.specs.declared.{program.Program.Program as Loaded}
+use Rattle.log_item.specs.declared.program.Program.{Program as Loaded}
 pub use Rattle.log_spec.specs.Catalogue.{Version, among}
 
 -- a version's number and program, as they are seen

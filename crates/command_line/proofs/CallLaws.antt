@@ -1,14 +1,10 @@
 -- Words of a call, no two of which are the same.
 use Rattle.std.proofs.Common.{◌≡◌, ◌≢◌, ℕ, ◌+◌, ◌<◌, ◌≤◌, true, false, List, [], length, take, get_or, sym, ap, subst}
-use Rattle.std.proofs.Common.{◌∙◌}
-use Rattle.std.proofs.Common.{⊎_elim, arith, string_bytes}
-use Rattle.std.specs.Prelude.{string_eq}
-use Rattle.std.specs.List.{list_any}
-use Rattle.std.specs.declared.string.String.{String}
-use Rattle.std.proofs.lemmas.Bool.{cases_lt, true≢false}
-use Rattle.std.proofs.lemmas.List.{get_or-take, get_or-map, length-take}
-use Rattle.std.proofs.lemmas.List.Folds.{list_any_at}
+use Rattle.std.proofs.Common.{◌∙◌, ⊎_elim, arith, string_bytes, string_eq}
+use Rattle.std.specs.{List.list_any, declared.string.String.String}
+use Rattle.std.proofs.{lemmas.Bool.cases_lt, lemmas.Bool.true≢false, lemmas.List.Folds.list_any_at}
 use Rattle.std.proofs.lemmas.Slice.Eq.{bytes_eq-Decides}
+use Rattle.std.proofs.lemmas.List.{get_or-take, get_or-map, length-take}
 use Rattle.script.specs.Words.{word_at}
 use Rattle.command_line.specs.Calls.{names_of}
 

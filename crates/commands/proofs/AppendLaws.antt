@@ -1,13 +1,11 @@
 -- What a line appends of a reader's bytes, and what it prints of that.
 use Rattle.std.proofs.Common.{◌≡◌, ◌≢◌, ℕ, ◌<◌, ◌≤◌, List, [], ◌∷◌, ◌++◌, ◌-◌, length, take, drop, Result, Ok, Err}
-use Rattle.std.proofs.Common.{refl, sym, ap, subst, inl, inr, ◌∙◌, append-nil, arith}
-use Rattle.std.proofs.Math.Seq.{drop-append_seam}
-use Rattle.std.proofs.lemmas.List.{take_all, length-drop}
-use Rattle.std.specs.Prelude.{Option, Some, None, IfSome, ⊤}
+use Rattle.std.proofs.Common.{refl, sym, ap, subst, inl, inr, ◌∙◌, append-nil, arith, Option, Some, None, IfSome}
+use Rattle.std.proofs.{Math.Seq.drop-append_seam, lemmas.List.take_all, lemmas.List.length-drop}
+use Rattle.std.specs.Prelude.{⊤}
 use Rattle.std.specs.Io.KnownBytes.{Appends, Consumes, IsAtEnd}
-use Rattle.wire_spec.specs.declared.fault.BatchFault.{BatchFault}
+use Rattle.wire_spec.specs.{declared.fault.BatchFault.BatchFault, BatchReading.batch_at}
 use Rattle.wire_spec.specs.declared.fault.BatchFault.TheVariants as faults
-use Rattle.wire_spec.specs.BatchReading.{batch_at}
 use Rattle.wire_spec.proofs.MoreBytes.{batch_at-part, batch_at-append}
 use Rattle.part_log.specs.Parts.{Received}
 use Rattle.part_log.specs.declared.fault.LogFault.TheVariants as log

@@ -1,12 +1,10 @@
 -- What files have after a text was assembled.
 use Rattle.std.proofs.Common.{◌≡◌, ◌≢◌, ◌⊎◌, ℕ, List, Option, Result, Ok, Err, refl, sym, subst, inl, inr}
 use Rattle.wire_spec.specs.Memory.{IsFault}
-use Rattle.bpf_asm.specs.Images.{image_of}
-use Rattle.bpf_asm.specs.declared.fault.AsmFault.{AsmFault}
+use Rattle.bpf_asm.specs.{Images.image_of, declared.fault.AsmFault.AsmFault}
 use Rattle.bpf_asm.specs.declared.fault.AsmFault.TheVariants as asm
-use Rattle.commands.specs.declared.status.Status.{Status}
+use Rattle.commands.specs.{declared.status.Status.Status, Texts.WritesAs, Texts.status_of_fault}
 use Rattle.commands.specs.declared.status.Status.TheVariants.{Done, Refused, Failed}
-use Rattle.commands.specs.Texts.{WritesAs, status_of_fault}
 
 -- a file or memory failed, and the file has what it had
 pub unwritten : (said : Result (List ℕ) AsmFault) (status : Status) (before after : Option (List ℕ)) → status ≡ Failed →

@@ -3,12 +3,9 @@ use Rattle.std.proofs.Common.{◌≡◌, ℕ, List, Option, Result, Ok, Err, sym
 use Rattle.std.specs.Io.KnownBytes.{Appends}
 use Rattle.wire_spec.specs.Memory.{AnswersAs}
 use Rattle.machine_spec.specs.Image.{Program}
-use Rattle.commands.specs.declared.image.Refused.{Refused}
+use Rattle.commands.specs.declared.{image.Refused.Refused, status.Status.Status, status.Status.TheVariants.Failed}
 use Rattle.commands.specs.declared.image.Refused.TheVariants as refused
-use Rattle.commands.specs.declared.status.Status.{Status}
-use Rattle.commands.specs.declared.status.Status.TheVariants.{Failed}
-use Rattle.commands.specs.Images.{ChecksAs, PrintsCheck}
-use Rattle.commands.specs.Texts.{PrintsAs}
+use Rattle.commands.specs.{Images.ChecksAs, Images.PrintsCheck, Texts.PrintsAs}
 
 pub checked : {X : Type 0} (program : Program) (view : X → List ℕ) (answer : Result X Refused) (status : Status)
     (before after : Option (List ℕ)) → ChecksAs program view answer → PrintsAs view answer status before after →

@@ -1,40 +1,32 @@
 -- What the files of a transform have.
 use Rattle.std.proofs.Common.{◌≡◌, ◌≢◌, ◌⊎◌, ℕ, ◌+◌, ◌<◌, ◌≤◌, Bool, true, false, List, [], ◌∷◌, ◌++◌, length, Option}
-use Rattle.std.proofs.Common.{Some, None}
-use Rattle.std.proofs.Common.{Result, Ok, Err, refl, sym, ap, subst, inl, inr, ⊎_elim, ◌∙◌, arith}
-use Rattle.std.specs.Prelude.{◌-◌, All, IfSome, string_bytes}
-use Rattle.std.specs.declared.string.String.{String}
-use Rattle.std.specs.Io.KnownBytes.{IsAtEnd}
-use Rattle.std.proofs.lemmas.Bool.{cases_lt}
-use Rattle.std.proofs.lemmas.List.Elements.{All-push}
+use Rattle.std.proofs.Common.{Some, None, Result, Ok, Err, refl, sym, ap, subst, inl, inr, ⊎_elim, ◌∙◌, arith, ◌-◌, All}
+use Rattle.std.proofs.Common.{IfSome, string_bytes}
+use Rattle.std.specs.{declared.string.String.String, Io.KnownBytes.IsAtEnd}
+use Rattle.std.proofs.{lemmas.Bool.cases_lt, lemmas.List.Elements.All-push}
 use Rattle.std.proofs.lemmas.List.{get_or_append_left, get_or_push, length_push, length-map}
 use Rattle.wire_spec.specs.declared.record.Batch.{Batch}
-use Rattle.machine_spec.specs.Image.{Program, program_of}
-use Rattle.machine_spec.specs.declared.helper.Table.{Table}
+use Rattle.machine_spec.specs.{Image.Program, Image.program_of, declared.helper.Table.Table}
 use Rattle.log_spec.specs.declared.row.Row.{Row}
 use Rattle.batch.specs.Streams.{Open}
 use Rattle.batch_reader.specs.declared.reader.ReadFault.TheVariants as read
 use Rattle.batch_reader.specs.Readings.{Inlet, inlet, none_given, BeginsBadly}
-use Rattle.transform.specs.declared.{stream.StreamFault.StreamFault, outlet.OutletFault.OutletFault}
+use Rattle.transform.specs.{declared.stream.StreamFault.StreamFault, declared.outlet.OutletFault.OutletFault}
+use Rattle.transform.specs.Streams.{TransformsAll}
 use Rattle.transform.specs.declared.stream.StreamFault.TheVariants as fault
 use Rattle.transform.specs.declared.flow.TransformFault.TheVariants as stop
 use Rattle.transform.specs.declared.outlet.OutletFault.TheVariants as outlet
 use Rattle.transform.specs.Backlogs.{Waiting, waiting, with_rows}
 use Rattle.transform.specs.Outlets.{Outflow, outflow, WroteBatches, IsTooMany}
-use Rattle.transform.specs.Streams.{TransformsAll}
-use Rattle.transform.specs.Transforms.{Flow, flow, none_counted, output_at, AreRows, AreRowsOfALog, FillsAll}
-use Rattle.transform.specs.Transforms.{FillsSome, StopsFilling, Finished, Broken}
+use Rattle.transform.specs.Transforms.{Flow, flow, none_counted, output_at, AreRows, AreRowsOfALog, FillsAll, FillsSome}
+use Rattle.transform.specs.Transforms.{StopsFilling, Finished, Broken}
 use Rattle.script.specs.Words.{word_at}
-use Rattle.commands.specs.declared.halts.Halt.{Halt}
+use Rattle.commands.specs.declared.{halts.Halt.Halt, status.Status.Status, status.Status.TheVariants.Failed}
 use Rattle.commands.specs.declared.halts.Halt.TheVariants as halt
-use Rattle.commands.specs.declared.status.Status.{Status}
-use Rattle.commands.specs.declared.status.Status.TheVariants.{Failed}
 use Rattle.command_line.specs.Calls.{names_of, AreDistinct}
-use Rattle.commands.specs.FileTransforms.{KeepsOthers, HasRows, IsFresh, HasWritten, HaveWritten, StreamsAs}
-use Rattle.commands.specs.FileTransforms.{Overfills, TransformsAs, CallTransforms, IsUnloaded, status_of}
-use Rattle.commands.specs.FileTransforms.{status_of_halt}
-use Rattle.commands.specs.Images.{first_bytes}
-use Rattle.commands.specs.Listings.{source_of}
+use Rattle.commands.specs.FileTransforms.{KeepsOthers, HasRows, IsFresh, HasWritten, HaveWritten, StreamsAs, Overfills}
+use Rattle.commands.specs.FileTransforms.{TransformsAs, CallTransforms, IsUnloaded, status_of, status_of_halt}
+use Rattle.commands.specs.{Images.first_bytes, Listings.source_of}
 
 -- ---- All other files
 
@@ -69,9 +61,6 @@ sources_kept names before after distinct kept word first =
     kept (word_at names word) (λ output within e. distinct word (output + 2) (omega (arith, first)) within (sym e))
 
 -- ---- One file after the other
-
-pub held_none : (names : List (List ℕ)) (files : List ℕ → Option (List ℕ)) → HaveWritten names [] files
-held_none names files output lt within = absurd (omega arith)
 
 pub held_more : (names : List (List ℕ)) (before after : List ℕ → Option (List ℕ)) (index : ℕ) (done : List Outflow)
     (last : Outflow) → AreDistinct names → index ≡ length done → HaveWritten names done before →

@@ -1,17 +1,13 @@
 -- What a listing printed, and a reader with a buffer.
-use Rattle.std.proofs.Common.{◌≡◌, ◌⊎◌, ℕ, List, [], Option, None, Result, Ok, Err, subst, inl, inr}
-use Rattle.std.specs.Prelude.{if◌then◌else◌, ◌==◌}
-use Rattle.std.specs.Io.KnownBytes.{Keeps, prepend_known}
-use Rattle.std.specs.Io.Buffered.{reader_remaining, reader_buffer, reader_capacity, reader_inner}
-use Rattle.std.specs.declared.io.buffered.BufReader.{BufReader}
-use Rattle.std.proofs.KnownBytes.{Appends-kept, prepend_known-nil}
+use Rattle.std.proofs.Common.{◌≡◌, ◌⊎◌, ℕ, List, [], Option, Result, Ok, Err, inl, inr}
+use Rattle.std.specs.Io.KnownBytes.{Keeps}
+use Rattle.std.proofs.KnownBytes.{Appends-kept}
 use Rattle.wire_spec.specs.declared.record.Batch.{Batch}
-use Rattle.batch_text.specs.declared.listing.{Listing.Listing, ListFault.ListFault}
+use Rattle.batch_text.specs.declared.{listing.Listing.Listing, listing.ListFault.ListFault}
 use Rattle.batch_text.specs.declared.listing.ListFault.TheVariants as fault
 use Rattle.batch_text.specs.Listings.{Listed, Lists, ListsKnown, texts_of}
-use Rattle.commands.specs.declared.status.Status.{Status}
-use Rattle.commands.specs.declared.status.Status.TheVariants.{Failed}
-use Rattle.commands.specs.Listings.{status_of_listed, ListsAs}
+use Rattle.commands.specs.{declared.status.Status.Status, declared.status.Status.TheVariants.Failed}
+use Rattle.commands.specs.{Listings.status_of_listed, Listings.ListsAs}
 
 listed_kept : (listing : Listing) (bytes : List ℕ) (batches : List Batch) (rest : List ℕ)
     (before mid after : Option (List ℕ)) → Listed listing bytes batches rest before mid → Keeps mid after →
@@ -42,21 +38,3 @@ listed_as listing known before mid after result status lists keeps told bytes kn
       | inl is ↦ inr (result, is, kept listing bytes before mid after result (lists bytes known_is) keeps)
       | inr is_failed ↦ inl is_failed
     ]
-
-pub failed_as : (listing : Listing) (known before after : Option (List ℕ)) (status : Status) → status ≡ Failed →
-    ListsAs listing known status before after
-failed_as listing known before after status is_failed bytes known_is = inl is_failed
-
-pub same_source : (listing : Listing) (given known before after : Option (List ℕ)) (status : Status) → given ≡ known →
-    ListsAs listing given status before after → ListsAs listing known status before after
-same_source listing given known before after status same lists =
-    subst (λ (k : Option (List ℕ)). ListsAs listing k status before after) same lists
-
-by_parts : (capacity : ℕ) (buffer : List ℕ) (known : Option (List ℕ)) → capacity ≡ 65536 → buffer ≡ [] →
-    (if capacity == 0 then None else prepend_known buffer known) ≡ known
-by_parts capacity buffer known room empty = rw (room, empty) (prepend_known-nil known)
-
--- a fresh buffer gives the reader's bytes
-pub fresh : {R A : Type 0} (remaining : R → Option (List ℕ)) (r : BufReader R A) → reader_capacity r ≡ 65536 →
-    reader_buffer r ≡ [] → reader_remaining remaining r ≡ remaining (reader_inner r)
-fresh remaining r room empty = by_parts (reader_capacity r) (reader_buffer r) (remaining (reader_inner r)) room empty

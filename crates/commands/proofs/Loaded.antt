@@ -1,14 +1,11 @@
 -- What a load, a fetch and a report print.
-use Rattle.std.proofs.Common.{◌≡◌, List, ℕ, sym, subst}
-use Rattle.std.specs.Prelude.{Option, Ok}
+use Rattle.std.proofs.Common.{◌≡◌, List, ℕ, sym, subst, Option, Ok}
 use Rattle.std.specs.Io.KnownBytes.{Appends}
 use Rattle.machine_spec.specs.{Image.program_of, declared.helper.Table.Table}
 use Rattle.script.specs.Texts.{load_line, fetch_line}
 use Rattle.catalogue.specs.Versions.{Version}
-use Rattle.broker.specs.Deployments.{LoadIs}
-use Rattle.broker.specs.Fetches.{IsFetch}
-use Rattle.report.specs.Snapshots.{Gathered, IsGathered}
-use Rattle.report.specs.Texts.{report_text}
+use Rattle.broker.specs.{Deployments.LoadIs, Fetches.IsFetch}
+use Rattle.report.specs.{Snapshots.Gathered, Snapshots.IsGathered, Texts.report_text}
 use Rattle.commands.specs.Sessions.{Loads, Fetches, Reports}
 
 pub loads : (name text image : List ℕ) (table : Table) (loaded : ℕ × Version) (before after : Option (List ℕ)) →

@@ -1,14 +1,11 @@
 -- A deployment's receipt is that of a mark.
 use Rattle.std.proofs.Common.{◌≡◌, List, ℕ, ◌<◌, ◌≤◌, Result, Ok, Err, IfErr, IsErrAnd, sym, subst, inr}
 use Rattle.part_log.specs.Parts.{Received}
-use Rattle.catalogue.specs.Finders.{Seen}
-use Rattle.catalogue.specs.Versions.{Version}
-use Rattle.broker.specs.Deployments.{IsNoReader, DeployIs}
-use Rattle.broker.specs.declared.fault.BrokerFault.{BrokerFault}
+use Rattle.catalogue.specs.{Finders.Seen, Versions.Version}
+use Rattle.broker.specs.{Deployments.IsNoReader, Deployments.DeployIs, declared.fault.BrokerFault.BrokerFault}
 use Rattle.broker.specs.declared.fault.BrokerFault.TheVariants.{Partition}
-use Rattle.commands.specs.declared.stop.Stop.{Stop}
+use Rattle.commands.specs.{declared.stop.Stop.Stop, Stops.stop_of_broker, Stops.HasNoFinder}
 use Rattle.commands.specs.Sessions.{IsMark, Refuses, MarkFails}
-use Rattle.commands.specs.Stops.{stop_of_broker, HasNoFinder}
 use Rattle.commands.proofs.StopLaws.{refuses}
 
 -- A broker with `number` input partitions deploys; a session has as many.

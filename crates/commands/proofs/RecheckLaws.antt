@@ -1,35 +1,22 @@
 -- What is told of the programs of a list, line by line.
-use Rattle.std.proofs.Common.{◌≡◌, ◌⊎◌, ℕ, ◌+◌, ◌<◌, List, [], ◌∷◌, ◌++◌, length, take, drop, Result, Ok, Err}
-use Rattle.std.proofs.Common.{Option, Some, None, Bool, true, false, ◌||◌, refl, sym, ap, subst, inr, ◌∙◌}
-use Rattle.std.proofs.Common.{append-nil, append_assoc, arith}
-use Rattle.std.proofs.Math.Path.{fun_ext}
+use Rattle.std.proofs.Common.{◌≡◌, ◌⊎◌, ℕ, ◌+◌, ◌<◌, List, [], ◌∷◌, ◌++◌, length, take, drop, Result, Ok, Err, Option}
+use Rattle.std.proofs.Common.{Bool, true, false, ◌||◌, refl, sym, ap, subst, inr, ◌∙◌, append-nil, arith}
+use Rattle.std.proofs.{Math.Path.fun_ext, lemmas.List.Folds.list_any-append, lemmas.Slice.Zip.all_zipped_more}
+use Rattle.std.proofs.{lemmas.Slice.Zip.AllZip-long, KnownBytes.Appends-nil, KnownBytes.Appends-trans}
+use Rattle.std.proofs.Math.Bool.{or-false}
 use Rattle.std.proofs.lemmas.List.{flat_map_more, drop_more, take_more, take-append-drop, length-take}
-use Rattle.std.proofs.lemmas.List.Folds.{list_any-append}
-use Rattle.std.proofs.lemmas.Slice.Zip.{all_zipped_more, AllZip-long}
-use Rattle.std.specs.List.{AllZip}
-use Rattle.std.specs.Result.{is_err}
-use Rattle.std.specs.Io.KnownBytes.{Appends}
+use Rattle.std.specs.{List.AllZip, Result.is_err, Io.KnownBytes.Appends}
 use Rattle.machine_spec.specs.{Image.Program, Image.program_of, declared.helper.Table.Table}
-use Rattle.verifier_spec.specs.Loading.{IsAccepted, IsRefusedWith}
-use Rattle.verifier_spec.specs.declared.fault.LoadFault.{LoadFault}
-use Rattle.script.specs.declared.command.Source.TheVariants.{File}
-use Rattle.script.specs.Words.{word_at}
-use Rattle.commands.specs.declared.{run.Ended.Ended, stop.Stop.Stop}
-use Rattle.commands.specs.declared.status.Status.{Status}
+use Rattle.verifier_spec.specs.{Loading.IsAccepted, Loading.IsRefusedWith, declared.fault.LoadFault.LoadFault}
+use Rattle.script.specs.{declared.command.Source.TheVariants.File, Words.word_at}
+use Rattle.commands.specs.declared.{run.Ended.Ended, stop.Stop.Stop, status.Status.Status}
 use Rattle.commands.specs.declared.status.Status.TheVariants.{Failed}
 use Rattle.commands.specs.declared.stop.Stop.TheVariants as stop
-use Rattle.commands.specs.Appends.{Prints}
-use Rattle.commands.specs.Images.{accepted_line}
-use Rattle.commands.specs.Sessions.{IsImageIn}
-use Rattle.commands.specs.Stops.{IsUnwritten}
+use Rattle.commands.specs.{Appends.Prints, Images.accepted_line, Sessions.IsImageIn, Stops.IsUnwritten}
 use Rattle.commands.specs.Rechecks.{NamesProgram, Told, IsTold, ImageTells, StopsAt, LineTells, verdict_line}
 use Rattle.commands.specs.Rechecks.{told_lines, has_refused, lines_of, Rechecks, status_of_list, RechecksAs}
 
 -- ---- one program
-
-nothing_appended : (before : Option (List ℕ)) → Appends before before []
-nothing_appended None = tt
-nothing_appended (Some bytes) = sym (append-nil bytes)
 
 pub accepted_told : (file text : List ℕ) (program : Program) (before after : Option (List ℕ))
     (accepted : IsAccepted program) → text ≡ accepted_line (length accepted.code) →
@@ -43,7 +30,7 @@ accepted_told file text program before after accepted is printed = (
 
 pub refused_told : (file : List ℕ) (program : Program) (before : Option (List ℕ)) (fault : LoadFault) →
     IsRefusedWith program fault → ImageTells file program before before (Ok true)
-refused_told file program before fault is = (Err fault, is, refl, nothing_appended before)
+refused_told file program before fault is = (Err fault, is, refl, Appends-nil before)
 
 -- ---- one line
 
@@ -76,30 +63,17 @@ pub record Rechecked (files now : List ℕ → Option (List ℕ)) (done : List (
   pub refused_is : refused ≡ has_refused told
   pub printed : Appends before after (told_lines told)
 
--- text after text
-appended : (before between after : Option (List ℕ)) (text more : List ℕ) → Appends before between text →
-    Appends between after more → Appends before after (text ++ more)
-appended None between after text more first second = tt
-appended (Some xs) None after text more first second = absurd first
-appended (Some xs) (Some ys) None text more first second = absurd second
-appended (Some xs) (Some ys) (Some zs) text more first second =
-    second ∙ ap (λ (front : List ℕ). front ++ more) first ∙ append_assoc xs text more
-
 -- a file whose known bytes are the same is read as the same image
 same_image : (files now : List ℕ → Option (List ℕ)) → ((name : List ℕ) → now name ≡ files name) →
     (file image : List ℕ) →
     IsImageIn now (File file) image → IsImageIn files (File file) image
 same_image files now kept file image held = λ bytes known. held bytes (kept file ∙ known)
 
-or_false : (b : Bool) → (b || false) ≡ b
-or_false true = refl
-or_false false = refl
-
 one_refused : (told : List Told) (next : Told) (refused is_refused : Bool) → refused ≡ has_refused told →
     is_refused ≡ is_err next.verdict → (refused || is_refused) ≡ has_refused (told ++ next ∷ [])
 one_refused told next refused is_refused same one =
     ap (λ (r : Bool). r || is_refused) same
-    ∙ ap (λ (r : Bool). has_refused told || r) (one ∙ sym (or_false (is_err next.verdict)))
+    ∙ ap (λ (r : Bool). has_refused told || r) (one ∙ sym (or-false (is_err next.verdict)))
     ∙ sym (list_any-append (λ (t : Told). is_err t.verdict) told (next ∷ []))
 
 one_more : (files now later : List ℕ → Option (List ℕ)) (done : List (List ℕ)) (line : List ℕ)
@@ -119,8 +93,8 @@ one_more files now later done line refused is_refused before between after so_fa
       refused_is = one_refused so_far.told next refused is_refused so_far.refused_is one;
       printed = subst (Appends before after)
           (flat_map_more (λ (t : Told). verdict_line t.file t.verdict) [] so_far.told next)
-          (appended before between after (told_lines so_far.told) (verdict_line next.file next.verdict) so_far.printed
-          printed);
+          (Appends-trans before between after (told_lines so_far.told) (verdict_line next.file next.verdict)
+          so_far.printed printed);
     }
 
 pub next_told : (files now later : List ℕ → Option (List ℕ)) (lines : List (List ℕ)) (index : ℕ) (line : List ℕ)
@@ -140,7 +114,7 @@ next_told files now later lines index line refused is_refused before between aft
 kept_text : (before between after : Option (List ℕ)) (text : List ℕ) → Appends before between text →
     Appends between after [] → Appends before after text
 kept_text before between after text printed nothing =
-    subst (Appends before after) (append-nil text) (appended before between after text [] printed nothing)
+    subst (Appends before after) (append-nil text) (Appends-trans before between after text [] printed nothing)
 
 prints_no_more : (before between after : Option (List ℕ)) (text : List ℕ) (reason : Stop) →
     Appends before between text → Prints between after [] (Err reason) → Prints before after text (Err reason)

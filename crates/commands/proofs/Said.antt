@@ -1,16 +1,14 @@
 -- What a line does, by the command that it is.
-use Rattle.std.proofs.Common.{◌≡◌, ◌⊎◌, List, ℕ, Bool, true, false, Result, Ok, Err, refl, sym, subst, inl, inr}
-use Rattle.std.specs.Prelude.{Option, Some, None, IfOk, IsErrAnd, ⊤}
+use Rattle.std.proofs.Common.{◌≡◌, ◌⊎◌, List, ℕ, Bool, true, false, Result, Ok, Err, refl, sym, subst, inl, inr, Option}
+use Rattle.std.proofs.Common.{Some, None, IfOk, IsErrAnd}
+use Rattle.std.specs.Prelude.{⊤}
 use Rattle.part_log.specs.Parts.{Received}
 use Rattle.broker.specs.Layouts.{Layout}
-use Rattle.script.specs.declared.command.Command.{Command}
+use Rattle.script.specs.{declared.command.Command.Command, declared.fault.ScriptFault.ScriptFault, Faults.fault_of}
 use Rattle.script.specs.declared.command.Command.TheVariants.{Partitions, Load, Deploy, Put, Append, Close, Fetch, Go}
-use Rattle.script.specs.declared.fault.ScriptFault.{ScriptFault}
 use Rattle.script.specs.declared.fault.ScriptFault.TheVariants.{Syntax, Order}
-use Rattle.script.specs.Faults.{fault_of}
-use Rattle.commands.specs.declared.stop.Stop.{Stop}
+use Rattle.commands.specs.{declared.stop.Stop.Stop, Appends.bytes_of, Appends.unread_of}
 use Rattle.commands.specs.declared.stop.Stop.TheVariants as stop
-use Rattle.commands.specs.Appends.{bytes_of, unread_of}
 use Rattle.commands.specs.Sessions.{Begins, IsLineFault, RefusesLine, MarkFails, DeployDoes, CommandDoes, LineDoes}
 use Rattle.commands.proofs.AppendLaws.{nothing}
 

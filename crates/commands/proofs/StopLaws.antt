@@ -1,21 +1,18 @@
 -- How the faults of a broker, a stream and a batch stop a command.
-use Rattle.std.proofs.Common.{◌≡◌, ◌≢◌, ◌⊎◌, ℕ, ◌≤◌, List, [], ◌∷◌, Result, Err, refl, sym, subst, inl, inr}
-use Rattle.std.specs.Prelude.{IfErr}
+use Rattle.std.proofs.Common.{◌≡◌, ◌≢◌, ◌⊎◌, ℕ, ◌≤◌, List, [], ◌∷◌, Result, Err, refl, sym, subst, inl, inr, IfErr}
 use Rattle.wire_spec.specs.declared.fault.BatchFault.{BatchFault}
 use Rattle.wire_spec.specs.declared.fault.BatchFault.TheVariants as batch
 use Rattle.part_log.specs.declared.fault.LogFault.TheVariants as log
 use Rattle.catalogue.specs.declared.fault.CatFault.TheVariants as catalogue
 use Rattle.out_book.specs.declared.fault.BookFault.TheVariants as book
-use Rattle.broker.specs.declared.fault.BrokerFault.{BrokerFault}
+use Rattle.broker.specs.declared.{fault.BrokerFault.BrokerFault, ended.Ended.Ended}
 use Rattle.broker.specs.declared.fault.BrokerFault.TheVariants as broker
-use Rattle.broker.specs.declared.ended.Ended.{Ended}
 use Rattle.broker.specs.declared.ended.Ended.TheVariants as ended
 use Rattle.report.specs.declared.fault.ReportFault.{ReportFault}
 use Rattle.report.specs.declared.fault.ReportFault.TheVariants as report
-use Rattle.commands.specs.declared.{reading.Unread.Unread, stop.Stop.Stop}
+use Rattle.commands.specs.{declared.reading.Unread.Unread, declared.stop.Stop.Stop, Sessions.Refuses}
 use Rattle.commands.specs.declared.reading.Unread.TheVariants as unread
 use Rattle.commands.specs.declared.stop.Stop.TheVariants as stop
-use Rattle.commands.specs.Sessions.{Refuses}
 use Rattle.commands.specs.Stops.{stop_of_fault, stop_of_broker, stop_of_report, stop_of_unread, end_of, or_else_ends}
 use Rattle.commands.specs.Stops.{end_of_all, IsUnwritten, IsNoLine}
 

@@ -1,6 +1,5 @@
 -- What standard output holds after a text was written and flushed.
-use Rattle.std.proofs.Common.{◌≡◌, ℕ, List, ◌∙◌, subst}
-use Rattle.std.specs.Prelude.{Option, Some, None, Result, Ok, Err, IfOk, IsOkAnd}
+use Rattle.std.proofs.Common.{◌≡◌, ℕ, List, ◌∙◌, subst, Option, Some, None, Result, Ok, Err, IfOk, IsOkAnd}
 use Rattle.std.specs.Io.KnownBytes.{Appends, Keeps}
 
 pub appended_and_kept : (before written flushed : Option (List ℕ)) (text : List ℕ) → Appends before written text →

@@ -1,20 +1,15 @@
 -- What a line does that appends record batches, and what it leaves where it ends early.
-use Rattle.std.specs.Prelude.{◌≡◌, ◌≢◌, ℕ, ◌<◌, ◌≤◌, List, [], length, Option, Some, Result, Ok, Err}
-use Rattle.std.specs.Prelude.{IfSome, ⊤}
-use Rattle.std.specs.List.{flat_map}
-use Rattle.std.specs.Io.KnownBytes.{Appends}
-use Rattle.wire_spec.specs.declared.record.Batch.{Batch}
-use Rattle.wire_spec.specs.BatchReading.{batch_at}
+use Rattle.std.specs.Prelude.{◌≡◌, ◌≢◌, ℕ, ◌<◌, ◌≤◌, List, [], length, Option, Some, Result, Ok, Err, IfSome, ⊤}
+use Rattle.std.specs.{List.flat_map, Io.KnownBytes.Appends}
+use Rattle.wire_spec.specs.{declared.record.Batch.Batch, BatchReading.batch_at}
 use Rattle.log_spec.specs.Logs.{records_among}
 use Rattle.part_log.specs.Parts.{Received}
-use Rattle.broker.specs.Streams.{Appended}
-use Rattle.broker.specs.declared.fault.BrokerFault.{BrokerFault}
+use Rattle.broker.specs.{Streams.Appended, declared.fault.BrokerFault.BrokerFault}
 use Rattle.broker.specs.declared.fault.BrokerFault.TheVariants.{Partition, NoProgram, Memory}
 use Rattle.broker.specs.declared.fault.BrokerFault.TheVariants.{Catalogue as CatalogueRefuses, Log as LogRefuses}
 use Rattle.broker.specs.declared.fault.BrokerFault.TheVariants.{Book as BookRefuses}
-use Rattle.script.specs.declared.command.Source.{Source}
+use Rattle.script.specs.{declared.command.Source.Source, Texts.append_line}
 use Rattle.script.specs.declared.command.Source.TheVariants.{Line, File}
-use Rattle.script.specs.Texts.{append_line}
 use Rattle.commands.specs.declared.stop.Stop.{Stop}
 use Rattle.commands.specs.declared.stop.Stop.TheVariants as stop
 

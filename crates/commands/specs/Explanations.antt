@@ -1,10 +1,9 @@
 -- What `explain` prints of a program.
 use Rattle.std.specs.Prelude.{◌≡◌, ◌⊎◌, ℕ, List, Option, Some, None, Err, string_bytes}
 use Rattle.std.specs.Io.KnownBytes.{Appends}
-use Rattle.machine_spec.specs.declared.instruction.IsaFault.{IsaFault}
-use Rattle.machine_spec.specs.Image.{Program, read_image}
-use Rattle.explain.specs.declared.{explanation.Explanation.Explanation, explanation.Refusal.Refusal, way.Extent.Extent}
-use Rattle.explain.specs.Explanations.{Explains}
+use Rattle.machine_spec.specs.{declared.instruction.IsaFault.IsaFault, Image.Program, Image.read_image}
+use Rattle.explain.specs.{declared.explanation.Explanation.Explanation, declared.explanation.Refusal.Refusal}
+use Rattle.explain.specs.{declared.way.Extent.Extent, Explanations.Explains}
 use Rattle.commands.specs.declared.status.Status.{Status}
 use Rattle.commands.specs.declared.status.Status.TheVariants.{Done, Refused, Failed}
 

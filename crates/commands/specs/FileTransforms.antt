@@ -2,34 +2,27 @@
 use Rattle.std.specs.Prelude.{◌≡◌, ◌≢◌, ◌⊎◌, ℕ, ◌+◌, ◌-◌, ◌<◌, ◌^◌, Bool, false, List, [], length, Option, Some, Result}
 use Rattle.std.specs.Prelude.{Ok, Err, ⊤, IfSome}
 use Rattle.std.specs.List.{concat}
-use Rattle.wire_spec.specs.declared.{record.Batch.Batch, fault.BatchFault.BatchFault}
+use Rattle.wire_spec.specs.{declared.record.Batch.Batch, declared.fault.BatchFault.BatchFault, BatchReading.batch_at}
 use Rattle.wire_spec.specs.declared.limits.TheConstants.{TIMESTAMP_END, MAX_RECORDS}
-use Rattle.wire_spec.specs.BatchReading.{batch_at}
-use Rattle.machine_spec.specs.Image.{Program, program_of}
-use Rattle.machine_spec.specs.declared.helper.Table.{Table}
-use Rattle.verifier_spec.specs.Loading.{IsRefusedWith}
-use Rattle.verifier_spec.specs.declared.fault.LoadFault.{LoadFault}
-use Rattle.log_spec.specs.declared.row.Row.{Row}
-use Rattle.log_spec.specs.Logs.{IsRowsOf}
+use Rattle.machine_spec.specs.{Image.Program, Image.program_of, declared.helper.Table.Table}
+use Rattle.verifier_spec.specs.{Loading.IsRefusedWith, declared.fault.LoadFault.LoadFault}
+use Rattle.log_spec.specs.{declared.row.Row.Row, Logs.IsRowsOf}
 use Rattle.batch.specs.Batches.{AreBatches}
 use Rattle.batch_reader.specs.declared.reader.ReadFault.TheVariants as read
 use Rattle.batch_reader.specs.Readings.{BeginsBadly}
-use Rattle.transform.specs.declared.stream.StreamFault.{StreamFault}
+use Rattle.transform.specs.{declared.stream.StreamFault.StreamFault, Backlogs.Waiting, Backlogs.waiting}
+use Rattle.transform.specs.Streams.{is_broken}
 use Rattle.transform.specs.declared.stream.StreamFault.TheVariants as fault
 use Rattle.transform.specs.declared.flow.TransformFault.TheVariants as stop
 use Rattle.transform.specs.declared.outlet.OutletFault.TheVariants as outlet
-use Rattle.transform.specs.Backlogs.{Waiting, waiting}
 use Rattle.transform.specs.Outlets as outlets
-use Rattle.transform.specs.Streams.{is_broken}
 use Rattle.transform.specs.Transforms.{log_of, output_at, records_of}
 use Rattle.script.specs.Words.{word_at}
-use Rattle.commands.specs.declared.halts.Halt.{Halt}
+use Rattle.commands.specs.declared.{halts.Halt.Halt, status.Status.Status}
 use Rattle.commands.specs.declared.halts.Halt.TheVariants as halt
-use Rattle.commands.specs.declared.status.Status.{Status}
 use Rattle.commands.specs.declared.status.Status.TheVariants.{Done, Refused, Failed}
 use Rattle.command_line.specs.Calls.{AreDistinct}
-use Rattle.commands.specs.Images.{first_bytes}
-use Rattle.commands.specs.Listings.{source_of}
+use Rattle.commands.specs.{Images.first_bytes, Listings.source_of}
 use Rattle.commands.specs.Stops as stops
 
 -- ---- what a file has

@@ -3,15 +3,12 @@ use Rattle.std.specs.Prelude.{◌≡◌, ◌⊎◌, ℕ, ◌+◌, ◌*◌, take,
 use Rattle.std.specs.Prelude.{decimal}
 use Rattle.std.specs.Io.KnownBytes.{Appends}
 use Rattle.machine_spec.specs.declared.instruction.IsaFault.TheVariants as isa
-use Rattle.machine_spec.specs.declared.limits.TheConstants.{MAX_SLOTS}
-use Rattle.machine_spec.specs.Image.{Program}
-use Rattle.verifier_spec.specs.Loading.{IsAccepted, IsRefusedWith}
+use Rattle.machine_spec.specs.{declared.limits.TheConstants.MAX_SLOTS, Image.Program}
+use Rattle.verifier_spec.specs.{Loading.IsAccepted, Loading.IsRefusedWith, declared.fault.LoadFault.LoadFault}
 use Rattle.verifier_spec.specs.declared.fault.Check.TheVariants as check
-use Rattle.verifier_spec.specs.declared.fault.LoadFault.{LoadFault}
 use Rattle.verifier_spec.specs.declared.fault.LoadFault.TheVariants.{Isa, Verify}
-use Rattle.commands.specs.declared.image.Refused.{Refused}
+use Rattle.commands.specs.declared.{image.Refused.Refused, status.Status.Status}
 use Rattle.commands.specs.declared.image.Refused.TheVariants as refused
-use Rattle.commands.specs.declared.status.Status.{Status}
 use Rattle.commands.specs.declared.status.Status.TheVariants as exit
 
 -- as much of a file as is read of an image: one byte more than the greatest image has

@@ -2,23 +2,15 @@
 use Rattle.std.specs.Prelude.{◌≡◌, ℕ, ◌+◌, ◌-◌, Bool, true, false, ◌&&◌, ◌==◌, ◌⊎◌, if◌then◌else◌, List, [], ◌∷◌, ◌++◌}
 use Rattle.std.specs.Prelude.{length, take, Option, Some, None, Result, Ok, Err, ⊤, codes}
 use Rattle.std.specs.List.{AllZip, flat_map, list_any, slice_split}
-use Rattle.std.specs.Result.{is_err}
-use Rattle.std.specs.Str.{bytes_eq}
-use Rattle.std.specs.Io.KnownBytes.{Appends}
+use Rattle.std.specs.{Result.is_err, Str.bytes_eq, Io.KnownBytes.Appends}
 use Rattle.machine_spec.specs.{Image.Program, declared.helper.Table.Table}
-use Rattle.verifier_spec.specs.Loading.{IsAccepted, IsRefusedWith}
-use Rattle.verifier_spec.specs.declared.fault.LoadFault.{LoadFault}
-use Rattle.script.specs.declared.command.Source.TheVariants.{File}
-use Rattle.script.specs.declared.fault.ScriptFault.TheVariants.{Syntax}
-use Rattle.script.specs.Words.{words_of, word_at}
-use Rattle.commands.specs.declared.{run.Ended.Ended, stop.Stop.Stop}
-use Rattle.commands.specs.declared.status.Status.{Status}
+use Rattle.verifier_spec.specs.{Loading.IsAccepted, Loading.IsRefusedWith, declared.fault.LoadFault.LoadFault}
+use Rattle.script.specs.{declared.command.Source.TheVariants.File, declared.fault.ScriptFault.TheVariants.Syntax}
+use Rattle.script.specs.{Words.words_of, Words.word_at}
+use Rattle.commands.specs.declared.{run.Ended.Ended, stop.Stop.Stop, status.Status.Status}
 use Rattle.commands.specs.declared.status.Status.TheVariants.{Done, Refused, Failed}
 use Rattle.commands.specs.declared.stop.Stop.TheVariants as stop
-use Rattle.commands.specs.Appends.{Prints}
-use Rattle.commands.specs.Images.{accepted_line}
-use Rattle.commands.specs.Sessions.{IsImageIn}
-use Rattle.commands.specs.Stops.{IsUnwritten, status_of}
+use Rattle.commands.specs.{Appends.Prints, Images.accepted_line, Sessions.IsImageIn, Stops.IsUnwritten, Stops.status_of}
 
 -- ---- the lines of a list
 

@@ -7,26 +7,18 @@ use Rattle.machine_spec.specs.{Image.Program, Image.program_of, declared.helper.
 use Rattle.log_spec.specs.Logs.{Records, Marked, Closed}
 use Rattle.part_log.specs.Parts.{Received}
 use Rattle.catalogue.specs.Versions.{Version}
-use Rattle.broker.specs.Layouts.{Layout}
-use Rattle.broker.specs.Deployments.{LoadIs}
-use Rattle.broker.specs.Fetches.{IsFetch}
-use Rattle.broker.specs.Streams.{IsReceiptOf}
+use Rattle.broker.specs.{Layouts.Layout, Deployments.LoadIs, Fetches.IsFetch, Streams.IsReceiptOf}
 use Rattle.broker.specs.declared.fault.BrokerFault.TheVariants.{Partition as Absent}
-use Rattle.script.specs.declared.{command.Command.Command, command.Source.Source}
+use Rattle.script.specs.{declared.command.Command.Command, declared.command.Source.Source}
+use Rattle.script.specs.{declared.fault.ScriptFault.ScriptFault, Faults.fault_of}
 use Rattle.script.specs.declared.command.Command.TheVariants.{Partitions, Load, Deploy, Put, Append, Close, Fetch, Go}
 use Rattle.script.specs.declared.command.Source.TheVariants.{Line, File}
-use Rattle.script.specs.declared.fault.ScriptFault.{ScriptFault}
 use Rattle.script.specs.declared.fault.ScriptFault.TheVariants.{Syntax, Order}
-use Rattle.script.specs.Faults.{fault_of}
 use Rattle.script.specs.Texts.{load_line, deploy_line, close_line, fetch_line}
-use Rattle.report.specs.Snapshots.{Gathered, IsGathered}
-use Rattle.report.specs.Texts.{report_text}
-use Rattle.commands.specs.declared.stop.Stop.{Stop}
+use Rattle.report.specs.{Snapshots.Gathered, Snapshots.IsGathered, Texts.report_text}
+use Rattle.commands.specs.{declared.stop.Stop.Stop, Appends.line_of, Appends.AppendDoes, Images.first_bytes}
+use Rattle.commands.specs.{Puts.put_batch, Stops.IsNoLine, Stops.IsUnwritten}
 use Rattle.commands.specs.declared.stop.Stop.TheVariants as stop
-use Rattle.commands.specs.Appends.{line_of, AppendDoes}
-use Rattle.commands.specs.Images.{first_bytes}
-use Rattle.commands.specs.Puts.{put_batch}
-use Rattle.commands.specs.Stops.{IsNoLine, IsUnwritten}
 
 -- a broker has `inputs` input partitions, with `cells` cells each, and `outputs` output partitions
 pub record IsMade (inputs outputs cells : ℕ) (parts : Layout) : Type 0 where

@@ -5,15 +5,14 @@ use Rattle.wire_spec.specs.declared.fault.BatchFault.TheVariants as fault
 use Rattle.part_log.specs.declared.fault.LogFault.TheVariants as log
 use Rattle.catalogue.specs.declared.fault.CatFault.TheVariants as catalogue
 use Rattle.out_book.specs.declared.fault.BookFault.TheVariants as book
-use Rattle.broker.specs.Deployments.{IsNoReader}
-use Rattle.broker.specs.declared.{fault.BrokerFault.BrokerFault, stream.StreamFault.StreamFault, ended.Ended.Ended}
+use Rattle.broker.specs.{Deployments.IsNoReader, declared.fault.BrokerFault.BrokerFault}
+use Rattle.broker.specs.{declared.stream.StreamFault.StreamFault, declared.ended.Ended.Ended}
 use Rattle.broker.specs.declared.fault.BrokerFault.TheVariants as broker
 use Rattle.broker.specs.declared.stream.StreamFault.TheVariants as stream
 use Rattle.broker.specs.declared.ended.Ended.TheVariants as ended
 use Rattle.report.specs.declared.fault.ReportFault.{ReportFault}
 use Rattle.report.specs.declared.fault.ReportFault.TheVariants as report
-use Rattle.commands.specs.declared.{reading.Unread.Unread, stop.Stop.Stop, image.Refused.Refused}
-use Rattle.commands.specs.declared.status.Status.{Status}
+use Rattle.commands.specs.declared.{reading.Unread.Unread, stop.Stop.Stop, image.Refused.Refused, status.Status.Status}
 use Rattle.commands.specs.declared.status.Status.TheVariants as exit
 use Rattle.commands.specs.declared.reading.Unread.TheVariants as unread
 use Rattle.commands.specs.declared.stop.Stop.TheVariants as stop

@@ -1,18 +1,15 @@
 -- What `asm` and `dis` do with an image's text.
 use Rattle.std.specs.Prelude.{◌≡◌, ◌⊎◌, ℕ, List, Option, Result, Ok, Err, IfSome}
 use Rattle.std.specs.Io.KnownBytes.{Appends}
-use Rattle.machine_spec.specs.declared.{instruction.IsaFault.IsaFault, instruction.Placed.Placed}
-use Rattle.machine_spec.specs.declared.instruction.IsaFault.TheVariants as fault
+use Rattle.machine_spec.specs.{declared.instruction.IsaFault.IsaFault, declared.instruction.Placed.Placed}
 use Rattle.machine_spec.specs.Image.{read_image}
+use Rattle.machine_spec.specs.declared.instruction.IsaFault.TheVariants as fault
 use Rattle.verifier_spec.specs.declared.fault.LoadFault.TheVariants.{Isa}
-use Rattle.bpf_asm.specs.Writing.{text_of}
-use Rattle.bpf_asm.specs.declared.fault.AsmFault.{AsmFault}
+use Rattle.bpf_asm.specs.{Writing.text_of, declared.fault.AsmFault.AsmFault}
 use Rattle.bpf_asm.specs.declared.fault.AsmFault.TheVariants as asm
-use Rattle.commands.specs.declared.image.Refused.{Refused}
+use Rattle.commands.specs.{declared.image.Refused.Refused, declared.status.Status.Status, Stops.status_of_refused}
 use Rattle.commands.specs.declared.image.Refused.TheVariants as refused
-use Rattle.commands.specs.declared.status.Status.{Status}
 use Rattle.commands.specs.declared.status.Status.TheVariants as exit
-use Rattle.commands.specs.Stops.{status_of_refused}
 
 -- the refusal of an image that has no code; that memory ran out is a refusal of its own
 abbrev pub refusal_of : IsaFault → Refused

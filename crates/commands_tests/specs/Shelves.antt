@@ -1,12 +1,7 @@
 -- What the files of a shelf are.
 use Rattle.std.specs.Prelude.{ℕ, List, [], Option, Some, String}
-use Rattle.std.specs.BTreeMap.{BTreeMap, get_by_text}
-use Rattle.std.specs.Global.{Global, Vec}
-use Rattle.std.specs.Io.Cursor.{cursor_remaining}
-use Rattle.std.specs.Map.{update}
-use Rattle.std.specs.Option.{option_map_or}
-use Rattle.std.specs.Str.{bytes_eq}
-use Rattle.std.specs.declared.io.Cursor.{Cursor}
+use Rattle.std.specs.{BTreeMap.BTreeMap, BTreeMap.get_by_text, Global.Global, Global.Vec, Io.Cursor.cursor_remaining}
+use Rattle.std.specs.{Map.update, Option.option_map_or, Str.bytes_eq, declared.io.Cursor.Cursor}
 
 -- the bytes of the file with this name; one that isn't there has none
 abbrev pub bytes_in : BTreeMap (String Global) (Vec ℕ) → List ℕ → Option (List ℕ)

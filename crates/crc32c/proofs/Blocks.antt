@@ -2,13 +2,9 @@
 use Rattle.std.proofs.Common.{◌≡◌, ℕ, zero, suc, ◌+◌, ◌*◌, ◌/◌, ◌^◌, ◌<◌, ◌≤◌, List, [], ◌∷◌, ◌++◌, length, get_or}
 use Rattle.std.proofs.Common.{take, drop, refl, sym, ◌∙◌, ap, arith, append_assoc, append-nil, length-take-le}
 use Rattle.std.specs.Int.Bits.{bit_and, bit_xor, xor_assoc, and_mask}
-use Rattle.std.specs.List.{concat}
-use Rattle.std.specs.Simd.{first_chunks}
-use Rattle.std.specs.Simd.Lanes.{Each1, chunk}
-use Rattle.std.proofs.Math.Seq.{take-length, take-add}
-use Rattle.std.proofs.lemmas.List.{take_more, take-append-drop}
-use Rattle.std.proofs.lemmas.Nat.{xor_comm, shr-shr}
-use Rattle.std.proofs.lemmas.Simd.{Each1-chunk, length-chunk}
+use Rattle.std.specs.{List.concat, Simd.first_chunks, Simd.Lanes.Each1, Simd.Lanes.chunk}
+use Rattle.std.proofs.{Math.Seq.take-length, Math.Seq.take-add, lemmas.List.take_more, lemmas.List.take-append-drop}
+use Rattle.std.proofs.{lemmas.Nat.xor_comm, lemmas.Nat.shr-shr, lemmas.Simd.Each1-chunk, lemmas.Simd.length-chunk}
 use Rattle.wire_spec.specs.Checksum.{remainder}
 use Rattle.crc32c.specs.Register.{register_after, word_at}
 use Rattle.crc32c.proofs.Linear.{remainder-xor, remainder-add, remainder-split}

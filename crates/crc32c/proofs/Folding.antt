@@ -3,16 +3,14 @@ use Rattle.std.proofs.Common.{◌≡◌, ℕ, suc, ◌+◌, ◌*◌, ◌/◌, �
 use Rattle.std.proofs.Common.{◌∙◌, ap, arith, mul_assoc, mul_comm, lt_of_lt_of_le, pow_mono, lit≤, div-one}
 use Rattle.std.proofs.Math.Nat.{div-eq_of_lt}
 use Rattle.std.specs.Int.Bits.{bit_xor, xor_assoc, xor_shr, xor_mod, xor_shifted, xor_zero_r}
-use Rattle.std.specs.List.{concat}
-use Rattle.std.specs.Simd.Lanes.{Each1, number_l}
+use Rattle.std.specs.{List.concat, Simd.Lanes.Each1, Simd.Lanes.number_l}
 use Rattle.std.proofs.lemmas.Nat.{shl-shr, shr-shr, shr_split, shr_below, pow-add}
 use Rattle.wire_spec.specs.Checksum.{remainder}
 use Rattle.wire_spec.proofs.Checksums.{remainder-lt}
 use Rattle.crc32c.specs.Register.{register_after}
 use Rattle.crc32c.specs.Window.{sum_of_five, later, window_behind, after_window}
 use Rattle.crc32c.proofs.Linear.{remainder-xor, remainder-add, remainder-shifted, remainder-joined}
-use Rattle.crc32c.proofs.Numbers.{number_l-append}
-use Rattle.crc32c.proofs.Steps.{after-number}
+use Rattle.crc32c.proofs.{Numbers.number_l-append, Steps.after-number}
 use Rattle.crc32c.proofs.Sparse.{before_end, sparse, sum_of_five-same, sum_of_five-xor, remainder-sum_of_five}
 
 -- ---- what a window adds is linear, and goes with it

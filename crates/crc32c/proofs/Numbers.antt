@@ -5,8 +5,7 @@ use Rattle.std.proofs.Common.{mul-suc, mul-le-mul_left, lit<}
 use Rattle.std.proofs.Math.Nat.{div-div-eq-div-mul, pow-zero, mod-one}
 use Rattle.std.proofs.Math.Arith.{mod-mul}
 use Rattle.std.proofs.lemmas.Nat.{mod_below, div-mul-add, mod-mul-add}
-use Rattle.std.specs.Int.{byte_at, bytes_low_first}
-use Rattle.std.specs.Simd.Lanes.{Each1, number_l}
+use Rattle.std.specs.{Int.byte_at, Int.bytes_low_first, Simd.Lanes.Each1, Simd.Lanes.number_l}
 
 power-suc : (base k n : ℕ) → base * (base ^ k * n) ≡ base ^ suc k * n
 power-suc base k n =

@@ -1,9 +1,8 @@
 -- The window as a part of a longer list.
 use Rattle.std.proofs.Common.{◌≡◌, ℕ, zero, suc, ◌+◌, ◌*◌, ◌/◌, ◌%◌, ◌^◌, ◌<◌, ◌≤◌, List, [], ◌∷◌, ◌++◌, length, get_or}
-use Rattle.std.proofs.Common.{take, drop, set, replicate, refl, sym, ◌∙◌, ap, subst, arith, div-one, length-drop}
+use Rattle.std.proofs.Common.{take, drop, set, refl, sym, ◌∙◌, ap, subst, arith, div-one, length-drop}
 use Rattle.std.proofs.Common.{mod-eq_of_lt, lit<}
-use Rattle.std.proofs.Math.Seq.{take-suc-set, paste}
-use Rattle.std.proofs.lemmas.List.Edits.{take-paste}
+use Rattle.std.proofs.{Math.Seq.take-suc-set, Math.Seq.paste, lemmas.List.Edits.take-paste}
 use Rattle.std.proofs.lemmas.Nat.{mod_below, xor_lt, shr-shr, shr_below, or_shifted}
 use Rattle.std.specs.Int.{w128, to_le_bytes}
 use Rattle.std.proofs.lemmas.List.{drop_more, drop-set-add, length-take-le}
@@ -15,8 +14,7 @@ use Rattle.crc32c.specs.Register.{register_after, word_at}
 use Rattle.crc32c.specs.Window.{sum_of_five, later, window_behind, window_at, after_window}
 use Rattle.crc32c.proofs.Numbers.{number_l-append, number_l-below, number_l-digit, without_first, number_l-bytes}
 use Rattle.crc32c.proofs.Numbers.{bytes-below}
-use Rattle.crc32c.proofs.Folding.{after_window-next, after_window-kept}
-use Rattle.crc32c.proofs.Steps.{after-number}
+use Rattle.crc32c.proofs.{Folding.after_window-next, Folding.after_window-kept, Steps.after-number}
 
 -- each of the blocks has 128 bits
 abbrev pub Blocks : List ℕ → Type 0
@@ -151,15 +149,6 @@ pub window_at-front : (n size : ℕ) (space : List ℕ) → size ≡ 209 → n +
 window_at-front n size space e within =
     let long = length-drop n space in
     rw e (ap (number_l (2 ^ 128)) (take-paste space 0 (drop n space) 209 (omega arith) (omega (arith, long))))
-
-number_l-no_blocks : (k n : ℕ) → number_l (2 ^ 128) (take k (replicate n 0)) ≡ 0
-number_l-no_blocks zero n = refl
-number_l-no_blocks (suc k) zero = refl
-number_l-no_blocks (suc k) (suc n) = let none = number_l-no_blocks k n in omega arith
-
--- one number at the front of nothing
-pub window_at-one : (n r : ℕ) → window_at 0 (r ∷ replicate n 0) ≡ r
-window_at-one n r = let none = number_l-no_blocks 208 n in omega arith
 
 -- the bytes of a block
 pub after-bytes_of : (r x : ℕ) → x < 2 ^ 128 → register_after r (to_le_bytes w128 x) ≡ remainder 128 (bit_xor r x)

@@ -3,9 +3,7 @@ use Rattle.std.proofs.Common.{◌≡◌, ℕ, suc, ◌+◌, ◌*◌, ◌/◌, �
 use Rattle.std.proofs.Common.{refl, sym, ◌∙◌, ap, arith}
 use Rattle.std.specs.Int.Bits.{bit_and, bit_xor, xor_zero_r, xor_shr, and_mask}
 use Rattle.std.specs.Simd.Lanes.{Each1, number_l}
-use Rattle.std.proofs.lemmas.Nat.{xor_comm}
-use Rattle.std.proofs.lemmas.List.{take_more}
-use Rattle.std.proofs.lemmas.Simd.{Each1-from_get_or}
+use Rattle.std.proofs.{lemmas.Nat.xor_comm, lemmas.List.take_more, lemmas.Simd.Each1-from_get_or}
 use Rattle.wire_spec.specs.Checksum.{remainder, checksum}
 use Rattle.crc32c.specs.Register.{register_after}
 use Rattle.crc32c.proofs.Linear.{remainder-add, remainder-joined, remainder-split}

@@ -4,8 +4,7 @@
 -- added to the blocks 65, 155, 170, 195 and 209 further on. The window holds the last blocks that were so taken away,
 -- as they were then: a number, the earliest block lowest.
 use Rattle.std.specs.Prelude.{ℕ, ◌*◌, ◌/◌, ◌^◌, List, length, bit_xor}
-use Rattle.std.specs.List.{concat}
-use Rattle.std.specs.Simd.Lanes.{number_l, chunk}
+use Rattle.std.specs.{List.concat, Simd.Lanes.number_l, Simd.Lanes.chunk}
 use Rattle.wire_spec.specs.Checksum.{remainder}
 
 -- the sum of five polynomials

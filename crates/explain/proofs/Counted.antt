@@ -1,6 +1,5 @@
 -- How many of the first instructions are never reached, one instruction further.
-use Rattle.std.proofs.Common.{◌≡◌, ℕ, suc, ◌+◌, if◌then◌else◌, refl, ap, arith}
-use Rattle.std.specs.Prelude.{is_none}
+use Rattle.std.proofs.Common.{◌≡◌, ℕ, suc, ◌+◌, if◌then◌else◌, refl, ap, arith, is_none}
 use Rattle.verifier_spec.specs.Annotation.{Claims, claim_at}
 use Rattle.explain.specs.Endings.{unreached_count}
 

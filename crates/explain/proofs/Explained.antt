@@ -1,11 +1,9 @@
 -- What is explained of an image, from the parts that are found of it.
 use Rattle.std.proofs.Common.{◌≡◌, ◌<◌, List, Option, Some, None, Ok, length, sym, ap, ◌∙◌, subst, string_bytes}
-use Rattle.std.specs.Prelude.{option_map, IfSome}
-use Rattle.machine_spec.specs.declared.{instruction.Placed.Placed}
+use Rattle.std.proofs.Common.{option_map, IfSome}
+use Rattle.machine_spec.specs.declared.instruction.Placed.{Placed}
 use Rattle.machine_spec.specs.Image.{Program, helpers_of, read_image, IsCodeOf}
-use Rattle.verifier_spec.specs.declared.fault.VerifyFault.{VerifyFault}
-use Rattle.verifier_spec.specs.Annotation.{Claims}
-use Rattle.verifier_spec.specs.JoinedStates.{joined_states}
+use Rattle.verifier_spec.specs.{declared.fault.VerifyFault.VerifyFault, Annotation.Claims, JoinedStates.joined_states}
 use Rattle.verifier_spec.proofs.BestAnnotation.{AreJoinedProper}
 use Rattle.explain.specs.declared.{explanation.Explanation.Explanation, explanation.Refusal.Refusal, way.Extent.Extent}
 use Rattle.explain.specs.Explanations.{IsVerdict, HasReason, listing, refusal_at, Explains}

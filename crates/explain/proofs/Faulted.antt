@@ -1,25 +1,24 @@
 -- The fault that a load refuses an image with is about something.
 use Rattle.std.proofs.Common.{◌≡◌, ◌≢◌, ℕ, suc, ◌+◌, ◌<◌, ◌≤◌, ℤ, Bool, not, true, false, ◌==◌, ◌&&◌, List, [], ◌∷◌}
 use Rattle.std.proofs.Common.{◌++◌, length, Option, Some, None, Ok, ◌⊎◌, refl, sym, ap, ◌∙◌, subst, arith, inl, inr}
-use Rattle.std.specs.Prelude.{is_some, option_map, slice_get}
+use Rattle.std.proofs.Common.{is_some, option_map, slice_get}
 use Rattle.std.proofs.lemmas.Bool.{cases_Bool, cases_lt, cond-true, cond-false}
 use Rattle.std.proofs.lemmas.Option.{none-some, same_Some, slice_get_past, slice_get_within}
-use Rattle.machine_spec.specs.declared.{helper.Helper.Helper, instruction.Placed.Placed, summary.Summary.Summary}
+use Rattle.machine_spec.specs.{declared.helper.Helper.Helper, declared.instruction.Placed.Placed}
+use Rattle.machine_spec.specs.{declared.summary.Summary.Summary, Summaries.summary_of}
 use Rattle.machine_spec.specs.Image.{Program, helpers_of, read_image, IsCodeOf}
-use Rattle.machine_spec.specs.Summaries.{summary_of}
 use Rattle.machine_spec.specs.Traps.{calls_no_helper, helper_called, arguments_of, read_registers, first_of}
 use Rattle.machine_spec.proofs.Slots.{number_of_zero, number_below}
 use Rattle.verifier_spec.specs.declared.{state.Abstract.Abstract, fault.Check.Check, fault.VerifyFault.VerifyFault}
 use Rattle.verifier_spec.specs.declared.fault.LoadFault.TheVariants.{Verify}
-use Rattle.verifier_spec.specs.Kinds.{kind_at, is_unknown}
-use Rattle.verifier_spec.specs.States.{is_proper, entry_state}
+use Rattle.verifier_spec.specs.{Kinds.kind_at, Kinds.is_unknown, States.is_proper, States.entry_state}
+use Rattle.verifier_spec.specs.JoinedStates.{joined_states}
 use Rattle.verifier_spec.specs.Checks.{checks, shape_checks, leads_nowhere, leads_back, jump_of}
 use Rattle.verifier_spec.specs.Annotation.{Claims, claim_at, is_covered, are_edges_covered, reached_checks, failed_at}
 use Rattle.verifier_spec.specs.Annotation.{fault_or, fault_from, fault_of}
-use Rattle.verifier_spec.specs.JoinedStates.{joined_states}
 use Rattle.verifier_spec.specs.Loading.{load_fault, code_fault, IsRefusedWith}
-use Rattle.verifier_spec.proofs.JoinedStates.{claim_joined}
-use Rattle.verifier_spec.proofs.BestAnnotation.{AreJoinedProper, fault_is_other}
+use Rattle.verifier_spec.proofs.{JoinedStates.claim_joined, BestAnnotation.AreJoinedProper}
+use Rattle.verifier_spec.proofs.BestAnnotation.{fault_is_other}
 use Rattle.explain.specs.declared.reason.Reason.{Reason}
 use Rattle.explain.specs.Reasons.{landing_slot, outside_record, shape_reason, state_reason, reason_of, placed_reason}
 use Rattle.explain.specs.Reasons.{reason_at}

@@ -1,10 +1,9 @@
 -- A text that grows by the texts of one number after another.
-use Rattle.std.proofs.Common.{◌≡◌, ℕ, ◌+◌, List, ◌++◌, refl, sym, ap, ◌∙◌, add-one, append_assoc}
-use Rattle.std.specs.Prelude.{slice_get, Option, Some}
+use Rattle.std.proofs.Common.{◌≡◌, ℕ, ◌+◌, List, ◌++◌, refl, sym, ap, ◌∙◌, add-one, append_assoc, slice_get, Option}
+use Rattle.std.proofs.Common.{Some}
 use Rattle.std.proofs.lemmas.List.{append-nil}
 use Rattle.machine_spec.specs.declared.instruction.Placed.{Placed}
-use Rattle.verifier_spec.specs.declared.state.Abstract.{Abstract}
-use Rattle.verifier_spec.specs.Annotation.{Claims, claim_at}
+use Rattle.verifier_spec.specs.{declared.state.Abstract.Abstract, Annotation.Claims, Annotation.claim_at}
 use Rattle.explain.specs.Texts.{texts_below, lines_of, lines_at}
 
 pub none_yet : (start : List ℕ) (text : ℕ → List ℕ) → start ≡ start ++ texts_below 0 text

@@ -1,17 +1,15 @@
 -- Each fault of a load is about something: there is a reason wherever a check fails.
 use Rattle.std.proofs.Common.{◌≡◌, ℕ, ◌^◌, Bool, true, false, ◌||◌, ◌&&◌, not, if◌then◌else◌, List, [], ◌∷◌, Option}
-use Rattle.std.proofs.Common.{Some, None, refl, ap, ◌∙◌, arith, inl, inr}
-use Rattle.std.specs.Prelude.{nat_lt, nat_le, is_some, option_map, find}
-use Rattle.std.specs.List.{list_any}
-use Rattle.std.specs.Option.{option_or}
+use Rattle.std.proofs.Common.{Some, None, refl, ap, ◌∙◌, arith, inl, inr, nat_lt, nat_le, is_some, option_map, find}
+use Rattle.std.specs.{List.list_any, Option.option_or}
 use Rattle.std.proofs.lemmas.Bool.{cases_Bool, cond-true, cond-false}
 use Rattle.std.proofs.lemmas.Bool.Decides.{nat_tests}
-use Rattle.machine_spec.specs.declared.{instruction.Source.Source, operation.Width.Width, operation.Operation.Operation}
-use Rattle.machine_spec.specs.declared.{helper.Argument.Argument, summary.Operands.Operands}
-use Rattle.machine_spec.specs.declared.{summary.MemoryOperand.MemoryOperand, summary.Condition.Condition}
-use Rattle.machine_spec.specs.declared.{summary.Summary.Summary}
+use Rattle.machine_spec.specs.{declared.instruction.Source.Source, declared.operation.Width.Width}
+use Rattle.machine_spec.specs.{declared.operation.Operation.Operation, declared.helper.Argument.Argument}
+use Rattle.machine_spec.specs.{declared.summary.Operands.Operands, declared.summary.MemoryOperand.MemoryOperand}
+use Rattle.machine_spec.specs.{declared.summary.Condition.Condition, declared.summary.Summary.Summary, Values.immediate}
+use Rattle.machine_spec.specs.Values.{moves_address}
 use Rattle.machine_spec.specs.declared.instruction.Source.TheVariants.{Register, Immediate}
-use Rattle.machine_spec.specs.Values.{immediate, moves_address}
 use Rattle.verifier_spec.specs.declared.{interval.Interval.Interval, state.Abs.Abs, state.Abstract.Abstract}
 use Rattle.verifier_spec.specs.Kinds.{kind_at, range_of, is_number_kind, is_address_kind}
 use Rattle.verifier_spec.specs.Checks.{source_kind, is_one_sign, can_compute_kinds, has_wrong_kinds}

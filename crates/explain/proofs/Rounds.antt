@@ -1,12 +1,8 @@
 -- Rounds of marks: after n of them what is marked comes to an instruction in at most n steps.
 use Rattle.std.proofs.Common.{◌≡◌, ℕ, zero, suc, ◌+◌, ◌<◌, ◌≤◌, Bool, false, ◌==◌, List, [], ◌∷◌, ◌++◌, length, refl}
 use Rattle.std.proofs.Common.{sym, ap, ◌∙◌, subst, get_or, add-one, arith, inl, inr, length-append}
-use Rattle.std.proofs.lemmas.Bool.{cases_lt}
-use Rattle.std.proofs.lemmas.Bool.Decides.{nat_tests}
-use Rattle.std.proofs.lemmas.List.{get_or_past}
-use Rattle.std.proofs.Math.ListN.{get_or-append}
-use Rattle.std.proofs.Math.Seq.{get_or-append_seam}
-use Rattle.std.proofs.Math.Path.{fun_ext}
+use Rattle.std.proofs.{lemmas.Bool.cases_lt, lemmas.Bool.Decides.nat_tests, lemmas.List.get_or_past}
+use Rattle.std.proofs.{Math.ListN.get_or-append, Math.Seq.get_or-append_seam, Math.Path.fun_ext}
 use Rattle.std.proofs.lemmas.Option.{slice_get_past}
 use Rattle.machine_spec.specs.declared.instruction.Placed.{Placed}
 use Rattle.explain.specs.Loops.{is_marked_next, leads_to_marked, comes_to, list_below, is_marked}

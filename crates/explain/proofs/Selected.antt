@@ -1,13 +1,10 @@
 -- The lines of the instructions that are listed, by the marks of those from which the code comes to the refused one.
-use Rattle.std.proofs.Common.{◌≡◌, ℕ, ◌<◌, Bool, List, Option, ◌&&◌, ◌||◌, ◌==◌, length, ap}
-use Rattle.std.specs.Prelude.{is_some}
+use Rattle.std.proofs.Common.{◌≡◌, ℕ, ◌<◌, Bool, List, Option, ◌&&◌, ◌||◌, ◌==◌, length, ap, is_some}
 use Rattle.std.proofs.Math.Path.{fun_ext}
 use Rattle.machine_spec.specs.declared.instruction.Placed.{Placed}
-use Rattle.verifier_spec.specs.declared.fault.VerifyFault.{VerifyFault}
-use Rattle.verifier_spec.specs.Annotation.{Claims, claim_at}
-use Rattle.explain.specs.declared.{way.Extent.Extent, way.Selection.Selection}
+use Rattle.verifier_spec.specs.{declared.fault.VerifyFault.VerifyFault, Annotation.Claims, Annotation.claim_at}
+use Rattle.explain.specs.{declared.way.Extent.Extent, declared.way.Selection.Selection, Texts.texts_below}
 use Rattle.explain.specs.Loops.{comes_to, list_below, is_marked}
-use Rattle.explain.specs.Texts.{texts_below}
 use Rattle.explain.specs.Ways.{is_on_way, is_listed, lines_where, is_selected}
 use Rattle.explain.proofs.Rounds.{found}
 

@@ -1,14 +1,11 @@
 -- The first register that is read and of which nothing is known, part by part.
-use Rattle.std.proofs.Common.{◌≡◌, ℕ, Bool, if◌then◌else◌, List, [], ◌∷◌, ◌++◌, ap, ◌∙◌}
-use Rattle.std.specs.Prelude.{find, Option}
-use Rattle.std.specs.List.{flat_map}
-use Rattle.std.specs.Option.{option_or}
+use Rattle.std.proofs.Common.{◌≡◌, ℕ, Bool, if◌then◌else◌, List, [], ◌∷◌, ◌++◌, ap, ◌∙◌, find, Option}
+use Rattle.std.specs.{List.flat_map, Option.option_or}
 use Rattle.std.proofs.lemmas.List.Folds.{find-append}
 use Rattle.machine_spec.specs.declared.{helper.Argument.Argument, summary.Summary.Summary}
 use Rattle.machine_spec.specs.Traps.{operand_registers, base_registers, condition_registers, argument_registers}
 use Rattle.machine_spec.specs.Traps.{call_registers}
-use Rattle.verifier_spec.specs.declared.state.Abstract.{Abstract}
-use Rattle.verifier_spec.specs.Kinds.{kind_at, is_unknown}
+use Rattle.verifier_spec.specs.{declared.state.Abstract.Abstract, Kinds.kind_at, Kinds.is_unknown}
 use Rattle.explain.specs.Reasons.{unknown_register}
 
 -- ---- the first of the arguments

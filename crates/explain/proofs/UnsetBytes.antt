@@ -1,18 +1,14 @@
 -- Where a load may read a stack byte that is not set, one is found among the bytes that it may reach.
 use Rattle.std.proofs.Common.{◌≡◌, ℕ, zero, suc, ◌+◌, ◌-◌, ◌<◌, ◌≤◌, ℤ, pos, negsuc, ◌+ℤ◌, neg_ℤ, ◌≤ℤ◌, Bool, true}
 use Rattle.std.proofs.Common.{false, ◌&&◌, not, if◌then◌else◌, Option, Some, None, refl, sym, ap, ◌∙◌, subst, arith}
-use Rattle.std.proofs.Common.{inl, inr}
-use Rattle.std.specs.Prelude.{int_le, unsigned_abs, is_some}
+use Rattle.std.proofs.Common.{inl, inr, int_le, unsigned_abs, is_some}
 use Rattle.std.proofs.lemmas.Bool.{cases_Bool, cases_lt, cond-true, cond-false, and_parts, and_from, not-false}
 use Rattle.std.proofs.lemmas.Int.{ints}
 use Rattle.machine_spec.specs.declared.{limits.TheConstants.STACK_SIZE, instruction.Region.Region}
 use Rattle.machine_spec.specs.declared.{summary.Direction.Direction, summary.MemoryOperand.MemoryOperand}
-use Rattle.machine_spec.specs.Values.{byte_count}
-use Rattle.machine_spec.specs.Traps.{is_read}
+use Rattle.machine_spec.specs.{Values.byte_count, Traps.is_read}
 use Rattle.verifier_spec.specs.declared.{state.Abs.Abs, state.StackSet.StackSet, state.Abstract.Abstract}
-use Rattle.verifier_spec.specs.StackSets.{is_set}
-use Rattle.verifier_spec.specs.Kinds.{kind_at, is_proper_kind}
-use Rattle.verifier_spec.specs.States.{is_proper}
+use Rattle.verifier_spec.specs.{StackSets.is_set, Kinds.kind_at, Kinds.is_proper_kind, States.is_proper}
 use Rattle.verifier_spec.specs.Checks.{reach_at, reach_of, may_leave_stack, are_set, may_read_unset}
 use Rattle.verifier_spec.proofs.Proper.{kind_at_proper}
 use Rattle.verifier_spec.proofs.Whole.{le_z-true, le-le_z, le_trans_z, negative, gap_is}

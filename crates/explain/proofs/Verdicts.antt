@@ -1,11 +1,9 @@
 -- The refusal of an image that a load refuses because it has no code.
-use Rattle.std.proofs.Common.{◌≡◌, List, Option, Some, None}
-use Rattle.std.specs.Prelude.{option_map, Result, Ok, Err}
+use Rattle.std.proofs.Common.{◌≡◌, List, Option, Some, None, option_map, Result, Ok, Err}
 use Rattle.machine_spec.specs.declared.{helper.Helper.Helper, instruction.IsaFault.IsaFault, instruction.Placed.Placed}
 use Rattle.machine_spec.specs.Image.{Program, helpers_of, read_image}
-use Rattle.verifier_spec.specs.declared.fault.VerifyFault.{VerifyFault}
+use Rattle.verifier_spec.specs.{declared.fault.VerifyFault.VerifyFault, Loading.load_fault, Loading.code_fault}
 use Rattle.verifier_spec.specs.declared.fault.LoadFault.TheVariants.{Isa, Verify}
-use Rattle.verifier_spec.specs.Loading.{load_fault, code_fault}
 
 not_verified : (o : Option VerifyFault) (f : IsaFault) → option_map Verify o ≡ Some (Isa f) → ⊥
 not_verified None f e = cc

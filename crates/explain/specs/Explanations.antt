@@ -4,16 +4,11 @@ use Rattle.std.specs.Prelude.{Result, Ok, Err, IfSome, string_bytes}
 use Rattle.machine_spec.specs.declared.{helper.Table.Table, instruction.IsaFault.IsaFault, instruction.Placed.Placed}
 use Rattle.machine_spec.specs.Image.{Program, helpers_of, read_image}
 use Rattle.machine_spec.specs.declared.instruction.IsaFault.TheVariants as isa
-use Rattle.verifier_spec.specs.declared.fault.VerifyFault.{VerifyFault}
-use Rattle.verifier_spec.specs.declared.fault.LoadFault.TheVariants.{Verify}
-use Rattle.verifier_spec.specs.Annotation.{Claims}
-use Rattle.verifier_spec.specs.JoinedStates.{joined_states}
-use Rattle.verifier_spec.specs.Loading.{IsAccepted, IsRefusedWith}
+use Rattle.verifier_spec.specs.declared.{fault.VerifyFault.VerifyFault, fault.LoadFault.TheVariants.Verify}
+use Rattle.verifier_spec.specs.{Annotation.Claims, JoinedStates.joined_states, Loading.IsAccepted}
+use Rattle.verifier_spec.specs.Loading.{IsRefusedWith}
 use Rattle.explain.specs.declared.{explanation.Explanation.Explanation, explanation.Refusal.Refusal, way.Extent.Extent}
-use Rattle.explain.specs.Texts.{texts_below}
-use Rattle.explain.specs.Ways.{is_listed, lines_where}
-use Rattle.explain.specs.Endings.{ending_text}
-use Rattle.explain.specs.Reasons.{reason_at}
+use Rattle.explain.specs.{Texts.texts_below, Ways.is_listed, Ways.lines_where, Endings.ending_text, Reasons.reason_at}
 use Rattle.explain.specs.Hints.{hint_at}
 
 -- A program is accepted, or refused at an instruction with its fault.

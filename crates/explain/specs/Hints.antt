@@ -2,21 +2,15 @@
 use Rattle.std.specs.Prelude.{ℕ, ◌+◌, ◌^◌, ℤ, pos, ◌+ℤ◌, neg_ℤ, Bool, ◌==◌, ◌&&◌, ◌||◌, not, nat_lt, nat_le, int_lt}
 use Rattle.std.specs.Prelude.{int_le, if◌then◌else◌, List, Option, Some, None, is_some, slice_get}
 use Rattle.std.specs.{Int.int_min, Int.int_max, Option.option_or}
-use Rattle.wire_spec.specs.declared.{limits.TheConstants.MAX_KEY, limits.TheConstants.MAX_VALUE}
-use Rattle.machine_spec.specs.declared.{limits.TheConstants.STACK_SIZE, instruction.Region.Region}
-use Rattle.machine_spec.specs.declared.{helper.Table.Table, instruction.Placed.Placed, summary.Summary.Summary}
-use Rattle.machine_spec.specs.Image.{helpers_of}
-use Rattle.machine_spec.specs.Machine.{helper_among}
-use Rattle.machine_spec.specs.Summaries.{summary_of}
-use Rattle.machine_spec.specs.Traps.{is_stack}
+use Rattle.wire_spec.specs.declared.limits.TheConstants.{MAX_KEY, MAX_VALUE}
+use Rattle.machine_spec.specs.declared.{limits.TheConstants.STACK_SIZE, instruction.Region.Region, helper.Table.Table}
+use Rattle.machine_spec.specs.declared.{instruction.Placed.Placed, summary.Summary.Summary}
+use Rattle.machine_spec.specs.{Image.helpers_of, Machine.helper_among, Summaries.summary_of, Traps.is_stack}
 use Rattle.verifier_spec.specs.declared.{interval.Interval.Interval, state.Abs.Abs, state.StackSet.StackSet}
 use Rattle.verifier_spec.specs.declared.{state.Abstract.Abstract, fault.VerifyFault.VerifyFault}
-use Rattle.verifier_spec.specs.Kinds.{length_range, range_of}
-use Rattle.verifier_spec.specs.Annotation.{Claims, claim_at}
+use Rattle.verifier_spec.specs.{Kinds.length_range, Kinds.range_of, Annotation.Claims, Annotation.claim_at}
 use Rattle.explain.specs.declared.{reason.Reached.Reached, reason.Reason.Reason, hint.Hint.Hint}
-use Rattle.explain.specs.Reasons.{first_below, is_unset_in}
-use Rattle.explain.specs.Loops.{back_hint}
-use Rattle.explain.specs.Meetings.{lost_hint}
+use Rattle.explain.specs.{Reasons.first_below, Reasons.is_unset_in, Loops.back_hint, Meetings.lost_hint}
 
 -- ---- kinds
 

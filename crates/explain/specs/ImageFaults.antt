@@ -3,10 +3,9 @@ use Rattle.std.specs.Prelude.{ℕ, ◌*◌, ◌/◌, ◌%◌, Bool, false, ◌==
 use Rattle.std.specs.Prelude.{[], ◌∷◌, ◌++◌, length, drop, slice_index, Option, Some, None, codes, decimal}
 use Rattle.std.specs.{Fmt.digit_glyph, List.starts_with}
 use Rattle.machine_spec.specs.declared.{limits.TheConstants.MAX_SLOTS, instruction.Instruction.Instruction}
-use Rattle.machine_spec.specs.declared.{instruction.IsaFault.IsaFault}
+use Rattle.machine_spec.specs.declared.instruction.IsaFault.{IsaFault}
 use Rattle.bpf_asm.specs.Writing.{line_text}
-use Rattle.explain.specs.declared.slot_bytes.Cleared.{Cleared}
-use Rattle.explain.specs.SlotBytes.{mended_instruction, wrong_fields}
+use Rattle.explain.specs.{declared.slot_bytes.Cleared.Cleared, SlotBytes.mended_instruction, SlotBytes.wrong_fields}
 use Rattle.explain.specs.Texts.{texts_below}
 
 -- ---- bytes and fields

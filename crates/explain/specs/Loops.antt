@@ -2,11 +2,9 @@
 use Rattle.std.specs.Prelude.{ℕ, zero, suc, ◌+◌, ℤ, pos, Bool, false, ◌==◌, ◌&&◌, ◌||◌, not, int_lt, if◌then◌else◌}
 use Rattle.std.specs.Prelude.{List, [], ◌∷◌, ◌++◌, length, slice_get, slice_index_or, unsigned_abs, Option, Some, None}
 use Rattle.machine_spec.specs.declared.{instruction.Placed.Placed, summary.Summary.Summary}
-use Rattle.machine_spec.specs.Summaries.{summary_of}
-use Rattle.machine_spec.specs.Image.{number_at}
+use Rattle.machine_spec.specs.{Summaries.summary_of, Image.number_at}
 use Rattle.verifier_spec.specs.Checks.{never_falls}
-use Rattle.explain.specs.declared.hint.Hint.{Hint}
-use Rattle.explain.specs.Reasons.{landing_slot}
+use Rattle.explain.specs.{declared.hint.Hint.Hint, Reasons.landing_slot}
 
 -- ---- one step
 

@@ -3,15 +3,14 @@
 use Rattle.std.specs.Prelude.{ℕ, zero, suc, ◌+◌, Bool, true, false, ◌==◌, ◌&&◌, ◌||◌, not, if◌then◌else◌, List, length}
 use Rattle.std.specs.Prelude.{slice_get, Option, Some, None, option_map, is_some, is_none, unwrap_or}
 use Rattle.std.specs.Option.{option_or}
-use Rattle.machine_spec.specs.declared.{helper.Table.Table, instruction.Placed.Placed}
-use Rattle.machine_spec.specs.Image.{helpers_of, target_of}
+use Rattle.machine_spec.specs.{declared.helper.Table.Table, declared.instruction.Placed.Placed, Image.helpers_of}
+use Rattle.machine_spec.specs.Image.{target_of}
 use Rattle.verifier_spec.specs.declared.{state.Abs.Abs, state.Abstract.Abstract}
 use Rattle.verifier_spec.specs.Kinds.{kind_at, is_unknown, is_number_kind, same_region}
-use Rattle.verifier_spec.specs.Checks.{failed_check, jump_of}
-use Rattle.verifier_spec.specs.Transfer.{falls_to, jumps_to}
-use Rattle.verifier_spec.specs.Annotation.{Claims, claim_at}
-use Rattle.explain.specs.declared.{hint.Hint.Hint, hint.Edge.Edge, meeting.Loss.Loss, reason.Reason.Reason}
-use Rattle.explain.specs.Reasons.{first_below}
+use Rattle.verifier_spec.specs.{Checks.failed_check, Checks.jump_of, Transfer.falls_to, Transfer.jumps_to}
+use Rattle.verifier_spec.specs.{Annotation.Claims, Annotation.claim_at}
+use Rattle.explain.specs.{declared.hint.Hint.Hint, declared.hint.Edge.Edge, declared.meeting.Loss.Loss}
+use Rattle.explain.specs.{declared.reason.Reason.Reason, Reasons.first_below}
 
 -- ---- the kind that an edge propagates
 

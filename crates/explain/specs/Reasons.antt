@@ -6,7 +6,7 @@ use Rattle.machine_spec.specs.declared.{limits.TheConstants.STACK_SIZE, instruct
 use Rattle.machine_spec.specs.declared.{instruction.Placed.Placed, operation.Width.Width, operation.Operation.Operation}
 use Rattle.machine_spec.specs.declared.{helper.Argument.Argument, summary.Operands.Operands}
 use Rattle.machine_spec.specs.declared.{summary.MemoryOperand.MemoryOperand, summary.Condition.Condition}
-use Rattle.machine_spec.specs.declared.{summary.Summary.Summary}
+use Rattle.machine_spec.specs.declared.summary.Summary.{Summary}
 use Rattle.machine_spec.specs.declared.instruction.Source.TheVariants.{Register, Immediate}
 use Rattle.machine_spec.specs.Summaries.{summary_of}
 use Rattle.machine_spec.specs.Values.{moves_address}

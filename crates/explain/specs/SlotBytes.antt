@@ -1,8 +1,7 @@
 -- The bytes of an image from a slot on, and the instruction that they are with 0 in some fields.
 use Rattle.std.specs.Prelude.{ℕ, ◌+◌, ◌*◌, ◌/◌, ◌%◌, Bool, true, false, if◌then◌else◌, List, [], ◌∷◌, slice_index}
 use Rattle.std.specs.Prelude.{Option, is_some}
-use Rattle.machine_spec.specs.declared.instruction.Instruction.{Instruction}
-use Rattle.machine_spec.specs.Image.{form_at}
+use Rattle.machine_spec.specs.{declared.instruction.Instruction.Instruction, Image.form_at}
 use Rattle.explain.specs.declared.slot_bytes.Cleared.{Cleared}
 
 -- every field

@@ -2,15 +2,12 @@
 use Rattle.std.specs.Prelude.{ℕ, zero, suc, ◌+◌, ◌-◌, ℤ, Bool, ◌==◌, ◌&&◌, not, nat_lt, if◌then◌else◌, List, [], ◌∷◌}
 use Rattle.std.specs.Prelude.{◌++◌, slice_get, Option, Some, None, codes, decimal}
 use Rattle.std.specs.Ordering.{int_eq}
-use Rattle.wire_spec.specs.declared.{limits.TheConstants.MAX_KEY, limits.TheConstants.MAX_VALUE}
+use Rattle.wire_spec.specs.declared.limits.TheConstants.{MAX_KEY, MAX_VALUE}
 use Rattle.machine_spec.specs.declared.{limits.TheConstants.STACK_SIZE, instruction.Region.Region}
-use Rattle.machine_spec.specs.declared.{instruction.Placed.Placed}
+use Rattle.machine_spec.specs.declared.instruction.Placed.{Placed}
 use Rattle.verifier_spec.specs.declared.{state.Abs.Abs, state.StackSet.StackSet, state.Abstract.Abstract}
-use Rattle.verifier_spec.specs.Kinds.{kind_at, is_unknown}
-use Rattle.verifier_spec.specs.Checks.{are_set}
-use Rattle.verifier_spec.specs.Annotation.{Claims, claim_at}
-use Rattle.bpf_asm.specs.Numbers.{distance_text}
-use Rattle.bpf_asm.specs.Writing.{line_text}
+use Rattle.verifier_spec.specs.{Kinds.kind_at, Kinds.is_unknown, Checks.are_set, Annotation.Claims, Annotation.claim_at}
+use Rattle.bpf_asm.specs.{Numbers.distance_text, Writing.line_text}
 
 -- the texts of the numbers below one, in order
 unfoldable pub texts_below : ℕ → (ℕ → List ℕ) → List ℕ

@@ -2,11 +2,9 @@
 use Rattle.std.specs.Prelude.{ℕ, Bool, true, false, ◌==◌, ◌&&◌, ◌||◌, if◌then◌else◌, List, [], length, Option, Some}
 use Rattle.std.specs.Prelude.{None, is_some}
 use Rattle.machine_spec.specs.declared.instruction.Placed.{Placed}
-use Rattle.verifier_spec.specs.declared.fault.VerifyFault.{VerifyFault}
-use Rattle.verifier_spec.specs.Annotation.{Claims, claim_at}
+use Rattle.verifier_spec.specs.{declared.fault.VerifyFault.VerifyFault, Annotation.Claims, Annotation.claim_at}
 use Rattle.explain.specs.declared.{way.Extent.Extent, way.Selection.Selection}
-use Rattle.explain.specs.Loops.{comes_to, is_marked}
-use Rattle.explain.specs.Texts.{lines_at}
+use Rattle.explain.specs.{Loops.comes_to, Loops.is_marked, Texts.lines_at}
 
 -- An instruction is another one itself, or it is reached and the code comes from it to that one.
 abbrev pub is_on_way : List Placed → Claims → ℕ → ℕ → Bool

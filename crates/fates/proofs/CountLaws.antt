@@ -1,10 +1,9 @@
 -- Counts with one more record.
 use Rattle.std.proofs.Common.{◌≡◌, ℕ, zero, suc, ◌+◌, ◌<◌, Bool, true, false, cond, List, [], ◌∷◌, ◌++◌, Option, Some}
-use Rattle.std.proofs.Common.{refl, sym, ap, subst, ◌∙◌, arith, add-one}
-use Rattle.std.specs.Prelude.{◌==◌, count_by, unwrap_or}
-use Rattle.std.proofs.lemmas.List.{length_push, length-append}
+use Rattle.std.proofs.Common.{refl, sym, ap, subst, ◌∙◌, arith, add-one, ◌==◌, count_by}
+use Rattle.std.specs.Prelude.{unwrap_or}
+use Rattle.std.proofs.{lemmas.List.length_push, lemmas.List.length-append, lemmas.Bool.Decides.nat_tests}
 use Rattle.std.proofs.lemmas.List.Sums.{sum_by_push, sum_by-append, count_by-le-length}
-use Rattle.std.proofs.lemmas.Bool.Decides.{nat_tests}
 use Rattle.fates.specs.declared.fate.Fate.{Fate}
 use Rattle.fates.specs.declared.fate.Fate.TheVariants.{Unprogrammed, Kept, Rejected}
 use Rattle.fates.specs.Totals.{Totals, totals, is_unprogrammed, is_kept, is_rejected_by, rejected_by, listed_count}

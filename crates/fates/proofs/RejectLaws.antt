@@ -1,18 +1,12 @@
 -- Lists of how many records each code rejected, changed at one code after the other.
-use Rattle.std.proofs.Common.{◌≡◌, ℕ, zero, suc, ◌+◌, Bool, true, false, cond, List, [], ◌∷◌, Option, Some, None, refl}
-use Rattle.std.proofs.Common.{sym, ap}
-use Rattle.std.proofs.Common.{subst, ◌∙◌, arith}
-use Rattle.std.specs.Prelude.{◌==◌, unwrap_or}
-use Rattle.std.specs.Ordering.{nat_cmp, is_eq}
+use Rattle.std.proofs.Common.{◌≡◌, ℕ, zero, suc, ◌+◌, Bool, true, false, cond, List, ◌∷◌, Option, Some, None, refl}
+use Rattle.std.proofs.Common.{sym, ap, subst, ◌∙◌, arith, ◌==◌}
+use Rattle.std.specs.Prelude.{unwrap_or}
+use Rattle.std.specs.{Ordering.nat_cmp, Ordering.is_eq, Map.keys_of, BTreeMap.BTreeMap, List.Sorted.IsStrictlySortedBy}
 use Rattle.std.specs.Cmp.{unsigned_tied, eq_by_cmp_equiv, nat_cmp_total}
-use Rattle.std.specs.Map.{keys_of}
-use Rattle.std.specs.BTreeMap.{BTreeMap}
-use Rattle.std.specs.List.Sorted.{IsStrictlySortedBy}
-use Rattle.std.proofs.lemmas.Bool.Decides.{nat_tests}
-use Rattle.std.proofs.lemmas.Map.{lookup-none}
-use Rattle.std.proofs.lemmas.Map.Keys.{IsDistinct-from_sorted, sorted_tail}
-use Rattle.std.proofs.lemmas.Map.Entries.{none_past_head}
-use Rattle.std.proofs.lemmas.Map.Lookups.{btree_map_from_get, exact_unsigned}
+use Rattle.std.proofs.{lemmas.Bool.Decides.nat_tests, lemmas.Map.lookup-none, lemmas.Map.Keys.IsDistinct-from_sorted}
+use Rattle.std.proofs.{lemmas.Map.Keys.sorted_tail, lemmas.Map.Entries.none_past_head}
+use Rattle.std.proofs.{lemmas.Map.Lookups.btree_map_from_get, lemmas.Map.Lookups.exact_unsigned}
 use Rattle.fates.specs.Totals.{rejected_by, rejects_of, listed_count}
 use Rattle.fates.specs.Rejects.{ListsSome, IsSet, AreSet, AreKept, AreSummed, as_listed, unless_none, as_summed}
 
@@ -63,18 +57,6 @@ pub record Setting (made : ℕ → ℕ → Option ℕ) (others left old new : Li
   pub done : (code more : ℕ) → rejected_by code others ≡ Some more → rejected_by code left ≡ None →
       rejected_by code new ≡ made (rejects_of code old) more
   pub apart : (code : ℕ) → rejected_by code others ≡ None → rejected_by code new ≡ rejected_by code old
-
-pub setting_start : (made : ℕ → ℕ → Option ℕ) (others old : List (ℕ × ℕ)) →
-    IsStrictlySortedBy nat_cmp (keys_of others) → IsStrictlySortedBy nat_cmp (keys_of old) →
-    Setting made others others old old
-setting_start made others old left_rising rising = record {
-  rising = rising;
-  left_rising = left_rising;
-  left_in = λ code more e. e;
-  ahead = λ code more e. refl;
-  done = λ code more e none. let bad : None ≡ Some more = sym none ∙ e in absurd cc;
-  apart = λ code e. refl;
-}
 
 pub setting_next : (made : ℕ → ℕ → Option ℕ) (others old new after : List (ℕ × ℕ)) (code count : ℕ)
     (left : List (ℕ × ℕ)) → Setting made others ((code, count) ∷ left) old new →
@@ -143,29 +125,7 @@ module _ (made : ℕ → ℕ → Option ℕ) (others old new : List (ℕ × ℕ)
         let bad : None ≡ Some count = sym (listed code was) ∙ first_in in
         absurd cc
 
-pub setting_end : (made : ℕ → ℕ → Option ℕ) (others left old new : List (ℕ × ℕ)) → left ≡ [] →
-    Setting made others left old new → AreSet made others old new
-setting_end made others left old new end is = record {
-  rising = is.rising;
-  at = λ code more e. is.done code more e (subst (λ (es : List (ℕ × ℕ)). rejected_by code es ≡ None) (sym end) refl);
-  apart = is.apart;
-}
-
 -- ---- counts that are listed without need
-
-pub setting_kept : (others left old new : List (ℕ × ℕ)) → Setting as_listed others left old new →
-    AreKept others old new
-setting_kept others left old new is = record {
-  rising = is.rising;
-  same = λ code. same code (rejected_by code others) refl (rejected_by code left) refl;
-  apart = is.apart;
-}
-  where
-    same : (code : ℕ) (o : Option ℕ) → rejected_by code others ≡ o → (l : Option ℕ) → rejected_by code left ≡ l →
-        rejects_of code new ≡ rejects_of code old
-    same code None e l f = ap (λ (x : Option ℕ). unwrap_or x 0) (is.apart code e)
-    same code (Some more) e None f = ap (λ (x : Option ℕ). unwrap_or x 0) (is.done code more e f)
-    same code (Some more) e (Some count) f = ap (λ (x : Option ℕ). unwrap_or x 0) (is.ahead code count f)
 
 -- once they are taken off the list, it is as it was
 pub taken_off : (others kept : List (ℕ × ℕ)) (old new : BTreeMap ℕ ℕ) →

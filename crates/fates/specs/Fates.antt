@@ -3,8 +3,7 @@ use Rattle.std.specs.Prelude.{◌≡◌, ℕ, zero, suc, ◌+◌, List, [], ◌�
 use Rattle.wire_spec.specs.declared.{record.Record.Record, record.Batch.Batch}
 use Rattle.machine_spec.specs.declared.{outcome.Outcome.Outcome, outcome.Place.Place}
 use Rattle.machine_spec.specs.declared.outcome.Outcome.TheVariants as ending
-use Rattle.machine_spec.specs.Image.{Program}
-use Rattle.machine_spec.specs.Meaning.{Means}
+use Rattle.machine_spec.specs.{Image.Program, Meaning.Means}
 use Rattle.log_spec.specs.Logs.{Item, Records, Marked, Closed, in_force, offset_of, place_of}
 use Rattle.fates.specs.declared.fate.Fate.{Fate}
 use Rattle.fates.specs.declared.fate.Fate.TheVariants.{Unprogrammed, Kept, Rejected}

@@ -1,8 +1,6 @@
 -- Lists of how many records each code rejected, and what is done to them.
 use Rattle.std.specs.Prelude.{◌≡◌, ℕ, ◌+◌, ◌==◌, false, List, Option, Some, None}
-use Rattle.std.specs.Ordering.{nat_cmp}
-use Rattle.std.specs.Map.{keys_of}
-use Rattle.std.specs.List.Sorted.{IsStrictlySortedBy}
+use Rattle.std.specs.{Ordering.nat_cmp, Map.keys_of, List.Sorted.IsStrictlySortedBy}
 use Rattle.fates.specs.Totals.{rejected_by, rejects_of, listed_count}
 
 -- a code is listed only where it rejected a record

@@ -1,14 +1,11 @@
 -- How many records met which fate.
 use Rattle.std.specs.Prelude.{◌≡◌, ℕ, zero, suc, ◌==◌, Bool, true, false, List, length, count_by, Option, unwrap_or}
 use Rattle.std.specs.Prelude.{Some, None, slice_get}
-use Rattle.std.specs.Ordering.{nat_cmp, is_eq}
-use Rattle.std.specs.Map.{keys_of, lookup}
-use Rattle.std.specs.List.Sorted.{IsStrictlySortedBy}
+use Rattle.std.specs.{Ordering.nat_cmp, Ordering.is_eq, Map.keys_of, Map.lookup, List.Sorted.IsStrictlySortedBy}
 use Rattle.machine_spec.specs.Image.{Program}
 use Rattle.log_spec.specs.Logs.{Item, in_force, offset_of}
-use Rattle.fates.specs.declared.fate.Fate.{Fate}
+use Rattle.fates.specs.{declared.fate.Fate.Fate, Fates.AreItemFates, Fates.AreFatesOf}
 use Rattle.fates.specs.declared.fate.Fate.TheVariants.{Unprogrammed, Kept, Rejected}
-use Rattle.fates.specs.Fates.{AreItemFates, AreFatesOf}
 
 -- how many records there are, how many of them had no program, how many were kept, and how many each code rejected
 pub record Totals : Type 0 where

@@ -1,9 +1,7 @@
 -- The greatest number of as many bits as a number has.
 use Rattle.std.proofs.Common.{◌≡◌, ℕ, ◌-◌, ◌/◌, ◌^◌}
-use Rattle.std.specs.Int.{w64, leading_zeros}
-use Rattle.std.specs.Int.Count.{leading_of_zero}
-use Rattle.std.proofs.lemmas.Nat.{leading_le}
-use Rattle.std.proofs.lemmas.Nat.Bits.{ones_shr}
+use Rattle.std.specs.{Int.w64, Int.leading_zeros, Int.Count.leading_of_zero}
+use Rattle.std.proofs.{lemmas.Nat.leading_le, lemmas.Nat.Bits.ones_shr}
 use Rattle.verifier_spec.specs.Intervals.{bit_length}
 
 pub no_bits : (n : ℕ) → n ≡ 0 → 0 ≡ 2 ^ bit_length n - 1

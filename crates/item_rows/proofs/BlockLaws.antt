@@ -1,40 +1,30 @@
 -- Some records of a batch after others.
-use Rattle.std.proofs.Common.{◌≡◌, ℕ, zero, suc, ◌+◌, ◌-◌, ◌<◌, ◌≤◌, ℤ, pos, negsuc, ◌≤ℤ◌, ◌<ℤ◌, unsigned_abs}
-use Rattle.std.proofs.Common.{List, [], ◌∷◌, ◌++◌, length, take, drop, get_or, slice_get, map, Option, Some, option_map}
-use Rattle.std.proofs.Common.{refl, sym, ap, subst, ◌∙◌}
-use Rattle.std.proofs.Common.{append_assoc, arith, Result, Ok, Err}
-use Rattle.std.specs.Prelude.{OnOk}
+use Rattle.std.proofs.Common.{◌≡◌, ℕ, zero, suc, ◌+◌, ◌-◌, ◌<◌, ◌≤◌, List, [], ◌∷◌, ◌++◌, length, take, drop, get_or}
+use Rattle.std.proofs.Common.{slice_get, map, Option, Some, option_map, refl, sym, ap, subst, ◌∙◌, append_assoc, arith}
+use Rattle.std.proofs.Common.{Result, Ok, Err, OnOk}
 use Rattle.std.specs.List.{AllByRecursion}
-use Rattle.std.proofs.lemmas.Int.{ints}
+use Rattle.std.proofs.lemmas.Option.{same_Some}
 use Rattle.std.proofs.lemmas.List.{length-append, length-take, length-drop, append-nil, get_or_default, get_or-drop}
-use Rattle.std.proofs.lemmas.List.{get_or_append_left, get_or-take, length-take-le, drop-drop, drop_at, take_at}
-use Rattle.std.proofs.lemmas.List.{take-append-drop}
+use Rattle.std.proofs.lemmas.List.{get_or-take, length-take-le, drop-drop, drop_at, take_at, take-append-drop}
 use Rattle.wire_spec.specs.declared.{limits.TheConstants.TIMESTAMP_END, record.Record.Record, record.Batch.Batch}
 use Rattle.machine_spec.specs.declared.{outcome.Outcome.Outcome, outcome.Place.Place}
-use Rattle.machine_spec.specs.Image.{Program}
-use Rattle.machine_spec.specs.Meaning.{IsPlace}
-use Rattle.verifier_spec.proofs.Whole.{negative}
-use Rattle.std.proofs.lemmas.Option.{same_Some}
+use Rattle.machine_spec.specs.{Image.Program, Meaning.IsPlace}
 use Rattle.helpers.specs.declared.emitted.Emitted.{Emitted}
 use Rattle.helpers.specs.declared.emitted.Emitted.TheVariants.{Given, Made}
-use Rattle.exec.specs.declared.ending.Ending.{Ending}
+use Rattle.exec.specs.{declared.ending.Ending.Ending, Abreast.AreGiven, Runs.no_record}
 use Rattle.exec.specs.declared.ending.Ending.TheVariants.{Kept, Rejected}
-use Rattle.exec.specs.Abreast.{AreGiven}
 use Rattle.exec.specs.Endings.{Ended, kept_alone, outcome_in, outcomes_of}
 use Rattle.log_item.specs.Programs.{RunsSafelyOnEach}
 use Rattle.log_spec.specs.declared.row.Row.{Row}
 use Rattle.log_spec.specs.Logs.{timestamp_of, place_of, rows_of, FitsRecord, IsRecordRows, IsRecordsRows}
-use Rattle.log_spec.proofs.FittingBatches.{within_limits}
-use Rattle.log_spec.proofs.LogLaws.{records-next}
-use Rattle.fates.specs.declared.fate.Fate.{Fate}
+use Rattle.log_spec.proofs.{FittingBatches.within_limits, LogLaws.records-next, FittingRows.in_time}
+use Rattle.fates.specs.{declared.fate.Fate.Fate, Totals.Totals, Totals.AreCounts}
 use Rattle.fates.specs.Fates.{fate_of, IsFate, AreRecordsFates}
-use Rattle.fates.specs.Totals.{Totals, AreCounts}
 use Rattle.fates.proofs.FateLaws.{fates-next}
-use Rattle.item_rows.specs.declared.{origin.Origin.Origin, batch_run.BatchRun.BatchRun}
-use Rattle.item_rows.specs.ItemRows.{IsOrigin, Adds}
-use Rattle.item_rows.specs.Blocks.{places_from, records_from, rows_of_each, AreFatesMore, program_in, StandFrom}
-use Rattle.item_rows.specs.Blocks.{CanRun, HaveRun}
-use Rattle.item_rows.specs.RowParts.{no_record}
+use Rattle.item_rows.specs.{declared.origin.Origin.Origin, declared.batch_run.BatchRun.BatchRun, ItemRows.IsOrigin}
+use Rattle.item_rows.specs.ItemRows.{Adds}
+use Rattle.item_rows.specs.Blocks.{places_from, records_from, rows_of_each, AreFatesMore, program_in, StandFrom, CanRun}
+use Rattle.item_rows.specs.Blocks.{HaveRun}
 use Rattle.item_rows.proofs.RowLaws.{adds_none, adds_then, adds_as, each_at}
 
 -- ---- fates that are counted
@@ -168,17 +158,13 @@ module _ (run : BatchRun) (offset : ℕ) where
 
 -- ---- places
 
-small_time : (time : ℤ) → pos 0 ≤ℤ time → time <ℤ pos TIMESTAMP_END → unsigned_abs time < TIMESTAMP_END
-small_time (pos n) from to = omega (arith, ints)
-small_time (negsuc n) from to = absurd (negative n from)
-
 pub place_ranges : (origin : Origin) (batch : Batch) (offset : ℕ) (given : Record) → IsOrigin origin →
     offset < TIMESTAMP_END → FitsRecord batch given →
     IsPlace (place_of origin.input origin.outputs offset batch given)
 place_ranges origin batch offset given is small fits = record {
   partition = is.input;
   offset = small;
-  timestamp = small_time (timestamp_of batch given) fits.from fits.to;
+  timestamp = in_time (timestamp_of batch given) fits.from fits.to;
   some_output = is.some_output;
   outputs = is.outputs;
 }
@@ -365,20 +351,6 @@ stand_later all base first at records done rest le stand parts here =
           ∙ (ap (drop (length done)) (stand.are ∙ both) ∙ drop_at done (rest ++ stand.after) (length done) refl));
     }
 
--- one of some records that stand from a number on
-pub stands_at : (all : List Record) (from : ℕ) (given : List Record) (k : ℕ) (d : Record) → StandFrom all from given →
-    k < length given → get_or all (from + k) d ≡ get_or given k d
-stands_at all from given k d stand lt =
-    sym (get_or-drop from all k d)
-    ∙ (ap (λ (gs : List Record). get_or gs k d) stand.are ∙ get_or_append_left given stand.after d k lt)
-
--- they are so many of the list's, from that number on
-pub stand_between : (all : List Record) (from : ℕ) (given : List Record) (count : ℕ) → StandFrom all from given →
-    count ≡ length given → records_from from count all ≡ given
-stand_between all from given count stand long =
-    ap (take count) stand.are
-    ∙ (ap (λ (n : ℕ). take n (given ++ stand.after)) long ∙ take_at given stand.after (length given) refl)
-
 -- one of so many records from a number on
 pub between_at : (all : List Record) (from count k : ℕ) (g : Record) → k < count → from + count ≤ length all →
     g ≡ get_or all (from + k) no_record → g ≡ get_or (records_from from count all) k g
@@ -393,13 +365,6 @@ pub between_long : (all : List Record) (from count : ℕ) → from + count ≤ l
 between_long all from count le =
     let long = length-drop from all in
     length-take-le count (drop from all) (omega (arith, long, le))
-
--- none stands past the end
-pub stand_within : (all : List Record) (from : ℕ) (given : List Record) → StandFrom all from given →
-    0 < length given → from + length given ≤ length all
-stand_within all from given stand some =
-    let long = ap length stand.are ∙ length-append given stand.after in
-    omega (arith, long, length-drop from all, some)
 
 -- the records that are left after others can be run
 pub can_run_rest : (run : BatchRun) (first at : ℕ) (records done rest : List Record) (old new : List (List Row))

@@ -1,24 +1,18 @@
 -- Rows that are added to lists of the outputs, one step after the other.
-use Rattle.std.proofs.Common.{◌≡◌, ℕ, zero, suc, ◌+◌, ◌-◌, ◌<◌, ◌≤◌, Bool, true, false, cond, List, [], ◌∷◌, ◌++◌}
-use Rattle.std.proofs.Common.{length, take, drop, get_or, slice_get, slice_set, Option, Some, Result, Ok, Err, refl}
-use Rattle.std.proofs.Common.{sym, ap, subst, ◌∙◌, append_assoc, arith}
-use Rattle.std.specs.Prelude.{◌==◌, IfOk}
+use Rattle.std.proofs.Common.{◌≡◌, ℕ, zero, suc, ◌+◌, ◌-◌, ◌<◌, ◌≤◌, cond, List, [], ◌∷◌, ◌++◌}
+use Rattle.std.proofs.Common.{length, take, drop, get_or, slice_get, Option, Some, Result, Ok, Err, refl}
+use Rattle.std.proofs.Common.{sym, ap, subst, ◌∙◌, append_assoc, arith, ◌==◌, IfOk}
 use Rattle.std.specs.List.{AllByRecursion}
-use Rattle.std.proofs.lemmas.Bool.Decides.{nat_tests}
-use Rattle.std.proofs.lemmas.List.{length-append, length-set, append-nil, drop_all}
-use Rattle.std.proofs.lemmas.List.{get_or-set_same, get_or-set_other}
 use Rattle.std.proofs.lemmas.Option.{get_or_from_slice_get}
+use Rattle.std.proofs.lemmas.List.{length-append, append-nil, drop_all}
 use Rattle.wire_spec.specs.declared.{record.Record.Record, record.Batch.Batch}
 use Rattle.machine_spec.specs.declared.{outcome.Emission.Emission, outcome.Outcome.Outcome, outcome.Place.Place}
-use Rattle.machine_spec.specs.Image.{Program}
-use Rattle.machine_spec.specs.Meaning.{Means}
+use Rattle.machine_spec.specs.{Image.Program, Meaning.Means}
 use Rattle.log_spec.specs.declared.row.Row.{Row}
-use Rattle.log_spec.specs.Logs.{Item as LogItem, Records, rows_to, rows_of, row_of, IsRecordRows}
-use Rattle.log_spec.specs.Logs.{IsRecordsRows, FitsLog}
-use Rattle.log_spec.proofs.FittingRows.{batch_rows_fit}
-use Rattle.log_spec.proofs.LogLaws.{rows_to-next}
-use Rattle.fates.specs.declared.fate.Fate.{Fate}
-use Rattle.fates.specs.Fates.{IsFate, AreRecordsFates}
+use Rattle.log_spec.specs.Logs.{Item as LogItem, Records, rows_to, rows_of, row_of, IsRecordRows, IsRecordsRows}
+use Rattle.log_spec.specs.Logs.{FitsLog}
+use Rattle.log_spec.proofs.{FittingRows.batch_rows_fit, LogLaws.rows_to-next}
+use Rattle.fates.specs.{declared.fate.Fate.Fate, Fates.IsFate, Fates.AreRecordsFates}
 use Rattle.fates.specs.Totals.{Totals, AreCountsWith, AreItemCounts}
 use Rattle.item_rows.specs.declared.origin.Origin.{Origin}
 use Rattle.item_rows.specs.ItemRows.{rows_in, GivesRows, AreItemRows, AreRowsFrom, AreEmpty, Adds}
@@ -119,63 +113,6 @@ pub record_made : (first : ℕ) (program program' : Option Program) (place : Pla
 record_made first program program' place given fate one two same is adds =
     subst (λ (p : Option Program). IsFate p place given fate
     × Adds first one two (λ q here. IsRecordRows q p place given here)) same (is, adds)
-
--- the row of an emission in its output
-pub row_added : (first : ℕ) (place : Place) (number : ℕ) (emission : Emission) (old new : List (List Row))
-    (rows : List Row) → first ≤ emission.out → emission.out - first < length old →
-    slice_get old (emission.out - first) ≡ Some rows →
-    new ≡ slice_set old (emission.out - first) (rows ++ row_of place number emission ∷ []) →
-    Adds first old new (λ q here. here ≡ cond (emission.out == q) (row_of place number emission ∷ []) [])
-row_added first place number emission old new rows from within at set = record {
-  count = ap (λ (rs : List (List Row)). length rs) set ∙ length-set old n more;
-  each = λ k lt. by_test k lt (emission.out == first + k) refl;
-}
-  where
-    n : ℕ
-    n = emission.out - first
-
-    here : List Row
-    here = row_of place number emission ∷ []
-
-    more : List Row
-    more = rows ++ here
-
-    by_test : (k : ℕ) → k < length old → (b : Bool) → (emission.out == first + k) ≡ b →
-        (added : List Row) × (added ≡ cond (emission.out == first + k) here [])
-        × (rows_in new k ≡ rows_in old k ++ added)
-    by_test k lt true e =
-        let same : n ≡ k = grind (arith, nat_tests) in
-        let was : rows_in old k ≡ rows =
-        subst (λ (j : ℕ). rows_in old j ≡ rows) same (get_or_from_slice_get old n rows [] at) in
-        let is : rows_in new k ≡ more = ap (λ (rs : List (List Row)). rows_in rs k) set
-        ∙ subst (λ (j : ℕ). rows_in (slice_set old n more) j ≡ more) same (get_or-set_same old n more [] within) in (
-          here,
-          ap (λ (b : Bool). cond b here []) (sym e),
-          is
-              ∙ ap (λ (rs : List Row). rs ++ here) (sym was),
-        )
-    by_test k lt false e =
-        let apart : k ≡ n → ⊥ = λ (same : k ≡ n). grind (arith, nat_tests) in
-        let is : rows_in new k ≡ rows_in old k = ap (λ (rs : List (List Row)). rows_in rs k) set
-        ∙ get_or-set_other old n k more [] apart in (
-          [],
-          ap (λ (b : Bool). cond b here []) (sym e),
-          is
-              ∙ sym (append-nil (rows_in old k)),
-        )
-
--- an emission to none of these outputs
-pub row_outside : (first : ℕ) (place : Place) (number : ℕ) (emission : Emission) (all : List (List Row)) →
-    ((k : ℕ) → k < length all → (emission.out == first + k) ≡ false) →
-    Adds first all all (λ q here. here ≡ cond (emission.out == q) (row_of place number emission ∷ []) [])
-row_outside first place number emission all apart = record {
-  count = refl;
-  each = λ k lt. (
-    [],
-    ap (λ (b : Bool). cond b (row_of place number emission ∷ []) []) (sym (apart k lt)),
-    sym (append-nil (rows_in all k)),
-  );
-}
 
 -- what holds of each element holds of one
 pub each_at : {A : Type 0} (P : A → Type 0) (xs : List A) (k : ℕ) (x : A) → AllByRecursion P xs → k < length xs →

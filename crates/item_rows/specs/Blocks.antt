@@ -3,15 +3,11 @@ use Rattle.std.specs.Prelude.{◌≡◌, ℕ, ◌+◌, ◌-◌, ◌<◌, ◌≤�
 use Rattle.std.specs.Prelude.{option_map}
 use Rattle.std.specs.List.{AllByRecursion}
 use Rattle.wire_spec.specs.declared.{limits.TheConstants.TIMESTAMP_END, record.Record.Record, record.Batch.Batch}
-use Rattle.machine_spec.specs.declared.{outcome.Outcome.Outcome, outcome.Place.Place}
-use Rattle.machine_spec.specs.Image.{Program}
+use Rattle.machine_spec.specs.{declared.outcome.Outcome.Outcome, declared.outcome.Place.Place, Image.Program}
 use Rattle.log_spec.specs.declared.row.Row.{Row}
 use Rattle.log_spec.specs.Logs.{place_of, rows_of, FitsRecord, IsRecordsRows}
-use Rattle.fates.specs.declared.fate.Fate.{Fate}
-use Rattle.fates.specs.Fates.{AreRecordsFates}
-use Rattle.fates.specs.Totals.{Totals, AreCounts}
-use Rattle.item_rows.specs.declared.batch_run.BatchRun.{BatchRun}
-use Rattle.item_rows.specs.ItemRows.{IsOrigin, Adds}
+use Rattle.fates.specs.{declared.fate.Fate.Fate, Fates.AreRecordsFates, Totals.Totals, Totals.AreCounts}
+use Rattle.item_rows.specs.{declared.batch_run.BatchRun.BatchRun, ItemRows.IsOrigin, ItemRows.Adds}
 
 -- the places of a batch's records, in order; each record has the offset after the one before
 abbrev pub places_from : ℕ → ℕ → Batch → ℕ → List Record → List Place

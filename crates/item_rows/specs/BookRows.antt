@@ -2,9 +2,9 @@
 use Rattle.std.specs.Prelude.{◌<◌, length, get_or}
 use Rattle.std.specs.Arc.{arc_value}
 use Rattle.machine_spec.specs.declared.outcome.Emission.{Emission}
-use Rattle.item_rows.specs.declared.book_row.Parts.{Parts}
+use Rattle.item_rows.specs.{declared.book_row.Parts.Parts, RowParts.whole, RowParts.no_emission}
 use Rattle.item_rows.specs.declared.book_row.Parts.TheVariants as parts
-use Rattle.item_rows.specs.RowParts.{whole, no_record, no_emission}
+use Rattle.exec.specs.Runs.{no_record}
 
 -- what has a row's parts, as an emission: a record of a log's batch as it is, or one that a program made
 abbrev pub parts_of : Parts → Emission

@@ -1,5 +1,5 @@
 -- What has the parts of a row: the record as it was given, or one that a program made.
-use Rattle.std.specs.Prelude.{ℕ, ◌<◌, List, [], get_or, pos, Option, Some, None, ⊤}
+use Rattle.std.specs.Prelude.{ℕ, ◌<◌, List, [], get_or, Option, Some, None, ⊤}
 use Rattle.wire_spec.specs.declared.record.Record.{Record}
 use Rattle.machine_spec.specs.declared.outcome.Emission.{Emission}
 use Rattle.log_spec.specs.declared.row.Row.{Row}
@@ -20,10 +20,6 @@ row_by numbers emission = record {
 -- a record as it is, as an emission; to which output is left open
 abbrev pub whole : Record → Emission
 whole given = record { out = 0; key = given.key; value = given.value; headers = given.headers }
-
--- the record that no number names
-abbrev pub no_record : Record
-no_record = record { timestamp_delta = pos 0; key = None; value = None; headers = [] }
 
 -- the emission that no number names
 abbrev pub no_emission : Emission

@@ -1,7 +1,7 @@
 //! A record of a batch of a log, by its number.
 
 ghost use Rattle.std.specs.Prelude.{◌≡◌, ◌<◌, length, get_or};
-ghost use Rattle.item_rows.specs.RowParts.{no_record};
+ghost use Rattle.exec.specs.Runs.{no_record};
 
 use kafka_record::RecordRef;
 use log_item::LoggedBatch;
@@ -17,7 +17,7 @@ pub(crate) struct Given<'a> {
 impl<'a> Model for Given<'a> {
     ghost use Rattle.std.specs.Prelude.{◌<◌, get_or, length};
     ghost use Rattle.wire_spec.specs.declared.record.Record.{Record};
-    ghost use Rattle.item_rows.specs.RowParts.{no_record};
+    ghost use Rattle.exec.specs.Runs.{no_record};
 
     ghost Value = { Record };
 

@@ -1,19 +1,15 @@
 -- From what reading gives to what was answered.
 use Rattle.std.proofs.Common.{◌≡◌, ℕ, ◌+◌, ◌-◌, ◌<◌, ◌≤◌, Bool, cond, List, [], ◌++◌, length, take, drop, refl, sym, ap}
-use Rattle.std.proofs.Common.{subst, ◌∙◌, arith}
-use Rattle.std.specs.Prelude.{ℤ, pos, Option, Some, None, Result, Ok, Err, IfOk, FitsSigned, ok_or}
-use Rattle.std.specs.Int.{w32}
-use Rattle.std.specs.Ordering.{int_eq}
+use Rattle.std.proofs.Common.{subst, ◌∙◌, arith, ℤ, pos, Option, Some, None, Result, Ok, Err, IfOk, FitsSigned, ok_or}
+use Rattle.std.specs.{Int.w32, Ordering.int_eq}
 use Rattle.std.proofs.lemmas.List.{length-append, length-drop, take_at, drop_all}
-use Rattle.wire_spec.specs.declared.record.Record.{Record}
-use Rattle.wire_spec.specs.Varint.{read_varint}
-use Rattle.wire_spec.specs.RecordSpelling.{RecordFits, record_spelling}
+use Rattle.wire_spec.specs.{declared.record.Record.Record, Varint.read_varint, RecordSpelling.RecordFits}
+use Rattle.wire_spec.specs.{RecordSpelling.record_spelling, Memory.AnswersAs}
 use Rattle.wire_spec.specs.RecordReading.{varint_at, body_at, record_at}
 use Rattle.wire_spec.proofs.Varints.{IsBytes, IsBytes-drop}
 use Rattle.wire_spec.proofs.RecordLaws.{some_is, record_takes, record_again}
 use Rattle.kafka_record.specs.declared.fault.RecordFault.{RecordFault}
 use Rattle.kafka_record.specs.declared.fault.RecordFault.TheVariants.{Bad, Memory}
-use Rattle.wire_spec.specs.Memory.{AnswersAs}
 
 -- what was read, where an answer says that it was
 pub read_ok : {Y : Type 0} (read : Option Y) (y : Y) → ok_or read Bad ≡ Ok y → read ≡ Some y

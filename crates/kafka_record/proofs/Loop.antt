@@ -1,11 +1,9 @@
 -- Reading headers one after the other, as a loop does.
 use Rattle.std.proofs.Common.{◌≡◌, ℕ, suc, ◌-◌, ◌+◌, ◌≤◌, ◌<◌, List, [], ◌∷◌, ◌++◌, refl, sym, ap, ◌∙◌, append_assoc}
-use Rattle.std.proofs.Common.{arith}
-use Rattle.std.specs.Prelude.{Option, Some, None, Result, Ok, Err, ok_or}
+use Rattle.std.proofs.Common.{arith, Option, Some, None, Result, Ok, Err, ok_or}
 use Rattle.std.proofs.lemmas.List.{append-nil}
-use Rattle.wire_spec.specs.declared.record.Header.{Header}
+use Rattle.wire_spec.specs.{declared.record.Header.Header, Memory.IsFault}
 use Rattle.wire_spec.specs.RecordReading.{◌>>=◌, header_at, headers_at}
-use Rattle.wire_spec.specs.Memory.{IsFault}
 use Rattle.kafka_record.specs.declared.fault.RecordFault.{RecordFault}
 use Rattle.kafka_record.specs.declared.fault.RecordFault.TheVariants.{Bad, Memory}
 

@@ -1,17 +1,15 @@
 -- The parts of a record, as they were read, are where they are spelled.
-use Rattle.std.proofs.Common.{◌≡◌, ℕ, ◌-◌, ◌≤◌, List, ◌++◌, length, take, drop, ap, subst, ◌∙◌, arith}
-use Rattle.std.specs.Prelude.{ℤ, pos, slice_range, Option, Some, option_map}
+use Rattle.std.proofs.Common.{◌≡◌, ℕ, ◌-◌, ◌≤◌, List, ◌++◌, length, take, drop, ap, subst, ◌∙◌, arith, ℤ, pos}
+use Rattle.std.proofs.Common.{slice_range, Option, Some, option_map}
 use Rattle.std.specs.List.{flat_map}
 use Rattle.std.proofs.lemmas.List.{length-append, length-drop, take_at}
-use Rattle.wire_spec.specs.declared.{record.Header.Header}
+use Rattle.wire_spec.specs.{declared.record.Header.Header, Varint.varint}
 use Rattle.wire_spec.specs.declared.limits.TheConstants.{MAX_KEY, MAX_VALUE}
-use Rattle.wire_spec.specs.Varint.{varint}
 use Rattle.wire_spec.specs.RecordSpelling.{nullable, header, record_parts}
 use Rattle.wire_spec.specs.RecordReading.{varint_at, nullable_at, counted_at}
 use Rattle.wire_spec.proofs.Varints.{IsBytes, IsBytes-drop}
 use Rattle.wire_spec.proofs.RecordLaws.{Takes, Takes-then, varint_takes, nullable_takes, counted_take}
-use Rattle.kafka_record.specs.declared.spans.Extent.{Extent}
-use Rattle.kafka_record.specs.Spans.{extent_bytes}
+use Rattle.kafka_record.specs.{declared.spans.Extent.Extent, Spans.extent_bytes}
 
 -- what was taken between two places
 between : (bytes text : List ℕ) (start end : ℕ) → Takes (drop start bytes) text (drop end bytes) → start ≤ end →

@@ -1,14 +1,11 @@
 -- Records within their limits.
 use Rattle.std.proofs.Common.{Bool, true, false, refl, sym, ℕ, ◌≡◌, ◌≤◌, suc, List, [], ◌∷◌, length, All, IsTrue, arith}
-use Rattle.std.specs.Prelude.{IfSome, FitsSigned, IsUtf8, ◌↔◌}
-use Rattle.std.specs.Str.{is_utf8}
-use Rattle.std.proofs.lemmas.Str.{is_utf8-from_IsUtf8, IsUtf8-from_is_utf8}
-use Rattle.std.specs.Int.{w64}
-use Rattle.std.specs.List.{AllByRecursion}
+use Rattle.std.proofs.Common.{IfSome, FitsSigned, IsUtf8, ◌↔◌}
+use Rattle.std.specs.{Str.is_utf8, Int.w64, List.AllByRecursion}
+use Rattle.std.proofs.{lemmas.Str.is_utf8-from_IsUtf8, lemmas.Str.IsUtf8-from_is_utf8}
 use Rattle.std.proofs.lemmas.List.Elements.{All-from_recursion}
-use Rattle.wire_spec.specs.declared.{record.Record.Record, limits.TheConstants.MAX_KEY, limits.TheConstants.MAX_VALUE}
-use Rattle.wire_spec.specs.declared.{limits.TheConstants.MAX_HEADERS}
-use Rattle.wire_spec.specs.RecordSpelling.{HeaderFits, RecordFits}
+use Rattle.wire_spec.specs.{declared.record.Record.Record, RecordSpelling.HeaderFits, RecordSpelling.RecordFits}
+use Rattle.wire_spec.specs.declared.limits.TheConstants.{MAX_KEY, MAX_VALUE, MAX_HEADERS}
 
 pub recursion_from_All : {X : Type 0} (P : X → Type 0) (xs : List X) → All P xs → AllByRecursion P xs
 recursion_from_All P [] h = tt

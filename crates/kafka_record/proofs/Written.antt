@@ -1,10 +1,9 @@
 -- Bytes that were written at the end, one part after the other.
 use Rattle.std.proofs.Common.{◌≡◌, ℕ, ◌+◌, ◌≤◌, List, ◌∷◌, ◌++◌, length, take, refl, sym, ap, ◌∙◌, append_assoc, arith}
-use Rattle.std.specs.Prelude.{ℤ, pos}
+use Rattle.std.proofs.Common.{ℤ, pos}
 use Rattle.std.specs.List.{flat_map}
 use Rattle.std.proofs.lemmas.List.{take_at, take-take, take_all, length-take, length-append}
-use Rattle.wire_spec.specs.declared.{record.Header.Header, record.Record.Record}
-use Rattle.wire_spec.specs.Varint.{varint, varlong}
+use Rattle.wire_spec.specs.{declared.record.Header.Header, declared.record.Record.Record, Varint.varint, Varint.varlong}
 use Rattle.wire_spec.specs.RecordSpelling.{nullable, header, record_body}
 use Rattle.kafka_record.specs.{Keeps.Keeps, Parts.spelling_with}
 

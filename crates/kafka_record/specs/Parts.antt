@@ -1,7 +1,6 @@
 -- Records by their parts.
 use Rattle.std.specs.Prelude.{ℕ, ℤ, List, ◌∷◌, ◌++◌, Option}
-use Rattle.wire_spec.specs.Varint.{varint, varlong}
-use Rattle.wire_spec.specs.RecordSpelling.{string}
+use Rattle.wire_spec.specs.{Varint.varint, Varint.varlong, RecordSpelling.string}
 use Rattle.wire_spec.specs.declared.{record.Header.Header, record.Record.Record}
 
 -- the record with these parts

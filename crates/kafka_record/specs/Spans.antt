@@ -1,7 +1,6 @@
 -- Records whose keys and values are places in a buffer.
 use Rattle.std.specs.Prelude.{◌≡◌, ℕ, ◌≤◌, List, length, slice_range, Option, Some, None, option_map, ⊤}
-use Rattle.wire_spec.specs.declared.{record.Header.Header, record.Record.Record}
-use Rattle.wire_spec.specs.RecordSpelling.{record_parts}
+use Rattle.wire_spec.specs.{declared.record.Header.Header, declared.record.Record.Record, RecordSpelling.record_parts}
 use Rattle.kafka_record.specs.declared.{spans.Extent.Extent, spans.Span.Span, by_ref.Source.Source}
 use Rattle.kafka_record.specs.declared.by_ref.Source.TheVariants as source
 

@@ -1,23 +1,19 @@
 -- What a run is given is in the ranges of the machine's, and what comes of it.
-use Rattle.std.specs.Prelude.{◌≡◌, ℕ, zero, suc, Bool, true, false, not, nat_le, if◌then◌else◌, List, length, ◌≤◌}
-use Rattle.std.specs.Prelude.{Option, Some, None, Result, Ok, Err, IfOk, IfSome}
+use Rattle.std.proofs.Common.{◌≡◌, ℕ, zero, suc, Bool, true, false, not, nat_le, if◌then◌else◌, List, length, ◌≤◌}
+use Rattle.std.proofs.Common.{Option, Some, None, Result, Ok, Err, IfOk, IfSome, arith}
 use mathlib.Core.Path.{refl, sym, subst, ◌∙◌}
-use Rattle.std.proofs.Common.{arith}
 use Rattle.std.specs.Str.{is_utf8}
 use Rattle.std.proofs.lemmas.Str.{IsUtf8-from_is_utf8}
 use Rattle.std.proofs.lemmas.Bool.{and_parts, leb-true, ltb-true}
 use Rattle.wire_spec.specs.declared.limits.TheConstants.{MAX_KEY, MAX_VALUE, MAX_HEADERS, MAX_HEADER_VALUE}
-use Rattle.wire_spec.specs.declared.{record.Header.Header, record.Record.Record}
-use Rattle.wire_spec.specs.RecordSpelling.{HeaderFits, RecordFits}
-use Rattle.machine_spec.specs.Image.{Program}
-use Rattle.machine_spec.specs.Meaning.{IsPlace}
-use Rattle.klog_c.specs.RecordParts.{part_of, is_part_fitting}
+use Rattle.wire_spec.specs.{declared.record.Header.Header, declared.record.Record.Record, RecordSpelling.HeaderFits}
+use Rattle.wire_spec.specs.RecordSpelling.{RecordFits}
+use Rattle.machine_spec.specs.{Image.Program, Meaning.IsPlace}
+use Rattle.klog_c.specs.{RecordParts.part_of, RecordParts.is_part_fitting, declared.faults.TheConstants.KIND}
+use Rattle.klog_c.specs.{declared.object.Object.Object, declared.running.Asked.Asked}
 use Rattle.klog_c.specs.Calls.{run_fault, record_of, place_of, is_in_range, is_key_null, is_value_null}
 use Rattle.klog_c.specs.Calls.{are_parts_fitting, GivesRecord, RunsTo, RunsGiven, Runs}
 use Rattle.klog_c.specs.Headers.{AreHeaders, header_of, are_parts_short, header_fault}
-use Rattle.klog_c.specs.declared.faults.TheConstants.{KIND}
-use Rattle.klog_c.specs.declared.object.Object.{Object}
-use Rattle.klog_c.specs.declared.running.Asked.{Asked}
 
 both : (a b : Bool) → ◌≡◌ {A = ℕ} (if not a then 3 else if not b then 4 else 0) 0 → (a ≡ true) × (b ≡ true)
 both true true none = (refl, refl)

@@ -1,40 +1,18 @@
 -- What a transform is given is in the ranges of a broker's, and why it stops.
-use Rattle.std.specs.Prelude.{◌≡◌, ◌≢◌, ℕ, zero, suc, true, List, Option, Err, ◌≤◌, ◌<◌}
+use Rattle.std.proofs.Common.{◌≡◌, ◌≢◌, ℕ, zero, suc, List, Option, Err, ◌<◌, arith}
 use mathlib.Core.Path.{refl, ap}
-use Rattle.std.proofs.Common.{arith}
-use Rattle.std.proofs.lemmas.Bool.{and_parts, leb-true, ltb-true}
 use Rattle.wire_spec.specs.declared.fault.BatchFault.{BatchFault}
 use Rattle.wire_spec.specs.declared.fault.BatchFault.TheVariants as fault
-use Rattle.wire_spec.specs.declared.limits.TheConstants.{TIMESTAMP_END}
 use Rattle.machine_spec.specs.Image.{Program}
-use Rattle.batch_transform.specs.declared.{fault.Stop.Stop, fault.BatchPlace.BatchPlace, pass.Transformed.Transformed}
+use Rattle.batch_transform.specs.{declared.fault.Stop.Stop, declared.fault.BatchPlace.BatchPlace}
+use Rattle.batch_transform.specs.{declared.pass.Transformed.Transformed, Transformed.IsTransformed}
+use Rattle.batch_transform.specs.Transformed.{TransformsBatches}
 use Rattle.batch_transform.specs.declared.fault.Stop.TheVariants as stop
-use Rattle.batch_transform.specs.Transformed.{IsTransformed, TransformsBatches}
-use Rattle.klog_c.specs.Calls.{Fills}
-use Rattle.klog_c.specs.Numbers.{batch_number, stop_number}
-use Rattle.klog_c.specs.Batches.{is_source, origin_of, stopped_at, IsStop, TransformsSource}
+use Rattle.klog_c.specs.{Calls.Fills, Numbers.batch_number, Numbers.stop_number}
+use Rattle.klog_c.specs.Batches.{origin_of, stopped_at, IsStop, TransformsSource}
 use Rattle.klog_c.specs.declared.faults.TheConstants.{MEMORY, KIND}
-use Rattle.klog_c.specs.declared.object.Object.{Object}
+use Rattle.klog_c.specs.declared.{object.Object.Object, transforming.Source.Source, transforming.Stopped.Stopped}
 use Rattle.klog_c.specs.declared.object.Object.TheVariants as object
-use Rattle.klog_c.specs.declared.{transforming.Source.Source, transforming.Stopped.Stopped}
-
-pub record IsInRange (source : Source) : Type 0 where
-  pub partition : source.partition < 64
-  pub offset : source.offset ≤ TIMESTAMP_END
-  pub some : 1 ≤ source.outputs
-  pub outputs : source.outputs ≤ 64
-
-pub in_range : (source : Source) → is_source source ≡ true → IsInRange source
-in_range source range =
-    let outputs = and_parts _ _ range in
-    let some = and_parts _ _ outputs.0 in
-    let offset = and_parts _ _ some.0 in
-    record {
-      partition = ltb-true _ _ offset.0;
-      offset = leb-true _ _ offset.1;
-      some = leb-true _ _ some.1;
-      outputs = leb-true _ _ outputs.1;
-    }
 
 -- the number of a stop is neither 0 nor that of a handle of another kind
 batch_is : (why : BatchFault) → (0 < batch_number why) × (batch_number why ≡ KIND → ⊥)

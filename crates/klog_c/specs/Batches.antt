@@ -1,22 +1,18 @@
 -- What the calls for record batches answer.
 use Rattle.std.specs.Prelude.{◌≡◌, ◌≢◌, ℕ, zero, suc, Bool, true, false, ◌&&◌, nat_le, nat_lt, List, length, slice_get}
 use Rattle.std.specs.Prelude.{Option, Some, None}
-use Rattle.wire_spec.specs.declared.record.Batch.{Batch}
-use Rattle.wire_spec.specs.declared.limits.TheConstants.{TIMESTAMP_END}
+use Rattle.wire_spec.specs.declared.{record.Batch.Batch, limits.TheConstants.TIMESTAMP_END}
 use Rattle.machine_spec.specs.Image.{Program}
 use Rattle.item_rows.specs.declared.origin.Origin.{Origin}
 use Rattle.batch_transform.specs.declared.{fault.Stop.Stop, fault.BatchPlace.BatchPlace, pass.Transformed.Transformed}
-use Rattle.batch_transform.specs.declared.{ending.OutputBatches.OutputBatches}
+use Rattle.batch_transform.specs.declared.ending.OutputBatches.{OutputBatches}
 use Rattle.batch_transform.specs.Transformed.{IsTransformed, EndsAt, StopsAt}
-use Rattle.klog_c.specs.Numbers.{stop_number, stop_record}
+use Rattle.klog_c.specs.{Numbers.stop_number, Numbers.stop_record, Calls.takes_kind}
 use Rattle.klog_c.specs.declared.faults.TheConstants.{MEMORY, KIND}
-use Rattle.c_outcomes.specs.declared.numbers.TheConstants.{RANGE}
-use Rattle.klog_c.specs.declared.object.Object.{Object}
-use Rattle.klog_c.specs.declared.object.Object.TheVariants as object
-use Rattle.klog_c.specs.declared.{transforming.Source.Source, transforming.Stopped.Stopped}
+use Rattle.c_outcomes.specs.{declared.numbers.TheConstants.RANGE, Outcomes.Copies}
+use Rattle.klog_c.specs.declared.{object.Object.Object, transforming.Source.Source, transforming.Stopped.Stopped}
 use Rattle.klog_c.specs.declared.{outputs.Counted.Counted, outputs.Reject.Reject, outputs.OutputTold.OutputTold}
-use Rattle.klog_c.specs.Calls.{takes_kind}
-use Rattle.c_outcomes.specs.Outcomes.{Copies}
+use Rattle.klog_c.specs.declared.object.Object.TheVariants as object
 
 -- what a program made of record batches, if a handle contains that
 abbrev pub batches_in : Option Object → Option Transformed

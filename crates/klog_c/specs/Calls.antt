@@ -1,26 +1,19 @@
 -- What the calls of C's answer. A number is 0 where the call did its work.
-use Rattle.std.specs.Prelude.{◌≡◌, ◌≢◌, ℕ, zero, suc, ◌%◌, pos, Bool, true, false}
-use Rattle.std.specs.Prelude.{not, ◌&&◌, ◌==◌, nat_le, nat_lt, if◌then◌else◌}
-use Rattle.std.specs.Prelude.{List, [], ◌∷◌, ◌++◌, length, Option, Some, None, option_map, is_none, Result, Ok, Err}
-use Rattle.std.specs.Prelude.{string_bytes}
-use Rattle.wire_spec.specs.declared.{record.Header.Header, record.Record.Record}
+use Rattle.std.specs.Prelude.{◌≡◌, ◌≢◌, ℕ, zero, suc, ◌%◌, pos, Bool, true, false, not, ◌&&◌, ◌==◌, nat_le, nat_lt}
+use Rattle.std.specs.Prelude.{if◌then◌else◌, List, [], ◌∷◌, ◌++◌, length, Option, Some, None, option_map, is_none}
+use Rattle.std.specs.Prelude.{Result, Ok, Err, string_bytes}
+use Rattle.wire_spec.specs.{declared.record.Header.Header, declared.record.Record.Record, RecordSpelling.RecordFits}
 use Rattle.wire_spec.specs.declared.limits.TheConstants.{MAX_KEY, MAX_VALUE, TIMESTAMP_END}
-use Rattle.wire_spec.specs.RecordSpelling.{RecordFits}
-use Rattle.machine_spec.specs.declared.{outcome.Outcome.Outcome, outcome.Place.Place}
-use Rattle.machine_spec.specs.{Image.Program, Image.program_of, declared.helper.Table.Table}
-use Rattle.machine_spec.specs.Machine.{Input}
-use Rattle.machine_spec.specs.Meaning.{Means}
-use Rattle.verifier_spec.specs.declared.fault.LoadFault.{LoadFault}
-use Rattle.verifier_spec.specs.Loading.{IsAccepted}
+use Rattle.machine_spec.specs.declared.{outcome.Outcome.Outcome, outcome.Place.Place, helper.Table.Table}
+use Rattle.machine_spec.specs.{Image.Program, Image.program_of, Machine.Input, Meaning.Means}
+use Rattle.verifier_spec.specs.{declared.fault.LoadFault.LoadFault, Loading.IsAccepted}
 use Rattle.log_item.specs.Programs.{ProgramIs}
-use Rattle.klog_c.specs.Numbers.{fault_number, fault_place}
-use Rattle.klog_c.specs.RecordParts.{part_of, is_part_fitting}
-use Rattle.klog_c.specs.Headers.{header_of, header_fault}
+use Rattle.klog_c.specs.{Numbers.fault_number, Numbers.fault_place, RecordParts.part_of, RecordParts.is_part_fitting}
+use Rattle.klog_c.specs.{Headers.header_of, Headers.header_fault}
 use Rattle.klog_c.specs.declared.faults.TheConstants.{MEMORY, KIND, LENGTH}
 use Rattle.c_outcomes.specs.declared.numbers.TheConstants.{RANGE}
-use Rattle.klog_c.specs.declared.object.Object.{Object}
+use Rattle.klog_c.specs.declared.{object.Object.Object, running.Asked.Asked}
 use Rattle.klog_c.specs.declared.object.Object.TheVariants as object
-use Rattle.klog_c.specs.declared.running.Asked.{Asked}
 
 -- ---- what a handle holds
 

@@ -1,18 +1,14 @@
 -- What is explained of a program, as a text.
 use Rattle.std.specs.Prelude.{◌≡◌, ◌≢◌, ℕ, zero, suc, Bool, List, ◌++◌, length, Option, Some, None, Result, Ok, Err}
 use Rattle.std.specs.Prelude.{string_bytes, if◌then◌else◌}
-use Rattle.machine_spec.specs.Image.{Program}
-use Rattle.machine_spec.specs.declared.instruction.IsaFault.{IsaFault}
+use Rattle.machine_spec.specs.{Image.Program, declared.instruction.IsaFault.IsaFault}
 use Rattle.machine_spec.specs.declared.instruction.IsaFault.TheVariants as isa
 use Rattle.explain.specs.declared.{explanation.Explanation.Explanation, explanation.Refusal.Refusal, way.Extent.Extent}
 use Rattle.explain.specs.declared.way.Extent.TheVariants as extent
-use Rattle.explain.specs.Explanations.{ExplainsAs}
-use Rattle.explain.specs.ImageFaults.{image_fault_text}
+use Rattle.explain.specs.{Explanations.ExplainsAs, ImageFaults.image_fault_text}
 use Rattle.klog_c.specs.declared.faults.TheConstants.{MEMORY, KIND}
-use Rattle.c_outcomes.specs.declared.numbers.TheConstants.{RANGE}
-use Rattle.klog_c.specs.declared.object.Object.{Object}
-use Rattle.c_outcomes.specs.Outcomes.{Copies}
-use Rattle.klog_c.specs.Calls.{text_in}
+use Rattle.c_outcomes.specs.{declared.numbers.TheConstants.RANGE, Outcomes.Copies}
+use Rattle.klog_c.specs.{declared.object.Object.Object, Calls.text_in}
 
 -- the listed lines are the whole text where the program is accepted; else they begin it, and its refusal follows
 abbrev pub Continues : List ℕ → Option Refusal → List ℕ → Type 0

@@ -3,9 +3,7 @@ use base.Fml.{Fml, ftrue}
 use base.Stored.{Coded}
 use denote.RawPtr.{Ptr}
 use Rattle.std.specs.Prelude.{Option, Some, None, Bool, true, false}
-use Rattle.std.specs.Coded.{coded_option}
-use Rattle.std.specs.Box.Ownership.{box_owns}
-use Rattle.std.specs.Global.{Global}
+use Rattle.std.specs.{Coded.coded_option, Box.Ownership.box_owns, Global.Global}
 use Rattle.std.specs.contracts.impls.GlobalAllocator.TheImpl.{ghosts}
 use Rattle.klog_c.specs.contracts.object.Object.{the_row}
 

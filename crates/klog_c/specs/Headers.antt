@@ -1,10 +1,9 @@
 -- Headers that C collects for records. A number is 0 where the header was added.
-use Rattle.std.specs.Prelude.{◌≡◌, ◌≢◌, ℕ, zero, suc, ◌≤◌, Bool, not, ◌&&◌, nat_le, if◌then◌else◌}
-use Rattle.std.specs.Prelude.{List, [], ◌∷◌, ◌++◌, length}
+use Rattle.std.specs.Prelude.{◌≡◌, ◌≢◌, ℕ, zero, suc, ◌≤◌, Bool, not, ◌&&◌, nat_le, if◌then◌else◌, List, [], ◌∷◌, ◌++◌}
+use Rattle.std.specs.Prelude.{length}
 use Rattle.std.specs.{List.AllByRecursion, Str.is_utf8}
-use Rattle.wire_spec.specs.declared.record.Header.{Header}
+use Rattle.wire_spec.specs.{declared.record.Header.Header, RecordSpelling.HeaderFits}
 use Rattle.wire_spec.specs.declared.limits.TheConstants.{MAX_HEADERS, MAX_HEADER_KEY, MAX_HEADER_VALUE}
-use Rattle.wire_spec.specs.RecordSpelling.{HeaderFits}
 use Rattle.klog_c.specs.declared.faults.TheConstants.{MEMORY, LENGTH, TEXT}
 use Rattle.c_outcomes.specs.declared.numbers.TheConstants.{RANGE}
 use Rattle.klog_c.specs.RecordParts.{part_of, is_part_fitting}

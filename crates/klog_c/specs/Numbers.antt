@@ -1,8 +1,7 @@
 -- The numbers of faults.
 use Rattle.std.specs.Prelude.{ℕ}
 use Rattle.machine_spec.specs.declared.instruction.IsaFault.{IsaFault}
-use Rattle.verifier_spec.specs.declared.fault.Check.{Check}
-use Rattle.verifier_spec.specs.declared.fault.LoadFault.{LoadFault}
+use Rattle.verifier_spec.specs.declared.{fault.Check.Check, fault.LoadFault.LoadFault}
 use Rattle.verifier_spec.specs.declared.fault.LoadFault.TheVariants.{Isa, Verify}
 use Rattle.wire_spec.specs.declared.fault.BatchFault.{BatchFault}
 use Rattle.wire_spec.specs.declared.fault.BatchFault.TheVariants as fault

@@ -1,7 +1,7 @@
 //! What an object's outcome tells C.
 
 ghost use Rattle.std.specs.Prelude.{◌≡◌, Some};
-ghost use Rattle.c_outcomes.specs.Outcomes.{bytes_of};
+ghost use Rattle.machine_spec.specs.Machine.{bytes_of};
 ghost use Rattle.klog_c.specs.Calls.{outcome_in};
 ghost use Rattle.klog_c.specs.Outcomes as definitions;
 

@@ -1,7 +1,7 @@
 //! Exports on runs: headers for records, a run, what its outcome tells.
 
 ghost use Rattle.std.specs.Prelude.{◌≡◌};
-ghost use Rattle.c_outcomes.specs.Outcomes.{bytes_of};
+ghost use Rattle.machine_spec.specs.Machine.{bytes_of};
 ghost use Rattle.klog_c.specs.Calls.{AddsHeader, Runs, program_in, outcome_in, headers_in};
 ghost use Rattle.klog_c.specs.Outcomes.{Tells, TellsAt, CopiesAt, TellsHeader, CopiesHeader};
 

@@ -1,27 +1,24 @@
 -- A state without a trap reads no byte that is not there.
 use Rattle.std.proofs.Common.{◌≡◌, ℕ, zero, suc, ◌+◌, ◌<◌, ◌≤◌, ℤ, pos, ◌≤ℤ◌, Bool, true, false, not, ◌&&◌}
-use Rattle.std.proofs.Common.{if◌then◌else◌, nat_lt, nat_le, int_lt, List, [], ◌∷◌, length, get_or, slice_get, Option}
-use Rattle.std.proofs.Common.{Some, None, is_none, is_some, IsSome, unsigned_abs, unwrap_or, refl, sym, ap, subst, ◌∙◌}
-use Rattle.std.proofs.Common.{⊎_elim, arith}
+use Rattle.std.proofs.Common.{if◌then◌else◌, nat_lt, nat_le, int_lt, List, [], ◌∷◌, length, slice_get, Option, Some}
+use Rattle.std.proofs.Common.{None, is_none, is_some, IsSome, unsigned_abs, refl, sym, ap, subst, ◌∙◌, ⊎_elim, arith}
 use Rattle.std.specs.List.{list_any}
 use Rattle.std.proofs.lemmas.Bool.{and_parts, or_parts, leb-true, not-false, not-true, false≢true}
 use Rattle.std.proofs.lemmas.Option.{same_Some, none-some, slice_get-get_or}
 use Rattle.std.proofs.lemmas.Int.{ints}
-use Rattle.machine_spec.specs.declared.{instruction.Instruction.Instruction, instruction.Region.Region}
-use Rattle.machine_spec.specs.declared.{limits.TheConstants.STACK_SIZE, helper.Argument.Argument}
+use Rattle.machine_spec.specs.{declared.instruction.Instruction.Instruction, declared.instruction.Region.Region}
+use Rattle.machine_spec.specs.{declared.limits.TheConstants.STACK_SIZE, declared.helper.Argument.Argument}
+use Rattle.machine_spec.specs.{declared.summary.Direction.TheVariants.Write, Summaries.summary_of}
 use Rattle.machine_spec.specs.declared.instruction.Region.TheVariants as region
 use Rattle.machine_spec.specs.declared.instruction.Trap.TheVariants as trap
-use Rattle.machine_spec.specs.declared.summary.Direction.TheVariants.{Write}
 use Rattle.machine_spec.specs.Values.{Value, Nothing, Number, Address}
-use Rattle.machine_spec.specs.Summaries.{summary_of}
 use Rattle.machine_spec.specs.Image.{Program, slot_count, form_at}
 use Rattle.machine_spec.specs.Machine.{Input, State, Access, access_of, named_access, byte_in, bytes_of, length_of}
 use Rattle.machine_spec.specs.Traps.{is_in_region, is_stack, is_read, has_unset, leaves_record, leaves_stack}
 use Rattle.machine_spec.specs.Traps.{reads_unset, helper_called, arguments_of, names_wrongly, is_wrong_argument}
 use Rattle.machine_spec.specs.Traps.{calls_wrongly, first_of, traps, trap_of, trap_at}
 use Rattle.machine_spec.specs.declared.helper.Argument.TheVariants as argument
-use Rattle.machine_spec.proofs.FirstOf.{none_hold}
-use Rattle.machine_spec.proofs.Helpers.{names_parts}
+use Rattle.machine_spec.proofs.{FirstOf.none_hold, Helpers.names_parts}
 use Rattle.log_item.specs.Programs.{argument_access, ReadsWithin}
 
 -- a byte of a list that is long enough

@@ -1,20 +1,16 @@
 -- What loading an image returns, and what holds of every run of a program.
-use Rattle.std.specs.Prelude.{◌≡◌, ℕ, ◌+◌, ◌<◌, ◌≤◌, pos, ◌≤ℤ◌, ◌⊎◌, true, List, length, get_or}
-use Rattle.std.specs.Prelude.{slice_get, Option, Some, None}
-use Rattle.std.specs.Prelude.{Result, Ok, Err, IsSome, unsigned_abs}
+use Rattle.std.specs.Prelude.{◌≡◌, ℕ, ◌+◌, ◌<◌, ◌≤◌, pos, ◌≤ℤ◌, ◌⊎◌, true, List, length, get_or, slice_get, Option}
+use Rattle.std.specs.Prelude.{Some, None, Result, Ok, Err, IsSome, unsigned_abs}
 use Rattle.machine_spec.specs.declared.{instruction.Instruction.Instruction, instruction.Placed.Placed}
-use Rattle.wire_spec.specs.declared.record.Record.{Record}
 use Rattle.machine_spec.specs.declared.{outcome.Outcome.Outcome, outcome.Place.Place, helper.Argument.Argument}
-use Rattle.machine_spec.specs.declared.{summary.Summary.Summary}
+use Rattle.machine_spec.specs.declared.summary.Summary.{Summary}
+use Rattle.wire_spec.specs.declared.record.Record.{Record}
 use Rattle.machine_spec.specs.declared.summary.Direction.TheVariants.{Read, Write}
-use Rattle.machine_spec.specs.Values.{Registers}
-use Rattle.machine_spec.specs.Summaries.{summary_of}
+use Rattle.machine_spec.specs.{Values.Registers, Summaries.summary_of, Meaning.Reaches, Meaning.Means}
 use Rattle.machine_spec.specs.Image.{Program, form_at, IsCodeOf}
 use Rattle.machine_spec.specs.Machine.{Input, State, Access, access_of, named_access, byte_in}
 use Rattle.machine_spec.specs.Traps.{helper_called, arguments_of, is_read, trap_at}
-use Rattle.machine_spec.specs.Meaning.{Reaches, Means}
-use Rattle.verifier_spec.specs.declared.fault.LoadFault.{LoadFault}
-use Rattle.verifier_spec.specs.Loading.{IsAccepted}
+use Rattle.verifier_spec.specs.{declared.fault.LoadFault.LoadFault, Loading.IsAccepted}
 use Rattle.annotate.specs.Loads.{FaultIs}
 
 -- a program that is accepted, or its refusal

@@ -1,23 +1,23 @@
 -- The emissions of a run: no more than there may be, and each within the limits of a record.
 use Rattle.std.proofs.Common.{◌≡◌, ℕ, zero, suc, ◌+◌, ◌<◌, ◌≤◌, Bool, true, false, ℤ, if◌then◌else◌, List, [], ◌∷◌}
 use Rattle.std.proofs.Common.{length, length-append, Option, Some, None, refl, sym, subst, ⊎_elim, inl, inr, ◌⊎◌, arith}
-use Rattle.std.specs.Prelude.{◌==◌, nat_le, nat_lt, unsigned_abs, pos, not, int_lt, All}
+use Rattle.std.proofs.Common.{◌==◌, nat_le, nat_lt, unsigned_abs, All}
 use Rattle.std.specs.List.{list_any}
 use Rattle.std.proofs.lemmas.Bool.{or_parts, and_parts, not-false, leb-true, leb-false, ltb-false, cases_Bool}
 use Rattle.std.proofs.lemmas.Bool.{cond-true, cond-false, eqb-true, false≢true}
 use Rattle.std.proofs.lemmas.List.Elements as elements
-use Rattle.wire_spec.specs.declared.{limits.TheConstants.MAX_KEY, limits.TheConstants.MAX_VALUE}
-use Rattle.machine_spec.specs.declared.{limits.TheConstants.STACK_SIZE, limits.TheConstants.MAX_EMISSIONS}
-use Rattle.machine_spec.specs.declared.{instruction.Region.Region, instruction.Instruction.Instruction}
-use Rattle.machine_spec.specs.declared.{helper.Helper.Helper, outcome.Emission.Emission}
+use Rattle.wire_spec.specs.declared.limits.TheConstants.{MAX_KEY, MAX_VALUE}
+use Rattle.machine_spec.specs.{declared.limits.TheConstants.STACK_SIZE, declared.limits.TheConstants.MAX_EMISSIONS}
+use Rattle.machine_spec.specs.{declared.instruction.Region.Region, declared.instruction.Instruction.Instruction}
+use Rattle.machine_spec.specs.{declared.helper.Helper.Helper, declared.outcome.Emission.Emission, Summaries.summary_of}
+use Rattle.machine_spec.specs.{declared.summary.Direction.TheVariants.Read, Meaning.Reaches}
 use Rattle.machine_spec.specs.declared.instruction.Region.TheVariants as region
 use Rattle.machine_spec.specs.declared.instruction.Instruction.TheVariants.{Move, Compute, Load, Unary, Store, JumpIf}
 use Rattle.machine_spec.specs.declared.instruction.Instruction.TheVariants.{Jump, Wide, Call, Exit}
 use Rattle.machine_spec.specs.declared.helper.Helper.TheVariants.{LoadValue, LoadKey, EmitRecord, EmitValue, Emit}
-use Rattle.machine_spec.specs.declared.helper.Helper.TheVariants.{EmitNull, Offset, Timestamp, Partition}
-use Rattle.machine_spec.specs.declared.helper.Helper.TheVariants.{HeaderCount, HeaderKey, HeaderValue}
+use Rattle.machine_spec.specs.declared.helper.Helper.TheVariants.{EmitNull, Offset, Timestamp, Partition, HeaderCount}
+use Rattle.machine_spec.specs.declared.helper.Helper.TheVariants.{HeaderKey, HeaderValue}
 use Rattle.machine_spec.specs.Image.{Program, form_at, slot_count}
-use Rattle.machine_spec.specs.Summaries.{summary_of}
 use Rattle.machine_spec.specs.Values.{Value, Nothing, Number, Address}
 use Rattle.machine_spec.specs.Machine.{Input, State, bytes_of, length_of, byte_in, bytes_from, bytes_read, bytes_at}
 use Rattle.machine_spec.specs.Machine.{named_access, signature_of, helper_of, number_held, emit_code, emitted_after}
@@ -25,10 +25,7 @@ use Rattle.machine_spec.specs.Machine.{whole_record, bare_record, effect_of, sta
 use Rattle.machine_spec.specs.Traps.{is_in_region, names_wrongly, is_wrong_argument, calls_wrongly, arguments_of, traps}
 use Rattle.machine_spec.specs.Traps.{trap_of, trap_at}
 use Rattle.machine_spec.specs.declared.instruction.Trap.TheVariants as trap
-use Rattle.machine_spec.specs.declared.summary.Direction.TheVariants.{Read}
-use Rattle.machine_spec.specs.Meaning.{Reaches}
-use Rattle.machine_spec.proofs.FirstOf.{none_hold}
-use Rattle.machine_spec.proofs.Helpers.{names_parts}
+use Rattle.machine_spec.proofs.{FirstOf.none_hold, Helpers.names_parts}
 
 -- An emission is within the limits of a record: it goes to an output partition, its key and its value are short enough,
 -- and its headers are the record's or none.
@@ -64,10 +61,7 @@ length_from byte place zero = refl
 length_from byte place (suc count) = let rest = length_from byte (place + 1) count in omega (arith, rest)
 
 within_is_few : (start : ℤ) (size len : ℕ) → is_in_region start size len ≡ true → len ≤ MAX_VALUE → size ≤ MAX_VALUE
-within_is_few start size len inside few =
-    let fits = leb-true (unsigned_abs start + size) len
-    (and_parts (not (int_lt start (pos 0))) (nat_le (unsigned_abs start + size) len) inside).1 in
-    omega (arith, fits)
+within_is_few start size len inside few = grind (arith, leb-true, and_parts)
 
 module _ (input : Input) (key : length (bytes_of input.given.key) ≤ MAX_KEY)
     (value : length (bytes_of input.given.value) ≤ MAX_VALUE) where

@@ -3,15 +3,12 @@ use Rattle.std.proofs.Common.{◌≡◌, ◌≢◌, ℕ, zero, suc, ◌+◌, ◌
 use Rattle.std.proofs.Common.{map, Option, Some, None, refl, ap, subst, pos}
 use Rattle.machine_spec.specs.declared.{instruction.Instruction.Instruction, instruction.Trap.Trap}
 use Rattle.machine_spec.specs.declared.{outcome.Emission.Emission, outcome.Outcome.Outcome}
-use Rattle.machine_spec.specs.declared.instruction.Instruction.TheVariants.{Exit}
+use Rattle.machine_spec.specs.declared.{instruction.Instruction.TheVariants.Exit, helper.Table.TheVariants.One}
 use Rattle.machine_spec.specs.declared.instruction.Trap.TheVariants as trap
 use Rattle.machine_spec.specs.declared.outcome.Outcome.TheVariants.{Kept, Rejected}
-use Rattle.machine_spec.specs.Opcodes.{template_of, is_left_out}
-use Rattle.machine_spec.specs.declared.helper.Table.TheVariants.{One}
+use Rattle.machine_spec.specs.{Opcodes.template_of, Opcodes.is_left_out, Summaries.summary_of, Traps.trap_at}
 use Rattle.machine_spec.specs.Image.{Program, program_of, form_at, read_slot, read_fields, first_slots}
-use Rattle.machine_spec.specs.Summaries.{summary_of}
 use Rattle.machine_spec.specs.Machine.{Input, State, entry, state_after}
-use Rattle.machine_spec.specs.Traps.{trap_at}
 use Rattle.machine_spec.specs.Meaning.{Reaches, Means, IsTrapped, outcome_of}
 use Rattle.machine_spec.proofs.Meanings.{exit_is, other_than_exit, step_on}
 

@@ -1,34 +1,29 @@
 -- The states that follow from given ones: of an annotation's they are an annotation.
-use Rattle.std.proofs.Common.{◌≡◌, ◌≢◌, ℕ, zero, suc, ◌+◌, ◌<◌, Bool, true, false, List, [], ◌∷◌}
-use Rattle.std.proofs.Common.{length, get_or, Option, Some, None, refl, sym, ap, ◌∙◌, subst, ◌⊎◌, inl, inr, arith}
-use Rattle.std.specs.Prelude.{◌↔◌, IsTrue, slice_get, unwrap_or}
-use Rattle.std.proofs.lemmas.Bool.{cond-true, cond-false, cases_Bool, cases_lt, eq-eqb, and_parts, and_from}
-use Rattle.std.proofs.lemmas.Bool.{false≢true}
+use Rattle.std.proofs.Common.{◌≡◌, ◌≢◌, ℕ, zero, suc, ◌+◌, ◌<◌, Bool, true, false, List, [], ◌∷◌, length, get_or}
+use Rattle.std.proofs.Common.{Option, Some, None, refl, sym, ap, ◌∙◌, subst, ◌⊎◌, inl, inr, arith, ◌↔◌, IsTrue}
+use Rattle.std.proofs.Common.{slice_get}
+use Rattle.std.specs.Prelude.{unwrap_or}
+use Rattle.std.proofs.lemmas.Bool.{cond-true, cond-false, cases_Bool, cases_lt, eq-eqb, and_parts, and_from, false≢true}
 use Rattle.std.proofs.lemmas.Option.{none-some, slice_get_within, unwrap_or-slice_get}
 use Rattle.std.proofs.lemmas.List.Folds.{list_any_at}
-use Rattle.machine_spec.specs.declared.{helper.Helper.Helper, instruction.Placed.Placed}
-use Rattle.machine_spec.specs.declared.{instruction.Region.Region}
-use Rattle.machine_spec.specs.Image.{target_of}
+use Rattle.machine_spec.specs.declared.{helper.Helper.Helper, instruction.Placed.Placed, instruction.Region.Region}
+use Rattle.machine_spec.specs.{Image.target_of, Traps.first_of}
 use Rattle.verifier_spec.specs.declared.{state.Abstract.Abstract, fault.Check.Check, fault.VerifyFault.VerifyFault}
 use Rattle.verifier_spec.specs.declared.fault.Check.TheVariants as check
-use Rattle.verifier_spec.specs.States.{is_proper, entry_state}
-use Rattle.machine_spec.specs.Traps.{first_of}
-use Rattle.verifier_spec.specs.Checks.{failed_check, shape_checks, jump_of}
-use Rattle.verifier_spec.specs.Transfer.{falls_to, jumps_to}
+use Rattle.verifier_spec.specs.{States.is_proper, States.entry_state, Transfer.falls_to, Transfer.jumps_to}
 use Rattle.verifier_spec.specs.JoinedStates.{if_passed}
+use Rattle.verifier_spec.specs.Checks.{failed_check, shape_checks, jump_of}
 use Rattle.verifier_spec.specs.Annotation.{Claims, claim_at, claim_of, is_covered, is_edge_covered, are_edges_covered}
 use Rattle.verifier_spec.specs.Annotation.{fault_of, IsAnnotation}
-use Rattle.verifier_spec.proofs.Annotations.{covering}
-use Rattle.verifier_spec.proofs.JoinedStates.{covered_refl, covered_trans}
+use Rattle.verifier_spec.proofs.{Annotations.covering, JoinedStates.covered_refl, JoinedStates.covered_trans}
 use Rattle.verifier_spec.proofs.Monotone.{check_monotone, falls_monotone, jumps_monotone}
 use Rattle.notes.specs.Derived.{state_fallen_to, given_or, derived_at, derived_from, derived_claims, leads_to, jumps_at}
-use Rattle.notes.specs.Derived.{is_jump_target, at_targets, settled_claims, pair_at, kept_states}
-use Rattle.notes.specs.Derived.{are_rising, pairs_fault, AreDerivedProper}
+use Rattle.notes.specs.Derived.{is_jump_target, at_targets, settled_claims, pair_at, kept_states, are_rising}
+use Rattle.notes.specs.Derived.{pairs_fault, AreDerivedProper}
 use Rattle.predecode.specs.declared.decoded.Decoded.{Decoded}
-use Rattle.notes.specs.Regions.{AreRegions, NeedsStack}
-use Rattle.notes.specs.Decoded.{AreDecoded, IsVerified}
-use Rattle.notes.proofs.Lookups.{claim_at_past}
-use Rattle.notes.proofs.Kept.{pair_kept}
+use Rattle.notes.specs.{Regions.AreRegions, Regions.NeedsStack, Decoded.AreDecoded, Decoded.IsVerified}
+use Rattle.notes.proofs.{Lookups.claim_at_past, Kept.pair_kept}
+use Rattle.verifier_spec.proofs.Annotations.{claim_within}
 
 -- ---- claims
 
@@ -100,11 +95,6 @@ covered_first : (edge outer follows : Option Abstract) → is_edge_covered edge 
 covered_first edge (Some s) follows h = h
 covered_first None None follows h = refl
 covered_first (Some s) None follows h = absurd (false≢true h)
-
-claimed_below : (claims : Claims) (k : ℕ) (s : Abstract) → claim_at claims k ≡ Some s → k < length claims
-claimed_below [] k s e = absurd (none-some s e)
-claimed_below (first ∷ claims) zero s e = omega arith
-claimed_below (first ∷ claims) (suc k) s e = omega (arith, claimed_below claims k s e)
 
 -- ---- given states
 
@@ -310,7 +300,7 @@ module _ (helpers : List Helper) where
     state_is : (k : ℕ) (s : Abstract) → claim_at states k ≡ Some s →
         (k < length code) × (derived_at helpers code given k ≡ Some s)
     state_is k s e =
-        let under : k < length code = omega (arith, claimed_below states k s e, length-derived code given) in
+        let under : k < length code = omega (arith, claim_within states k s e, length-derived code given) in
         (under, sym (claim_derived code given k under) ∙ e)
 
     module _ (k : ℕ) (placed : Placed) (s : Abstract) (at : slice_get code k ≡ Some placed)
@@ -406,7 +396,7 @@ module _ (helpers : List Helper) where
         covering_length : 0 < length claims
         covering_length =
             let outer = covering entry_state (claim_at claims 0) annotation.start in
-            claimed_below claims 0 outer.0 outer.1
+            claim_within claims 0 outer.0 outer.1
 
     -- What follows from an annotation's states at jump targets is an annotation.
     pub settled_annotation : IsAnnotation helpers code (settled_claims helpers code claims)

@@ -1,6 +1,5 @@
 -- Reading a list of claims by its index.
-use Rattle.std.proofs.Common.{◌≡◌, ℕ, zero, suc, ◌≤◌, [], ◌∷◌, length, refl, get_or, arith}
-use Rattle.std.specs.Prelude.{None}
+use Rattle.std.proofs.Common.{◌≡◌, ℕ, zero, suc, ◌≤◌, [], ◌∷◌, length, refl, get_or, arith, None}
 use Rattle.verifier_spec.specs.Annotation.{Claims, claim_at}
 
 -- the claim of an instruction is the element there, or none past the end

@@ -1,7 +1,6 @@
 -- One instruction after another: the refusal of a code from one of its instructions on.
 use Rattle.std.proofs.Common.{◌≡◌, ℕ, ◌+◌, Bool, true, ◌==◌, ◌&&◌, List, [], ◌∷◌, length, drop, refl, ap, ◌∙◌}
-use Rattle.std.proofs.Common.{below_more, arith, inl, inr}
-use Rattle.std.specs.Prelude.{Option, Some, None, slice_get, IfNone}
+use Rattle.std.proofs.Common.{below_more, arith, inl, inr, Option, Some, None, slice_get, IfNone}
 use Rattle.std.proofs.lemmas.Bool.{cases_lt, and_parts, eqb-true}
 use Rattle.machine_spec.specs.declared.{helper.Helper.Helper, instruction.Placed.Placed}
 use Rattle.verifier_spec.specs.declared.{fault.Check.Check, fault.VerifyFault.VerifyFault}

@@ -1,9 +1,8 @@
 -- The order in which an instruction's checks are reported: its shape's, its own in its state, and its edges.
-use Rattle.std.proofs.Common.{◌≡◌, ℕ, Bool, true, false, if◌then◌else◌, not, refl, List, [], ◌∷◌, ap, ◌∙◌}
-use Rattle.std.specs.Prelude.{Option, Some, None}
+use Rattle.std.proofs.Common.{◌≡◌, ℕ, Bool, true, false, if◌then◌else◌, not, refl, List, [], ◌∷◌, ap, ◌∙◌, Option, Some}
+use Rattle.std.proofs.Common.{None}
 use Rattle.machine_spec.specs.declared.{helper.Helper.Helper, instruction.Placed.Placed}
-use Rattle.machine_spec.specs.Summaries.{summary_of}
-use Rattle.machine_spec.specs.Traps.{first_of}
+use Rattle.machine_spec.specs.{Summaries.summary_of, Traps.first_of}
 use Rattle.verifier_spec.specs.declared.{state.Abstract.Abstract, fault.Check.Check}
 use Rattle.verifier_spec.specs.declared.fault.Check.TheVariants as check
 use Rattle.verifier_spec.specs.Checks.{checks, failed_check, shape_checks}

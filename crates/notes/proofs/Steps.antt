@@ -1,20 +1,15 @@
 -- Steps of the passes over a list of states.
 use Rattle.std.proofs.Common.{◌≡◌, ◌≢◌, ℕ, zero, suc, ◌+◌, ◌<◌, ◌≤◌, Bool, true, false, cond, ◌||◌, ◌==◌, List, [], ◌∷◌}
 use Rattle.std.proofs.Common.{◌++◌, length, take, drop, replicate, get_or, set, Option, Some, None, refl, sym, ap, ◌∙◌}
-use Rattle.std.proofs.Common.{subst, inl, inr, arith, length-set}
-use Rattle.std.specs.Prelude.{slice_get}
+use Rattle.std.proofs.Common.{subst, inl, inr, arith, length-set, slice_get}
 use Rattle.std.specs.List.{list_any}
 use Rattle.std.proofs.lemmas.Bool.{cond-true, cond-false, cases_Bool, cases_eq, eq-eqb, eqb-true}
-use Rattle.std.proofs.lemmas.Option.{slice_get_within}
+use Rattle.std.proofs.{lemmas.Option.slice_get_within, lemmas.List.Folds.list_any_more}
 use Rattle.std.proofs.lemmas.List.{get_or-set_same, get_or-set_other, get_or-replicate, length-replicate, drop_more}
 use Rattle.std.proofs.lemmas.List.{append_assoc, append-nil}
-use Rattle.std.proofs.lemmas.List.Folds.{list_any_more}
-use Rattle.machine_spec.specs.declared.{helper.Helper.Helper, instruction.Placed.Placed}
-use Rattle.machine_spec.specs.Image.{target_of}
-use Rattle.verifier_spec.specs.declared.state.Abstract.{Abstract}
-use Rattle.verifier_spec.specs.States.{is_proper, entry_state}
-use Rattle.verifier_spec.specs.Checks.{jump_of}
-use Rattle.verifier_spec.specs.Annotation.{Claims, claim_at}
+use Rattle.machine_spec.specs.{declared.helper.Helper.Helper, declared.instruction.Placed.Placed, Image.target_of}
+use Rattle.verifier_spec.specs.{declared.state.Abstract.Abstract, States.is_proper, States.entry_state, Checks.jump_of}
+use Rattle.verifier_spec.specs.{Annotation.Claims, Annotation.claim_at}
 use Rattle.notes.specs.Derived.{state_fallen_to, given_or, derived_at, leads_to, jumps_at, is_jump_target, at_targets}
 use Rattle.notes.specs.Derived.{pair_at, kept_claim, kept_from, kept_states, HasEachClaim, AreDerivedProper, AreTargets}
 use Rattle.notes.proofs.Derived.{given_first, given_next, read_placed}
@@ -47,15 +42,6 @@ marked marks n k inside = elim (cases_eq k n) [
       ∙ or_all (get_or marks n false) (n == n) (eq-eqb n n refl))
   | inr other ↦ get_or-set_other marks n k true false other ∙ or_apart (get_or marks k false) n k other
 ]
-
-pub unmarked : (marks : List Bool) (n k : ℕ) → length marks ≤ n → k < length marks →
-    get_or marks k false ≡ (get_or marks k false || (n == k))
-unmarked marks n k past under =
-    let other : k ≢ n = λ same. omega (arith, same, past, under) in
-    or_apart (get_or marks k false) n k other
-
-pub mark_none : (marks : List Bool) (k : ℕ) → get_or marks k false ≡ (get_or marks k false || leads_to None k)
-mark_none marks k = or_none (get_or marks k false)
 
 -- after the jumps of the first k instructions
 pub record AreMarked (code : List Placed) (marks : List Bool) (k : ℕ) : Type 0 where
@@ -105,7 +91,7 @@ claim_at-set [] k new lt = absurd (omega arith)
 claim_at-set (first ∷ claims) zero new lt = refl
 claim_at-set (first ∷ claims) (suc k) new lt = claim_at-set claims k new (omega arith)
 
-claim_at-set_other : (claims : Claims) (k j : ℕ) (new : Option Abstract) → j ≢ k →
+pub claim_at-set_other : (claims : Claims) (k j : ℕ) (new : Option Abstract) → j ≢ k →
     claim_at (set claims k new) j ≡ claim_at claims j
 claim_at-set_other [] k j new other = refl
 claim_at-set_other (first ∷ claims) zero zero new other = absurd (other refl)
@@ -249,18 +235,6 @@ put_one states pair new inside is = λ j under. elim (cases_eq j pair.0) [
     given_none None = refl
     given_none (Some s) = refl
 
-pub put_none : (states : Claims) (pair : ℕ × Abstract) → length states ≤ pair.0 →
-    HasEachClaim states (λ j. given_or (claim_at states j) (cond (pair.0 == j) (Some pair.1) None))
-put_none states pair past = λ j under.
-    let other : j ≢ pair.0 = λ same. omega (arith, past, under, same) in
-    given_none (claim_at states j)
-    ∙ ap (λ (o : Option Abstract). given_or (claim_at states j) o)
-    (sym (cond-false (pair.0 == j) (Some pair.1) None (apart pair.0 j other)))
-  where
-    given_none : (o : Option Abstract) → o ≡ given_or o None
-    given_none None = refl
-    given_none (Some s) = refl
-
 -- ---- kept states
 
 pub claim_at-get_or : (claims : Claims) (k : ℕ) (d : Option Abstract) → k < length claims →
@@ -278,11 +252,6 @@ kept_more code claims k wanted claim under is read =
     let Q : Bool → Type 0 = λ b. kept_from code k (drop k claims) ≡ kept_claim b k claim
     ++ kept_from code (k + 1) (drop (k + 1) claims) in
     subst Q (sym is) (subst P (sym read) (ap (λ (ns : Claims). kept_from code k ns) (drop_more claims k claim under)))
-
--- all claims are new ones
-pub all_done : (old claims : Claims) (new : ℕ → Option Abstract) (k : ℕ) → k ≡ length old → AreDone old claims new k →
-    HasEachClaim claims new
-all_done old claims new k all done = λ j under. done.done j (omega (arith, all, under, done.long))
 
 -- one more in place of the old one
 pub more_done : (old claims more : Claims) (new : ℕ → Option Abstract) (k : ℕ) (claim : Option Abstract) →

@@ -4,13 +4,10 @@ use Rattle.std.specs.Prelude.{◌≡◌, ℕ, zero, suc, ◌+◌, ◌<◌, Bool,
 use Rattle.std.specs.Prelude.{List, [], ◌∷◌, ◌++◌, length, slice_get, slice_index_or, Option, Some, None}
 use Rattle.std.specs.List.{list_any}
 use Rattle.machine_spec.specs.declared.{helper.Helper.Helper, instruction.Placed.Placed}
-use Rattle.machine_spec.specs.Image.{target_of}
+use Rattle.machine_spec.specs.{Image.target_of, Traps.first_of}
 use Rattle.verifier_spec.specs.declared.{state.Abstract.Abstract, fault.Check.Check, fault.VerifyFault.VerifyFault}
-use Rattle.verifier_spec.specs.States.{is_proper, entry_state}
-use Rattle.machine_spec.specs.Traps.{first_of}
+use Rattle.verifier_spec.specs.{States.is_proper, States.entry_state, Transfer.falls_to, JoinedStates.if_passed}
 use Rattle.verifier_spec.specs.Checks.{failed_check, shape_checks, jump_of}
-use Rattle.verifier_spec.specs.Transfer.{falls_to}
-use Rattle.verifier_spec.specs.JoinedStates.{if_passed}
 use Rattle.verifier_spec.specs.Annotation.{Claims, claim_at, fault_of}
 
 -- ---- what follows

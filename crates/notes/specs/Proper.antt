@@ -1,8 +1,7 @@
 -- Lists of states that are in their ranges.
 use Rattle.std.specs.Prelude.{◌≡◌, ℕ, ◌<◌, true, Some}
-use Rattle.verifier_spec.specs.declared.state.Abstract.{Abstract}
-use Rattle.verifier_spec.specs.States.{is_proper}
-use Rattle.verifier_spec.specs.Annotation.{Claims, claim_at}
+use Rattle.verifier_spec.specs.{declared.state.Abstract.Abstract, States.is_proper, Annotation.Claims}
+use Rattle.verifier_spec.specs.Annotation.{claim_at}
 
 -- the state of instruction number k, if it has one, is in its ranges
 abbrev pub IsProperAt : Claims → ℕ → Type 0

@@ -1,11 +1,9 @@
 -- A load keeps what a table always keeps.
 use Rattle.std.proofs.Common.{◌≡◌, ℕ, suc, ◌+◌, ◌-◌, ◌^◌, ◌<◌, ◌≤◌, Bool, true, false, cond, List, [], ◌∷◌, ◌++◌}
 use Rattle.std.proofs.Common.{length, Option, Some, None, Result, Ok, Err, refl, sym, ap, subst, ◌⊎◌, inl, inr, arith}
-use Rattle.std.specs.Prelude.{not, ◌&&◌, ◌||◌, nat_le}
-use Rattle.std.specs.List.{AllByRecursion}
-use Rattle.std.specs.Str.{bytes_eq}
-use Rattle.std.proofs.lemmas.Bool.{leb-false}
-use Rattle.std.proofs.lemmas.List.{length-append}
+use Rattle.std.proofs.Common.{not, ◌&&◌, ◌||◌, nat_le}
+use Rattle.std.specs.{List.AllByRecursion, Str.bytes_eq}
+use Rattle.std.proofs.{lemmas.Bool.leb-false, lemmas.List.length-append}
 use Rattle.machine_spec.specs.Image.{Program}
 use Rattle.log_spec.specs.declared.event.Refusal.{Refusal}
 use Rattle.log_spec.specs.declared.event.Refusal.TheVariants as refusal
@@ -97,9 +95,6 @@ names-kept : (table : ProgramTable) (name : List ℕ) (program : Program) → le
 names-kept table name program le (inl known) = omega (arith, length-known table name program known)
 names-kept table name program le (inr room) =
     omega (arith, length-most table name program, leb-false 64 (length table) room)
-
-pub is_table-new : IsTable []
-is_table-new = record { names = omega arith; some = tt; few = tt }
 
 -- after a load, or its refusal
 pub is_table-loaded : (table next : ProgramTable) (name : List ℕ) (program : Program) (result : Result ℕ Refusal) →

@@ -1,34 +1,18 @@
 -- Finding a name among the entries of the catalogue.
-use Rattle.std.proofs.Common.{◌≡◌, ℕ, zero, suc, ◌<◌, ◌≤◌, Bool, true, false, List, [], ◌∷◌, ◌++◌, length, take, get_or}
-use Rattle.std.proofs.Common.{set, map, refl, sym, ap, subst, ◌∙◌, arith}
-use Rattle.std.specs.Prelude.{◌||◌, ◌==◌, ◌-◌, ◌^◌, ◌≢◌, nat_le, slice_get, option_map, Some, None, Option}
-use Rattle.std.proofs.lemmas.Bool.Decides.{nat_tests}
-use Rattle.std.proofs.lemmas.List.{length-map, map_push}
+use Rattle.std.proofs.Common.{◌≡◌, ℕ, zero, suc, ◌<◌, ◌≤◌, true, false, List, [], ◌∷◌, ◌++◌, length, take, get_or}
+use Rattle.std.proofs.Common.{set, map, refl, sym, ap, subst, ◌∙◌, arith, ◌||◌, ◌==◌, ◌-◌, ◌^◌, ◌≢◌, nat_le, slice_get}
+use Rattle.std.proofs.Common.{option_map, Some, None, Option}
+use Rattle.std.proofs.{lemmas.Bool.Decides.nat_tests, lemmas.List.length-map, lemmas.List.map_push}
 use Rattle.std.proofs.lemmas.Option.{slice_get-map, slice_get_read, slice_get_past}
 use Rattle.machine_spec.specs.Image.{Program}
 use Rattle.log_spec.specs.declared.event.Refusal.{Refusal}
 use Rattle.log_spec.specs.declared.event.Refusal.TheVariants as refusal
-use Rattle.std.specs.Arc.{arc_value}
-use Rattle.std.specs.Str.{bytes_eq}
+use Rattle.std.specs.{Arc.arc_value, Str.bytes_eq}
 use Rattle.log_spec.specs.Catalogue.{ProgramTable, programs_of, program_named, with_program, has_name, is_name}
-use Rattle.log_spec.specs.Catalogue.{name_refusal}
-use Rattle.log_spec.specs.Catalogue.{IsProgramRefusal, IsFirstRefusal, IsLoadRefusal, Entry as Loaded}
+use Rattle.log_spec.specs.Catalogue.{name_refusal, IsProgramRefusal, IsFirstRefusal, IsLoadRefusal, Entry as Loaded}
 use Rattle.program_table.specs.declared.table.Entry.{Entry}
 use Rattle.program_table.specs.Tables.{entry_view, table_view, version_of}
-
-or_false : (a b : Bool) → (a || b) ≡ false → (a ≡ false) × (b ≡ false)
-or_false true b e = absurd cc
-or_false false b e = (refl, e)
-
-pub has_name-next : (entries : List Entry) (i : ℕ) (d : Entry) (name : List ℕ) → i < length entries →
-    has_name (table_view (take i entries)) name ≡ false → bytes_eq (get_or entries i d).name name ≡ false →
-    has_name (table_view (take (suc i) entries)) name ≡ false
-has_name-next [] i d name lt h e = absurd (omega arith)
-has_name-next (entry ∷ entries) zero d name lt h e = rw e refl
-has_name-next (entry ∷ entries) (suc i) d name lt h e =
-    let p = or_false (bytes_eq entry.name name) (has_name (table_view (take i entries)) name) h in
-    let below : i < length entries = omega arith in
-    rw p.0 (has_name-next entries i d name below p.1 e)
+use Rattle.std.proofs.lemmas.Bool.{or_parts}
 
 pub programs_of-found : (entries : List Entry) (i : ℕ) (d : Entry) (name : List ℕ) → i < length entries →
     has_name (table_view (take i entries)) name ≡ false → bytes_eq (get_or entries i d).name name ≡ true →
@@ -36,7 +20,7 @@ pub programs_of-found : (entries : List Entry) (i : ℕ) (d : Entry) (name : Lis
 programs_of-found [] i d name lt h e = absurd (omega arith)
 programs_of-found (entry ∷ entries) zero d name lt h e = rw e refl
 programs_of-found (entry ∷ entries) (suc i) d name lt h e =
-    let p = or_false (bytes_eq entry.name name) (has_name (table_view (take i entries)) name) h in
+    let p = or_parts (bytes_eq entry.name name) (has_name (table_view (take i entries)) name) h in
     let below : i < length entries = omega arith in
     rw p.0 (programs_of-found entries i d name below p.1 e)
 
@@ -61,7 +45,7 @@ with_program-found (entry ∷ entries) zero d changed name program lt h e same m
     (ap (λ (n : List ℕ). record { name = n; programs = map (λ program. arc_value program) changed.programs.items }) same
     ∙ ap (λ (programs : List Program). record { name = entry.name; programs = programs }) more)))
 with_program-found (entry ∷ entries) (suc i) d changed name program lt h e same more =
-    let p = or_false (bytes_eq entry.name name) (has_name (table_view (take i entries)) name) h in
+    let p = or_parts (bytes_eq entry.name name) (has_name (table_view (take i entries)) name) h in
     let below : i < length entries = omega arith in
     rw p.0 (ap (λ (rest : ProgramTable). entry_view entry ∷ rest)
     (with_program-found entries i d changed name program below p.1 e same more))
@@ -70,14 +54,14 @@ pub programs_of-absent : (table : ProgramTable) (name : List ℕ) → has_name t
     programs_of table name ≡ []
 programs_of-absent [] name h = refl
 programs_of-absent (entry ∷ table) name h =
-    let p = or_false (bytes_eq entry.name name) (has_name table name) h in
+    let p = or_parts (bytes_eq entry.name name) (has_name table name) h in
     rw p.0 (programs_of-absent table name p.1)
 
 pub with_program-absent : (table : ProgramTable) (name : List ℕ) (program : Program) → has_name table name ≡ false
     → with_program table name program ≡ table ++ record { name = name; programs = program ∷ [] } ∷ []
 with_program-absent [] name program h = refl
 with_program-absent (entry ∷ table) name program h =
-    let p = or_false (bytes_eq entry.name name) (has_name table name) h in
+    let p = or_parts (bytes_eq entry.name name) (has_name table name) h in
     rw p.0 (ap (λ (rest : ProgramTable). entry ∷ rest) (with_program-absent table name program p.1))
 
 -- ---- which refusal comes first
@@ -102,16 +86,6 @@ refusal_new table name form new lt =
     let room : nat_le 64 (length table) ≡ false = grind (arith, nat_tests) in
     rw (form, new, room, programs_of-absent table name new) refl
 
-pub refusal_full : (table : ProgramTable) (name : List ℕ) → is_name name ≡ true → has_name table name ≡ false →
-    64 ≤ length table → name_refusal table name ≡ Some refusal.Full
-refusal_full table name form new le =
-    let full : nat_le 64 (length table) ≡ true = grind (arith, nat_tests) in
-    rw (form, new, full) refl
-
-refusal_form : (table : ProgramTable) (name : List ℕ) → is_name name ≡ false →
-    name_refusal table name ≡ Some refusal.Name
-refusal_form table name form = rw form refl
-
 -- a refusal before the image is read is the load's
 pub refused_early : (table : ProgramTable) (name : List ℕ) (program : Program) (early : Refusal) →
     name_refusal table name ≡ Some early → IsLoadRefusal table name program (Some early)
@@ -122,10 +96,6 @@ refused_early table name program early e =
 pub refused_program : (table : ProgramTable) (name : List ℕ) (program : Program) (first : Option Refusal) →
     name_refusal table name ≡ None → IsProgramRefusal program first → IsLoadRefusal table name program first
 refused_program table name program first e h = subst (λ (o : Option Refusal). IsFirstRefusal o program first) (sym e) h
-
-pub refused_form : (table : ProgramTable) (name : List ℕ) (program : Program) → is_name name ≡ false →
-    IsLoadRefusal table name program (Some refusal.Name)
-refused_form table name program form = refused_early table name program refusal.Name (refusal_form table name form)
 
 -- ---- what a load that changes an entry leaves
 

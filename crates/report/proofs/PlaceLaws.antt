@@ -1,26 +1,14 @@
 -- What is at each place of a list.
-use Rattle.std.proofs.Common.{◌≡◌, ℕ, zero, suc, ◌+◌, ◌<◌, ◌≤◌, List, [], ◌∷◌, ◌++◌, length, take, get_or, Some, ⊎_elim}
-use Rattle.std.proofs.Common.{refl, sym, ap, subst, ◌∙◌, arith}
+use Rattle.std.proofs.Common.{◌≡◌, ℕ, ◌+◌, ◌<◌, ◌≤◌, List, [], ◌∷◌, ◌++◌, length, take, get_or, Some, ⊎_elim}
+use Rattle.std.proofs.Common.{refl, sym, ap, subst, ◌∙◌, arith, slice_get}
 use native.Mathlib.Decide.{ℕ_discrete}
-use Rattle.std.specs.Prelude.{slice_get}
 use Rattle.std.proofs.lemmas.List.{take-take, length-take, get_or_read}
 use Rattle.std.proofs.lemmas.Option.{same_Some, slice_get_read}
 use Rattle.log_spec.specs.Logs.{Item}
 use Rattle.part_log.specs.Parts.{Log}
 use Rattle.report.specs.Holdings.{Held}
-use Rattle.report.specs.Snapshots.{held_at, AreOutputs, IsShorter, IsLeast}
-
--- what holds of each element by its place holds with one more
-pushed : {A : Type 0} (P : ℕ → A → Type 0) (xs : List A) (n : ℕ) (x : A) →
-    ((k : ℕ) (y : A) → slice_get xs k ≡ Some y → P (n + k) y) → P (n + length xs) x → (k : ℕ) (y : A) →
-    slice_get (xs ++ x ∷ []) k ≡ Some y → P (n + k) y
-pushed P [] n x all at zero y e = subst (P (n + 0)) (same_Some x y e) at
-pushed P [] n x all at (suc k) y e = absurd cc
-pushed P (z ∷ xs) n x all at zero y e = all zero y e
-pushed P (z ∷ xs) n x all at (suc k) y e =
-    let move : (j : ℕ) → n + suc j ≡ (n + 1) + j = λ j. omega arith in
-    subst (λ m. P m y) (sym (move k)) (pushed P xs (n + 1) x (λ j w h. subst (λ m. P m w) (move j) (all (suc j) w h))
-    (subst (λ m. P m x) (move (length xs)) at) k y e)
+use Rattle.report.specs.Snapshots.{held_at, AreOutputs, IsShorter}
+use Rattle.log_spec.proofs.LogLaws.{pushed}
 
 pub each_pushed : {A : Type 0} (P : ℕ → A → Type 0) (xs : List A) (x : A) →
     ((k : ℕ) (y : A) → slice_get xs k ≡ Some y → P k y) → P (length xs) x → (k : ℕ) (y : A) →
@@ -29,9 +17,6 @@ each_pushed P xs x all at k y e =
     let from : (j : ℕ) → 0 + j ≡ j = λ j. omega arith in
     subst (λ m. P m y) (from k) (pushed P xs 0 x (λ j w h. subst (λ m. P m w) (sym (from j)) (all j w h))
     (subst (λ m. P m x) (sym (from (length xs))) at) k y e)
-
-pub none_at : {A : Type 0} (P : ℕ → A → Type 0) (k : ℕ) (y : A) → slice_get [] k ≡ Some y → P k y
-none_at P k y e = absurd cc
 
 -- ---- the items that are done everywhere
 
@@ -104,24 +89,6 @@ least_more outputs n input first shorter h before at of is = ⊎_elim same other
       least_at = at;
       in_one = e;
     }
-
--- every output partition is one of the first ones
-pub least_end : (outputs : List (List Held)) (n input : ℕ) (first : Log) → length outputs ≤ n →
-    IsLeastOf outputs n input first → IsLeast outputs input first
-least_end outputs n input first all of = record {
-  partition_is = of.partition_is;
-  in_each = λ output h e. of.in_each output h (omega (arith, all, within outputs output input h e)) e;
-  place = of.place;
-  least = of.least;
-  least_at = of.least_at;
-  in_one = of.in_one;
-}
-  where
-    within : (rest : List (List Held)) (output input : ℕ) (h : Held) → held_at rest output input ≡ Some h →
-        output < length rest
-    within [] output input h e = absurd cc
-    within (holdings ∷ rest) zero input h e = omega arith
-    within (holdings ∷ rest) (suc output) input h e = let below = within rest output input h e in omega (arith, below)
 
 -- ---- what is at a place of an output partition's list
 

@@ -1,24 +1,13 @@
 -- One text after the other.
 use Rattle.std.proofs.Common.{◌≡◌, ℕ, ◌+◌, ◌-◌, ◌<◌, ◌≤◌, min, List, [], ◌∷◌, ◌++◌, length, take, drop, map, get_or}
-use Rattle.std.proofs.Common.{Option, Some, None, sym, ap, subst, ◌∙◌, append_assoc, arith, refl}
-use Rattle.std.specs.List.{flat_map}
-use Rattle.std.specs.Io.KnownBytes.{Appends, Keeps}
-use Rattle.std.specs.Prelude.{Result, Ok, Err, IsErr}
-use Rattle.std.proofs.Math.Seq.{take-add, take-append-add}
-use Rattle.std.proofs.lemmas.List.{take-append-drop, take-append-le, take_min, take_all, take_rest, drop_more}
-use Rattle.std.proofs.lemmas.List.{append-nil, map-append, take_more}
-use Rattle.std.proofs.lemmas.Bool.{false≢true}
-use Rattle.report.specs.Writes.{HasBegun, Writes}
-
-pub appends_none : (a : Option (List ℕ)) → Appends a a []
-appends_none None = tt
-appends_none (Some xs) = sym (append-nil xs)
-
-pub appends_then : (a b c : Option (List ℕ)) (x y : List ℕ) → Appends a b x → Appends b c y → Appends a c (x ++ y)
-appends_then None b c x y p q = tt
-appends_then (Some xs) None c x y p q = absurd p
-appends_then (Some xs) (Some ys) None x y p q = absurd q
-appends_then (Some xs) (Some ys) (Some zs) x y p q = q ∙ (ap (λ (bs : List ℕ). bs ++ y) p ∙ append_assoc xs x y)
+use Rattle.std.proofs.Common.{Option, sym, ap, subst, ◌∙◌, append_assoc, arith, refl, Result, Ok, Err, IsErr}
+use Rattle.std.specs.{List.flat_map, Io.KnownBytes.Appends}
+use Rattle.std.proofs.{lemmas.Bool.false≢true, KnownBytes.Appends-nil, KnownBytes.Appends-trans}
+use Rattle.std.proofs.lemmas.List.{take-append-drop, take-append-le, take_min, take_rest, drop_more, append-nil}
+use Rattle.std.proofs.lemmas.List.{map-append, take_more}
+use Rattle.report.specs.Writes.{Writes}
+use Rattle.wire_spec.proofs.Beginnings.{begun_then}
+use Rattle.wire_spec.specs.Writing.{HasBegun}
 
 flat_map_push : {X : Type 0} (f : X → List ℕ) (xs : List X) (x : X) → flat_map f (xs ++ x ∷ []) ≡ flat_map f xs ++ f x
 flat_map_push f [] x = append-nil (f x)
@@ -30,7 +19,7 @@ pub written_more : {X : Type 0} (f : X → List ℕ) (xs : List X) (x : X) (a b 
     Appends a b (flat_map f xs) → Appends b c text → text ≡ f x → Appends a c (flat_map f (xs ++ x ∷ []))
 written_more f xs x a b c text before now is =
     subst (λ (bs : List ℕ). Appends a c bs) (ap (λ (bs : List ℕ). flat_map f xs ++ bs) is ∙ sym (flat_map_push f xs x))
-    (appends_then a b c (flat_map f xs) text before now)
+    (Appends-trans a b c (flat_map f xs) text before now)
 
 -- the same where the list is seen through a view
 pub seen_more : {X Y : Type 0} (view : Y → X) (f : X → List ℕ) (ys : List Y) (y : Y) (a b c : Option (List ℕ))
@@ -51,18 +40,7 @@ taken_more f xs k x a b c text lt at before now is =
 -- ---- a beginning of a text
 
 pub begun_none : (a : Option (List ℕ)) (text : List ℕ) → HasBegun a a text
-begun_none a text = record { count = 0; written = appends_none a }
-
-pub kept_none : (a b : Option (List ℕ)) → Keeps a b → Appends a b []
-kept_none None b k = tt
-kept_none (Some xs) None k = absurd k
-kept_none (Some xs) (Some ys) k = k ∙ sym (append-nil xs)
-
-pub begun_kept : (a b : Option (List ℕ)) (text : List ℕ) → Keeps a b → HasBegun a b text
-begun_kept a b text k = record { count = 0; written = kept_none a b k }
-
-pub begun_some : (a b : Option (List ℕ)) (count : ℕ) (text : List ℕ) → Appends a b (take count text) → HasBegun a b text
-begun_some a b count text h = record { count = count; written = h }
+begun_none a text = record { count = 0; written = Appends-nil a }
 
 -- a call that fails after a beginning
 pub writes_fault : {E : Type 0} (a b : Option (List ℕ)) (text : List ℕ) (r : Result (Unit {0}) E) → IsErr r →
@@ -75,30 +53,6 @@ pub rest_is : (bytes text : List ℕ) (done : ℕ) → bytes ≡ text →
     take (length bytes - done) (drop done bytes) ≡ drop done text
 rest_is bytes text done e = take_rest bytes done ∙ ap (λ (bs : List ℕ). drop done bs) e
 
--- some of the bytes, and then some of the others
-pub written_on : (a b c : Option (List ℕ)) (done count : ℕ) (text : List ℕ) → Appends a b (take done text) →
-    Appends b c (take count (drop done text)) → Appends a c (take (done + count) text)
-written_on a b c done count text h g =
-    subst (λ (bs : List ℕ). Appends a c bs) (sym (take-add done count text))
-    (appends_then a b c (take done text) (take count (drop done text)) h g)
-
-pub begun_on : (a b c : Option (List ℕ)) (done : ℕ) (text : List ℕ) → Appends a b (take done text) →
-    HasBegun b c (drop done text) → HasBegun a c text
-begun_on a b c done text h g =
-    record { count = done + g.count; written = written_on a b c done g.count text h g.written }
-
-pub whole_text : (a b : Option (List ℕ)) (done : ℕ) (text : List ℕ) → done ≡ length text →
-    Appends a b (take done text) → Appends a b text
-whole_text a b done text e h = subst (λ (bs : List ℕ). Appends a b bs) (take_all done text (omega (arith, e))) h
-
--- a text, and then a beginning of another
-pub begun_then : (a b c : Option (List ℕ)) (x y : List ℕ) → Appends a b x → HasBegun b c y → HasBegun a c (x ++ y)
-begun_then a b c x y h g = record {
-  count = length x + g.count;
-  written = subst (λ (bs : List ℕ). Appends a c bs) (sym (take-append-add x y g.count))
-      (appends_then a b c x (take g.count y) h g.written);
-}
-
 -- a beginning of the first of two texts
 pub begun_first : (a b : Option (List ℕ)) (x y : List ℕ) → HasBegun a b x → HasBegun a b (x ++ y)
 begun_first a b x y h =
@@ -110,7 +64,7 @@ begun_first a b x y h =
 -- what holds of the whole of two texts by what was written of the second
 pub writes_then : {E : Type 0} (a b c : Option (List ℕ)) (x y : List ℕ) (r : Result (Unit {0}) E) → Appends a b x →
     Writes b c y r → Writes a c (x ++ y) r
-writes_then a b c x y (Ok done) h g = appends_then a b c x y h g
+writes_then a b c x y (Ok done) h g = Appends-trans a b c x y h g
 writes_then a b c x y (Err fault) h g = begun_then a b c x y h g
 
 pub writes_same : {E : Type 0} (a b : Option (List ℕ)) (text line : List ℕ) (r : Result (Unit {0}) E) → text ≡ line →

@@ -1,7 +1,6 @@
 -- What an output partition holds of an input partition.
 use Rattle.std.specs.Prelude.{◌≡◌, ℕ, List, length, slice_get, Some}
-use Rattle.log_spec.specs.declared.row.Row.{Row}
-use Rattle.log_spec.specs.Logs.{IsRowsOf}
+use Rattle.log_spec.specs.{declared.row.Row.Row, Logs.IsRowsOf}
 use Rattle.part_log.specs.Parts.{Log}
 use Rattle.out_book.specs.Books.{Content, rows_from}
 

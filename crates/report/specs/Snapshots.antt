@@ -6,8 +6,7 @@ use Rattle.broker.specs.declared.fault.BrokerFault.{BrokerFault}
 use Rattle.broker.specs.declared.fault.BrokerFault.TheVariants.{Partition, NoProgram, Memory}
 use Rattle.broker.specs.declared.fault.BrokerFault.TheVariants.{Catalogue as CatalogueRefuses, Log as LogRefuses}
 use Rattle.broker.specs.declared.fault.BrokerFault.TheVariants.{Book as BookRefuses}
-use Rattle.report.specs.Holdings.{Held, IsOutput}
-use Rattle.report.specs.Totals.{Tallied, IsTallied}
+use Rattle.report.specs.{Holdings.Held, Holdings.IsOutput, Totals.Tallied, Totals.IsTallied}
 
 -- what each output partition holds of each input partition, and what became of the records of each input partition
 pub record Gathered : Type 0 where

@@ -2,9 +2,7 @@
 use Rattle.std.specs.Prelude.{ℕ, List, [], ◌∷◌, ◌++◌, length, codes, decimal}
 use Rattle.std.specs.List.{flat_map}
 use Rattle.script.specs.Texts.{row_line}
-use Rattle.report.specs.Holdings.{Held}
-use Rattle.report.specs.Totals.{Tallied}
-use Rattle.report.specs.Snapshots.{Gathered}
+use Rattle.report.specs.{Holdings.Held, Totals.Tallied, Snapshots.Gathered}
 
 -- `out Q in I done D rows R`
 abbrev pub out_line : ℕ → ℕ → ℕ → ℕ → List ℕ

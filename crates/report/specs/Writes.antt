@@ -1,11 +1,7 @@
 -- What a writer holds after a text was written, or a beginning of it.
 use Rattle.std.specs.Prelude.{ℕ, ◌≤◌, List, length, take, Option, Result, Ok, Err}
 use Rattle.std.specs.Io.KnownBytes.{Appends}
-
--- what the writer holds, where it is known, has grown by a beginning of a text
-pub record HasBegun (old new : Option (List ℕ)) (text : List ℕ) : Type 0 where
-  pub count : ℕ
-  pub written : Appends old new (take count text)
+use Rattle.wire_spec.specs.Writing.{HasBegun}
 
 -- the whole text was written, or a beginning of it
 abbrev pub Writes : {E : Type 0} → Option (List ℕ) → Option (List ℕ) → List ℕ → Result (Unit {0}) E → Type 0

@@ -55,7 +55,7 @@ fn unwritten(error: &io::Error) -> ReportFault
 }
 
 /// Writes the first of some bytes, and returns how many; none where the writer was interrupted.
-#[tactic(auto, using(crate::proofs::WrittenLaws::begun_kept, crate::proofs::WrittenLaws::kept_none, crate::proofs::WrittenLaws::begun_some))]
+#[tactic(auto, using(wire_spec::proofs::Beginnings::begun_kept, wire_spec::proofs::Beginnings::kept_none, wire_spec::proofs::Beginnings::begun_some))]
 fn put_some<W: Write>(bytes: &[u8], out: &mut W) -> Result<usize, ReportFault>
     ensures { WritesSome (W.contents out.old) (W.contents out.new) bytes.now result }
 {

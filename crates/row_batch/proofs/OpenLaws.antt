@@ -1,25 +1,21 @@
 -- A batch that is being filled: what it has, one row more, and the whole batch.
 use Rattle.std.proofs.Common.{◌≡◌, ℕ, zero, suc, ◌+◌, ◌-◌, ◌^◌, ◌<◌, ◌≤◌, pos, max, Bool, true, false, List, [], ◌∷◌}
 use Rattle.std.proofs.Common.{◌++◌, length, take, drop, map, get_or, replicate, refl, sym, ap, subst, ◌∙◌, inl, inr}
-use Rattle.std.proofs.Common.{arith}
-use Rattle.std.specs.Prelude.{ℤ, All, if◌then◌else◌}
+use Rattle.std.proofs.Common.{arith, ℤ, All, if◌then◌else◌}
 use Rattle.std.specs.Int.{w32, to_be_bytes}
-use Rattle.std.proofs.lemmas.Bool.{ne_eqb}
+use Rattle.std.proofs.{lemmas.Bool.ne_eqb, lemmas.List.Elements.All-append, lemmas.List.Elements.All-nil}
+use Rattle.std.proofs.Math.Seq.{get_or-append_seam}
 use Rattle.std.proofs.lemmas.List.{length-append, length-replicate, append-nil, take_all, take-append-le, map_push}
 use Rattle.std.proofs.lemmas.List.{length-take}
-use Rattle.std.proofs.lemmas.List.Elements.{All-append, All-nil}
-use Rattle.std.proofs.Math.Seq.{get_or-append_seam}
-use Rattle.wire_spec.specs.declared.{limits.TheConstants.TIMESTAMP_END, record.Batch.Batch}
 use Rattle.wire_spec.specs.declared.limits.TheConstants.{MAX_BATCH, MAX_RECORDS}
-use Rattle.wire_spec.specs.{RecordSpelling.record_spelling, Checksum.checksum}
+use Rattle.wire_spec.specs.{declared.record.Batch.Batch, RecordSpelling.record_spelling, Checksum.checksum}
 use Rattle.wire_spec.specs.BatchSpelling.{timestamps, greatest, records_spelling, batch_spelling, BatchFits}
-use Rattle.log_spec.specs.declared.row.Row.{Row}
-use Rattle.log_spec.specs.Logs.{RowFits}
+use Rattle.log_spec.specs.{declared.row.Row.Row, Logs.RowFits}
 use Rattle.batch.specs.Heads.{front_of, header_of}
 use Rattle.row_batch.specs.RowBatches.{record_of, first_timestamp, head_of, batch_of}
 use Rattle.row_batch.specs.FirstRows.{size_with, IsMeasured, PutsIfRoom, HasPut}
 use Rattle.row_batch.specs.OpenBatches.{shown, AddsIfRoom, rows_in, HasRows, IsOpen, base_with, padded}
-use Rattle.row_batch.proofs.RowLaws.{first_fits, batch_size, one_row, first_is, written_is}
+use Rattle.row_batch.proofs.RowLaws.{batch_size, one_row, first_is, written_is}
 use Rattle.row_batch.proofs.RoomLaws.{SoFar, none_so_far, one_more_put, no_more_put, all_put, front_long, front_put}
 use Rattle.row_batch.proofs.ShownLaws.{shown_batch, in_shown, none_in, all_in}
 
@@ -73,16 +69,6 @@ padded_size bytes short =
       length-append bytes (replicate (61 - length bytes) 0),
       length-replicate {A = ℕ} (61 - length bytes) 0,
     )
-
-pub padded_open : (base count latest : ℕ) (bytes : List ℕ) → IsOpen base count latest bytes →
-    IsOpen base count latest (padded bytes)
-padded_open base count latest bytes (inl without) = inl (record {
-  none = without.none;
-  earliest = without.earliest;
-  short = omega (arith, padded_size bytes without.short);
-})
-padded_open base count latest bytes (inr has) =
-    subst (IsOpen base count latest) (sym (padded_long bytes (long_enough bytes has.before))) (inr has)
 
 pub padded_in : (base count latest : ℕ) (bytes : List ℕ) → IsOpen base count latest bytes →
     rows_in base count (padded bytes) ≡ rows_in base count bytes
@@ -166,14 +152,6 @@ ready base (suc n) latest bytes row (inr has) =
 one_fits : (row : Row) → RowFits row → All RowFits (shown row ∷ [])
 one_fits row fits zero d lt = record { limits = fits.limits; time = fits.time }
 one_fits row fits (suc k) d lt = absurd (omega (arith, lt))
-
--- with one row more, the base timestamp is in range
-pub ready_base : (base count latest : ℕ) (out : List ℕ) (rows : List Row) (row : Row) →
-    IsReady base count latest out rows row → RowFits row → base < TIMESTAMP_END
-ready_base base count latest out rows row begun fits =
-    let both = rows ++ shown row ∷ [] in
-    let fit = All-append RowFits rows (shown row ∷ []) begun.fit (one_fits row fits) in
-    omega (arith, begun.base_is, first_fits both fit)
 
 module _ (base count latest : ℕ) (out new : List ℕ) (rows : List Row) (row : Row)
     (begun : IsReady base count latest out rows row) where

@@ -1,12 +1,9 @@
 -- Rows from a place on.
 use Rattle.std.proofs.Common.{◌≡◌, ℕ, suc, zero, ◌+◌, ◌<◌, ◌≤◌, List, [], ◌∷◌, length, take, drop, get_or, Some}
-use Rattle.std.proofs.Common.{slice_get, refl, sym, ap, subst, ◌∙◌, length-drop, arith}
-use Rattle.std.specs.Prelude.{All}
-use Rattle.std.proofs.lemmas.List.{get_or-drop, length-take-le}
-use Rattle.std.proofs.lemmas.List.Elements.{All-take, All-drop}
-use Rattle.std.proofs.lemmas.Option.{get_or_from_slice_get}
-use Rattle.log_spec.specs.declared.row.Row.{Row}
-use Rattle.log_spec.specs.Logs.{RowFits}
+use Rattle.std.proofs.Common.{slice_get, refl, sym, ap, subst, ◌∙◌, length-drop, arith, All}
+use Rattle.std.proofs.{lemmas.List.get_or-drop, lemmas.List.length-take-le, lemmas.List.Elements.All-take}
+use Rattle.std.proofs.{lemmas.List.Elements.All-drop, lemmas.Option.get_or_from_slice_get}
+use Rattle.log_spec.specs.{declared.row.Row.Row, Logs.RowFits}
 use Rattle.row_batch.specs.RowBatches.{first_timestamp}
 
 -- these many rows from a place on

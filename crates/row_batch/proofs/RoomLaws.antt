@@ -1,16 +1,12 @@
 -- Rows that are put at the end, as far as one batch has room.
-use Rattle.std.proofs.Common.{◌≡◌, ℕ, ◌+◌, ◌-◌, ◌<◌, ◌≤◌, pos, max, List, ◌++◌, length}
-use Rattle.std.proofs.Common.{take, drop, map, get_or, refl, sym, ap, subst, ◌∙◌, arith}
+use Rattle.std.proofs.Common.{◌≡◌, ℕ, ◌+◌, ◌-◌, ◌<◌, ◌≤◌, pos, max, List, ◌++◌, length, take, drop, map, get_or, refl}
+use Rattle.std.proofs.Common.{sym, ap, subst, ◌∙◌, arith, ℤ}
 use Rattle.std.proofs.lemmas.List.{length-append, append-nil, take_at, drop_at}
-use Rattle.wire_spec.specs.RecordSpelling.{record_spelling}
-use Rattle.wire_spec.specs.BatchSpelling.{records_spelling}
-use Rattle.wire_spec.specs.declared.{limits.TheConstants.TIMESTAMP_END, record.Batch.Batch}
-use Rattle.wire_spec.specs.declared.limits.TheConstants.{MAX_BATCH}
+use Rattle.wire_spec.specs.{RecordSpelling.record_spelling, BatchSpelling.records_spelling, declared.record.Batch.Batch}
+use Rattle.wire_spec.specs.declared.limits.TheConstants.{TIMESTAMP_END, MAX_BATCH}
 use Rattle.batch.specs.Heads.{front_of, header_of}
-use Rattle.std.specs.Prelude.{ℤ}
 use Rattle.log_spec.specs.declared.row.Row.{Row}
-use Rattle.row_batch.specs.RowBatches.{record_of}
-use Rattle.row_batch.specs.FirstRows.{IsMeasured, HasPut}
+use Rattle.row_batch.specs.{RowBatches.record_of, FirstRows.IsMeasured, FirstRows.HasPut}
 use Rattle.row_batch.proofs.RowLaws.{UpTo, none_yet, next_up_to, ends_before, ends_after, row_written}
 
 -- bytes that have no room are cut off again

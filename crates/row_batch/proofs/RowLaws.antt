@@ -1,27 +1,22 @@
 -- Batches of the first rows: what they have, and how they grow.
 use Rattle.std.proofs.Common.{◌≡◌, ℕ, zero, suc, ◌+◌, ◌^◌, ◌<◌, ◌≤◌, ℤ, pos, List, [], ◌∷◌, ◌++◌, length, take, drop}
-use Rattle.std.proofs.Common.{get_or, map, refl, sym, ap, subst, ◌∙◌, append_assoc, negsuc}
-use Rattle.std.proofs.Common.{⊎_elim, max, arith}
-use Rattle.std.specs.Prelude.{◌-ℤ◌, ◌+ℤ◌, ◌≤ℤ◌, ◌<ℤ◌, All, FitsSigned}
+use Rattle.std.proofs.Common.{get_or, map, refl, sym, ap, subst, ◌∙◌, append_assoc, negsuc, ⊎_elim, max, arith, ◌-ℤ◌}
+use Rattle.std.proofs.Common.{◌+ℤ◌, ◌≤ℤ◌, ◌<ℤ◌, All, FitsSigned}
 use Rattle.std.specs.Int.{w32, w64, int_max, to_be_bytes}
 use Rattle.std.specs.List.{AllByRecursion}
-use Rattle.std.proofs.lemmas.Int.{ints, clamps}
-use Rattle.std.proofs.lemmas.Bool.{cases_lt}
-use Rattle.std.proofs.lemmas.List.{length-append, length-map, length-take-le, take-map, take_more, map_push, append-nil}
-use Rattle.std.proofs.lemmas.List.Elements.{All-take}
+use Rattle.std.proofs.{lemmas.Int.ints, lemmas.Int.clamps, lemmas.Bool.cases_lt, lemmas.List.Elements.All-take}
 use Rattle.std.proofs.lemmas.List.Sums.{fold-append}
-use Rattle.wire_spec.specs.declared.{limits.TheConstants.TIMESTAMP_END, record.Record.Record, record.Batch.Batch}
-use Rattle.wire_spec.specs.Varint.{varint, varlong}
+use Rattle.std.proofs.lemmas.List.{length-append, length-map, length-take-le, take-map, take_more, map_push, append-nil}
+use Rattle.wire_spec.specs.declared.limits.TheConstants.{TIMESTAMP_END, MAX_BATCH, MAX_RECORDS, MAX_RECORD_SIZE}
+use Rattle.wire_spec.specs.declared.limits.TheConstants.{MAX_BODY_SIZE}
+use Rattle.wire_spec.specs.declared.{record.Record.Record, record.Batch.Batch}
+use Rattle.wire_spec.specs.{Varint.varint, Varint.varlong, Checksum.checksum}
 use Rattle.wire_spec.specs.RecordSpelling.{RecordFits, record_parts, record_body, record_spelling}
-use Rattle.wire_spec.specs.Checksum.{checksum}
-use Rattle.wire_spec.specs.BatchSpelling.{IsTimestamp, timestamps, greatest, records_spelling}
-use Rattle.wire_spec.specs.declared.limits.TheConstants.{MAX_BATCH, MAX_RECORDS, MAX_RECORD_SIZE, MAX_BODY_SIZE}
-use Rattle.wire_spec.specs.BatchSpelling.{batch_spelling, BatchFits}
-use Rattle.wire_spec.proofs.Varints.{length-varint}
-use Rattle.wire_spec.proofs.RecordLaws.{length-record_body}
-use Rattle.wire_spec.proofs.BatchLaws.{length-covered, records_length}
-use Rattle.log_spec.specs.declared.row.Row.{Row}
-use Rattle.log_spec.specs.Logs.{RowFits}
+use Rattle.wire_spec.specs.BatchSpelling.{IsTimestamp, timestamps, greatest, records_spelling, batch_spelling}
+use Rattle.wire_spec.specs.BatchSpelling.{BatchFits}
+use Rattle.wire_spec.proofs.{Varints.length-varint, RecordLaws.length-record_body, BatchLaws.length-covered}
+use Rattle.wire_spec.proofs.BatchLaws.{records_length}
+use Rattle.log_spec.specs.{declared.row.Row.Row, Logs.RowFits}
 use Rattle.batch.specs.Heads.{front_of, header_of}
 use Rattle.batch.proofs.Written.{finished_is}
 use Rattle.row_batch.specs.RowBatches.{record_of, first_timestamp, head_of, batch_of, TakesMost}

@@ -1,17 +1,15 @@
 -- Rows as a batch shows them, and as they are read again from its bytes.
-use Rattle.std.proofs.Common.{◌≡◌, ℕ, suc, ◌+◌, ◌^◌, ◌<◌, pos, List, [], ◌∷◌, ◌++◌, length, take, drop, map, refl}
-use Rattle.std.proofs.Common.{sym, ap, ◌∙◌, arith}
-use Rattle.std.specs.Prelude.{ℤ, unsigned_abs, FitsSigned, Result, Ok, Err}
-use Rattle.std.specs.{Int.w32, List.AllByRecursion}
+use Rattle.std.proofs.Common.{◌≡◌, ℕ, ◌+◌, ◌<◌, pos, List, [], ◌∷◌, ◌++◌, length, take, drop, map, refl, sym}
+use Rattle.std.proofs.Common.{ap, ◌∙◌, arith, ℤ, unsigned_abs, Result, Ok, Err}
 use Rattle.std.proofs.lemmas.List.{length-map, drop_at, take_all}
 use Rattle.wire_spec.specs.declared.{limits.TheConstants.TIMESTAMP_END, fault.BatchFault.BatchFault}
 use Rattle.wire_spec.specs.declared.{record.Record.Record, record.Batch.Batch}
-use Rattle.wire_spec.specs.{RecordSpelling.RecordFits, BatchReading.records_at, BatchSpelling.records_spelling}
-use Rattle.wire_spec.proofs.RecordLaws.{record_again}
+use Rattle.wire_spec.specs.{BatchReading.records_at, BatchSpelling.records_spelling}
 use Rattle.log_spec.specs.declared.row.Row.{Row}
 use Rattle.row_batch.specs.RowBatches.{record_of, first_timestamp, batch_of}
 use Rattle.row_batch.specs.OpenBatches.{shown, row_from, rows_from, rows_in, HasRows}
 use Rattle.row_batch.proofs.RowLaws.{stamp_again, records_fit, first_fits}
+use Rattle.wire_spec.proofs.BatchLaws.{records_again}
 
 -- ---- rows as a batch shows them
 
@@ -34,18 +32,6 @@ shown_batch place rows =
     ∙ ap (based (first_timestamp rows)) (records_shown (first_timestamp rows) rows)
 
 -- ---- rows that are read again
-
-records_again : (place : ℕ) (records : List Record) → place + length records < 2 ^ 31 →
-    AllByRecursion RecordFits records →
-    records_at (length records) place (records_spelling place records) ≡ Ok records
-unfolding records_at
-records_again place [] small fit = refl
-records_again place (given ∷ records) small fit =
-    let place_fits : FitsSigned w32 (pos place) = record { sfits = omega arith } in
-    rw (
-      record_again (pos place) given (records_spelling (suc place) records) place_fits fit.0,
-      records_again (suc place) records (omega arith) fit.1,
-    ) refl
 
 at_time : Row → ℤ → Row
 at_time row time = record {

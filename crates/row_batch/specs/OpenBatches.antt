@@ -2,13 +2,10 @@
 use Rattle.std.specs.Prelude.{◌≡◌, ℕ, ◌-◌, ◌<◌, ◌≤◌, ◌==◌, pos, ◌+ℤ◌, unsigned_abs, if◌then◌else◌, Bool, true, false}
 use Rattle.std.specs.Prelude.{List, [], ◌∷◌, ◌++◌, length, map, take, drop, replicate, All, Result, Ok, Err, ◌⊎◌}
 use Rattle.wire_spec.specs.declared.{fault.BatchFault.BatchFault, record.Record.Record}
-use Rattle.wire_spec.specs.BatchReading.{records_at}
-use Rattle.wire_spec.specs.BatchSpelling.{batch_spelling}
+use Rattle.wire_spec.specs.{BatchReading.records_at, BatchSpelling.batch_spelling}
 use Rattle.wire_spec.specs.declared.limits.TheConstants.{MAX_BATCH, MAX_RECORDS}
-use Rattle.log_spec.specs.declared.row.Row.{Row}
-use Rattle.log_spec.specs.Logs.{RowFits}
-use Rattle.row_batch.specs.RowBatches.{first_timestamp, batch_of}
-use Rattle.row_batch.specs.FirstRows.{HasPut}
+use Rattle.log_spec.specs.{declared.row.Row.Row, Logs.RowFits}
+use Rattle.row_batch.specs.{RowBatches.first_timestamp, RowBatches.batch_of, FirstRows.HasPut}
 
 -- a row as a batch shows it: without where its record came from
 abbrev pub shown : Row → Row

@@ -1,16 +1,11 @@
 -- Laws of the words that spell numbers and bytes.
 use Rattle.std.proofs.Common.{◌≡◌, ℕ, ◌+◌, ◌-◌, ◌*◌, suc, ◌^◌, ◌<◌, ◌≤◌, Bool, true, List, [], ◌∷◌, ◌++◌, length}
 use Rattle.std.proofs.Common.{get_or, drop, min, nat_lt, not, ◌&&◌, ◌||◌, ◌==◌, slice_index, if◌then◌else◌, refl, Bor}
-use Rattle.std.proofs.Common.{sym, ap, subst, ◌∙◌, arith, Option, Some, None, Result, Ok, Err, append_assoc, append-nil}
-use Rattle.std.proofs.Math.Seq.{drop-cons}
-use Rattle.std.proofs.Math.ListN.{drop_of_length-le}
-use Rattle.std.specs.List.{list_all}
-use Rattle.std.specs.Char.{is_ascii_digit}
-use Rattle.std.specs.Str.{all_ascii_digits}
-use Rattle.std.specs.Str.Parse.{ParsesUnsigned, digits_value}
-use Rattle.std.specs.Result.{OkIff, result_unwrap_or}
+use Rattle.std.proofs.Common.{sym, ap, subst, ◌∙◌, arith, Option, Some, None, Result, Ok, Err, append_assoc}
+use Rattle.std.proofs.{Math.Seq.drop-cons, Math.ListN.drop_of_length-le, lemmas.Bool.and_parts, lemmas.Bool.ltb-true}
+use Rattle.std.specs.{List.list_all, Char.is_ascii_digit, Str.all_ascii_digits, Str.Parse.ParsesUnsigned}
+use Rattle.std.specs.{Str.Parse.digits_value, Result.OkIff, Result.result_unwrap_or}
 use Rattle.std.proofs.lemmas.Str.Parse.{IsNumeralModel, numerals_by_value, tells_all_ascii_digits, parse_digits}
-use Rattle.std.proofs.lemmas.Bool.{and_parts, ltb-true}
 use Rattle.script.specs.Commands.{command_from}
 use Rattle.script.specs.Words.{texts, hex_digit, pair_of, before_bytes, hex_bytes, is_number, decimal_of}
 
@@ -73,9 +68,6 @@ before-prepended : (v : List ℕ) (b : ℕ) (rest : Option (List ℕ)) →
 before-prepended v b (Some bytes) = ap Some (sym (append_assoc v (b ∷ []) bytes))
 before-prepended v b None = refl
 
-before-none : (v : List ℕ) (rest : Option (List ℕ)) → prepended v (before_bytes None rest) ≡ None
-before-none v rest = refl
-
 -- one more pair
 pub pair-read : (text v : List ℕ) (i b : ℕ) → 2 * i + 1 < length text →
     hex_bytes text ≡ prepended v (hex_bytes (drop (2 * i) text)) →
@@ -85,20 +77,6 @@ pair-read text v i b h before read =
     before ∙ ap (prepended v) (hex_bytes-drop text i h
     ∙ ap (λ p. before_bytes p (hex_bytes (drop (2 * (i + 1)) text))) (sym read))
     ∙ before-prepended v b (hex_bytes (drop (2 * (i + 1)) text))
-
--- no pair here
-pub pair-missing : (text v : List ℕ) (i : ℕ) → 2 * i + 1 < length text →
-    hex_bytes text ≡ prepended v (hex_bytes (drop (2 * i) text)) →
-    None ≡ pair_of (hex_digit (get_or text (2 * i) 0)) (hex_digit (get_or text (2 * i + 1) 0)) → None ≡ hex_bytes text
-pair-missing text v i h before missing =
-    sym (before ∙ ap (prepended v) (hex_bytes-drop text i h
-    ∙ ap (λ p. before_bytes p (hex_bytes (drop (2 * (i + 1)) text))) (sym missing)))
-
--- all pairs of a text of even length
-pub pairs-all : (text v : List ℕ) (i : ℕ) → length text ≤ 2 * i →
-    hex_bytes text ≡ prepended v (hex_bytes (drop (2 * i) text)) → Some v ≡ hex_bytes text
-pairs-all text v i h before =
-    sym (before ∙ ap (λ t. prepended v (hex_bytes t)) (drop_of_length-le text h) ∙ ap Some (append-nil v))
 
 -- one digit is left over
 pub pairs-odd : (text v : List ℕ) (i : ℕ) → length text ≡ 2 * i + 1 →

@@ -1,8 +1,7 @@
 -- What a line of a script says.
 use Rattle.std.specs.Prelude.{ℕ, ◌==◌, ◌&&◌, nat_lt, nat_eq, if◌then◌else◌, List, length, drop, Option, Some, None}
 use Rattle.std.specs.Prelude.{codes}
-use Rattle.std.specs.List.{list_all, starts_with}
-use Rattle.std.specs.Str.{bytes_eq}
+use Rattle.std.specs.{List.list_all, List.starts_with, Str.bytes_eq}
 use Rattle.machine_spec.specs.declared.helper.Table.{Table}
 use Rattle.script.specs.declared.{command.Command.Command, command.Source.Source}
 use Rattle.script.specs.declared.command.Command.TheVariants.{Partitions, Load, Deploy, Put, Append, Close, Fetch, Go}

@@ -1,8 +1,7 @@
 -- Which commands are refused before anything is done.
 use Rattle.std.specs.Prelude.{ℕ, Bool, true, not, ◌&&◌, nat_lt, nat_le, if◌then◌else◌, List, length, Option, Some, None}
-use Rattle.wire_spec.specs.declared.{limits.TheConstants.MAX_KEY, limits.TheConstants.MAX_VALUE}
-use Rattle.wire_spec.specs.declared.{limits.TheConstants.TIMESTAMP_END}
-use Rattle.log_spec.specs.declared.{limits.TheConstants.MAX_CELLS, limits.TheConstants.MAX_PARTITIONS}
+use Rattle.wire_spec.specs.declared.limits.TheConstants.{MAX_KEY, MAX_VALUE, TIMESTAMP_END}
+use Rattle.log_spec.specs.declared.limits.TheConstants.{MAX_CELLS, MAX_PARTITIONS}
 use Rattle.script.specs.declared.{command.Command.Command, fault.ScriptFault.ScriptFault}
 use Rattle.script.specs.declared.command.Command.TheVariants.{Partitions, Load, Deploy, Put, Append, Close, Fetch, Go}
 use Rattle.script.specs.declared.fault.ScriptFault.TheVariants.{Order, Range}

@@ -1,10 +1,7 @@
 -- The words of a line, and the numbers and bytes that words spell.
 use Rattle.std.specs.Prelude.{ℕ, ◌+◌, ◌*◌, ◌-◌, ◌^◌, Bool, not, ◌&&◌, ◌||◌, ◌==◌, nat_lt, nat_le, min, if◌then◌else◌}
 use Rattle.std.specs.Prelude.{List, [], ◌∷◌, length, map, slice_index, slice_index_or, Option, Some, None}
-use Rattle.std.specs.List.{slice_split, list_all}
-use Rattle.std.specs.Str.Parse.{digits_value}
-use Rattle.std.specs.Str.{bytes_eq}
-use Rattle.std.specs.Char.{is_ascii_digit}
+use Rattle.std.specs.{List.slice_split, List.list_all, Str.Parse.digits_value, Str.bytes_eq, Char.is_ascii_digit}
 use denote.Ref.{Bor}
 
 -- the words of a line: its pieces between single spaces, of which some may be empty

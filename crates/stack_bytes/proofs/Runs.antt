@@ -1,9 +1,8 @@
 -- Runs of places in a set of stack places.
 use Rattle.std.proofs.Common.{◌≡◌, ℕ, zero, suc, ◌+◌, ◌-◌, ◌<◌, true, false, bit_or, refl, ap, ◌∙◌, arith, sub-one}
 use Rattle.std.specs.Int.Bits.{or_zero_r}
-use Rattle.verifier_spec.specs.declared.state.StackSet.{StackSet}
+use Rattle.verifier_spec.specs.{declared.state.StackSet.StackSet, Checks.are_set}
 use Rattle.verifier_spec.specs.StackSets.{is_set, with_place, with_places}
-use Rattle.verifier_spec.specs.Checks.{are_set}
 
 -- a run is its first place and the places after it
 pub are_set_first : (set : StackSet) (place count : ℕ) → 0 < count → is_set set place ≡ true →

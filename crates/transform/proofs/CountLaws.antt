@@ -1,14 +1,12 @@
 -- What became of the records of batches, and its counts.
 use Rattle.std.proofs.Common.{◌≡◌, ℕ, ◌+◌, Bool, true, cond, List, [], ◌∷◌, ◌++◌, length, Option, Some, None, refl, sym}
-use Rattle.std.proofs.Common.{ap, subst, ◌∙◌, append_assoc, append-nil, arith}
-use Rattle.std.specs.Prelude.{◌==◌}
+use Rattle.std.proofs.Common.{ap, subst, ◌∙◌, append_assoc, append-nil, arith, ◌==◌}
 use Rattle.std.specs.Cmp.{unsigned_tied}
 use Rattle.std.proofs.lemmas.Bool.Decides.{nat_tests}
 use Rattle.wire_spec.specs.declared.record.Batch.{Batch}
 use Rattle.machine_spec.specs.Image.{Program}
 use Rattle.log_spec.specs.Logs.{Records}
-use Rattle.fates.specs.declared.fate.Fate.{Fate}
-use Rattle.fates.specs.Fates.{AreItemFates}
+use Rattle.fates.specs.{declared.fate.Fate.Fate, Fates.AreItemFates}
 use Rattle.fates.specs.Totals.{Totals, totals, rejected_by, AreCounts, AreItemCounts}
 use Rattle.fates.proofs.FateLaws.{records_fates}
 use Rattle.transform.specs.Transforms.{AreFates, Flow, none_counted, AddsCounts, CountsBatch, CountsBatches, records_of}

@@ -4,16 +4,14 @@ use Rattle.std.proofs.lemmas.List.{length-set, get_or-set_same, get_or-set_other
 use Rattle.std.proofs.lemmas.Option.{slice_get-get_or, get_or_from_slice_get}
 use Rattle.log_spec.specs.declared.row.Row.{Row}
 use Rattle.item_rows.specs.ItemRows.{rows_in}
-use Rattle.transform.specs.declared.{flow.TransformFault.TransformFault}
-use Rattle.transform.specs.declared.{outlet.OutletFault.OutletFault}
+use Rattle.transform.specs.{declared.flow.TransformFault.TransformFault, declared.outlet.OutletFault.OutletFault}
+use Rattle.transform.specs.{Backlogs.waiting, Backlogs.with_rows}
 use Rattle.transform.specs.declared.flow.TransformFault.TheVariants as fault
 use Rattle.transform.specs.declared.outlet.OutletFault.TheVariants as cause
-use Rattle.transform.specs.Backlogs.{waiting, with_rows}
 use Rattle.transform.specs.Outlets.{Outflow, outflow, WroteBatches, PutsRows}
 use Rattle.transform.specs.Transforms.{Fills, FillsSome, StopsFilling, Empties, EmptiesSome, StopsEmptying, InOne}
 use Rattle.transform.specs.Transforms.{output_at, Stays, PutsEach, PutsOne, EndsEach, EndsOne}
-use Rattle.transform.proofs.OutletLaws.{wrote_batches, batches_none}
-use Rattle.transform.proofs.EachLaws.{InFirst, first_stops}
+use Rattle.transform.proofs.{OutletLaws.wrote_batches, OutletLaws.batches_none, EachLaws.InFirst, EachLaws.first_stops}
 
 fills_some : (rows : List Row) (x y : Outflow) → Fills rows x y → FillsSome rows x y
 fills_some rows x y fills =

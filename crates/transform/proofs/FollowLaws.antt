@@ -3,21 +3,17 @@ use Rattle.std.proofs.Common.{◌≡◌, ℕ, ◌+◌, ◌<◌, List, [], ◌∷
 use Rattle.std.proofs.Common.{subst, ◌∙◌, arith}
 use Rattle.wire_spec.specs.declared.record.Batch.{Batch}
 use Rattle.machine_spec.specs.Image.{Program}
-use Rattle.log_spec.specs.declared.row.Row.{Row}
+use Rattle.log_spec.specs.{declared.row.Row.Row, Logs.Records, Logs.IsItemRows}
 use Rattle.item_rows.specs.ItemRows.{rows_in, AreItemRows}
-use Rattle.log_spec.specs.Logs.{Records, IsItemRows}
 use Rattle.fates.specs.Totals.{Totals}
 use Rattle.transform.specs.declared.{outlet.OutletFault.OutletFault, flow.TransformFault.TransformFault}
 use Rattle.transform.specs.declared.flow.TransformFault.TheVariants as fault
-use Rattle.transform.specs.Backlogs.{Waiting, with_rows}
-use Rattle.transform.specs.Outlets.{Outflow, WroteFull}
-use Rattle.transform.specs.Transforms.{Flow, output_at, Fills, FillsSome, StopsFilling}
-use Rattle.transform.specs.Transforms.{Pushes, EndsFlow, AreFlowRows, CountsBatches, Follows, Finished, Broken}
-use Rattle.transform.specs.Transforms.{origin_of, records_of}
-use Rattle.transform.proofs.ShownLaws.{none_with, more_with}
+use Rattle.transform.specs.{Backlogs.Waiting, Backlogs.with_rows, Outlets.Outflow, Outlets.WroteFull}
+use Rattle.transform.specs.Transforms.{Flow, output_at, Fills, FillsSome, StopsFilling, Pushes, EndsFlow, AreFlowRows}
+use Rattle.transform.specs.Transforms.{CountsBatches, Follows, Finished, Broken, origin_of, records_of}
+use Rattle.transform.proofs.{ShownLaws.none_with, ShownLaws.more_with, LogOfLaws.rows_more, CountLaws.adds_none}
+use Rattle.transform.proofs.CountLaws.{counts_more}
 use Rattle.transform.proofs.OutletLaws.{full_none, wrote_with, wrote_then, wrote_then_batches, wrote_then_stops}
-use Rattle.transform.proofs.LogOfLaws.{rows_more}
-use Rattle.transform.proofs.CountLaws.{adds_none, counts_more}
 
 -- ---- one output partition
 

@@ -1,4 +1,3 @@
-pub mod WrittenLaws
 pub mod ShownLaws
 pub mod OutletLaws
 pub mod OpenLaws

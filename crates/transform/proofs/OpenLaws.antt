@@ -7,10 +7,10 @@ use Rattle.std.proofs.lemmas.List.{drop_at, drop_all, length-append, length-drop
 use Rattle.std.proofs.lemmas.Option.{get_or_from_slice_get}
 use Rattle.log_spec.specs.declared.row.Row.{Row}
 use Rattle.row_batch.specs.OpenBatches.{shown}
-use Rattle.transform.specs.declared.{outlet.OutletFault.OutletFault}
+use Rattle.transform.specs.declared.outlet.OutletFault.{OutletFault}
 use Rattle.transform.specs.declared.outlet.OutletFault.TheVariants as fault
 use Rattle.transform.specs.Backlogs.{Waiting, waiting, with_rows, rest_after, IsBatchOf, IsFull, TakesRow}
-use Rattle.transform.specs.Outlets.{Outflow, WroteFull, WroteBatches, Fails, PutsFull, PutsRows, PutsAll, PutsOpen}
+use Rattle.transform.specs.Outlets.{WroteFull, WroteBatches, Fails, PutsAll, PutsOpen}
 use Rattle.transform.proofs.ShownLaws.{one_shown, more_with}
 use Rattle.transform.proofs.OutletLaws.{batches_none, wrote_batches, wrote_to, wrote_then}
 use Rattle.transform.proofs.OutletLaws.{wrote_then_stops, batch_with, full_with, total}
@@ -170,14 +170,6 @@ put_stops old mid rows index row a b c why more is so_far next =
       wrote_then_stops (with_rows old rows) (with_rows mid (row ∷ drop (index + 1) rows)) a b c why
           (subst (λ (rs : List Row). WroteFull (with_rows old rows) a (with_rows mid rs) b) left so_far) next.1,
     )
-
--- there was room for all of them
-pub puts_rows : (old new : Outflow) (rows : List Row) (result : Result (Unit {0}) OutletFault) →
-    PutsFull (with_rows old.waits rows) old.written result new.waits new.written → PutsRows old rows result new
-puts_rows old new rows (Ok done) puts = puts
-puts_rows old new rows (Err fault.Write) puts = puts
-puts_rows old new rows (Err fault.Memory) puts = puts
-puts_rows old new rows (Err fault.Full) puts = absurd (puts.0 refl)
 
 -- ---- the end
 

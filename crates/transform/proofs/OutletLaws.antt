@@ -1,22 +1,19 @@
 -- Batches of the rows of an output, one after the other, and what a writer has of them.
 use Rattle.std.proofs.Common.{◌≡◌, ℕ, ◌+◌, ◌<◌, ◌≤◌, List, [], ◌∷◌, ◌++◌, length, take, Option, refl, sym, ap, subst}
-use Rattle.std.proofs.Common.{◌∙◌}
-use Rattle.std.proofs.Common.{append_assoc, ⊎_elim, inl, inr, arith}
-use Rattle.std.specs.List.{concat}
-use Rattle.std.specs.Io.KnownBytes.{Appends}
-use Rattle.std.proofs.KnownBytes.{Appends-nil, Appends-trans}
+use Rattle.std.proofs.Common.{◌∙◌, append_assoc, ⊎_elim, inl, inr, arith}
+use Rattle.std.specs.{List.concat, Io.KnownBytes.Appends}
+use Rattle.std.proofs.{KnownBytes.Appends-nil, KnownBytes.Appends-trans, lemmas.List.Folds.concat-append}
 use Rattle.std.proofs.lemmas.List.{take-append-le, drop-append-le, length-append, length-drop}
-use Rattle.std.proofs.lemmas.List.Folds.{concat-append}
-use Rattle.wire_spec.specs.BatchSpelling.{batch_spelling, BatchFits}
-use Rattle.wire_spec.specs.declared.limits.TheConstants.{MAX_BATCH}
+use Rattle.wire_spec.specs.{BatchSpelling.batch_spelling, BatchSpelling.BatchFits}
+use Rattle.wire_spec.specs.{declared.limits.TheConstants.MAX_BATCH, Writing.HasBegun}
 use Rattle.log_spec.specs.declared.row.Row.{Row}
 use Rattle.row_batch.specs.RowBatches.{batch_of}
-use Rattle.transform.specs.declared.{outlet.OutletFault.OutletFault}
+use Rattle.transform.specs.declared.outlet.OutletFault.{OutletFault}
 use Rattle.transform.specs.declared.outlet.OutletFault.TheVariants as cause
 use Rattle.transform.specs.Backlogs.{Waiting, waiting, with_rows, ShowsSame, rest_after, IsBatchOf, IsFull}
-use Rattle.transform.specs.Outlets.{AreFull, AreBatches, HasBegun, WroteFull, WroteBatches, WrotePart, Stops}
+use Rattle.transform.specs.Outlets.{AreFull, AreBatches, WroteFull, WroteBatches, WrotePart, Stops}
 use Rattle.transform.proofs.ShownLaws.{same_length, full_from, batches_from, full_to, with_same}
-use Rattle.transform.proofs.WrittenLaws.{begun_then}
+use Rattle.wire_spec.proofs.Beginnings.{begun_then}
 
 -- full batches are batches
 all_batches : (old new : Waiting) (batches : List (List ℕ)) → AreFull old batches new → AreBatches old batches new

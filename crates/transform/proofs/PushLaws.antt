@@ -3,13 +3,11 @@ use Rattle.std.proofs.Common.{◌≡◌, ℕ, ◌+◌, ◌≤◌, List, length, 
 use Rattle.wire_spec.specs.declared.record.Batch.{Batch}
 use Rattle.wire_spec.specs.declared.limits.TheConstants.{TIMESTAMP_END, MAX_RECORDS}
 use Rattle.machine_spec.specs.Image.{Program}
-use Rattle.log_spec.specs.declared.row.Row.{Row}
-use Rattle.log_spec.specs.Logs.{Records}
+use Rattle.log_spec.specs.{declared.row.Row.Row, Logs.Records}
 use Rattle.fates.specs.Totals.{Totals}
 use Rattle.item_rows.specs.ItemRows.{AreItemRows}
-use Rattle.transform.specs.declared.{flow.TransformFault.TransformFault}
+use Rattle.transform.specs.{declared.flow.TransformFault.TransformFault, Outlets.Outflow}
 use Rattle.transform.specs.declared.flow.TransformFault.TheVariants as fault
-use Rattle.transform.specs.Outlets.{Outflow}
 use Rattle.transform.specs.Transforms.{Flow, flow, IsFlow, origin_of, PutsEach, CountsBatch, Pushes}
 
 -- no output partition is lost, also where one failed

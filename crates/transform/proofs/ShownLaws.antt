@@ -1,12 +1,11 @@
 -- Rows as a batch shows them: batches of one list of rows are batches of another that shows the same.
-use Rattle.std.proofs.Common.{◌≡◌, ℕ, ◌+◌, ◌<◌, List, [], ◌∷◌, ◌++◌, length, map, take, refl, sym, ap, subst}
-use Rattle.std.proofs.Common.{◌∙◌, ⊎_elim, inl, inr, arith, append_assoc, append-nil}
+use Rattle.std.proofs.Common.{◌≡◌, ℕ, ◌+◌, ◌<◌, List, [], ◌∷◌, ◌++◌, length, map, take, refl, sym, ap, subst, ◌∙◌}
+use Rattle.std.proofs.Common.{⊎_elim, inl, inr, arith, append_assoc, append-nil}
 use Rattle.std.proofs.lemmas.List.{map-append, take-map, drop-map, length-map}
-use Rattle.wire_spec.specs.BatchSpelling.{batch_spelling, BatchFits}
+use Rattle.wire_spec.specs.{BatchSpelling.batch_spelling, BatchSpelling.BatchFits}
 use Rattle.wire_spec.specs.declared.limits.TheConstants.{MAX_BATCH}
 use Rattle.log_spec.specs.declared.row.Row.{Row}
-use Rattle.row_batch.specs.RowBatches.{batch_of}
-use Rattle.row_batch.specs.OpenBatches.{shown}
+use Rattle.row_batch.specs.{RowBatches.batch_of, OpenBatches.shown}
 use Rattle.row_batch.proofs.ShownLaws.{shown_batch}
 use Rattle.transform.specs.Backlogs.{Waiting, waiting, with_rows, as_shown, ShowsSame, rest_after, IsBatchOf, IsFull}
 use Rattle.transform.specs.Outlets.{AreFull, AreBatches}

@@ -1,20 +1,12 @@
 -- Batches of a reader that are pushed one after the other, and the end.
-use Rattle.std.proofs.Common.{◌≡◌, ℕ, ◌+◌, ◌-◌, ◌≤◌, true, false, List, [], ◌∷◌, ◌++◌, length, drop, Option, Some, None}
-use Rattle.std.proofs.Common.{Result, Ok, Err, refl, sym, ap, subst, ◌∙◌, inl, inr, arith}
-use Rattle.std.specs.Prelude.{◌^◌, min, IfOk, IfSome}
-use Rattle.std.proofs.Math.Nat.{min-eq_left}
-use Rattle.std.proofs.lemmas.List.{length-drop, length_push}
-use Rattle.std.proofs.lemmas.Option.{same_Some}
-use Rattle.wire_spec.specs.declared.record.Batch.{Batch}
-use Rattle.wire_spec.specs.BatchSpelling.{BatchFits}
-use Rattle.wire_spec.specs.BatchReading.{batch_at}
+use Rattle.std.proofs.Common.{◌≡◌, ℕ, ◌+◌, ◌-◌, ◌≤◌, false, List, [], ◌∷◌, ◌++◌, length, drop, Option, Some}
+use Rattle.std.proofs.Common.{Result, Ok, Err, refl, sym, ap, subst, ◌∙◌, inl, inr, arith, ◌^◌, min}
+use Rattle.std.proofs.{Math.Nat.min-eq_left, lemmas.List.length-drop, lemmas.List.length_push, lemmas.Option.same_Some}
+use Rattle.wire_spec.specs.{declared.record.Batch.Batch, BatchReading.batch_at}
 use Rattle.machine_spec.specs.Image.{Program}
-use Rattle.log_spec.specs.Logs.{FitsLog}
-use Rattle.log_spec.proofs.FittingBatches.{fits_log}
 use Rattle.batch.specs.Batches.{AreBatches}
 use Rattle.batch.proofs.FeedLaws.{batch_at-taken}
-use Rattle.batch_reader.specs.declared.reader.Position.{Position}
-use Rattle.batch_reader.specs.declared.reader.ReadFault.{ReadFault}
+use Rattle.batch_reader.specs.declared.{reader.Position.Position, reader.ReadFault.ReadFault}
 use Rattle.batch_reader.specs.declared.reader.ReadFault.TheVariants as read
 use Rattle.batch_reader.specs.Readings.{Inlet, left_of, IsOpen, LosesBatch, ReadsBatch}
 use Rattle.transform.specs.declared.{stream.StreamFault.StreamFault, flow.TransformFault.TransformFault}
@@ -23,13 +15,6 @@ use Rattle.transform.specs.declared.flow.TransformFault.TheVariants as stop
 use Rattle.transform.specs.Transforms.{Flow, Follows, Pushes, EndsFlow}
 use Rattle.transform.specs.Streams.{Begins, Gave, is_broken, Completed, PushesAll, TransformsAll}
 use Rattle.transform.proofs.FollowLaws.{none_follows, one_follows, one_stops, end_finishes, end_counts, end_stops}
-
--- what is decoded is a batch that a log takes
-pub fits : {E : Type 0} (r : Result (Option Batch) E) → IfOk r (λ given. IfSome given BatchFits) →
-    IfOk r (λ given. IfSome given FitsLog)
-fits (Ok (Some batch)) h = fits_log batch h
-fits (Ok None) h = tt
-fits (Err why) h = tt
 
 -- ---- what a reader gave
 
@@ -139,22 +124,12 @@ goes_on program first start mid after old new batch so_far reads pushes = record
 
 -- ---- how that ends
 
-pub at_end : (program : Program) (first : Inlet) (start : Flow) (mid after : Inlet) (now : Flow) →
-    Underway program first start mid now → ReadsBatch mid (Ok None) after →
-    PushesAll program first start (Ok tt) after now
-at_end program first start mid after now so_far reads =
-    (so_far.batches, mid, so_far.gave, reads, so_far.follows)
-
 pub unread : (program : Program) (first : Inlet) (start : Flow) (mid after : Inlet) (now : Flow) (why : ReadFault)
     (result : Result (Unit {0}) StreamFault) → Underway program first start mid now → ReadsBatch mid (Err why) after →
     result ≡ Err (fault.Read why) → PushesAll program first start result after now
 unread program first start mid after now why result so_far reads is =
     subst (λ (r : Result (Unit {0}) StreamFault). PushesAll program first start r after now) (sym is)
     (so_far.batches, mid, so_far.gave, reads, so_far.follows)
-
-pub too_many : (program : Program) (first : Inlet) (start : Flow) (mid : Inlet) (now : Flow) →
-    Underway program first start mid now → PushesAll program first start (Err (fault.Read read.Read)) mid now
-too_many program first start mid now so_far = (so_far.batches, mid, so_far.gave, refl, so_far.follows)
 
 pub unpushed : (program : Program) (first : Inlet) (start : Flow) (mid after : Inlet) (old new : Flow) (batch : Batch)
     (why : TransformFault) (result : Result (Unit {0}) StreamFault) → Underway program first start mid old →
@@ -189,15 +164,6 @@ unpushed program first start mid after old new batch why result so_far reads pus
     )
 
 -- ---- and what waits is written
-
-pub broken : (program : Program) (first : Inlet) (start : Flow) (result : Result (Unit {0}) StreamFault) (after : Inlet)
-    (now : Flow) → is_broken result ≡ true → PushesAll program first start result after now →
-    TransformsAll program first start result after now
-broken program first start (Ok done) after now is pushed = absurd cc
-broken program first start (Err (fault.Read why)) after now is pushed = absurd cc
-broken program first start (Err (fault.Transform stop.Full)) after now is pushed = absurd cc
-broken program first start (Err (fault.Transform stop.Memory)) after now is pushed = absurd cc
-broken program first start (Err (fault.Transform (stop.Output output why))) after now is pushed = pushed
 
 written : (start mid new : Flow) (program : Program) (batches : List Batch) → Follows start program batches mid →
     EndsFlow mid (Ok tt) new → Completed start program batches new

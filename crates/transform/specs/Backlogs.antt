@@ -4,8 +4,7 @@ use Rattle.std.specs.Prelude.{drop}
 use Rattle.wire_spec.specs.BatchSpelling.{batch_spelling, BatchFits}
 use Rattle.wire_spec.specs.declared.limits.TheConstants.{MAX_BATCH, MAX_RECORDS}
 use Rattle.log_spec.specs.declared.row.Row.{Row}
-use Rattle.row_batch.specs.RowBatches.{batch_of}
-use Rattle.row_batch.specs.OpenBatches.{shown}
+use Rattle.row_batch.specs.{RowBatches.batch_of, OpenBatches.shown}
 
 -- the rows that are in no batch yet, and how many are in batches, which is the first one's offset
 pub record Waiting : Type 0 where

@@ -1,12 +1,12 @@
 -- Record batches of an output partition that are written one after the other.
 use Rattle.std.specs.Prelude.{◌≡◌, ◌≢◌, ℕ, ◌+◌, ◌<◌, ◌≤◌, ◌^◌, List, [], ◌∷◌, ◌++◌, length, take, Option, Result, Ok}
 use Rattle.std.specs.Prelude.{Err}
-use Rattle.std.specs.List.{concat}
-use Rattle.std.specs.Io.KnownBytes.{Appends}
+use Rattle.std.specs.{List.concat, Io.KnownBytes.Appends}
 use Rattle.log_spec.specs.declared.row.Row.{Row}
 use Rattle.transform.specs.declared.outlet.OutletFault.{OutletFault}
 use Rattle.transform.specs.declared.outlet.OutletFault.TheVariants as fault
 use Rattle.transform.specs.Backlogs.{Waiting, with_rows, ShowsSame, rest_after, IsBatchOf, IsFull, GivesAll}
+use Rattle.wire_spec.specs.Writing.{HasBegun}
 
 -- what a writer holds, where that is known, and the rows that wait for a batch
 pub record Outflow : Type 0 where
@@ -32,11 +32,6 @@ AreBatches old (bytes ∷ others) new =
     × AreBatches (rest_after old count) others new
 
 -- ---- what a writer holds
-
--- what a writer holds has grown by a beginning of some bytes
-pub record HasBegun (before after : Option (List ℕ)) (bytes : List ℕ) : Type 0 where
-  pub count : ℕ
-  pub written : Appends before after (take count bytes)
 
 -- full batches of the rows that waited were written, and nothing else
 pub record WroteFull (old : Waiting) (before : Option (List ℕ)) (new : Waiting) (after : Option (List ℕ)) : Type 0 where

@@ -6,7 +6,7 @@ use Rattle.wire_spec.specs.declared.limits.TheConstants.{TIMESTAMP_END, MAX_RECO
 use Rattle.machine_spec.specs.Image.{Program}
 use Rattle.batch.specs.Batches.{AreBatches}
 use Rattle.batch_reader.specs.Readings.{Inlet, left_of, ReadsBatch}
-use Rattle.transform.specs.declared.{stream.StreamFault.StreamFault}
+use Rattle.transform.specs.declared.stream.StreamFault.{StreamFault}
 use Rattle.transform.specs.declared.stream.StreamFault.TheVariants as fault
 use Rattle.transform.specs.declared.flow.TransformFault.TheVariants as stop
 use Rattle.transform.specs.Transforms.{Flow, Follows, Finished, Broken, CountsBatches, records_of}

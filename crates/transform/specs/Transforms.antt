@@ -1,16 +1,14 @@
 -- A stream of record batches through a program, into output partitions.
-use Rattle.std.specs.Prelude.{◌≡◌, ◌≢◌, ℕ, ◌+◌, ◌<◌, ◌≤◌, List, [], ◌∷◌, ◌++◌, length, map, Some, None, Result, Ok}
-use Rattle.std.specs.Prelude.{Err, get_or}
+use Rattle.std.specs.Prelude.{◌≡◌, ◌≢◌, ℕ, ◌+◌, ◌<◌, ◌≤◌, List, [], ◌∷◌, ◌++◌, length, map, Some, None, Result, Ok, Err}
+use Rattle.std.specs.Prelude.{get_or}
 use Rattle.wire_spec.specs.declared.record.Batch.{Batch}
 use Rattle.wire_spec.specs.declared.limits.TheConstants.{TIMESTAMP_END, MAX_RECORDS}
 use Rattle.machine_spec.specs.Image.{Program}
 use Rattle.log_spec.specs.declared.row.Row.{Row}
 use Rattle.log_spec.specs.Logs.{Item as LogItem, Records, Marked, IsItemRows, IsRowsOf}
-use Rattle.fates.specs.declared.fate.Fate.{Fate}
-use Rattle.fates.specs.Fates.{AreItemFates}
+use Rattle.fates.specs.{declared.fate.Fate.Fate, Fates.AreItemFates}
 use Rattle.fates.specs.Totals.{Totals, totals, AreCounts}
-use Rattle.item_rows.specs.declared.origin.Origin.{Origin}
-use Rattle.item_rows.specs.ItemRows.{rows_in, AreItemRows}
+use Rattle.item_rows.specs.{declared.origin.Origin.Origin, ItemRows.rows_in, ItemRows.AreItemRows}
 use Rattle.transform.specs.declared.{flow.TransformFault.TransformFault, outlet.OutletFault.OutletFault}
 use Rattle.transform.specs.declared.flow.TransformFault.TheVariants as fault
 use Rattle.transform.specs.Backlogs.{Waiting, waiting, with_rows}

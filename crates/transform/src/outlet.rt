@@ -176,7 +176,7 @@ fn put_batch<W: Write>(bytes: &[u8], writer: &mut W) -> Result<(), OutletFault>
 }
 
 // Writes the first of some bytes, and returns how many; none where the writer was interrupted.
-#[tactic(auto, using(crate::proofs::WrittenLaws::begun_kept, crate::proofs::WrittenLaws::kept_none, crate::proofs::WrittenLaws::begun_some))]
+#[tactic(auto, using(wire_spec::proofs::Beginnings::begun_kept, wire_spec::proofs::Beginnings::kept_none, wire_spec::proofs::Beginnings::begun_some))]
 fn put_some<W: Write>(bytes: &[u8], writer: &mut W) -> Result<usize, OutletFault>
     ensures { WritesSome (W.contents writer.old) (W.contents writer.new) bytes.now result }
 {

@@ -126,7 +126,7 @@ fn push_all<R: Read, W: Write, V: Watch>(
 }
 
 // The next batch of a reader, which a log takes.
-#[tactic(auto, using(crate::proofs::StreamLaws::fits))]
+#[tactic(auto, using(log_spec::proofs::FittingBatches::fits))]
 fn next_batch<R: Read>(reader: &mut BatchReader<R>) -> Result<Option<PackedBatch>, ReadFault>
     requires { IsOpen reader.old }
     ensures gives { ReadsBatch reader.old result reader.new }

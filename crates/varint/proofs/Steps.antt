@@ -1,11 +1,10 @@
 -- Shifts by groups of seven bits.
 use Rattle.std.proofs.Common.{◌≡◌, ℕ, zero, suc, ◌+◌, ◌-◌, ◌*◌, ◌/◌, ◌%◌, ◌^◌, ◌<◌, ◌≤◌, ◌⊎◌, inl, inr, List, [], ◌∷◌}
-use Rattle.std.proofs.Common.{◌++◌, length, get_or, set, take, refl, sym, subst, ap, ◌∙◌, append_assoc, arith}
+use Rattle.std.proofs.Common.{◌++◌, length, get_or, set, take, refl, sym, subst, ap, ◌∙◌, append_assoc, arith, ℤ}
+use Rattle.std.proofs.Common.{FitsSigned}
 use Rattle.std.proofs.lemmas.Bool.{cases_lt, lt-ltb, le-ltb}
-use Rattle.std.proofs.lemmas.List.{take_more_set}
-use Rattle.std.specs.Prelude.{ℤ, FitsSigned}
+use Rattle.std.proofs.{lemmas.List.take_more_set, lemmas.Int.to_z-of_z}
 use Rattle.std.specs.Int.{w32, w64, cast_signed, cast_unsigned}
-use Rattle.std.proofs.lemmas.Int.{to_z-of_z}
 use Rattle.wire_spec.proofs.Varints.{zigzag-fits_32, groups_is, IsBase128-groups, worth, worth-128, worth-mono, Adds}
 use Rattle.wire_spec.proofs.Varints.{adds, nine_groups, EndsAt}
 use Rattle.wire_spec.specs.Varint.{groups_value, groups, zigzag}
@@ -59,11 +58,7 @@ value_of_two (b ∷ c ∷ bs) some high byte low = omega arith
 
 pub ends_at_second : (bytes : List ℕ) → 1 < length bytes → 128 ≤ get_or bytes 0 0 → get_or bytes 1 0 < 128 →
     EndsAt bytes 1
-ends_at_second bytes within high low = record { within = within; before = before; ends = low }
-  where
-    before : (k : ℕ) → k < 1 → 128 ≤ get_or bytes k 0
-    before zero lt = high
-    before (suc k) lt = absurd (omega arith)
+ends_at_second bytes within high low = grind arith
 
 -- what a number of 32 bits is after casts
 pub cast_64 : (z : ℤ) → FitsSigned w32 z → cast_signed w64 (cast_unsigned w64 z) ≡ z
@@ -91,11 +86,7 @@ put_more bytes at rest number lt size more is =
 pub put_last : (bytes : List ℕ) (at rest number : ℕ) → at < 10 → length bytes ≡ 10 → rest < 128 →
     take at bytes ++ groups (10 - at) rest ≡ groups 10 number → take (at + 1) (set bytes at rest) ≡ groups 10 number
 unfolding groups
-put_last bytes at rest number lt size few is =
-    let left : 10 - at ≡ suc (10 - (at + 1)) = omega arith in
-    let within : at < length bytes = omega arith in
-    let before : take at bytes ++ rest ∷ [] ≡ groups 10 number = rw (left, lt-ltb rest 128 few) at is in
-    take_more_set bytes at rest within ∙ before
+put_last bytes at rest number lt size few is = grind (arith, lt-ltb, take_more_set)
 
 pub rest_below : (at rest : ℕ) → worth at rest < 2 ^ 64 → worth (at + 1) (rest / 128) < 2 ^ 64
 rest_below at rest lt =
@@ -104,10 +95,7 @@ rest_below at rest lt =
     (omega (arith, worth-128 at (rest / 128), worth-mono at (128 * (rest / 128)) rest (omega arith)))
 
 pub rest_last : (at rest : ℕ) → 9 ≤ at → at ≤ 9 → worth at rest < 2 ^ 64 → rest < 2
-rest_last at rest low high lt =
-    let nine : at ≡ 9 = omega arith in
-    let there : worth 9 rest < 2 ^ 64 = subst (λ (k : ℕ). worth k rest < 2 ^ 64) nine lt in
-    omega arith
+rest_last at rest low high lt = grind (arith, worth)
 
 -- a number of 32 bits has no more than five groups
 pub groups_5 : (z : ℤ) → FitsSigned w32 z → groups 10 (zigzag z) ≡ groups 5 (zigzag z)
@@ -132,18 +120,11 @@ len_more len rest total lt more is =
 pub len_last : (len rest total : ℕ) → len < 10 → rest < 128 → len + length (groups (11 - len) rest) ≡ 1 + total →
     len ≡ total
 unfolding groups
-len_last len rest total lt few is =
-    let left : 11 - len ≡ suc (11 - (len + 1)) = omega arith in
-    let before : len + 1 ≡ 1 + total = rw (left, lt-ltb rest 128 few) at is in
-    omega arith
+len_last len rest total lt few is = grind (arith, lt-ltb)
 
 one_group : (rest : ℕ) → length (groups 1 rest) ≡ 1
 unfolding groups
-one_group rest = elim (cases_lt rest 128) [
-  | inl few ↦ rw (lt-ltb rest 128 few) refl
-  | inr more ↦
-      rw (le-ltb rest 128 more) refl
-]
+one_group rest = grind (arith, cases_lt, lt-ltb, le-ltb)
 
 pub len_end : (len rest total : ℕ) → 10 ≤ len → len ≤ 10 → len + length (groups (11 - len) rest) ≡ 1 + total →
     10 ≡ total

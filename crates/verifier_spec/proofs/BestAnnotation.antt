@@ -1,31 +1,26 @@
 -- The joined states of an image's code are within those of every annotation, and an annotation where there is one.
 use Rattle.std.proofs.Common.{◌≡◌, ◌≢◌, ℕ, zero, suc, ◌+◌, ◌<◌, ℤ, Bool, true, false, not, ◌==◌, ◌&&◌, List, [], ◌∷◌}
-use Rattle.std.proofs.Common.{◌++◌, length, slice_get, Option, Some, None, refl, sym, ◌∙◌, subst, inl, inr, ⊎_elim}
-use Rattle.std.proofs.Common.{arith}
-use Rattle.std.specs.List.{list_any}
-use Rattle.std.proofs.lemmas.Bool.{and_parts, and_from, or_parts, cond-true, cond-false, cases_Bool, cases_lt, eq-eqb}
-use Rattle.std.proofs.lemmas.Bool.{eqb-true, not-false, true≢false, false≢true}
+use Rattle.std.proofs.Common.{◌++◌, length, slice_get, Option, Some, None, refl, sym, ◌∙◌, inl, inr, ⊎_elim, arith}
+use Rattle.std.proofs.lemmas.Bool.{and_parts, and_from, cases_Bool, cases_lt, eq-eqb, eqb-true, not-false}
 use Rattle.std.proofs.lemmas.Option.{none-some, slice_get_within}
 use Rattle.machine_spec.specs.declared.{helper.Helper.Helper, instruction.Instruction.Instruction}
-use Rattle.machine_spec.specs.declared.{instruction.Placed.Placed}
-use Rattle.machine_spec.specs.declared.instruction.Instruction.TheVariants.{Move, Compute, Load, Unary, Store, JumpIf}
-use Rattle.machine_spec.specs.declared.instruction.Instruction.TheVariants.{Jump, Wide, Call, Exit}
-use Rattle.machine_spec.specs.Image.{target_of, IsCodeOf}
-use Rattle.machine_spec.specs.Summaries.{summary_of}
-use Rattle.machine_spec.specs.Traps.{first_of}
+use Rattle.machine_spec.specs.declared.instruction.Placed.{Placed}
+use Rattle.machine_spec.specs.declared.instruction.Instruction.TheVariants.{Jump, Exit}
+use Rattle.machine_spec.specs.{Image.target_of, Image.IsCodeOf, Summaries.summary_of, Traps.first_of}
 use Rattle.machine_spec.proofs.Slots.{lands, later_number, number_of_placed, number_below}
-use Rattle.verifier_spec.specs.declared.{state.Abstract.Abstract, fault.Check.Check, fault.VerifyFault.VerifyFault}
+use Rattle.verifier_spec.specs.{declared.state.Abstract.Abstract, declared.fault.Check.Check}
+use Rattle.verifier_spec.specs.{declared.fault.VerifyFault.VerifyFault, Transfer.falls_to, Transfer.jumps_to}
 use Rattle.verifier_spec.specs.declared.fault.Check.TheVariants as check
 use Rattle.verifier_spec.specs.States.{is_proper, is_within, entry_state}
 use Rattle.verifier_spec.specs.Checks.{checks, failed_check, jump_of, shape_checks, leads_nowhere, leads_back}
 use Rattle.verifier_spec.specs.Checks.{never_falls, runs_off}
-use Rattle.verifier_spec.specs.Transfer.{falls_to, jumps_to, jump_edge}
 use Rattle.verifier_spec.specs.Annotation.{Claims, claim_at, claim_of, is_covered, is_edge_covered, are_edges_covered}
-use Rattle.verifier_spec.specs.Annotation.{IsAnnotation, reached_checks, failed_at, fault_or, fault_from, fault_of}
+use Rattle.verifier_spec.specs.Annotation.{IsAnnotation, reached_checks, failed_at, fault_from, fault_of}
 use Rattle.verifier_spec.specs.JoinedStates.{with_edge, with_edges, if_passed, with_instruction, known_after}
 use Rattle.verifier_spec.specs.JoinedStates.{joined_states}
 use Rattle.verifier_spec.proofs.Annotations.{none_of_three, covering, there, and_second}
 use Rattle.verifier_spec.proofs.Faults.{Passes, first_of-reported, first_of-append, at_passes, none_from_each}
+use Rattle.verifier_spec.proofs.Faults.{first_is_other, or_is_other}
 use Rattle.verifier_spec.proofs.JoinedStates.{covered_refl, covered_trans, edge_least, grows_to, falls_known}
 use Rattle.verifier_spec.proofs.JoinedStates.{jumps_known, length-joined_states, claim_joined}
 use Rattle.verifier_spec.proofs.Monotone.{check_monotone, falls_monotone, jumps_monotone}
@@ -56,15 +51,12 @@ module _ (helpers : List Helper) (code : List Placed) (claims : Claims) (annotat
       (jumps_monotone helpers i s t within ps pt passed) closed.1 in
       edge_least j target (jumps_to i s) (with_edge j (Some (k + 1)) (falls_to i s) known) (claim_at claims j)
       (edge_least j (Some (k + 1)) (falls_to i s) known (claim_at claims j) h
-      (λ same. subst (λ o. is_edge_covered (falls_to i s) (claim_of claims o) ≡ true) same falls))
-      (λ same. subst (λ o. is_edge_covered (jumps_to i s) (claim_of claims o) ≡ true) same jumps)
+      (λ same. cc)) (λ same. cc)
 
   step_below : (j k : ℕ) (at : Option Placed) (own known : Option Abstract) → slice_get code k ≡ at →
       known_after helpers code k k ≡ own → is_edge_covered own (claim_at claims k) ≡ true →
       is_edge_covered known (claim_at claims j) ≡ true →
       is_edge_covered (with_instruction helpers code j k at own known) (claim_at claims j) ≡ true
-  step_below j k None own known at is below h = h
-  step_below j k (Some placed) None known at is below h = h
   step_below j k (Some placed) (Some s) known at is below h =
       let outer = covering s (claim_at claims k) below in
       let edges = edges_below j k placed s outer.0 known at outer.1 (proper k s (slice_get_within code k placed at) is)
@@ -74,14 +66,13 @@ module _ (helpers : List Helper) (code : List Placed) (claims : Claims) (annotat
         | Some _ ↦ h
         | None ↦ edges
       ]
+  step_below j k placed own known at is below h = h
 
   first_below : (j : ℕ) → is_edge_covered (known_after helpers code 0 j) (claim_at claims j) ≡ true
   unfolding known_after
   first_below j = elim (cases_Bool (j == 0)) [
-    | inl first ↦ subst (λ n. is_edge_covered (known_after helpers code 0 n) (claim_at claims n) ≡ true)
-        (sym (eqb-true j 0 first)) annotation.start
-    | inr later ↦ subst (λ o. is_edge_covered o (claim_at claims j) ≡ true)
-        (sym (cond-false (j == 0) (Some entry_state) None later)) refl
+    | inl first ↦ rw (eqb-true j 0 first) annotation.start
+    | inr later ↦ rw later
   ]
 
   pub known_below : (k j : ℕ) → is_edge_covered (known_after helpers code k j) (claim_at claims j) ≡ true
@@ -96,57 +87,30 @@ is_claims : Check → Bool
 is_claims check.Notes = true
 is_claims _ = false
 
-first_is_other : (rows : List (Bool × Check)) (kind : Check) → list_any (λ row. is_claims row.1) rows ≡ false →
-    first_of rows ≡ Some kind → is_claims kind ≡ false
-unfolding is_claims
-first_is_other [] kind none e = absurd (none-some kind e)
-first_is_other (row ∷ rows) kind none e =
-    let parts : (is_claims row.1 ≡ false) × (list_any (λ r. is_claims r.1) rows ≡ false) =
-    or_parts (is_claims row.1) (list_any (λ r. is_claims r.1) rows) none in
-    elim (cases_Bool row.0) [
-      | inl fails ↦
-          let found : Some row.1 ≡ Some kind = sym (cond-true row.0 (Some row.1) (first_of rows) fails) ∙ e in
-          let same : row.1 ≡ kind = cc in
-          let P : Check → Type 0 = λ c. is_claims c ≡ false in
-          subst P same parts.0
-      | inr passes ↦ first_is_other rows kind parts.1 (sym (cond-false row.0 (Some row.1) (first_of rows) passes) ∙ e)
-    ]
-
 -- the first failed check of two lists is none of these where neither list gives one
 either_is_other : (xs ys : List (Bool × Check)) (first : Option Check) (kind : Check) → first_of xs ≡ first →
     ((c : Check) → first_of xs ≡ Some c → is_claims c ≡ false) →
     (first_of xs ≡ None → first_of ys ≡ Some kind → is_claims kind ≡ false) → first_of (xs ++ ys) ≡ Some kind →
     is_claims kind ≡ false
 either_is_other xs ys (Some c) kind is here there e =
-    let found : Some c ≡ Some kind = sym (first_of-reported xs ys c is) ∙ e in
-    let same : c ≡ kind = cc in
-    let P : Check → Type 0 = λ x. is_claims x ≡ false in
-    subst P same (here c is)
+    let found = first_of-reported xs ys c is in
+    let other = here c is in
+    cc
 either_is_other xs ys None kind is here there e = there is (sym (first_of-append xs ys is) ∙ e)
 
 shape_is_other : (code : List Placed) (k : ℕ) (placed : Placed) (kind : Check) →
     first_of (shape_checks code k placed) ≡ Some kind → is_claims kind ≡ false
 unfolding is_claims
-shape_is_other code k placed kind e = first_is_other (shape_checks code k placed) kind refl e
+shape_is_other code k placed kind e = first_is_other is_claims (shape_checks code k placed) kind refl e
 
 check_is_other : (helpers : List Helper) (i : Instruction) (s : Abstract) (kind : Check) →
     first_of (checks helpers (summary_of i) s) ≡ Some kind → is_claims kind ≡ false
 unfolding is_claims
-check_is_other helpers i s kind e = first_is_other (checks helpers (summary_of i) s) kind refl e
+check_is_other helpers i s kind e = first_is_other is_claims (checks helpers (summary_of i) s) kind refl e
 
 last_holds : (holds : Bool) (kind other : Check) → holds ≡ true → first_of ((not holds, other) ∷ []) ≡ Some kind →
     is_claims kind ≡ false
-last_holds true kind other h e = absurd (none-some kind e)
-last_holds false kind other h e = absurd (true≢false (sym h))
-
-or_is_other : (k : ℕ) (failed : Option Check) (later : Option VerifyFault) (f : VerifyFault)
-    → ((kind : Check) → failed ≡ Some kind → is_claims kind ≡ false) → (later ≡ Some f → is_claims f.kind ≡ false)
-    → fault_or k failed later ≡ Some f → is_claims f.kind ≡ false
-or_is_other k (Some kind) later f here there e =
-    let same : kind ≡ f.kind = cc in
-    let P : Check → Type 0 = λ c. is_claims c ≡ false in
-    subst P same (here kind refl)
-or_is_other k None later f here there e = there e
+last_holds holds kind other h e = cc
 
 -- the entry state is the first joined state
 start_covered : (helpers : List Helper) (code : List Placed) → 0 < length code →
@@ -154,31 +118,22 @@ start_covered : (helpers : List Helper) (code : List Placed) → 0 < length code
     && is_covered entry_state (claim_at (joined_states helpers code) 0)) ≡ true
 unfolding known_after
 start_covered helpers code some =
-    let Q : Option Abstract → Type 0 = λ o. is_covered entry_state o ≡ true in
     and_from _ _ (eq-eqb _ _ (length-joined_states helpers code))
-    (subst Q (sym (claim_joined helpers code 0 some)) (covered_refl (Some entry_state)))
+    (rw (claim_joined helpers code 0 some) (covered_refl (Some entry_state)))
 
 -- ---- closed under edges
 
 none_falls : (i : Instruction) (s : Abstract) (o : Option Abstract) → never_falls (summary_of i) ≡ true →
     is_edge_covered (falls_to i s) o ≡ true
 unfolding falls_to
-none_falls (Move width dst source) s o e = absurd (false≢true e)
-none_falls (Compute width operation dst source) s o e = absurd (false≢true e)
-none_falls (Load size extension dst base offset) s o e = absurd (false≢true e)
-none_falls (Unary change dst src) s o e = absurd (false≢true e)
-none_falls (Store size base offset source) s o e = absurd (false≢true e)
-none_falls (JumpIf width test dst source offset) s o e = absurd (false≢true e)
 none_falls (Jump distance) s o e = refl
-none_falls (Wide dst number) s o e = absurd (false≢true e)
-none_falls (Call number) s o e = absurd (false≢true e)
 none_falls Exit s o e = refl
+none_falls i s o e = cc
 
 no_jump : (i : Instruction) (s : Abstract) (o : Option Abstract) → jump_of i ≡ None →
     is_edge_covered (jumps_to i s) o ≡ true
 unfolding jumps_to
-no_jump i s o e = subst (λ (jump : Option ℤ). is_edge_covered (jump_edge (summary_of i).condition jump s) o ≡ true)
-    (sym e) refl
+no_jump i s o e = rw e
 
 module _ (helpers : List Helper) (image : List ℕ) (code : List Placed) (is_code : IsCodeOf image code) where
   -- a jump leads further on, to an instruction
@@ -187,7 +142,7 @@ module _ (helpers : List Helper) (image : List ℕ) (code : List Placed) (is_cod
   target_later k placed None t at e = absurd (none-some t e)
   target_later k placed (Some offset) t at e =
       let there = lands code placed.slot offset t e in (
-        later_number image code is_code placed.slot there.to k t (number_of_placed image code is_code k placed at)
+        later_number image code is_code _ _ _ _ (number_of_placed image code is_code _ _ at)
             there.there there.further,
         number_below code there.to t there.there,
       )
@@ -207,43 +162,34 @@ module _ (helpers : List Helper) (image : List ℕ) (code : List Placed) (is_cod
       falls_closed : is_edge_covered (falls_to placed.instruction s) (claim_at (joined_states helpers code) (k + 1))
           ≡ true
       falls_closed =
-          let falls = falls_to placed.instruction s in
           let next : suc k ≡ k + 1 = omega arith in
-          let P : ℕ → Type 0 = λ n. is_edge_covered falls (known_after helpers code n (k + 1)) ≡ true in
-          let Q : Option Abstract → Type 0 = λ o. is_edge_covered falls o ≡ true in
           ⊎_elim
-          (λ below. subst Q (sym (claim_joined helpers code (k + 1) below))
-          (subst P next (falls_known helpers code k placed s at known passed)))
+          (λ below.
+          let is = claim_joined helpers code (k + 1) below in
+          let falls = falls_known helpers code k placed s at known passed in
+          cc)
           (λ past.
           let last : k + 1 ≡ length code = omega (arith, slice_get_within code k placed at, past) in
-          none_falls placed.instruction s (claim_at (joined_states helpers code) (k + 1))
-          (not-false _ (and_second (k + 1 == length code) (not (never_falls (summary_of placed.instruction)))
-          (eq-eqb (k + 1) (length code) last) shapes.2)))
-          (cases_lt (k + 1) (length code))
+          none_falls placed.instruction s (claim_at (joined_states helpers code) (k + 1)) (not-false _ (and_second _ _
+          (eq-eqb (k + 1) (length code) last) shapes.2))) (cases_lt (k + 1) (length code))
 
       target_closed : (t : ℕ) → target_of code placed.slot (jump_of placed.instruction) ≡ Some t
           → is_edge_covered (jumps_to placed.instruction s) (claim_at (joined_states helpers code) t) ≡ true
       target_closed t target =
           let jumps = jumps_to placed.instruction s in
           let later = target_later k placed (jump_of placed.instruction) t at target in
-          let Q : Option Abstract → Type 0 = λ o. is_edge_covered jumps o ≡ true in
-          subst Q (sym (claim_joined helpers code t later.1))
-          (covered_trans jumps (known_after helpers code (suc k) t) (known_after helpers code t t)
-          (jumps_known helpers code k placed s at known passed t target)
-          (grows_to helpers code (suc k) t t (omega (arith, later.0))))
+          rw (claim_joined helpers code t later.1) (covered_trans _ _ _
+          (jumps_known helpers code _ _ _ at known passed t target) (grows_to helpers code (suc k) t t (omega arith)))
 
       jump_closed : (jump : Option ℤ) → jump_of placed.instruction ≡ jump →
           is_edge_covered (jumps_to placed.instruction s) (claim_of (joined_states helpers code)
           (target_of code placed.slot jump)) ≡ true
       jump_closed None is = no_jump placed.instruction s None is
       jump_closed (Some offset) is =
-          let nowhere = subst (λ o. leads_nowhere code placed.slot o ≡ false) is shapes.0 in
-          let forward = subst (λ o. leads_back o ≡ false) is shapes.1 in
-          let target = there (target_of code placed.slot (Some offset)) (sym (cond-false _ _ _ forward) ∙ nowhere) in
-          let Q : Option ℕ → Type 0 = λ o. is_edge_covered (jumps_to placed.instruction s)
-          (claim_of (joined_states helpers code) o) ≡ true in
-          subst Q (sym target.1) (target_closed target.0 (subst (λ o. target_of code placed.slot o ≡ Some target.0)
-          (sym is) target.1))
+          let nowhere = rw is at shapes.0 in
+          let forward = rw is at shapes.1 in
+          let target = there (target_of code placed.slot (Some offset)) (cc) in
+          rw target.1 (target_closed target.0 (cc))
 
       pub edges_closed : are_edges_covered code (joined_states helpers code) k placed s ≡ true
       edges_closed = and_from _ _ falls_closed (jump_closed (jump_of placed.instruction) refl)
@@ -255,17 +201,15 @@ module _ (helpers : List Helper) (image : List ℕ) (code : List Placed) (is_cod
       joined_passes : (k : ℕ) (placed : Placed) (s : Abstract) → slice_get code k ≡ Some placed →
           known_after helpers code k k ≡ Some s → failed_check helpers placed.instruction s ≡ None
       joined_passes k placed s at known =
-          let below = slice_get_within code k placed at in
-          let Q : Option Abstract → Type 0 = λ o. is_edge_covered o (claim_at claims k) ≡ true in
-          let outer = covering s (claim_at claims k) (subst Q known
-          (known_below helpers code claims annotation proper k k)) in
-          check_monotone helpers placed.instruction s outer.0 outer.2 (proper k s below known)
+          let below = slice_get_within _ _ _ at in
+          let outer = covering _ _ (rw known at (known_below helpers code claims annotation proper k k)) in
+          check_monotone _ _ _ _ outer.2 (proper k s below known)
           (annotation.proper k outer.0 outer.1) (annotation.checked k placed outer.0 at outer.1)
 
       instruction_passes : (k : ℕ) (placed : Placed) → slice_get code k ≡ Some placed →
           Passes helpers code (joined_states helpers code) k placed (claim_at (joined_states helpers code) k)
       instruction_passes k placed at =
-          let is = claim_joined helpers code k (slice_get_within code k placed at) in
+          let is = claim_joined helpers code k (slice_get_within _ _ _ at) in
           record {
             shape = annotation.shape k placed at;
             checked = λ s claimed. joined_passes k placed s at (sym is ∙ claimed);
@@ -276,20 +220,17 @@ module _ (helpers : List Helper) (image : List ℕ) (code : List Placed) (is_cod
       none_failed : (i : ℕ) (placed : Placed) → slice_get code i ≡ Some placed →
           failed_at helpers code (joined_states helpers code) (0 + i) placed ≡ None
       none_failed i placed at =
-          let same : i ≡ 0 + i = omega arith in
-          let Q : ℕ → Type 0 = λ n. failed_at helpers code (joined_states helpers code) n placed ≡ None in
-          subst Q same (at_passes helpers code (joined_states helpers code) i placed (instruction_passes i placed at))
+          let same : 0 + i ≡ i = omega arith in
+          let none = at_passes helpers code (joined_states helpers code) i placed (instruction_passes i placed at) in
+          cc
 
       -- the joined states have no fault
       pub no_fault : 0 < length code → fault_of helpers code (joined_states helpers code) ≡ None
       unfolding fault_of
       no_fault some =
           let start = start_covered helpers code some in
-          cond-true ((length (joined_states helpers code) == length code)
-          && is_covered entry_state (claim_at (joined_states helpers code) 0))
-          (fault_from helpers code (joined_states helpers code) 0 code)
-          (Some (record { pc = 0; kind = check.Notes })) start
-          ∙ none_from_each helpers code (joined_states helpers code) 0 code none_failed
+          let none = none_from_each helpers code (joined_states helpers code) 0 code none_failed in
+          cc
 
   -- ---- no refusal of the joined states is that they are no annotation
 
@@ -307,12 +248,12 @@ module _ (helpers : List Helper) (image : List ℕ) (code : List Placed) (is_cod
       (check_is_other helpers placed.instruction s)
       (λ passed last. last_holds closed kind check.Notes (edges_closed k placed s at known passed shape) last) e
 
-  failed_is_other : (k : ℕ) (placed : Placed) (kind : Check) → slice_get code k ≡ Some placed →
+  failed_is_other : (k : ℕ) (placed : Placed) → slice_get code k ≡ Some placed → (kind : Check) →
       failed_at helpers code (joined_states helpers code) k placed ≡ Some kind → is_claims kind ≡ false
   unfolding failed_at
-  failed_is_other k placed kind at e =
+  failed_is_other k placed at kind e =
       let claim = claim_at (joined_states helpers code) k in
-      let is = claim_joined helpers code k (slice_get_within code k placed at) in
+      let is = claim_joined helpers code k (slice_get_within _ _ _ at) in
       either_is_other (shape_checks code k placed) (reached_checks helpers code (joined_states helpers code) k placed
       claim) (first_of (shape_checks code k placed)) kind refl
       (shape_is_other code k placed) (λ shape reached. reached_is_other k placed claim kind at (sym is) shape reached) e
@@ -323,29 +264,18 @@ module _ (helpers : List Helper) (image : List ℕ) (code : List Placed) (is_cod
   from_is_other k [] f all e = absurd (none-some f e)
   from_is_other k (placed ∷ rest) f all e =
       let here : k + 0 ≡ k = omega arith in
-      let at : slice_get code k ≡ Some placed = subst (λ n. slice_get code n ≡ Some placed) here (all 0 placed refl) in
-      or_is_other k (failed_at helpers code (joined_states helpers code) k placed)
-      (fault_from helpers code (joined_states helpers code) (k + 1) rest) f
-      (λ kind failed. failed_is_other k placed kind at failed)
-      (from_is_other (k + 1) rest f (λ i p q.
+      let first = all 0 placed refl in
+      let at : slice_get code k ≡ Some placed = cc in
+      or_is_other is_claims k _ _ f (failed_is_other k placed at) (from_is_other (k + 1) rest f (λ i p q.
       let next : k + suc i ≡ (k + 1) + i = omega arith in
-      subst (λ n. slice_get code n ≡ Some p) next (all (suc i) p q)))
+      let there = all (suc i) p q in
+      cc))
       e
 
   pub fault_is_other : (f : VerifyFault) → 0 < length code →
       fault_of helpers code (joined_states helpers code) ≡ Some f → f.kind ≢ check.Notes
   unfolding fault_of is_claims
   fault_is_other f some e is =
-      let claims_fault : VerifyFault = record { pc = 0; kind = check.Notes } in
-      let started = cond-true ((length (joined_states helpers code) == length code)
-      && is_covered entry_state (claim_at (joined_states helpers code) 0))
-      (fault_from helpers code (joined_states helpers code) 0 code)
-      (Some claims_fault) (start_covered helpers code some) in
-      let other : is_claims f.kind ≡ false =
-      from_is_other 0 code f (λ i placed at.
-      let same : i ≡ 0 + i = omega arith in
-      subst (λ n. slice_get code n ≡ Some placed) same at)
-      (sym started ∙ e) in
-      let P : Check → Type 0 = λ c. is_claims c ≡ false in
-      let bad : true ≡ false = subst P is other in
-      absurd (true≢false bad)
+      let start = start_covered helpers code some in
+      let other = from_is_other 0 code f (λ i placed at. let same : 0 + i ≡ i = omega arith in cc) (cc) in
+      cc

@@ -1,19 +1,17 @@
 -- No refusal is reported for a list of abstract states exactly where it is an annotation.
 use Rattle.std.proofs.Common.{◌≡◌, ◌≢◌, ℕ, zero, suc, ◌+◌, Bool, true, false, cond, not, ◌==◌, ◌&&◌, List, [], ◌∷◌}
-use Rattle.std.proofs.Common.{◌++◌, length, drop, refl, sym, ◌∙◌, subst, inl, inr, arith}
-use Rattle.std.specs.Prelude.{Option, Some, None, slice_get}
+use Rattle.std.proofs.Common.{◌++◌, length, drop, refl, sym, ◌∙◌, inl, inr, arith, Option, Some, None, slice_get}
 use Rattle.std.specs.List.{list_any}
-use Rattle.std.proofs.lemmas.Bool.{cases_Bool, or_parts, and_parts, and_from, eqb-true, eq-eqb, cond-true, cond-false}
-use Rattle.std.proofs.lemmas.Bool.{not_from_true, not-false}
+use Rattle.std.proofs.lemmas.Bool.{cases_Bool, or_parts, and_parts, and_from, eqb-true, eq-eqb, not-false}
 use Rattle.machine_spec.specs.declared.{helper.Helper.Helper, instruction.Placed.Placed}
-use Rattle.machine_spec.specs.Summaries.{summary_of}
-use Rattle.machine_spec.specs.Traps.{first_of}
-use Rattle.verifier_spec.specs.declared.{state.Abstract.Abstract, fault.Check.Check, fault.VerifyFault.VerifyFault}
+use Rattle.machine_spec.specs.{Summaries.summary_of, Traps.first_of}
+use Rattle.verifier_spec.specs.{declared.state.Abstract.Abstract, declared.fault.Check.Check}
+use Rattle.verifier_spec.specs.{declared.fault.VerifyFault.VerifyFault, States.is_proper, States.entry_state}
 use Rattle.verifier_spec.specs.declared.fault.Check.TheVariants as check
-use Rattle.verifier_spec.specs.States.{is_proper, entry_state}
 use Rattle.verifier_spec.specs.Checks.{checks, failed_check, shape_checks}
 use Rattle.verifier_spec.specs.Annotation.{Claims, claim_at, is_covered, are_edges_covered, IsAnnotation}
 use Rattle.verifier_spec.specs.Annotation.{reached_checks, failed_at, fault_or, fault_from, fault_of}
+use Rattle.machine_spec.proofs.Slots.{drop_first}
 
 -- ---- lists of checks
 
@@ -27,25 +25,25 @@ if_none false x later h = (refl, h)
 pub first_of-front : {A : Type 0} (xs ys : List (Bool × A)) → first_of (xs ++ ys) ≡ None → first_of xs ≡ None
 first_of-front [] ys h = refl
 first_of-front (x ∷ xs) ys h =
-    let parts : (x.0 ≡ false) × (first_of (xs ++ ys) ≡ None) = if_none x.0 x.1 (first_of (xs ++ ys)) h in
-    cond-false x.0 (Some x.1) (first_of xs) parts.0 ∙ first_of-front xs ys parts.1
+    let parts = if_none x.0 x.1 (first_of (xs ++ ys)) h in
+    let rest = first_of-front xs ys parts.1 in
+    cc
 
 pub first_of-append : {A : Type 0} (xs ys : List (Bool × A)) → first_of xs ≡ None → first_of (xs ++ ys) ≡ first_of ys
 first_of-append [] ys h = refl
 first_of-append (x ∷ xs) ys h =
-    let parts : (x.0 ≡ false) × (first_of xs ≡ None) = if_none x.0 x.1 (first_of xs) h in
-    cond-false x.0 (Some x.1) (first_of (xs ++ ys)) parts.0 ∙ first_of-append xs ys parts.1
+    let parts = if_none x.0 x.1 (first_of xs) h in
+    let rest = first_of-append xs ys parts.1 in
+    cc
 
 -- the first check that fails in a list is the first of it and any other after it
 pub first_of-reported : {A : Type 0} (xs ys : List (Bool × A)) (x : A) → first_of xs ≡ Some x →
     first_of (xs ++ ys) ≡ Some x
 first_of-reported [] ys x h = cc
-first_of-reported {A} (row ∷ xs) ys x h =
+first_of-reported (row ∷ xs) ys x h =
     elim (cases_Bool row.0) [
-      | inl fails ↦ cond-true row.0 (Some row.1) (first_of (xs ++ ys)) fails
-          ∙ (sym (cond-true row.0 (Some row.1) (first_of xs) fails) ∙ h)
-      | inr passes ↦ cond-false row.0 (Some row.1) (first_of (xs ++ ys)) passes
-          ∙ first_of-reported xs ys x (sym (cond-false row.0 (Some row.1) (first_of xs) passes) ∙ h)
+      | inl fails ↦ cc
+      | inr passes ↦ let rest = first_of-reported xs ys x (cc) in cc
     ]
 
 -- ---- one instruction
@@ -54,16 +52,13 @@ first_of-reported {A} (row ∷ xs) ys x h =
 pub last_passes : (rows : List (Bool × Check)) (holds : Bool) (kind : Check) →
     first_of (rows ++ (not holds, kind) ∷ []) ≡ None → (first_of rows ≡ None) × (holds ≡ true)
 last_passes rows holds kind h =
-    let front : first_of rows ≡ None = first_of-front rows ((not holds, kind) ∷ []) h in
-    let last : first_of ((not holds, kind) ∷ []) ≡ None = sym (first_of-append rows ((not holds, kind) ∷ []) front)
-    ∙ h in
-    (front, not-false holds (if_none (not holds) kind None last).0)
+    let front = first_of-front rows ((not holds, kind) ∷ []) h in
+    let last = first_of-append rows ((not holds, kind) ∷ []) front in
+    (front, not-false holds (if_none (not holds) kind None (cc)).0)
 
 pub passes_last : (rows : List (Bool × Check)) (holds : Bool) (kind : Check) → first_of rows ≡ None → holds ≡ true
     → first_of (rows ++ (not holds, kind) ∷ []) ≡ None
-passes_last rows holds kind front last =
-    first_of-append rows ((not holds, kind) ∷ []) front
-    ∙ cond-false (not holds) (Some kind) None (not_from_true holds last)
+passes_last rows holds kind front last = let same = first_of-append rows ((not holds, kind) ∷ []) front in cc
 
 -- An instruction with a claim passes: its checks and its edges hold from the state of the claim, if it has one.
 pub record Passes (helpers : List Helper) (code : List Placed) (claims : Claims) (k : ℕ) (placed : Placed)
@@ -79,9 +74,7 @@ pub reached_pass : (helpers : List Helper) (code : List Placed) (claims : Claims
 reached_pass helpers code claims k placed None h s e = cc
 reached_pass helpers code claims k placed (Some t) h s e =
     let same : t ≡ s = cc in
-    let P : Abstract → Type 0 = λ u. (first_of (checks helpers (summary_of placed.instruction) u) ≡ None)
-    × (are_edges_covered code claims k placed u ≡ true) in
-    subst P same (last_passes (checks helpers (summary_of placed.instruction) t)
+    rw (← same) (last_passes (checks helpers (summary_of placed.instruction) t)
     (are_edges_covered code claims k placed t) check.Notes h)
 
 pub pass_reached : (helpers : List Helper) (code : List Placed) (claims : Claims) (k : ℕ) (placed : Placed)
@@ -98,17 +91,11 @@ pub passes_at : (helpers : List Helper) (code : List Placed) (claims : Claims) (
     failed_at helpers code claims k placed ≡ None → Passes helpers code claims k placed (claim_at claims k)
 unfolding failed_at failed_check
 passes_at helpers code claims k placed h =
-    let shape : first_of (shape_checks code k placed) ≡ None =
-    first_of-front (shape_checks code k placed) (reached_checks helpers code claims k placed (claim_at claims k))
-    h in
-    let reached : first_of (reached_checks helpers code claims k placed (claim_at claims k)) ≡ None =
-    sym (first_of-append (shape_checks code k placed) (reached_checks helpers code claims k placed (claim_at claims k))
-    shape) ∙ h in
-    record {
-      shape = shape;
-      checked = λ s e. (reached_pass helpers code claims k placed (claim_at claims k) reached s e).0;
-      closed = λ s e. (reached_pass helpers code claims k placed (claim_at claims k) reached s e).1;
-    }
+    let rows = reached_checks helpers code claims k placed (claim_at claims k) in
+    let shape = first_of-front (shape_checks code k placed) rows h in
+    let reached = reached_pass helpers code claims k placed (claim_at claims k)
+    (sym (first_of-append (shape_checks code k placed) rows shape) ∙ h) in
+    record { shape = shape; checked = λ s e. (reached s e).0; closed = λ s e. (reached s e).1 }
 
 pub at_passes : (helpers : List Helper) (code : List Placed) (claims : Claims) (k : ℕ) (placed : Placed) →
     Passes helpers code claims k placed (claim_at claims k) → failed_at helpers code claims k placed ≡ None
@@ -136,19 +123,16 @@ pub each_passes : (helpers : List Helper) (code : List Placed) (claims : Claims)
     failed_at helpers code claims (k + i) placed ≡ None
 each_passes helpers code claims k [] h i placed e = cc
 each_passes helpers code claims k (first ∷ rest) h zero placed e =
-    let here : failed_at helpers code claims k first ≡ None =
-    (fault_or_none k (failed_at helpers code claims k first) (fault_from helpers code claims (k + 1) rest) h).0 in
-    let same : first ≡ placed = cc in
-    let at : k ≡ k + 0 = omega arith in
-    let P : Placed → Type 0 = λ p. failed_at helpers code claims k p ≡ None in
-    let Q : ℕ → Type 0 = λ n. failed_at helpers code claims n placed ≡ None in
-    subst Q at (subst P same here)
+    let here = fault_or_none k (failed_at helpers code claims k first) (fault_from helpers code claims (k + 1) rest)
+    h in
+    let at : k + 0 ≡ k = omega arith in
+    cc
 each_passes helpers code claims k (first ∷ rest) h (suc i) placed e =
-    let later : fault_from helpers code claims (k + 1) rest ≡ None =
-    (fault_or_none k (failed_at helpers code claims k first) (fault_from helpers code claims (k + 1) rest) h).1 in
-    let at : (k + 1) + i ≡ k + suc i = omega arith in
-    let Q : ℕ → Type 0 = λ n. failed_at helpers code claims n placed ≡ None in
-    subst Q at (each_passes helpers code claims (k + 1) rest later i placed e)
+    let parts = fault_or_none k (failed_at helpers code claims k first) (fault_from helpers code claims (k + 1) rest)
+    h in
+    let at : k + suc i ≡ (k + 1) + i = omega arith in
+    let there = each_passes helpers code claims (k + 1) rest parts.1 i placed e in
+    cc
 
 pub none_from_each : (helpers : List Helper) (code : List Placed) (claims : Claims) (k : ℕ) (rest : List Placed)
     → ((i : ℕ) (placed : Placed) → slice_get rest i ≡ Some placed → failed_at helpers code claims (k + i) placed ≡ None)
@@ -156,16 +140,12 @@ pub none_from_each : (helpers : List Helper) (code : List Placed) (claims : Clai
 none_from_each helpers code claims k [] h = refl
 none_from_each helpers code claims k (first ∷ rest) h =
     let at : k + 0 ≡ k = omega arith in
-    let P : ℕ → Type 0 = λ n. failed_at helpers code claims n first ≡ None in
-    let here : failed_at helpers code claims k first ≡ None = subst P at (h 0 first refl) in
-    let later : (i : ℕ) (placed : Placed) → slice_get rest i ≡ Some placed →
-    failed_at helpers code claims ((k + 1) + i) placed ≡ None =
-    λ i placed e.
-    let then : k + suc i ≡ (k + 1) + i = omega arith in
-    let Q : ℕ → Type 0 = λ n. failed_at helpers code claims n placed ≡ None in
-    subst Q then (h (suc i) placed e) in
-    none_fault_or k (failed_at helpers code claims k first) (fault_from helpers code claims (k + 1) rest) here
-    ∙ none_from_each helpers code claims (k + 1) rest later
+    let here = h 0 first refl in
+    none_fault_or k _ _ (cc)
+    ∙ none_from_each helpers code claims (k + 1) rest (λ i placed e.
+    let next : k + suc i ≡ (k + 1) + i = omega arith in
+    let there = h (suc i) placed e in
+    cc)
 
 -- ---- the law
 
@@ -181,18 +161,15 @@ pub annotation_from_none : (helpers : List Helper) (code : List Placed) (claims 
     IsAnnotation helpers code claims
 unfolding fault_of
 annotation_from_none helpers code claims h proper =
-    let parts : (((length claims == length code) && is_covered entry_state (claim_at claims 0)) ≡ true)
-    × (fault_from helpers code claims 0 code ≡ None) =
-    if_passed ((length claims == length code) && is_covered entry_state (claim_at claims 0))
+    let parts = if_passed ((length claims == length code) && is_covered entry_state (claim_at claims 0))
     (fault_from helpers code claims 0 code) (record { pc = 0; kind = check.Notes }) h in
-    let both : ((length claims == length code) ≡ true) × (is_covered entry_state (claim_at claims 0) ≡ true) =
-    and_parts (length claims == length code) (is_covered entry_state (claim_at claims 0)) parts.0 in
     let each : (i : ℕ) (placed : Placed) → slice_get code i ≡ Some placed →
     Passes helpers code claims i placed (claim_at claims i) =
     λ i placed e.
     let at : 0 + i ≡ i = omega arith in
-    let Q : ℕ → Type 0 = λ n. failed_at helpers code claims n placed ≡ None in
-    passes_at helpers code claims i placed (subst Q at (each_passes helpers code claims 0 code parts.1 i placed e)) in
+    let none = each_passes helpers code claims 0 code parts.1 i placed e in
+    passes_at helpers code claims i placed (cc) in
+    let both = and_parts _ _ parts.0 in
     record {
       long = eqb-true (length claims) (length code) both.0;
       start = both.1;
@@ -207,67 +184,49 @@ pub none_from_annotation : (helpers : List Helper) (code : List Placed) (claims 
     IsAnnotation helpers code claims → fault_of helpers code claims ≡ None
 unfolding fault_of
 none_from_annotation helpers code claims a =
-    let long : (length claims == length code) ≡ true = eq-eqb (length claims) (length code) a.long in
-    let both : ((length claims == length code) && is_covered entry_state (claim_at claims 0)) ≡ true =
-    and_from (length claims == length code) (is_covered entry_state (claim_at claims 0)) long a.start in
-    let each : (i : ℕ) (placed : Placed) → slice_get code i ≡ Some placed →
-    failed_at helpers code claims (0 + i) placed ≡ None =
-    λ i placed e.
-    let at : i ≡ 0 + i = omega arith in
-    let Q : ℕ → Type 0 = λ n. failed_at helpers code claims n placed ≡ None in
-    subst Q at (at_passes helpers code claims i placed
-    (record {
+    let both = and_from _ _ (eq-eqb _ _ a.long) a.start in
+    let none = none_from_each helpers code claims 0 code (λ i placed e.
+    let at : 0 + i ≡ i = omega arith in
+    let there = at_passes helpers code claims i placed (record {
       shape = a.shape i placed e;
       checked = λ s n. a.checked i placed s e n;
       closed = λ s n. a.closed i placed s e n;
-    })) in
-    cond-true ((length claims == length code) && is_covered entry_state (claim_at claims 0))
-    (fault_from helpers code claims 0 code) (Some (record { pc = 0; kind = check.Notes })) both
-    ∙ none_from_each helpers code claims 0 code each
+    }) in
+    cc) in
+    cc
 
 -- ---- one instruction after another
-
--- a list from one of its elements on
-pub drop_at : {A : Type 0} (xs : List A) (k : ℕ) (x : A) → slice_get xs k ≡ Some x → drop k xs ≡ x ∷ drop (k + 1) xs
-drop_at [] k x e = cc
-drop_at (y ∷ xs) zero x e = cc
-drop_at {A} (y ∷ xs) (suc k) x e =
-    let next : suc (k + 1) ≡ suc k + 1 = omega arith in
-    let P : ℕ → Type 0 = λ n. drop (suc k) (y ∷ xs) ≡ x ∷ drop n (y ∷ xs) in
-    subst P next (drop_at xs k x e)
 
 -- the refusal from an instruction on is its own, or else the one from the next on
 pub fault_from-drop : (helpers : List Helper) (code : List Placed) (claims : Claims) (all : List Placed) (k : ℕ)
     (placed : Placed) → slice_get all k ≡ Some placed →
     fault_from helpers code claims k (drop k all)
     ≡ fault_or k (failed_at helpers code claims k placed) (fault_from helpers code claims (k + 1) (drop (k + 1) all))
-fault_from-drop helpers code claims all k placed e =
-    let P : List Placed → Type 0 = λ rest. fault_from helpers code claims k rest
-    ≡ fault_or k (failed_at helpers code claims k placed)
-    (fault_from helpers code claims (k + 1) (drop (k + 1) all)) in
-    subst P (sym (drop_at all k placed e)) refl
+fault_from-drop helpers code claims all k placed e = rw (drop_first all k placed e)
+
+-- ---- what each check of a list is not, its refusal is not
+
+pub first_is_other : (test : Check → Bool) (rows : List (Bool × Check)) (kind : Check) →
+    list_any (λ row. test row.1) rows ≡ false → first_of rows ≡ Some kind → test kind ≡ false
+first_is_other test [] kind none e = cc
+first_is_other test (row ∷ rows) kind none e =
+    let parts = or_parts (test row.1) (list_any (λ r. test r.1) rows) none in
+    elim (cases_Bool row.0) [
+      | inl fails ↦ cc
+      | inr passes ↦ first_is_other test rows kind parts.1 (cc)
+    ]
+
+pub or_is_other : (test : Check → Bool) (k : ℕ) (failed : Option Check) (later : Option VerifyFault) (f : VerifyFault)
+    → ((kind : Check) → failed ≡ Some kind → test kind ≡ false) → (later ≡ Some f → test f.kind ≡ false) →
+    fault_or k failed later ≡ Some f → test f.kind ≡ false
+or_is_other test k (Some kind) later f here there e = let other = here kind refl in cc
+or_is_other test k None later f here there e = there e
 
 -- ---- running out of memory is no refusal of a list
 
 is_memory : Check → Bool
 is_memory check.Memory = true
 is_memory _ = false
-
-no_memory_first : (rows : List (Bool × Check)) (kind : Check) → list_any (λ row. is_memory row.1) rows ≡ false →
-    first_of rows ≡ Some kind → is_memory kind ≡ false
-unfolding is_memory
-no_memory_first [] kind none e = cc
-no_memory_first (row ∷ rows) kind none e =
-    let parts : (is_memory row.1 ≡ false) × (list_any (λ r. is_memory r.1) rows ≡ false) =
-    or_parts (is_memory row.1) (list_any (λ r. is_memory r.1) rows) none in
-    elim (cases_Bool row.0) [
-      | inl fails ↦
-          let reported : Some row.1 ≡ Some kind = sym (cond-true row.0 (Some row.1) (first_of rows) fails) ∙ e in
-          let same : row.1 ≡ kind = cc in
-          let P : Check → Type 0 = λ c. is_memory c ≡ false in
-          subst P same parts.0
-      | inr passes ↦ no_memory_first rows kind parts.1 (sym (cond-false row.0 (Some row.1) (first_of rows) passes) ∙ e)
-    ]
 
 no_memory_rows : (helpers : List Helper) (code : List Placed) (claims : Claims) (k : ℕ) (placed : Placed)
     (known : Option Abstract) → list_any (λ row. is_memory row.1)
@@ -280,24 +239,15 @@ no_memory_at : (helpers : List Helper) (code : List Placed) (claims : Claims) (k
     failed_at helpers code claims k placed ≡ Some kind → is_memory kind ≡ false
 unfolding failed_at
 no_memory_at helpers code claims k placed kind e =
-    no_memory_first (shape_checks code k placed ++ reached_checks helpers code claims k placed (claim_at claims k)) kind
+    first_is_other is_memory
+    (shape_checks code k placed ++ reached_checks helpers code claims k placed (claim_at claims k)) kind
     (no_memory_rows helpers code claims k placed (claim_at claims k)) e
-
-no_memory_or : (k : ℕ) (failed : Option Check) (later : Option VerifyFault) (f : VerifyFault)
-    → ((kind : Check) → failed ≡ Some kind → is_memory kind ≡ false) → (later ≡ Some f → is_memory f.kind ≡ false)
-    → fault_or k failed later ≡ Some f → is_memory f.kind ≡ false
-no_memory_or k (Some kind) later f here there e =
-    let same : kind ≡ f.kind = cc in
-    let P : Check → Type 0 = λ c. is_memory c ≡ false in
-    subst P same (here kind refl)
-no_memory_or k None later f here there e = there e
 
 no_memory_from : (helpers : List Helper) (code : List Placed) (claims : Claims) (k : ℕ) (rest : List Placed)
     (f : VerifyFault) → fault_from helpers code claims k rest ≡ Some f → is_memory f.kind ≡ false
 no_memory_from helpers code claims k [] f e = cc
 no_memory_from helpers code claims k (placed ∷ rest) f e =
-    no_memory_or k (failed_at helpers code claims k placed) (fault_from helpers code claims (k + 1) rest) f
-    (no_memory_at helpers code claims k placed)
+    or_is_other is_memory k _ _ f (no_memory_at helpers code claims k placed)
     (no_memory_from helpers code claims (k + 1) rest f) e
 
 -- no refusal of a list is that memory ran out
@@ -305,19 +255,9 @@ pub fault_of-kind : (helpers : List Helper) (code : List Placed) (claims : Claim
     fault_of helpers code claims ≡ Some f → f.kind ≢ check.Memory
 unfolding fault_of is_memory
 fault_of-kind helpers code claims f e is =
-    let start : Bool = (length claims == length code) && is_covered entry_state (claim_at claims 0) in
-    let claims_fault : VerifyFault = record { pc = 0; kind = check.Notes } in
     let none : is_memory f.kind ≡ false =
-    elim (cases_Bool start) [
-      | inl passes ↦ no_memory_from helpers code claims 0 code f
-          (sym (cond-true start (fault_from helpers code claims 0 code) (Some claims_fault) passes) ∙ e)
-      | inr fails ↦
-          let reported : Some claims_fault ≡ Some f =
-          sym (cond-false start (fault_from helpers code claims 0 code) (Some claims_fault) fails) ∙ e in
-          let same : check.Notes ≡ f.kind = cc in
-          let P : Check → Type 0 = λ c. is_memory c ≡ false in
-          subst P same refl
+    elim (cases_Bool ((length claims == length code) && is_covered entry_state (claim_at claims 0))) [
+      | inl passes ↦ no_memory_from helpers code claims 0 code f (cc)
+      | inr fails ↦ cc
     ] in
-    let P : Check → Type 0 = λ c. is_memory c ≡ false in
-    let bad : true ≡ false = subst P is none in
     cc

@@ -2,13 +2,12 @@
 -- interval, and keeps the order of intervals.
 use Rattle.std.proofs.Common.{◌≡◌, ℕ, zero, suc, ◌+◌, ◌-◌, ◌<◌, ◌≤◌, min, max, Bool, true, false, ◌==◌, nat_le}
 use Rattle.std.proofs.Common.{if◌then◌else◌, Option, Some, None, refl, arith}
-use Rattle.std.proofs.lemmas.Bool.{cond_both, cond-true, eqb-true, eqb-false, ltb-true, ltb-false, leb-true, leb-false}
+use Rattle.std.proofs.lemmas.Bool.{cond_both, eqb-true, eqb-false, ltb-true, ltb-false, leb-true, leb-false}
 use Rattle.std.proofs.lemmas.Bool.{le-leb, not-true, not-false}
 use Rattle.machine_spec.specs.declared.{operation.Width.Width, operation.Test.Test}
 use Rattle.machine_spec.specs.declared.operation.Width.TheVariants.{Bits32, Bits64}
 use Rattle.machine_spec.specs.declared.operation.Test.TheVariants.{Equal, NotEqual, Greater, GreaterOrEqual, Less}
-use Rattle.machine_spec.specs.declared.operation.Test.TheVariants.{LessOrEqual, AnyBit, SignedGreater}
-use Rattle.machine_spec.specs.declared.operation.Test.TheVariants.{SignedGreaterOrEqual, SignedLess, SignedLessOrEqual}
+use Rattle.machine_spec.specs.declared.operation.Test.TheVariants.{LessOrEqual}
 use Rattle.machine_spec.specs.Arithmetic.{compares, holds}
 use Rattle.verifier_spec.specs.declared.interval.Interval.{Interval}
 use Rattle.verifier_spec.specs.Intervals.{from_to, IsIn, IsPartOf, if_any, equal_to, different_from, above, at_least}
@@ -26,10 +25,10 @@ pub record IsPartWith (n : ℕ) (outer : Interval) (edge : Option Interval) : Ty
 module _ (x : Interval) (n : ℕ) (has : IsIn n x) where
   any_part : (low high : ℕ) → low ≤ n → n ≤ high → x.low ≤ low → high ≤ x.high → IsPartWith n x (if_any low high)
   any_part low high low_n n_high inner_low inner_high =
-      let some : nat_le low high ≡ true = le-leb low high (omega arith) in
+      let some : nat_le low high ≡ true = le-leb _ _ (omega arith) in
       record {
         part = from_to low high;
-        is = cond-true (nat_le low high) (Some (from_to low high)) None some;
+        is = rw some;
         has = record { low = low_n; high = n_high };
         inside = record { low = inner_low; high = inner_high };
       }
@@ -38,27 +37,26 @@ module _ (x : Interval) (n : ℕ) (has : IsIn n x) where
   whole_part = record { part = x; is = refl; has = has; inside = record { low = omega arith; high = omega arith } }
 
   equal_part : (c : ℕ) → n ≡ c → IsPartWith n x (equal_to x c)
-  equal_part c e = any_part (max x.low c) (min x.high c) (omega arith) (omega arith) (omega arith) (omega arith)
+  equal_part c e = any_part _ _ (omega arith) (omega arith) (omega arith) (omega arith)
 
   different_part : (c : ℕ) → (n ≡ c → ⊥) → IsPartWith n x (different_from x c)
   different_part c d =
-      cond_both (x.low == c) (if_any (x.low + 1) x.high) (if x.high == c then if_any x.low (x.high - 1) else Some x)
-      (IsPartWith n x)
+      cond_both _ _ _ (IsPartWith n x)
       (λ e. let is = eqb-true x.low c e in
-      any_part (x.low + 1) x.high (omega arith) has.high (omega arith) (omega arith))
-      (λ e. cond_both (x.high == c) (if_any x.low (x.high - 1)) (Some x) (IsPartWith n x)
+      any_part _ _ (omega arith) has.high (omega arith) (omega arith))
+      (λ e. cond_both _ _ _ (IsPartWith n x)
       (λ f. let is = eqb-true x.high c f in
-      any_part x.low (x.high - 1) has.low (omega arith) (omega arith) (omega arith))
+      any_part _ _ has.low (omega arith) (omega arith) (omega arith))
       (λ f. whole_part))
 
   above_part : (c : ℕ) → c < n → IsPartWith n x (above x c)
-  above_part c h = any_part (max x.low (c + 1)) x.high (omega arith) has.high (omega arith) (omega arith)
+  above_part c h = any_part _ _ (omega arith) has.high (omega arith) (omega arith)
 
   at_least_part : (c : ℕ) → c ≤ n → IsPartWith n x (at_least x c)
-  at_least_part c h = any_part (max x.low c) x.high (omega arith) has.high (omega arith) (omega arith)
+  at_least_part c h = any_part _ _ (omega arith) has.high (omega arith) (omega arith)
 
   at_most_part : (c : ℕ) → n ≤ c → IsPartWith n x (at_most x c)
-  at_most_part c h = any_part x.low (min x.high c) has.low (omega arith) (omega arith) (omega arith)
+  at_most_part c h = any_part _ _ has.low (omega arith) (omega arith) (omega arith)
 
   below_part : (c : ℕ) → n < c → IsPartWith n x (below x c)
   below_part zero h = absurd (omega arith)
@@ -71,25 +69,17 @@ module _ (x : Interval) (n : ℕ) (has : IsIn n x) where
   passing_has GreaterOrEqual c h = at_least_part c (leb-true c n h)
   passing_has Less c h = below_part c (ltb-true n c h)
   passing_has LessOrEqual c h = at_most_part c (leb-true n c h)
-  passing_has AnyBit c h = whole_part
-  passing_has SignedGreater c h = whole_part
-  passing_has SignedGreaterOrEqual c h = whole_part
-  passing_has SignedLess c h = whole_part
-  passing_has SignedLessOrEqual c h = whole_part
+  passing_has test c h = whole_part
 
   failing_has : (test : Test) (c : ℕ) → compares Bits64 test n c ≡ false →
       IsPartWith n x (passing_part (opposite test) x c)
   failing_has Equal c h = different_part c (eqb-false n c h)
-  failing_has NotEqual c h = equal_part c (eqb-true n c (not-false (n == c) h))
+  failing_has NotEqual c h = equal_part c (eqb-true n c (not-false _ h))
   failing_has Greater c h = at_most_part c (ltb-false c n h)
   failing_has GreaterOrEqual c h = below_part c (leb-false c n h)
   failing_has Less c h = at_least_part c (ltb-false n c h)
   failing_has LessOrEqual c h = above_part c (leb-false n c h)
-  failing_has AnyBit c h = whole_part
-  failing_has SignedGreater c h = whole_part
-  failing_has SignedGreaterOrEqual c h = whole_part
-  failing_has SignedLess c h = whole_part
-  failing_has SignedLessOrEqual c h = whole_part
+  failing_has test c h = whole_part
 
   -- A number is in what its edge leaves: where the test holds, that of the jump, else that of the next instruction.
   pub narrowed_part : (width : Width) (test : Test) (taken : Bool) (c : ℕ) → holds width test n c ≡ taken →
@@ -109,13 +99,10 @@ IsEdgeWithin (Some inner) (Some outer) = IsPartOf inner outer
 any_within : (inner_low inner_high low high : ℕ) → (inner_low ≤ inner_high → (low ≤ inner_low) × (inner_high ≤ high)) →
     IsEdgeWithin (if_any inner_low inner_high) (if_any low high)
 any_within inner_low inner_high low high h =
-    cond_both (nat_le inner_low inner_high) (Some (from_to inner_low inner_high)) None
-    (λ edge. IsEdgeWithin edge (if_any low high))
+    cond_both _ _ _ (λ edge. IsEdgeWithin edge (if_any low high))
     (λ e. let order = leb-true inner_low inner_high e in
     let parts = h order in
-    let some : nat_le low high ≡ true = le-leb low high (omega arith) in
-    let same = cond-true (nat_le low high) (Some (from_to low high)) None some in
-    rw same (record { low = parts.0; high = parts.1 }))
+    rw (le-leb low high (omega arith)) (record { low = parts.0; high = parts.1 }))
     (λ e. tt)
 
 module _ (x a : Interval) (inside : IsPartOf x a) (order : x.low ≤ x.high) where
@@ -138,33 +125,28 @@ module _ (x a : Interval) (inside : IsPartOf x a) (order : x.low ≤ x.high) whe
 
   all_within : (low high : ℕ) → low ≤ x.low → x.high ≤ high → IsEdgeWithin (Some x) (if_any low high)
   all_within low high p q =
-      let some : nat_le low high ≡ true = le-leb low high (omega arith) in
-      let same = cond-true (nat_le low high) (Some (from_to low high)) None some in
-      rw same (record { low = p; high = q })
+      rw (le-leb low high (omega arith)) (record { low = p; high = q })
 
   -- the three forms of an interval without c
   different_cases : (c : ℕ) (outer : Option Interval) → (x.low ≡ c → IsEdgeWithin (if_any (x.low + 1) x.high) outer) →
       ((x.low ≡ c → ⊥) → x.high ≡ c → IsEdgeWithin (if_any x.low (x.high - 1)) outer) →
       ((x.low ≡ c → ⊥) → (x.high ≡ c → ⊥) → IsEdgeWithin (Some x) outer) → IsEdgeWithin (different_from x c) outer
   different_cases c outer at_low at_high at_none =
-      cond_both (x.low == c) (if_any (x.low + 1) x.high) (if x.high == c then if_any x.low (x.high - 1) else Some x)
-      (λ edge. IsEdgeWithin edge outer)
-      (λ e. at_low (eqb-true x.low c e))
-      (λ e. cond_both (x.high == c) (if_any x.low (x.high - 1)) (Some x) (λ edge. IsEdgeWithin edge outer)
-      (λ f. at_high (eqb-false x.low c e) (eqb-true x.high c f))
-      (λ f. at_none (eqb-false x.low c e) (eqb-false x.high c f)))
+      cond_both _ _ _ (λ edge. IsEdgeWithin edge outer)
+      (λ e. at_low (eqb-true _ _ e))
+      (λ e. cond_both _ _ _ (λ edge. IsEdgeWithin edge outer)
+      (λ f. at_high (eqb-false _ _ e) (eqb-true _ _ f))
+      (λ f. at_none (eqb-false _ _ e) (eqb-false _ _ f)))
 
   different_within : (c : ℕ) → IsEdgeWithin (different_from x c) (different_from a c)
   different_within c =
-      cond_both (a.low == c) (if_any (a.low + 1) a.high) (if a.high == c then if_any a.low (a.high - 1) else Some a)
-      (λ edge. IsEdgeWithin (different_from x c) edge)
+      cond_both _ _ _ (λ edge. IsEdgeWithin (different_from x c) edge)
       (λ e. let first = eqb-true a.low c e in
       different_cases c (if_any (a.low + 1) a.high) (λ p. any_within (x.low + 1) x.high (a.low + 1) a.high
       (λ h. (omega arith, omega arith)))
       (λ p q. any_within x.low (x.high - 1) (a.low + 1) a.high (λ h. (omega arith, omega arith)))
       (λ p q. all_within (a.low + 1) a.high (omega arith) inside.high))
-      (λ e. cond_both (a.high == c) (if_any a.low (a.high - 1)) (Some a)
-      (λ edge. IsEdgeWithin (different_from x c) edge)
+      (λ e. cond_both _ _ _ (λ edge. IsEdgeWithin (different_from x c) edge)
       (λ f. let last = eqb-true a.high c f in
       different_cases c (if_any a.low (a.high - 1)) (λ p. any_within (x.low + 1) x.high a.low (a.high - 1)
       (λ h. (omega arith, omega arith)))
@@ -184,11 +166,7 @@ module _ (x a : Interval) (inside : IsPartOf x a) (order : x.low ≤ x.high) whe
   passing_within GreaterOrEqual c = at_least_within c
   passing_within Less c = below_within c
   passing_within LessOrEqual c = at_most_within c
-  passing_within AnyBit c = inside
-  passing_within SignedGreater c = inside
-  passing_within SignedGreaterOrEqual c = inside
-  passing_within SignedLess c = inside
-  passing_within SignedLessOrEqual c = inside
+  passing_within test c = inside
 
   -- An edge of an interval within another leaves what is within what that edge leaves of the other, or nothing.
   pub narrowed_within : (width : Width) (test : Test) (taken : Bool) (c : ℕ) →
@@ -207,7 +185,7 @@ module _ (x : Interval) (order : x.low ≤ x.high) where
   any_edge : (low high : ℕ) → x.low ≤ low → high ≤ x.high → IsEdgeOf x (if_any low high)
   any_edge low high p q =
       cond_both (nat_le low high) (Some (from_to low high)) None (IsEdgeOf x)
-      (λ e. (leb-true low high e, record { low = p; high = q })) (λ e. tt)
+      (λ e. (leb-true _ _ e, record { low = p; high = q })) (λ e. tt)
 
   whole_edge : IsEdgeOf x (Some x)
   whole_edge = (order, record { low = omega arith; high = omega arith })
@@ -215,29 +193,25 @@ module _ (x : Interval) (order : x.low ≤ x.high) where
   different_edge : (c : ℕ) → IsEdgeOf x (different_from x c)
   different_edge c =
       cond_both (x.low == c) (if_any (x.low + 1) x.high) (if x.high == c then if_any x.low (x.high - 1) else Some x)
-      (IsEdgeOf x) (λ e. any_edge (x.low + 1) x.high (omega arith) (omega arith))
+      (IsEdgeOf x) (λ e. any_edge _ _ (omega arith) (omega arith))
       (λ e. cond_both (x.high == c) (if_any x.low (x.high - 1)) (Some x) (IsEdgeOf x)
-      (λ f. any_edge x.low (x.high - 1) (omega arith) (omega arith)) (λ f. whole_edge))
+      (λ f. any_edge _ _ (omega arith) (omega arith)) (λ f. whole_edge))
 
   at_most_edge : (c : ℕ) → IsEdgeOf x (at_most x c)
-  at_most_edge c = any_edge x.low (min x.high c) (omega arith) (omega arith)
+  at_most_edge c = any_edge _ _ (omega arith) (omega arith)
 
   below_edge : (c : ℕ) → IsEdgeOf x (below x c)
   below_edge zero = tt
   below_edge (suc c) = at_most_edge c
 
   passing_edge : (test : Test) (c : ℕ) → IsEdgeOf x (passing_part test x c)
-  passing_edge Equal c = any_edge (max x.low c) (min x.high c) (omega arith) (omega arith)
+  passing_edge Equal c = any_edge _ _ (omega arith) (omega arith)
   passing_edge NotEqual c = different_edge c
-  passing_edge Greater c = any_edge (max x.low (c + 1)) x.high (omega arith) (omega arith)
-  passing_edge GreaterOrEqual c = any_edge (max x.low c) x.high (omega arith) (omega arith)
+  passing_edge Greater c = any_edge _ _ (omega arith) (omega arith)
+  passing_edge GreaterOrEqual c = any_edge _ _ (omega arith) (omega arith)
   passing_edge Less c = below_edge c
   passing_edge LessOrEqual c = at_most_edge c
-  passing_edge AnyBit c = whole_edge
-  passing_edge SignedGreater c = whole_edge
-  passing_edge SignedGreaterOrEqual c = whole_edge
-  passing_edge SignedLess c = whole_edge
-  passing_edge SignedLessOrEqual c = whole_edge
+  passing_edge test c = whole_edge
 
   pub narrowed_proper : (width : Width) (test : Test) (taken : Bool) (c : ℕ) →
       IsEdgeOf x (narrowed_interval width test taken x c)

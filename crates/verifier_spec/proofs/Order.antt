@@ -1,22 +1,18 @@
 -- The order of abstract states, part by part: a wider state holds of whatever a narrower one does.
-use Rattle.std.proofs.Common.{◌≡◌, ℕ, zero, suc, ◌<◌, Bool, true, false, ◌||◌, not, refl, sym, ◌∙◌, subst, ⊎_elim}
-use Rattle.std.proofs.Common.{arith}
-use Rattle.std.proofs.lemmas.Bool.{and_parts, and_from, false≢true, cases_lt, cases_eq}
+use Rattle.std.proofs.Common.{◌≡◌, ℕ, zero, suc, ◌<◌, Bool, true, false, ◌||◌, not, refl, sym, ◌∙◌, ⊎_elim, arith}
+use Rattle.std.proofs.lemmas.Int.{ints}
+use Rattle.std.proofs.lemmas.Bool.{and_parts, and_from, cases_lt, cases_eq}
 use Rattle.machine_spec.specs.declared.instruction.Region.{Region}
 use Rattle.machine_spec.specs.declared.instruction.Region.TheVariants as region
-use Rattle.machine_spec.specs.Values.{Value, Nothing, Number, Address}
+use Rattle.machine_spec.specs.Values.{Value, Number, Address}
 use Rattle.machine_spec.specs.Machine.{Input, State, length_of}
 use Rattle.verifier_spec.specs.declared.{state.Abs.Abs, state.Abstract.Abstract}
 use Rattle.verifier_spec.specs.declared.state.Abs.TheVariants as abs
-use Rattle.verifier_spec.specs.Intervals.{IsIn}
-use Rattle.verifier_spec.specs.StackSets.{is_set}
-use Rattle.verifier_spec.specs.Ranges.{lengths_from_to, interval_of, is_range_within}
+use Rattle.verifier_spec.specs.{StackSets.is_set, Ranges.lengths_from_to, Ranges.is_range_within}
 use Rattle.verifier_spec.specs.Kinds.{kind_at, length_range, same_region, is_kind_within}
 use Rattle.verifier_spec.specs.States.{each_below, is_proper, is_within}
 use Rattle.verifier_spec.specs.StandsFor.{HasKind, HasLengths, StandsFor}
-use Rattle.verifier_spec.proofs.Proper.{unknown_past}
-use Rattle.verifier_spec.proofs.Ranges.{in_wider}
-use Rattle.verifier_spec.proofs.Whole.{le_z-true, le_trans_z}
+use Rattle.verifier_spec.proofs.{Proper.unknown_past, Ranges.in_wider, Ranges.range_part}
 
 -- ---- tests of every number below one
 
@@ -25,7 +21,7 @@ unfolding each_below
 each_below_at zero test h k low = absurd (omega arith)
 each_below_at (suc n) test h k low =
     let p = and_parts _ _ h in
-    ⊎_elim (λ e. subst (λ x. test x ≡ true) (sym e) p.1) (λ d. each_below_at n test p.0 k (omega arith)) (cases_eq k n)
+    ⊎_elim (λ e. rw e p.1) (λ d. each_below_at n test p.0 k (omega arith)) (cases_eq k n)
 
 pub each_below_from : (n : ℕ) (test : ℕ → Bool) → ((k : ℕ) → k < n → test k ≡ true) → each_below n test ≡ true
 unfolding each_below
@@ -50,8 +46,7 @@ pub record IsWithin (a b : Abstract) : Type 0 where
   pub set : (place : ℕ) → place < 512 → is_set b.set place ≡ true → is_set a.set place ≡ true
 
 set_if : (outer inner : Bool) → (not outer || inner) ≡ true → outer ≡ true → inner ≡ true
-set_if true inner h e = h
-set_if false inner h e = absurd (false≢true e)
+set_if outer inner h e = cc
 
 set_from : (outer inner : Bool) → (outer ≡ true → inner ≡ true) → (not outer || inner) ≡ true
 set_from true inner h = h refl
@@ -84,46 +79,23 @@ pub region_is : (a b : Region) → same_region a b ≡ true → a ≡ b
 region_is region.Stack region.Stack h = refl
 region_is region.Key region.Key h = refl
 region_is region.Value region.Value h = refl
-region_is region.Stack region.Key h = absurd (false≢true h)
-region_is region.Stack region.Value h = absurd (false≢true h)
-region_is region.Key region.Stack h = absurd (false≢true h)
-region_is region.Key region.Value h = absurd (false≢true h)
-region_is region.Value region.Stack h = absurd (false≢true h)
-region_is region.Value region.Key h = absurd (false≢true h)
+region_is a b h = cc
 
 pub kind_holds : (input : Input) (a : Abstract) (j k : Abs) (word : Value) → HasLengths input a →
     is_kind_within a j k ≡ true → HasKind input j word → HasKind input k word
 kind_holds input a j abs.None word l w h = tt
-kind_holds input a abs.None (abs.Num lo hi) word l w h = absurd (false≢true w)
-kind_holds input a abs.None (abs.Len r) word l w h = absurd (false≢true w)
-kind_holds input a abs.None (abs.Addr r lo hi) word l w h = absurd (false≢true w)
 kind_holds input a (abs.Num l m) (abs.Num lo hi) (Number n) ls w h =
-    let has = in_wider n (lengths_from_to l m) (lengths_from_to lo hi) w (record { low = h.0; high = h.1 }) in
-    (has.low, has.high)
-kind_holds input a (abs.Num l m) (abs.Num lo hi) Nothing ls w h = absurd h
-kind_holds input a (abs.Num l m) (abs.Num lo hi) (Address r x) ls w h = absurd h
-kind_holds input a (abs.Num l m) (abs.Len r) word ls w h = absurd (false≢true w)
-kind_holds input a (abs.Num l m) (abs.Addr r lo hi) word ls w h = absurd (false≢true w)
+    let p = range_part (lengths_from_to l m) (lengths_from_to lo hi) w in
+    omega arith
 kind_holds input a (abs.Len r) (abs.Num lo hi) (Number n) l w h =
-    let has = in_wider n (length_range a r) (lengths_from_to lo hi) w
-    (subst (λ m. IsIn m (interval_of (length_range a r))) (sym h) (l r)) in
-    (has.low, has.high)
-kind_holds input a (abs.Len r) (abs.Num lo hi) Nothing l w h = absurd h
-kind_holds input a (abs.Len r) (abs.Num lo hi) (Address q x) l w h = absurd h
-kind_holds input a (abs.Len r) (abs.Len q) word l w h = subst (λ x. HasKind input (abs.Len x) word) (region_is r q w) h
-kind_holds input a (abs.Len r) (abs.Addr q lo hi) word l w h = absurd (false≢true w)
-kind_holds input a (abs.Addr r lo hi) (abs.Num l m) word ls w h = absurd (false≢true w)
-kind_holds input a (abs.Addr r lo hi) (abs.Len q) word ls w h = absurd (false≢true w)
+    let p = range_part (length_range a r) (lengths_from_to lo hi) w in
+    let has = l r in
+    omega arith
+kind_holds input a (abs.Len r) (abs.Len q) word l w h = rw (← region_is r q w) h
 kind_holds input a (abs.Addr r lo hi) (abs.Addr q low high) (Address at x) ls w h =
     let p = and_parts _ _ w in
-    let t = and_parts _ _ p.1 in (
-      sym (region_is r q p.0) ∙ h.0,
-      le_trans_z low lo x (le_z-true _ _ t.0) h.1,
-      le_trans_z x hi high h.2
-          (le_z-true _ _ t.1),
-    )
-kind_holds input a (abs.Addr r lo hi) (abs.Addr q low high) Nothing ls w h = absurd h
-kind_holds input a (abs.Addr r lo hi) (abs.Addr q low high) (Number n) ls w h = absurd h
+    (sym (region_is r q p.0) ∙ h.0, grind (arith, ints), grind (arith, ints))
+kind_holds input a j k word l w h = first_of (cc, search h)
 
 -- ---- one state within another
 
@@ -132,8 +104,8 @@ module _ (input : Input) (a b : Abstract) (s : State) (w : IsWithin a b) (p : is
   register_stands : (r : ℕ) → HasKind input (kind_at b r) (s.registers r)
   register_stands r =
       ⊎_elim
-      (λ low. kind_holds input a (kind_at a r) (kind_at b r) (s.registers r) h.lengths (w.kinds r low) (h.registers r))
-      (λ past. subst (λ kind. HasKind input kind (s.registers r)) (sym (unknown_past b r p past)) tt)
+      (λ low. kind_holds input a _ _ _ h.lengths (w.kinds r low) (h.registers r))
+      (λ past. rw (unknown_past b r p past) tt)
       (cases_lt r 11)
 
   pub within_stands : StandsFor input b s

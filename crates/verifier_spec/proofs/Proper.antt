@@ -2,27 +2,21 @@
 use Rattle.std.proofs.Common.{◌≡◌, ℕ, zero, suc, ◌^◌, ◌<◌, ◌≤◌, ℤ, ◌≤ℤ◌, true, List, [], ◌∷◌, length, get_or, set, Some}
 use Rattle.std.proofs.Common.{IfSome, refl, sym, subst, ◌∙◌, arith, length-set}
 use Rattle.std.specs.List.{list_all}
-use Rattle.std.proofs.lemmas.Bool.{and_parts, and_from, leb-true, le-leb, ltb-true, lt-ltb, eqb-true, eq-eqb}
-use Rattle.std.proofs.lemmas.Bool.{false≢true}
-use Rattle.std.proofs.lemmas.Option.{same_Some, none-some}
-use Rattle.std.proofs.lemmas.List.{get_or_past}
-use Rattle.wire_spec.specs.declared.{limits.TheConstants.MAX_KEY, limits.TheConstants.MAX_VALUE}
-use Rattle.machine_spec.specs.declared.{operation.Width.Width, instruction.Source.Source, instruction.Region.Region}
+use Rattle.std.proofs.{lemmas.Int.ints, lemmas.Option.same_Some, lemmas.List.get_or_past}
+use Rattle.std.proofs.lemmas.Bool.{and_parts, and_from, eqb-true, eq-eqb}
+use Rattle.wire_spec.specs.declared.limits.TheConstants.{MAX_KEY, MAX_VALUE}
+use Rattle.machine_spec.specs.{declared.operation.Width.Width, declared.instruction.Source.Source}
+use Rattle.machine_spec.specs.{declared.instruction.Region.Region, Values.immediate}
 use Rattle.machine_spec.specs.declared.operation.Width.TheVariants.{Bits32, Bits64}
 use Rattle.machine_spec.specs.declared.instruction.Source.TheVariants.{Register, Immediate}
 use Rattle.machine_spec.specs.declared.instruction.Region.TheVariants as region
-use Rattle.machine_spec.specs.Values.{immediate}
 use Rattle.verifier_spec.specs.declared.{interval.Interval.Interval, state.Abs.Abs, state.Range.Range}
 use Rattle.verifier_spec.specs.declared.{state.StackSet.StackSet, state.Abstract.Abstract}
 use Rattle.verifier_spec.specs.declared.state.Abs.TheVariants as abs
-use Rattle.verifier_spec.specs.Intervals.{from_to, IsRangeOf}
-use Rattle.verifier_spec.specs.Checks.{source_kind}
-use Rattle.verifier_spec.specs.Ranges.{interval_of, is_proper_range}
+use Rattle.verifier_spec.specs.{Intervals.from_to, Intervals.IsRangeOf, Checks.source_kind, Ranges.interval_of}
+use Rattle.verifier_spec.specs.{Ranges.is_proper_range, States.is_proper, Transfer.with_kind, Transfer.with_lengths}
 use Rattle.verifier_spec.specs.Kinds.{kind_at, length_range, range_of, is_number_kind, is_proper_kind}
-use Rattle.verifier_spec.specs.States.{is_proper}
-use Rattle.verifier_spec.specs.Transfer.{with_kind, with_lengths}
 use Rattle.verifier_spec.proofs.Ranges.{IsProperRange, proper_ends, proper_from_ends}
-use Rattle.verifier_spec.proofs.Whole.{le_z-true}
 
 pub record IsProper (a : Abstract) : Type 0 where
   pub eleven : length a.registers ≡ 11
@@ -63,19 +57,17 @@ pub with_kind_proper : (a : Abstract) (r : ℕ) (kind : Abs) → is_proper a ≡
     is_proper (with_kind a r kind) ≡ true
 with_kind_proper a r kind h k =
     let p = proper_parts a h in
-    proper_from (with_kind a r kind) (record {
-      eleven = length-set a.registers r kind ∙ p.eleven;
-      kinds = all_set a.registers r kind p.kinds k;
-      key = p.key;
-      value = p.value;
-    })
+    proper_from (with_kind a r kind) (assumption (
+      length-set a.registers r kind ∙ p.eleven,
+      all_set a.registers r kind p.kinds k,
+    ))
 
 -- ---- the set of stack bytes
 
 pub with_set_proper : (a : Abstract) (set : StackSet) → is_proper a ≡ true → is_proper (record a { set = set }) ≡ true
 with_set_proper a set h =
     let p = proper_parts a h in
-    proper_from (record a { set = set }) (record { eleven = p.eleven; kinds = p.kinds; key = p.key; value = p.value })
+    proper_from (record a { set = set }) (assumption p)
 
 -- ---- registers past r10
 
@@ -87,13 +79,13 @@ unknown_past a r h past =
 -- ---- the parts of a kind's ranges
 
 pub num_order : (lo hi : ℕ) → is_proper_kind (abs.Num lo hi) ≡ true → lo ≤ hi
-num_order lo hi h = leb-true _ _ (and_parts _ _ h).0
+num_order lo hi h = grind arith
 
 pub num_limit : (lo hi : ℕ) → is_proper_kind (abs.Num lo hi) ≡ true → hi < 2 ^ 64
-num_limit lo hi h = ltb-true _ _ (and_parts _ _ h).1
+num_limit lo hi h = grind arith
 
 pub addr_order : (at : Region) (lo hi : ℤ) → is_proper_kind (abs.Addr at lo hi) ≡ true → lo ≤ℤ hi
-addr_order at lo hi h = le_z-true _ _ (and_parts _ _ (and_parts _ _ h).1).0
+addr_order at lo hi h = grind (arith, ints)
 
 -- ---- lengths
 
@@ -101,9 +93,9 @@ addr_order at lo hi h = le_z-true _ _ (and_parts _ _ (and_parts _ _ h).1).0
 length_range_proper : (a : Abstract) (at : Region) → is_proper a ≡ true → IsProperRange MAX_VALUE (length_range a at)
 length_range_proper a region.Stack h = record { order = omega arith; limited = omega arith }
 length_range_proper a region.Key h =
-    let key = proper_ends MAX_KEY a.key (proper_parts a h).key in
-    record { order = key.order; limited = omega (arith, key.limited) }
-length_range_proper a region.Value h = proper_ends MAX_VALUE a.value (proper_parts a h).value
+    let key = proper_ends _ _ (proper_parts a h).key in
+    record { order = key.order; limited = omega arith }
+length_range_proper a region.Value h = proper_ends _ _ (proper_parts a h).value
 
 pub length_range_order : (a : Abstract) (at : Region) → is_proper a ≡ true →
     (length_range a at).min ≤ (length_range a at).max
@@ -119,21 +111,11 @@ with_lengths_proper a region.Stack range h order inside = h
 with_lengths_proper a region.Key range h order inside =
     let p = proper_parts a h in
     let key = proper_ends MAX_KEY a.key p.key in
-    proper_from _ (record {
-      eleven = p.eleven;
-      kinds = p.kinds;
-      key = proper_from_ends MAX_KEY range order (omega (arith, key.limited));
-      value = p.value;
-    })
+    proper_from _ (assumption (proper_from_ends MAX_KEY range order (omega arith)))
 with_lengths_proper a region.Value range h order inside =
     let p = proper_parts a h in
     let value = proper_ends MAX_VALUE a.value p.value in
-    proper_from _ (record {
-      eleven = p.eleven;
-      kinds = p.kinds;
-      key = p.key;
-      value = proper_from_ends MAX_VALUE range order (omega (arith, value.limited));
-    })
+    proper_from _ (assumption (proper_from_ends MAX_VALUE range order (omega arith)))
 
 -- ---- the numbers of a kind
 
@@ -145,7 +127,6 @@ pub record HasRange (a : Abstract) (kind : Abs) : Type 0 where
 
 pub range_at : (a : Abstract) (kind : Abs) → is_proper a ≡ true → is_proper_kind kind ≡ true →
     is_number_kind kind ≡ true → HasRange a kind
-range_at a abs.None p q k = absurd (false≢true k)
 range_at a (abs.Num lo hi) p q k =
     record {
       range = from_to lo hi;
@@ -159,20 +140,19 @@ range_at a (abs.Len r) p q k =
       is = refl;
       proper = record { order = length_range_order a r p; limited = omega arith };
     }
-range_at a (abs.Addr r lo hi) p q k = absurd (false≢true k)
+range_at a kind p q k = cc
 
 number_if_ranged : (a : Abstract) (kind : Abs) (range : Interval) → range_of a kind ≡ Some range →
     is_number_kind kind ≡ true
-number_if_ranged a abs.None range e = absurd (none-some range e)
 number_if_ranged a (abs.Num lo hi) range e = refl
 number_if_ranged a (abs.Len r) range e = refl
-number_if_ranged a (abs.Addr r lo hi) range e = absurd (none-some range e)
+number_if_ranged a kind range e = cc
 
 pub proper_range : (a : Abstract) (kind : Abs) (range : Interval) → is_proper a ≡ true → is_proper_kind kind ≡ true →
     range_of a kind ≡ Some range → IsRangeOf Bits64 range
 proper_range a kind range p q e =
-    let r = range_at a kind p q (number_if_ranged a kind range e) in
-    subst (IsRangeOf Bits64) (same_Some r.range range (sym r.is ∙ e)) r.proper
+    let r = range_at a _ p q (number_if_ranged a kind range e) in
+    subst (IsRangeOf Bits64) (same_Some _ _ (sym r.is ∙ e)) r.proper
 
 pub range_ordered : (a : Abstract) (kind : Abs) → is_proper a ≡ true → is_proper_kind kind ≡ true →
     IfSome (range_of a kind) (λ r. r.low ≤ r.high)
@@ -190,5 +170,5 @@ pub source_proper : (a : Abstract) (width : Width) (source : Source) → is_prop
     is_proper_kind (source_kind a width source) ≡ true
 source_proper a width (Register r) p = kind_at_proper a r p
 source_proper a width (Immediate imm) p =
-    let c = immediate width imm in
-    and_from _ _ (le-leb c c (omega arith)) (lt-ltb c (2 ^ 64) (immediate_limited width imm))
+    let small = immediate_limited width imm in
+    grind arith

@@ -1,5 +1,5 @@
 -- What an operation or a change makes of numbers is in what it makes of their intervals.
-use Rattle.std.proofs.Common.{◌≡◌, ℕ, ◌+◌, ◌-◌, ◌*◌, ◌/◌, ◌%◌, ◌^◌, ◌<◌, ◌≤◌, min, max, true, ◌&&◌, nat_lt, nat_le}
+use Rattle.std.proofs.Common.{◌≡◌, ℕ, ◌+◌, ◌-◌, ◌/◌, ◌%◌, ◌^◌, ◌<◌, ◌≤◌, max, true, ◌&&◌}
 use Rattle.std.proofs.Common.{if◌then◌else◌, pos, arith, zero-le, le_trans, pow_pos, mod-eq_of_lt, mod-lt}
 use Rattle.std.specs.Prelude.{bit_or, bit_xor}
 use Rattle.std.specs.Int.{w8, w16, w32}
@@ -15,13 +15,13 @@ use Rattle.machine_spec.specs.declared.operation.Operation.TheVariants.{LeftShif
 use Rattle.machine_spec.specs.declared.operation.Operation.TheVariants.{ArithmeticRightShift}
 use Rattle.machine_spec.specs.declared.operation.ExtendedWidth.TheVariants as extended
 use Rattle.machine_spec.specs.declared.operation.Change.TheVariants.{Negate, Order, SignExtend}
-use Rattle.machine_spec.specs.Arithmetic.{changed_number, signed_part, extended_bits, bit_count, limit, low_bits}
+use Rattle.machine_spec.specs.Arithmetic.{changed_number, signed_part, extended_bits, bit_count, limit}
 use Rattle.machine_spec.specs.Arithmetic.{operation_result, number_of}
 use Rattle.machine_spec.proofs.Results.{limit_pos, limit_le, computed-lt, changed_number-lt}
 use Rattle.verifier_spec.specs.declared.interval.Interval.{Interval}
-use Rattle.verifier_spec.specs.Intervals.{from_to, IsIn, IsRangeOf, whole, cut_to_width, is_single, half}
+use Rattle.verifier_spec.specs.Intervals.{IsIn, IsRangeOf, whole, is_single, half}
 use Rattle.verifier_spec.specs.Intervals.{is_non_negative, bit_length, of_same_bits, quotients, remainders}
-use Rattle.verifier_spec.specs.Intervals.{shifted_left, shifted_right, computed_range, result_range, changed_range}
+use Rattle.verifier_spec.specs.Intervals.{shifted_right, computed_range, result_range, changed_range}
 use Rattle.verifier_spec.proofs.Intervals.{div_mono, signed_pos, bit_length-lt, in_whole, in_unless_wrapping, cut_has}
 use Rattle.verifier_spec.proofs.Intervals.{cut_range}
 
@@ -51,41 +51,39 @@ module _ (width : Width) (x y : Interval) (n m : ℕ) (in_x : IsIn n x) (in_y : 
 
   -- the second number is the only one of its interval
   only : is_single y ≡ true → m ≡ y.low
-  only e = let one = eqb-true y.low y.high e in omega arith
+  only e = let one = eqb-true _ _ e in omega arith
 
   sum_in : IsIn (operation_result width Add n m) (computed_range width Add x y)
-  sum_in = in_unless_wrapping width (x.low + y.low) (x.high + y.high) (n + m) (limit_pos width) (omega arith)
+  sum_in = in_unless_wrapping width _ _ _ (limit_pos width) (omega arith)
       (omega arith)
 
   difference_in : IsIn (operation_result width Sub n m) (computed_range width Sub x y)
   difference_in =
-      cond_both (nat_le y.high x.low) (from_to (x.low - y.high) (x.high - y.low)) (whole width)
-      (IsIn (operation_result width Sub n m))
+      cond_both _ _ _ (IsIn (operation_result width Sub n m))
       (λ e. let le = leb-true y.high x.low e in
       rw (difference (limit width) n m (omega arith) (omega arith)) (record { low = omega arith; high = omega arith }))
       (λ e. any_result Sub)
 
   product_in : IsIn (operation_result width Mul n m) (computed_range width Mul x y)
-  product_in = in_unless_wrapping width (x.low * y.low) (x.high * y.high) (n * m) (limit_pos width)
-      (mul-le x.low y.low n m in_x.low in_y.low) (mul-le n m x.high y.high in_x.high in_y.high)
+  product_in = in_unless_wrapping width _ _ _ (limit_pos width)
+      (mul-le _ _ _ _ in_x.low in_y.low) (mul-le _ _ _ _ in_x.high in_y.high)
 
   quotient_in : IsIn (n / m) (quotients x y)
   quotient_in =
-      cond_both (is_single y && nat_lt 0 y.low) (from_to (x.low / y.low) (x.high / y.low)) (from_to 0 x.high)
-      (IsIn (n / m))
+      cond_both _ _ _ (IsIn (n / m))
       (λ e. let p = and_parts _ _ e in
       let positive = ltb-true 0 y.low p.1 in
       rw (only p.0) (record {
-        low = div_mono x.low n y.low positive in_x.low;
-        high = div_mono n x.high y.low positive in_x.high;
+        low = div_mono _ _ _ positive in_x.low;
+        high = div_mono _ _ _ positive in_x.high;
       }))
       (λ e. record { low = zero-le; high = le_trans (div-le_self n m) in_x.high })
 
   remainder_in : IsIn (n % m) (remainders x y)
   remainder_in =
-      cond_both (is_single y && nat_lt 0 y.low) (from_to 0 (min x.high (y.low - 1))) (from_to 0 x.high) (IsIn (n % m))
+      cond_both _ _ _ (IsIn (n % m))
       (λ e. let p = and_parts _ _ e in
-      let positive = ltb-true 0 y.low p.1 in
+      let positive = ltb-true _ _ p.1 in
       let small : n % y.low < y.low = mod-lt n positive in
       let le : n % y.low ≤ n = mod-le n y.low in
       rw (only p.0) (record { low = zero-le; high = omega arith }))
@@ -97,8 +95,7 @@ module _ (width : Width) (x y : Interval) (n m : ℕ) (in_x : IsIn n x) (in_y : 
       IsIn (operation_result width operation n m) (if is_non_negative width x
       && is_non_negative width y then range else whole width)
   signed_in operation result range same h =
-      cond_both (is_non_negative width x && is_non_negative width y) range (whole width)
-      (IsIn (operation_result width operation n m))
+      cond_both _ _ _ (IsIn (operation_result width operation n m))
       (λ e. let p = and_parts _ _ e in
       let x_small = ltb-true x.high (half width) p.0 in
       let y_small = ltb-true y.high (half width) p.1 in
@@ -116,12 +113,10 @@ module _ (width : Width) (x y : Interval) (n m : ℕ) (in_x : IsIn n x) (in_y : 
 
   left_in : IsIn (operation_result width LeftShift n m) (computed_range width LeftShift x y)
   left_in =
-      cond_both (is_single y) (shifted_left width x y.low) (whole width) (IsIn (operation_result width LeftShift n m))
-      (λ e. rw (only e) (in_unless_wrapping width (x.low * 2 ^ (y.low % bit_count width))
-      (x.high * 2 ^ (y.low % bit_count width)) (n * 2 ^ (y.low % bit_count width)) (limit_pos width)
-      (mul-le x.low (2 ^ (y.low % bit_count width)) n (2 ^ (y.low % bit_count width)) in_x.low (omega arith))
-      (mul-le n (2 ^ (y.low % bit_count width)) x.high (2 ^ (y.low % bit_count width)) in_x.high
-      (omega arith))))
+      cond_both _ _ _ (IsIn (operation_result width LeftShift n m))
+      (λ e. let power = 2 ^ (y.low % bit_count width) in
+      rw (only e) (in_unless_wrapping width _ _ _ (limit_pos width)
+      (mul-le _ _ _ _ in_x.low (omega arith)) (mul-le _ _ _ _ in_x.high (omega arith))))
       (λ e. any_result LeftShift)
 
   -- shifted by the only count
@@ -129,23 +124,21 @@ module _ (width : Width) (x y : Interval) (n m : ℕ) (in_x : IsIn n x) (in_y : 
   shift_in e =
       let positive = pow_pos (y.low % bit_count width) in
       rw (only e) (record {
-        low = div_mono x.low n (2 ^ (y.low % bit_count width)) positive in_x.low;
-        high = div_mono n x.high (2 ^ (y.low % bit_count width)) positive in_x.high;
+        low = div_mono _ _ _ positive in_x.low;
+        high = div_mono _ _ _ positive in_x.high;
       })
 
   right_in : IsIn (operation_result width RightShift n m) (computed_range width RightShift x y)
   right_in =
-      cond_both (is_single y) (shifted_right width x y.low) (from_to 0 x.high)
-      (IsIn (operation_result width RightShift n m))
+      cond_both _ _ _ (IsIn (operation_result width RightShift n m))
       shift_in
-      (λ e. record { low = zero-le; high = le_trans (div-le_self n (2 ^ (m % bit_count width))) in_x.high })
+      (λ e. record { low = zero-le; high = le_trans (div-le_self _ _) in_x.high })
 
   arithmetic_in : IsIn (operation_result width ArithmeticRightShift n m) (computed_range width ArithmeticRightShift x y)
   arithmetic_in =
-      cond_both (is_single y && is_non_negative width x) (shifted_right width x y.low) (whole width)
-      (IsIn (operation_result width ArithmeticRightShift n m))
+      cond_both _ _ _ (IsIn (operation_result width ArithmeticRightShift n m))
       (λ e. let p = and_parts (is_single y) (is_non_negative width x) e in
-      let x_small = ltb-true x.high (half width) p.1 in
+      let x_small = ltb-true _ _ p.1 in
       rw (signed_shift width n m (omega arith)) (shift_in p.0))
       (λ e. any_result ArithmeticRightShift)
 
@@ -155,13 +148,13 @@ module _ (width : Width) (x y : Interval) (n m : ℕ) (in_x : IsIn n x) (in_y : 
   computed_in Sub = difference_in
   computed_in Mul = product_in
   computed_in Div = quotient_in
-  computed_in SignedDiv = signed_in SignedDiv (n / m) (quotients x y) (λ p. signed_quotient width n m p) quotient_in
+  computed_in SignedDiv = signed_in SignedDiv _ _ (λ p. signed_quotient width n m p) quotient_in
   computed_in Or = bits_in (bit_or n m) (λ k. or_lt k n m)
   computed_in And = let p = and_le_l n m in let q = and_le_r n m in record { low = zero-le; high = omega arith }
   computed_in LeftShift = left_in
   computed_in RightShift = right_in
   computed_in Mod = remainder_in
-  computed_in SignedMod = signed_in SignedMod (n % m) (remainders x y) (λ p. signed_remainder width n m p) remainder_in
+  computed_in SignedMod = signed_in SignedMod _ _ (λ p. signed_remainder width n m p) remainder_in
   computed_in Xor = bits_in (bit_xor n m) (λ k. xor_lt k n m)
   computed_in ArithmeticRightShift = arithmetic_in
 
@@ -169,8 +162,7 @@ module _ (width : Width) (x y : Interval) (n m : ℕ) (in_x : IsIn n x) (in_y : 
 pub result_in : (width : Width) (operation : Operation) (x y : Interval) (n m : ℕ) → IsRangeOf Bits64 x →
     IsRangeOf Bits64 y → IsIn n x → IsIn m y → IsIn (number_of width operation n m) (result_range width operation x y)
 result_in width operation x y n m p q in_x in_y =
-    computed_in width (cut_to_width width x) (cut_to_width width y) (low_bits width n) (low_bits width m)
-    (cut_has width x n in_x) (cut_has width y m in_y) (cut_range width x p).limited
+    computed_in width _ _ _ _ (cut_has width x n in_x) (cut_has width y m in_y) (cut_range width x p).limited
     (cut_range width y q).limited operation
 
 -- ---- changes of one number
@@ -189,8 +181,7 @@ changed_in (Negate width) x n p h =
 changed_in (Order order width) x n p h = let small = changed_number-lt (Order order width) n (omega arith) in
     record { low = zero-le; high = omega arith }
 changed_in (SignExtend width part) x n p h =
-    cond_both (nat_lt x.high (2 ^ (extended_bits part - 1))) x (whole width)
-    (IsIn (changed_number (SignExtend width part) n))
+    cond_both _ _ _ (IsIn (changed_number (SignExtend width part) n))
     (λ e. let small = ltb-true x.high (2 ^ (extended_bits part - 1)) e in rw (part_pos part n (omega arith)) h)
     (λ e. in_whole width (changed_number (SignExtend width part) n)
     (changed_number-lt (SignExtend width part) n (omega arith)))

@@ -1,33 +1,29 @@
 -- Operations on words against operations on kinds.
-use Rattle.std.proofs.Common.{◌≡◌, ℕ, ◌^◌, ◌<◌, ◌≤◌, ℤ, pos, ◌+ℤ◌, neg_ℤ, ◌≤ℤ◌, Bool, true, false, if◌then◌else◌, refl}
-use Rattle.std.proofs.Common.{⊎_elim, arith}
-use Rattle.std.proofs.lemmas.Bool.{ltb-true, leb-true, le-leb, lt-ltb, and_parts, and_from, or_cases, false≢true}
+use Rattle.std.proofs.Common.{◌≡◌, ℕ, ◌^◌, ◌<◌, ◌≤◌, ℤ, pos, ◌+ℤ◌, neg_ℤ, ◌≤ℤ◌, true, refl, ⊎_elim, arith, Some}
+use Rattle.std.proofs.lemmas.Bool.{ltb-true, leb-true, and_parts, and_from, or_cases}
 use Rattle.std.proofs.lemmas.Int.{ints}
-use Rattle.std.specs.Prelude.{Some}
 use Rattle.machine_spec.specs.declared.{operation.Width.Width, operation.Operation.Operation, operation.Change.Change}
-use Rattle.machine_spec.specs.declared.{instruction.Region.Region}
+use Rattle.machine_spec.specs.declared.instruction.Region.{Region}
+use Rattle.machine_spec.specs.{Machine.Input, Arithmetic.signed, Arithmetic.changed_bits}
 use Rattle.machine_spec.specs.declared.operation.Width.TheVariants.{Bits32, Bits64}
 use Rattle.machine_spec.specs.declared.operation.SwappedWidth.TheVariants as swapped
 use Rattle.machine_spec.specs.declared.operation.Change.TheVariants.{Negate, Order, SignExtend}
-use Rattle.machine_spec.specs.Arithmetic.{limit, signed, changed_bits}
-use Rattle.machine_spec.specs.Values.{Value, Nothing, Number, Address, moves_address, is_subtraction, displacement}
-use Rattle.machine_spec.specs.Values.{moved_value, result_of, changed_value}
-use Rattle.machine_spec.specs.Machine.{Input}
+use Rattle.machine_spec.specs.Values.{Value, Nothing, Number, Address, moves_address, displacement, moved_value}
+use Rattle.machine_spec.specs.Values.{result_of, changed_value}
 use Rattle.verifier_spec.specs.declared.{interval.Interval.Interval, state.Abs.Abs, state.Abstract.Abstract}
 use Rattle.verifier_spec.specs.declared.state.Abs.TheVariants as abs
 use Rattle.verifier_spec.specs.Intervals.{from_to, IsIn, IsPartOf, IsRangeOf, cut_to_width, result_range, changed_range}
 use Rattle.verifier_spec.specs.Kinds.{range_of, furthest, is_number_kind, is_proper_kind}
-use Rattle.verifier_spec.specs.States.{is_proper}
+use Rattle.verifier_spec.specs.{States.is_proper, StandsFor.HasKind, StandsFor.HasLengths}
 use Rattle.verifier_spec.specs.Checks.{is_one_sign, least_displacement, greatest_displacement, can_move}
 use Rattle.verifier_spec.specs.Checks.{can_compute_kinds}
 use Rattle.verifier_spec.specs.Transfer.{numbers, on_ranges, moved_address, moved_kind, computed_kind, changed_kind}
-use Rattle.verifier_spec.specs.StandsFor.{HasKind, HasLengths}
-use Rattle.verifier_spec.proofs.Intervals.{cut_has, cut_range}
+use Rattle.verifier_spec.proofs.{Intervals.cut_has, Intervals.cut_range, RangesProper.result_proper}
+use Rattle.verifier_spec.proofs.{RangesProper.changed_proper, RangesSound.result_in, RangesSound.changed_in}
+use Rattle.verifier_spec.proofs.{Values.IsNumber, Values.at_number}
 use Rattle.verifier_spec.proofs.Proper.{addr_order, proper_range, HasRange, range_at}
-use Rattle.verifier_spec.proofs.RangesProper.{result_proper, changed_proper}
-use Rattle.verifier_spec.proofs.RangesSound.{result_in, changed_in}
 use Rattle.verifier_spec.proofs.Whole.{le_z-true, le-le_z, le_trans_z, add_le}
-use Rattle.verifier_spec.proofs.Values.{IsNumber, at_number}
+use Rattle.machine_spec.proofs.Results.{limit_le}
 
 -- ---- displacements
 
@@ -46,33 +42,20 @@ one_sign_le range m n h low m_n high =
     (λ e. let above = leb-true (2 ^ 63) range.low e in signed_le_high m n m_n (omega arith))
     (or_cases _ _ h)
 
-neg_le : (x y : ℤ) → x ≤ℤ y → neg_ℤ y ≤ℤ neg_ℤ x
-neg_le x y h = omega (arith, ints)
-
 -- of a part of numbers of one sign, the least displacement is not smaller, and the greatest not greater
 module _ (operation : Operation) (x range : Interval) (sign : is_one_sign range ≡ true) (order : x.low ≤ x.high)
     (part : IsPartOf x range) where
   low_le : signed Bits64 range.low ≤ℤ signed Bits64 x.low
-  low_le = one_sign_le range range.low x.low sign (omega arith) part.low (omega (arith, part.high))
+  low_le = one_sign_le range range.low x.low sign (omega arith) part.low (omega arith)
 
   high_le : signed Bits64 x.high ≤ℤ signed Bits64 range.high
-  high_le = one_sign_le range x.high range.high sign (omega (arith, part.low)) part.high (omega arith)
+  high_le = one_sign_le range x.high range.high sign (omega arith) part.high (omega arith)
 
   pub least_part : least_displacement operation range ≤ℤ least_displacement operation x
-  least_part = from (is_subtraction operation)
-    where
-      from : (b : Bool) → (if b then neg_ℤ (signed Bits64 range.high) else signed Bits64 range.low) ≤ℤ
-          (if b then neg_ℤ (signed Bits64 x.high) else signed Bits64 x.low)
-      from true = neg_le (signed Bits64 x.high) (signed Bits64 range.high) high_le
-      from false = low_le
+  least_part = let low = low_le in let high = high_le in grind (arith, ints)
 
   pub greatest_part : greatest_displacement operation x ≤ℤ greatest_displacement operation range
-  greatest_part = from (is_subtraction operation)
-    where
-      from : (b : Bool) → (if b then neg_ℤ (signed Bits64 x.low) else signed Bits64 x.high) ≤ℤ
-          (if b then neg_ℤ (signed Bits64 range.low) else signed Bits64 range.high)
-      from true = neg_le (signed Bits64 range.low) (signed Bits64 x.low) low_le
-      from false = high_le
+  greatest_part = let low = low_le in let high = high_le in grind (arith, ints)
 
 -- the displacement by a number lies between them
 module _ (operation : Operation) (range : Interval) (n : ℕ) (sign : is_one_sign range ≡ true) (has : IsIn n range) where
@@ -89,8 +72,7 @@ displacements_order : (operation : Operation) (range : Interval) → is_one_sign
     least_displacement operation range ≤ℤ greatest_displacement operation range
 displacements_order operation range sign order =
     let has : IsIn range.low range = record { low = omega arith; high = order } in
-    le_trans_z _ _ _ (displacement_low operation range range.low sign has)
-    (displacement_high operation range range.low sign has)
+    le_trans_z _ _ _ (displacement_low operation _ _ sign has) (displacement_high operation _ _ sign has)
 
 -- what an address moved by a number keeps
 pub record Moved (operation : Operation) (low high : ℤ) (range : Interval) : Type 0 where
@@ -111,8 +93,8 @@ moved_in : (input : Input) (operation : Operation) (at : Region) (low high offse
 moved_in input operation at low high offset range n can low_le le_high has =
     let m = moved_parts operation low high range can in (
       refl,
-      add_le low offset _ _ low_le (displacement_low operation range n m.sign has),
-      add_le offset high _ _ le_high
+      add_le _ _ _ _ low_le (displacement_low operation range n m.sign has),
+      add_le _ _ _ _ le_high
           (displacement_high operation range n m.sign has),
     )
 
@@ -122,7 +104,7 @@ pub moved_proper : (operation : Operation) (at : Region) (low high : ℤ) (range
 moved_proper operation at low high range can le order =
     let m = moved_parts operation low high range can in
     and_from _ _ (le-le_z _ _ m.from) (and_from _ _ (le-le_z _ _
-    (add_le low high _ _ le (displacements_order operation range m.sign order))) (le-le_z _ _ m.to))
+    (add_le _ _ _ _ le (displacements_order operation range m.sign order))) (le-le_z _ _ m.to))
 
 pub number_if_moves : (a : Abstract) (operation : Operation) (low high : ℤ) (k : Abs) →
     can_move operation low high (range_of a k) ≡ true → is_number_kind k ≡ true
@@ -132,11 +114,6 @@ number_if_moves a operation low high (abs.Len r) h = refl
 number_if_moves a operation low high (abs.Addr r lo hi) h = h
 
 -- ---- numbers
-
--- numbers of a width are numbers of 64 bits
-limit_le : (width : Width) → limit width ≤ 2 ^ 64
-limit_le Bits32 = omega arith
-limit_le Bits64 = omega arith
 
 range_64 : (width : Width) (range : Interval) → IsRangeOf width range → IsRangeOf Bits64 range
 range_64 width range h = record { order = h.order; limited = omega (arith, h.limited, limit_le width) }
@@ -165,7 +142,7 @@ pub cut_64 : (x : Interval) → IsRangeOf Bits64 x → IsRangeOf Bits64 (cut_to_
 cut_64 x p = range_64 Bits32 (cut_to_width Bits32 x) (cut_range Bits32 x p)
 
 numbers_proper : (range : Interval) → IsRangeOf Bits64 range → is_proper_kind (numbers range) ≡ true
-numbers_proper range h = and_from _ _ (le-leb range.low range.high h.order) (lt-ltb range.high (2 ^ 64) h.limited)
+numbers_proper range h = grind arith
 
 numbers_hold : (input : Input) (range : Interval) (n : ℕ) → IsIn n range → HasKind input (numbers range) (Number n)
 numbers_hold input range n h = (h.low, h.high)
@@ -177,10 +154,9 @@ module _ (input : Input) (a : Abstract) (l : HasLengths input a) (p : is_proper 
       is_proper_kind k ≡ true → IsNumber a j x → IsNumber a k y →
       HasKind input (on_ranges width operation (range_of a j) (range_of a k)) (result_of width operation x y)
   two_numbers width operation j k x y pj pk m n =
-      rw (m.is, n.is, m.ranged, n.ranged)
-      (numbers_hold input (result_range width operation m.range n.range) _
-      (result_in width operation m.range n.range m.n n.n (proper_range a j m.range p pj m.ranged)
-      (proper_range a k n.range p pk n.ranged) m.has n.has))
+      rw (m.is, n.is, m.ranged, n.ranged) (numbers_hold input _ _
+      (result_in width operation m.range n.range m.n n.n (proper_range a _ _ p pj m.ranged)
+      (proper_range a _ _ p pk n.ranged) m.has n.has))
 
   address_and_number : (width : Width) (operation : Operation) (at : Region) (low high : ℤ) (k : Abs) (x y : Value) →
       moves_address width operation ≡ true → can_move operation low high (range_of a k) ≡ true →
@@ -196,32 +172,28 @@ module _ (input : Input) (a : Abstract) (l : HasLengths input a) (p : is_proper 
   pub compute_holds : (width : Width) (operation : Operation) (j k : Abs) (x y : Value) → is_proper_kind j ≡ true →
       is_proper_kind k ≡ true → can_compute_kinds a width operation j k ≡ true → HasKind input j x → HasKind input k y →
       HasKind input (computed_kind a width operation j k) (result_of width operation x y)
-  compute_holds width operation abs.None k x y pj pk can hx hy = absurd (false≢true can)
-  compute_holds width operation (abs.Num lo hi) k x y pj pk can hx hy =
-      two_numbers width operation (abs.Num lo hi) k x y pj pk (at_number input a (abs.Num lo hi) x l refl hx)
-      (at_number input a k y l can hy)
-  compute_holds width operation (abs.Len r) k x y pj pk can hx hy =
-      two_numbers width operation (abs.Len r) k x y pj pk (at_number input a (abs.Len r) x l refl hx)
-      (at_number input a k y l can hy)
+  compute_holds width operation abs.None k x y pj pk can hx hy = cc
   compute_holds width operation (abs.Addr r lo hi) k x y pj pk can hx hy =
-      let c = and_parts (moves_address width operation) (can_move operation lo hi (range_of a k)) can in
+      let c = and_parts _ _ can in
       address_and_number width operation r lo hi k x y c.0 c.1 hx
-      (at_number input a k y l (number_if_moves a operation lo hi k c.1) hy)
+      (at_number input a k y l (number_if_moves a operation _ _ _ c.1) hy)
+  compute_holds width operation j k x y pj pk can hx hy =
+      two_numbers width operation j k x y pj pk (at_number input a j x l refl hx) (at_number input a k y l can hy)
 
   -- so is a move of the low half of a number
   pub move_holds : (k : Abs) (x : Value) → is_number_kind k ≡ true → HasKind input k x →
       HasKind input (moved_kind a Bits32 k) (moved_value Bits32 x)
   move_holds k x number h =
       let n = at_number input a k x l number h in
-      rw (n.is, n.ranged) (numbers_hold input (cut_to_width Bits32 n.range) _ (cut_has Bits32 n.range n.n n.has))
+      rw (n.is, n.ranged) (numbers_hold input _ _ (cut_has Bits32 n.range n.n n.has))
 
   -- and a change
   pub change_holds : (change : Change) (k : Abs) (x : Value) → is_proper_kind k ≡ true → is_number_kind k ≡ true →
       HasKind input k x → HasKind input (changed_kind a change k) (changed_value change x)
   change_holds change k x pk number h =
       let n = at_number input a k x l number h in
-      rw (n.is, n.ranged) (numbers_hold input (changed_range change n.range) _
-      (changed_in change n.range n.n (proper_range a k n.range p pk n.ranged) n.has))
+      rw (n.is, n.ranged) (numbers_hold input _ _
+      (changed_in change n.range n.n (proper_range a _ _ p pk n.ranged) n.has))
 
 -- ---- the ranges of what an operation makes
 
@@ -229,29 +201,26 @@ module _ (a : Abstract) (p : is_proper a ≡ true) where
   ranges_proper : (width : Width) (operation : Operation) (j k : Abs) → HasRange a j → HasRange a k →
       is_proper_kind (on_ranges width operation (range_of a j) (range_of a k)) ≡ true
   ranges_proper width operation j k m n =
-      rw (m.is, n.is) (numbers_proper (result_range width operation m.range n.range)
-      (result_64 width operation m.range n.range m.proper n.proper))
+      rw (m.is, n.is) (numbers_proper _ (result_64 width operation m.range n.range m.proper n.proper))
 
   pub compute_proper : (width : Width) (operation : Operation) (j k : Abs) → is_proper_kind j ≡ true →
       is_proper_kind k ≡ true → can_compute_kinds a width operation j k ≡ true →
       is_proper_kind (computed_kind a width operation j k) ≡ true
-  compute_proper width operation abs.None k pj pk can = absurd (false≢true can)
-  compute_proper width operation (abs.Num lo hi) k pj pk can =
-      ranges_proper width operation (abs.Num lo hi) k (range_at a (abs.Num lo hi) p pj refl) (range_at a k p pk can)
-  compute_proper width operation (abs.Len r) k pj pk can =
-      ranges_proper width operation (abs.Len r) k (range_at a (abs.Len r) p pj refl) (range_at a k p pk can)
+  compute_proper width operation abs.None k pj pk can = cc
   compute_proper width operation (abs.Addr r lo hi) k pj pk can =
-      let c = and_parts (moves_address width operation) (can_move operation lo hi (range_of a k)) can in
+      let c = and_parts _ _ can in
       let n = range_at a k p pk (number_if_moves a operation lo hi k c.1) in
       let can' : can_move operation lo hi (Some n.range) ≡ true = rw n.is at c.1 in
       rw n.is (moved_proper operation r lo hi n.range can' (addr_order r lo hi pj) n.proper.order)
+  compute_proper width operation j k pj pk can =
+      ranges_proper width operation j k (range_at a j p pj refl) (range_at a k p pk can)
 
   pub move_proper : (k : Abs) → is_proper_kind k ≡ true → is_number_kind k ≡ true →
       is_proper_kind (moved_kind a Bits32 k) ≡ true
   move_proper k pk number = let n = range_at a k p pk number in
-      rw n.is (numbers_proper (cut_to_width Bits32 n.range) (cut_64 n.range n.proper))
+      rw n.is (numbers_proper _ (cut_64 _ n.proper))
 
   pub change_proper : (change : Change) (k : Abs) → is_proper_kind k ≡ true → is_number_kind k ≡ true →
       is_proper_kind (changed_kind a change k) ≡ true
   change_proper change k pk number = let n = range_at a k p pk number in
-      rw n.is (numbers_proper (changed_range change n.range) (changed_64 change n.range n.proper))
+      rw n.is (numbers_proper _ (changed_64 change n.range n.proper))

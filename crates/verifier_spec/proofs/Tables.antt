@@ -2,11 +2,9 @@
 use Rattle.std.proofs.Common.{◌≡◌, ℤ, false, List, Option, Some, None, refl}
 use Rattle.machine_spec.specs.declared.{helper.Helper.Helper, helper.TheConstants.HELPERS}
 use Rattle.machine_spec.specs.declared.instruction.Instruction.{Instruction}
-use Rattle.machine_spec.specs.Traps.{calls_no_helper}
-use Rattle.machine_spec.specs.Summaries.{summary_of}
+use Rattle.machine_spec.specs.{Traps.calls_no_helper, Summaries.summary_of}
 use Rattle.machine_spec.proofs.Helpers.{is_helper}
-use Rattle.verifier_spec.specs.declared.state.Abstract.{Abstract}
-use Rattle.verifier_spec.specs.Checks.{failed_check}
+use Rattle.verifier_spec.specs.{declared.state.Abstract.Abstract, Checks.failed_check}
 use Rattle.verifier_spec.proofs.Safety.{passes, failed_from}
 
 -- a call of a helper that a table lists is a call of a helper
@@ -20,17 +18,4 @@ pub passes_all : (helpers : List Helper) (i : Instruction) (s : Abstract) → fa
     failed_check HELPERS i s ≡ None
 passes_all helpers i s passed =
     let p = passes helpers i s passed in
-    failed_from HELPERS i s (record {
-      frame = p.frame;
-      helper = calls_one helpers (summary_of i).call p.helper;
-      unset = p.unset;
-      operands = p.operands;
-      base = p.base;
-      condition = p.condition;
-      record_write = p.record_write;
-      record_bounds = p.record_bounds;
-      stack_bounds = p.stack_bounds;
-      stack_unset = p.stack_unset;
-      argument = p.argument;
-      exit = p.exit;
-    })
+    failed_from HELPERS i s (assumption (p, calls_one helpers (summary_of i).call p.helper))

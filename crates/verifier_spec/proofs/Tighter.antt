@@ -1,27 +1,21 @@
 -- A conditional jump propagates from a state that is within another what is within what it propagates from the other.
-use Rattle.std.proofs.Common.{◌≡◌, ℕ, zero, suc, Bool, true, List, [], ◌∷◌, get_or, set, Option, Some, None, refl, sym}
-use Rattle.std.proofs.Common.{subst}
-use Rattle.std.proofs.lemmas.Bool.{le-leb, and_from, false≢true}
-use Rattle.std.proofs.lemmas.Option.{same_Some}
-use Rattle.machine_spec.specs.declared.{operation.Width.Width, operation.Test.Test, instruction.Region.Region}
-use Rattle.machine_spec.specs.declared.{instruction.Source.Source}
+use Rattle.std.proofs.Common.{arith, ◌≡◌, ℕ, zero, suc, Bool, true, List, ◌∷◌, get_or, set, Option, Some, None, refl}
+use Rattle.std.proofs.lemmas.Bool.{false≢true}
+use Rattle.machine_spec.specs.{declared.operation.Width.Width, declared.operation.Test.Test}
+use Rattle.machine_spec.specs.{declared.instruction.Region.Region, declared.instruction.Source.Source, Values.immediate}
 use Rattle.machine_spec.specs.declared.instruction.Region.TheVariants as region
 use Rattle.machine_spec.specs.declared.instruction.Source.TheVariants.{Register, Immediate}
-use Rattle.machine_spec.specs.Values.{immediate}
-use Rattle.verifier_spec.specs.declared.{interval.Interval.Interval, state.Abs.Abs, state.Range.Range}
-use Rattle.verifier_spec.specs.declared.{state.Abstract.Abstract}
+use Rattle.verifier_spec.specs.{declared.interval.Interval.Interval, declared.state.Abs.Abs, declared.state.Range.Range}
+use Rattle.verifier_spec.specs.{declared.state.Abstract.Abstract, Intervals.IsPartOf, Intervals.narrowed_interval}
+use Rattle.verifier_spec.specs.{States.is_proper, States.is_within, Annotation.is_edge_covered}
 use Rattle.verifier_spec.specs.declared.state.Abs.TheVariants as abs
-use Rattle.verifier_spec.specs.Intervals.{IsPartOf, narrowed_interval}
 use Rattle.verifier_spec.specs.Ranges.{lengths_from_to, interval_of, is_range_within}
 use Rattle.verifier_spec.specs.Kinds.{kind_at, length_range, range_of, is_number_kind, is_proper_kind, is_kind_within}
-use Rattle.verifier_spec.specs.States.{is_proper, is_within}
 use Rattle.verifier_spec.specs.Transfer.{numbers, with_lengths, with_kind, with_range, state_after_test}
-use Rattle.verifier_spec.specs.Annotation.{is_edge_covered}
 use Rattle.verifier_spec.proofs.NarrowedRanges.{IsEdgeWithin, narrowed_within, IsEdgeOf, narrowed_proper}
 use Rattle.verifier_spec.proofs.Joins.{kind_within_refl, within_refl, within_trans}
 use Rattle.verifier_spec.proofs.Order.{narrower_from, IsWithin, within_parts, within_from, region_is}
-use Rattle.verifier_spec.proofs.Proper.{kind_at_proper}
-use Rattle.verifier_spec.proofs.Ranges.{range_refl, range_from_part}
+use Rattle.verifier_spec.proofs.{Proper.kind_at_proper, Ranges.range_refl, Ranges.range_from_part}
 use Rattle.verifier_spec.proofs.Wider.{kind_within, ranges_within, within_set}
 
 -- ---- lengths that are known better
@@ -46,19 +40,11 @@ lengths_within : (a b : Abstract) (at : Region) (x y : Range) → IsWithin (with
     is_range_within x y ≡ true → is_within (with_lengths a at x) (with_lengths b at y) ≡ true
 lengths_within a b region.Stack x y v part = within_from _ _ v
 lengths_within a b region.Key x y v part =
-    within_from _ _ (record {
-      kinds = v.kinds;
-      lengths = narrower_from (with_lengths a region.Key x) (with_lengths b region.Key y) part
-          (v.lengths region.Value);
-      set = v.set;
-    })
+    within_from _ _ (assumption (narrower_from (with_lengths a region.Key x) (with_lengths b region.Key y) part
+    (v.lengths region.Value)))
 lengths_within a b region.Value x y v part =
-    within_from _ _ (record {
-      kinds = v.kinds;
-      lengths = narrower_from (with_lengths a region.Value x) (with_lengths b region.Value y)
-          (v.lengths region.Key) part;
-      set = v.set;
-    })
+    within_from _ _ (assumption (narrower_from (with_lengths a region.Value x) (with_lengths b region.Value y)
+    (v.lengths region.Key) part))
 
 -- a length whose region's lengths are in an interval is a number of it
 length_among : (a : Abstract) (at : Region) (x : Range) (y : Interval) (r : ℕ) → is_proper_kind (abs.Len at) ≡ true →
@@ -70,11 +56,9 @@ length_among a region.Value x y r k is part = rw is part
 
 other_set : (P : ℕ → Abs → Type 0) (kinds : List Abs) (r q : ℕ) (kind : Abs) → P q (get_or kinds q abs.None) →
     P r kind → P q (get_or (set kinds r kind) q abs.None)
-other_set P [] r q kind h p = h
 other_set P (first ∷ kinds) zero zero kind h p = p
-other_set P (first ∷ kinds) zero (suc q) kind h p = h
-other_set P (first ∷ kinds) (suc r) zero kind h p = h
 other_set P (first ∷ kinds) (suc r) (suc q) kind h p = other_set (λ i. P (suc i)) kinds r q kind h p
+other_set P kinds r q kind h p = h
 
 -- a kind of the outer state changed to one that the inner state's is within
 within_other : (c b : Abstract) (r : ℕ) (k : Abs) → IsWithin c b → is_kind_within c (kind_at c r) k ≡ true →
@@ -91,51 +75,39 @@ module _ (a b : Abstract) (w : IsWithin a b) (pa : is_proper a ≡ true) (pb : i
   numbers_edge : (r : ℕ) (x y : Interval) → IsPartOf x y →
       is_within (with_kind a r (numbers x)) (with_kind b r (numbers y)) ≡ true
   numbers_edge r x y h =
-      within_from _ _ (within_set a b w pa pb r (numbers x) (numbers y)
-      (and_from _ _ (le-leb y.low x.low h.low) (le-leb x.high y.high h.high)))
+      within_from _ _ (within_set a b w pa pb _ _ _ (grind arith))
 
   -- the first with a region's range narrowed
   better : (at : Region) (x : Range) → is_within a b ≡ true → is_range_within x (length_range a at) ≡ true →
       IsWithin (with_lengths a at x) b
-  better at x h inner = within_parts _ _ (within_trans (with_lengths a at x) a b (lengths_narrowed a at x inner) h)
+  better at x h inner = within_parts _ _ (within_trans _ _ _ (lengths_narrowed a at x inner) h)
 
   -- what is left of a length's interval is in its region's range
   length_part : (at : Region) (x range : Interval) → range_of a (abs.Len at) ≡ Some range → IsPartOf x range →
       is_range_within (lengths_from_to x.low x.high) (length_range a at) ≡ true
   length_part at x range e part =
-      let of : IsPartOf x (interval_of (length_range a at)) =
-      subst (IsPartOf x) (sym (same_Some (interval_of (length_range a at)) range e)) part in
-      range_from_part (lengths_from_to x.low x.high) (length_range a at) of.low of.high
+      let same : interval_of (length_range a at) ≡ range = cc in
+      let of = rw (← same) at part in
+      range_from_part _ _ of.low of.high
 
   -- what a kind's new interval makes of the states
   range_edge : (r : ℕ) (x y : Option Interval) (j k : Abs) (range : Interval) → is_within a b ≡ true → kind_at a r ≡ j →
       is_proper_kind j ≡ true → is_kind_within a j k ≡ true → is_number_kind k ≡ true → range_of a j ≡ Some range →
       IsEdgeOf range x → IsEdgeWithin x y → is_edge_covered (with_range a r j x) (with_range b r k y) ≡ true
-  range_edge r None y j k range h is pj jk number at inside part = refl
   range_edge r (Some x) None j k range h is pj jk number at inside part = absurd part
-  range_edge r (Some x) (Some y) j abs.None range h is pj jk number at inside part = absurd (false≢true number)
-  range_edge r (Some x) (Some y) j (abs.Addr q l m) range h is pj jk number at inside part = absurd (false≢true number)
-  range_edge r (Some x) (Some y) abs.None (abs.Num l m) range h is pj jk number at inside part = absurd (false≢true jk)
-  range_edge r (Some x) (Some y) abs.None (abs.Len q) range h is pj jk number at inside part = absurd (false≢true jk)
   range_edge r (Some x) (Some y) (abs.Num l' m') (abs.Num l m) range h is pj jk number at inside part =
       numbers_edge r x y part
-  range_edge r (Some x) (Some y) (abs.Num l' m') (abs.Len q) range h is pj jk number at inside part =
-      absurd (false≢true jk)
   range_edge r (Some x) (Some y) (abs.Len g) (abs.Num l m) range h is pj jk number at inside part =
       let to = lengths_from_to x.low x.high in
-      let among = range_from_part to (lengths_from_to y.low y.high) part.low part.high in
+      let among = range_from_part _ _ part.low part.high in
       within_from _ _ (within_other (with_lengths a g to) b r (numbers y)
       (better g to h (length_part g x range at inside.1)) (length_among a g to y r pj is among))
   range_edge r (Some x) (Some y) (abs.Len g) (abs.Len q) range h is pj jk number at inside part =
       let to = lengths_from_to x.low x.high in
       let from = lengths_from_to y.low y.high in
-      subst (λ at. is_within (with_lengths a g to) (with_lengths b at from) ≡ true) (region_is g q jk)
-      (lengths_within a b g to from (better g to h (length_part g x range at inside.1))
-      (range_from_part to from part.low part.high))
-  range_edge r (Some x) (Some y) (abs.Addr q l' m') (abs.Num l m) range h is pj jk number at inside part =
-      absurd (false≢true jk)
-  range_edge r (Some x) (Some y) (abs.Addr q l' m') (abs.Len g) range h is pj jk number at inside part =
-      absurd (false≢true jk)
+      rw (← region_is g q jk) (lengths_within a b g to from (better g to h (length_part g x range at inside.1))
+      (range_from_part _ _ part.low part.high))
+  range_edge r x y j k range h is pj jk number at inside part = cc
 
   -- a conditional jump propagates along each edge from the first what is within that from the second
   pub tested_within : (width : Width) (test : Test) (taken : Bool) (dst : ℕ) (source : Source) → is_within a b ≡ true →
@@ -148,9 +120,9 @@ module _ (a b : Abstract) (w : IsWithin a b) (pa : is_proper a ≡ true) (pb : i
       let j = kind_at a dst in
       let k = kind_at b dst in
       let jk = kind_within a b w pb dst in
-      let x = ranges_within a b w.lengths pa pb j k (kind_at_proper a dst pa) (kind_at_proper b dst pb) jk number in
+      let x = ranges_within a b w.lengths pa pb j k (kind_at_proper a _ pa) (kind_at_proper b dst pb) jk number in
       rw (x.inner_is, x.outer_is)
       (range_edge dst (narrowed_interval width test taken x.inner c) (narrowed_interval width test taken x.outer c) j k
-      x.inner h refl (kind_at_proper a dst pa) jk number x.inner_is
+      x.inner h refl (kind_at_proper a _ pa) jk number x.inner_is
       (narrowed_proper x.inner x.inner_range.order width test taken c)
       (narrowed_within x.inner x.outer x.part x.inner_range.order width test taken c))

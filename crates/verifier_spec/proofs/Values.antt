@@ -1,15 +1,12 @@
 -- Kinds against words: what a word is, of which a kind is known.
-use Rattle.std.proofs.Common.{◌≡◌, ℕ, ℤ, ◌≤ℤ◌, true, Some, refl, sym, ap, subst}
-use Rattle.std.proofs.lemmas.Bool.{false≢true}
-use Rattle.machine_spec.specs.declared.instruction.Region.{Region}
-use Rattle.machine_spec.specs.Values.{Value, Nothing, Number, Address}
-use Rattle.machine_spec.specs.Machine.{Input}
+use Rattle.std.proofs.Common.{◌≡◌, ℕ, ℤ, ◌≤ℤ◌, true, Some, refl, ap}
+use Rattle.machine_spec.specs.{declared.instruction.Region.Region, Machine.Input}
+use Rattle.machine_spec.specs.Values.{Value, Number, Address}
 use Rattle.verifier_spec.specs.declared.{interval.Interval.Interval, state.Abs.Abs, state.Abstract.Abstract}
 use Rattle.verifier_spec.specs.declared.state.Abs.TheVariants as abs
-use Rattle.verifier_spec.specs.Intervals.{from_to, IsIn}
-use Rattle.verifier_spec.specs.Ranges.{interval_of}
+use Rattle.verifier_spec.specs.{Intervals.from_to, Intervals.IsIn, Ranges.interval_of, StandsFor.HasKind}
+use Rattle.verifier_spec.specs.StandsFor.{HasLengths}
 use Rattle.verifier_spec.specs.Kinds.{length_range, range_of, is_number_kind, is_address_kind}
-use Rattle.verifier_spec.specs.StandsFor.{HasKind, HasLengths}
 
 -- a number in the range of its kind
 pub record IsNumber (a : Abstract) (kind : Abs) (word : Value) : Type 0 where
@@ -32,23 +29,15 @@ pub record IsAddress (kind : Abs) (word : Value) : Type 0 where
 
 pub at_number : (input : Input) (a : Abstract) (kind : Abs) (word : Value) → HasLengths input a →
     is_number_kind kind ≡ true → HasKind input kind word → IsNumber a kind word
-at_number input a abs.None word l k h = absurd (false≢true k)
 at_number input a (abs.Num lo hi) (Number n) l k h =
     record { n = n; range = from_to lo hi; is = refl; ranged = refl; has = record { low = h.0; high = h.1 } }
-at_number input a (abs.Num lo hi) Nothing l k h = absurd h
-at_number input a (abs.Num lo hi) (Address at offset) l k h = absurd h
 at_number input a (abs.Len r) (Number n) l k h =
     let range = interval_of (length_range a r) in
-    record { n = n; range = range; is = refl; ranged = refl; has = subst (λ m. IsIn m range) (sym h) (l r) }
-at_number input a (abs.Len r) Nothing l k h = absurd h
-at_number input a (abs.Len r) (Address at offset) l k h = absurd h
-at_number input a (abs.Addr r lo hi) word l k h = absurd (false≢true k)
+    record { n = n; range = range; is = refl; ranged = refl; has = rw h (l r) }
+at_number input a kind word l k h = first_of (cc, search h)
 
 pub at_address : (input : Input) (kind : Abs) (word : Value) → is_address_kind kind ≡ true → HasKind input kind word →
     IsAddress kind word
-at_address input abs.None word k h = absurd (false≢true k)
-at_address input (abs.Num lo hi) word k h = absurd (false≢true k)
-at_address input (abs.Len r) word k h = absurd (false≢true k)
 at_address input (abs.Addr r lo hi) (Address at offset) k h =
     record {
       at = at;
@@ -60,5 +49,4 @@ at_address input (abs.Addr r lo hi) (Address at offset) k h =
       low = h.1;
       high = h.2;
     }
-at_address input (abs.Addr r lo hi) Nothing k h = absurd h
-at_address input (abs.Addr r lo hi) (Number n) k h = absurd h
+at_address input kind word k h = first_of (cc, search h)

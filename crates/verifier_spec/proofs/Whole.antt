@@ -1,6 +1,6 @@
 -- Whole numbers: their order and its tests.
-use Rattle.std.proofs.Common.{◌≡◌, ℕ, zero, suc, ◌-◌, ◌≤◌, ℤ, pos, negsuc, ◌+ℤ◌, neg_ℤ, ◌≤ℤ◌, true, false, int_le}
-use Rattle.std.proofs.Common.{int_lt, unsigned_abs, arith}
+use Rattle.std.proofs.Common.{◌≡◌, ℕ, zero, suc, ◌-◌, ◌≤◌, ℤ, pos, negsuc, ◌+ℤ◌, neg_ℤ, ◌≤ℤ◌, true, int_le}
+use Rattle.std.proofs.Common.{unsigned_abs, arith}
 use Rattle.std.proofs.lemmas.Int.{ints}
 
 pub le_z-true : (a b : ℤ) → int_le a b ≡ true → a ≤ℤ b
@@ -17,9 +17,6 @@ shift_le a b by h = omega (arith, ints)
 
 pub le_trans_z : (a b c : ℤ) → a ≤ℤ b → b ≤ℤ c → a ≤ℤ c
 le_trans_z a b c h k = omega (arith, ints)
-
-pub not_below : (a b : ℤ) → b ≤ℤ a → int_lt a b ≡ false
-not_below a b h = grind (arith, ints)
 
 pub negative : (n : ℕ) → pos 0 ≤ℤ negsuc n → ⊥
 negative n h = omega (arith, ints)

@@ -3,10 +3,8 @@ use Rattle.std.proofs.Common.{◌≡◌, pos, refl}
 use Rattle.wire_spec.specs.declared.limits.TheConstants.{MAX_VALUE}
 use Rattle.machine_spec.specs.declared.instruction.Region.TheVariants as region
 use Rattle.verifier_spec.specs.declared.state.Abs.TheVariants as abs
-use Rattle.verifier_spec.specs.declared.state.Abstract.{Abstract}
-use Rattle.verifier_spec.specs.Ranges.{lengths_from_to}
-use Rattle.verifier_spec.specs.States.{entry_state}
-use Rattle.verifier_spec.specs.Joins.{joined_kind, joined_state}
+use Rattle.verifier_spec.specs.{declared.state.Abstract.Abstract, Ranges.lengths_from_to, States.entry_state}
+use Rattle.verifier_spec.specs.{Joins.joined_kind, Joins.joined_state}
 
 -- the value has five to nine bytes
 abbrev five_to_nine : Abstract

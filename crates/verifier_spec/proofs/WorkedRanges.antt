@@ -3,14 +3,13 @@
 use Rattle.std.proofs.Common.{◌≡◌, ℕ, ◌+◌, ◌-◌, ◌^◌, Bool, true, false, List, [], ◌∷◌, map, Option, Some, None, refl}
 use Rattle.std.specs.Int.Count.{count_leading_zeros}
 use Rattle.machine_spec.specs.declared.{operation.Width.Width, operation.Operation.Operation, operation.Change.Change}
-use Rattle.machine_spec.specs.declared.{operation.Test.Test}
+use Rattle.machine_spec.specs.declared.{operation.Test.Test, operation.ByteOrder.TheVariants.Swapped}
 use Rattle.machine_spec.specs.declared.operation.Width.TheVariants.{Bits32, Bits64}
 use Rattle.machine_spec.specs.declared.operation.Operation.TheVariants.{Add, Sub, Mul, Div, SignedDiv, Or, And}
 use Rattle.machine_spec.specs.declared.operation.Operation.TheVariants.{LeftShift, RightShift, Mod, SignedMod, Xor}
 use Rattle.machine_spec.specs.declared.operation.Operation.TheVariants.{ArithmeticRightShift}
 use Rattle.machine_spec.specs.declared.operation.SwappedWidth.TheVariants as swapped
 use Rattle.machine_spec.specs.declared.operation.ExtendedWidth.TheVariants as extended
-use Rattle.machine_spec.specs.declared.operation.ByteOrder.TheVariants.{Swapped}
 use Rattle.machine_spec.specs.declared.operation.Change.TheVariants.{Negate, Order, SignExtend}
 use Rattle.machine_spec.specs.declared.operation.Test.TheVariants.{Equal, NotEqual, Greater, GreaterOrEqual, Less}
 use Rattle.machine_spec.specs.declared.operation.Test.TheVariants.{LessOrEqual, AnyBit, SignedLess}

@@ -2,13 +2,11 @@
 use Rattle.std.specs.Prelude.{◌≡◌, ℕ, zero, suc, ◌+◌, Bool, true, false, ◌==◌, ◌&&◌, not, if◌then◌else◌, List, [], ◌∷◌}
 use Rattle.std.specs.Prelude.{◌++◌, length, slice_get, Option, Some, None}
 use Rattle.machine_spec.specs.declared.{helper.Helper.Helper, instruction.Placed.Placed}
-use Rattle.machine_spec.specs.Summaries.{summary_of}
-use Rattle.machine_spec.specs.Image.{target_of}
-use Rattle.machine_spec.specs.Traps.{first_of}
-use Rattle.verifier_spec.specs.declared.{state.Abstract.Abstract, fault.Check.Check, fault.VerifyFault.VerifyFault}
+use Rattle.machine_spec.specs.{Summaries.summary_of, Image.target_of, Traps.first_of}
+use Rattle.verifier_spec.specs.{declared.state.Abstract.Abstract, declared.fault.Check.Check}
+use Rattle.verifier_spec.specs.{declared.fault.VerifyFault.VerifyFault, Transfer.falls_to, Transfer.jumps_to}
 use Rattle.verifier_spec.specs.States.{is_within, is_proper, entry_state}
 use Rattle.verifier_spec.specs.Checks.{checks, failed_check, shape_checks, jump_of}
-use Rattle.verifier_spec.specs.Transfer.{falls_to, jumps_to}
 
 -- a state for each instruction, or none for one that is not reached
 abbrev pub Claims : Type 0

@@ -9,18 +9,15 @@ use Rattle.machine_spec.specs.declared.{instruction.Size.Size, instruction.Sourc
 use Rattle.machine_spec.specs.declared.{instruction.Instruction.Instruction, instruction.Placed.Placed}
 use Rattle.machine_spec.specs.declared.{summary.Operands.Operands, summary.Direction.Direction}
 use Rattle.machine_spec.specs.declared.{summary.MemoryOperand.MemoryOperand, summary.Condition.Condition}
-use Rattle.machine_spec.specs.declared.{summary.Summary.Summary}
-use Rattle.machine_spec.specs.declared.operation.Width.TheVariants.{Bits64}
+use Rattle.machine_spec.specs.declared.{summary.Summary.Summary, operation.Width.TheVariants.Bits64}
 use Rattle.machine_spec.specs.declared.instruction.Source.TheVariants.{Register, Immediate}
-use Rattle.machine_spec.specs.Summaries.{summary_of}
-use Rattle.machine_spec.specs.Image.{target_of}
-use Rattle.machine_spec.specs.Arithmetic.{signed}
+use Rattle.machine_spec.specs.{Summaries.summary_of, Image.target_of, Arithmetic.signed}
 use Rattle.machine_spec.specs.Values.{immediate, moves_address, is_subtraction, byte_count}
 use Rattle.machine_spec.specs.Traps.{writes_frame, calls_no_helper, helper_called, arguments_of, read_registers}
 use Rattle.machine_spec.specs.Traps.{is_read, is_stack, first_of}
-use Rattle.verifier_spec.specs.declared.{interval.Interval.Interval, state.Abs.Abs, state.StackSet.StackSet}
-use Rattle.verifier_spec.specs.declared.{state.Abstract.Abstract, fault.Check.Check}
-use Rattle.verifier_spec.specs.StackSets.{is_set}
+use Rattle.verifier_spec.specs.{declared.interval.Interval.Interval, declared.state.Abs.Abs}
+use Rattle.verifier_spec.specs.{declared.state.StackSet.StackSet, declared.state.Abstract.Abstract}
+use Rattle.verifier_spec.specs.{declared.fault.Check.Check, StackSets.is_set}
 use Rattle.verifier_spec.specs.Kinds.{kind_at, length_range, range_of, is_unknown, is_number_kind, is_address_kind}
 use Rattle.verifier_spec.specs.Kinds.{furthest, same_region}
 

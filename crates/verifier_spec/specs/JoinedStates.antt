@@ -1,14 +1,10 @@
 -- The joined states of a program: at each instruction the least state above all that the edges of reached instructions
 -- before it propagate.
 use Rattle.std.specs.Prelude.{ℕ, zero, suc, ◌+◌, ◌==◌, if◌then◌else◌, List, [], ◌∷◌, slice_get, Option, Some, None}
-use Rattle.machine_spec.specs.declared.{helper.Helper.Helper, instruction.Placed.Placed}
-use Rattle.machine_spec.specs.Image.{target_of}
+use Rattle.machine_spec.specs.{declared.helper.Helper.Helper, declared.instruction.Placed.Placed, Image.target_of}
 use Rattle.verifier_spec.specs.declared.{state.Abstract.Abstract, fault.Check.Check}
-use Rattle.verifier_spec.specs.States.{entry_state}
-use Rattle.verifier_spec.specs.Checks.{failed_check, jump_of}
-use Rattle.verifier_spec.specs.Transfer.{falls_to, jumps_to}
-use Rattle.verifier_spec.specs.Joins.{joined_state}
-use Rattle.verifier_spec.specs.Annotation.{Claims}
+use Rattle.verifier_spec.specs.{States.entry_state, Checks.failed_check, Checks.jump_of, Transfer.falls_to}
+use Rattle.verifier_spec.specs.{Transfer.jumps_to, Joins.joined_state, Annotation.Claims}
 
 -- the least claim above two; an unreached instruction has the least of all
 abbrev pub joined_claims : Option Abstract → Option Abstract → Option Abstract

@@ -2,10 +2,8 @@
 use Rattle.std.specs.Prelude.{◌≡◌, min, max, true, if◌then◌else◌, List, [], ◌∷◌, Option, Some}
 use Rattle.std.specs.Int.{int_min, int_max}
 use Rattle.verifier_spec.specs.declared.{interval.Interval.Interval, state.Abs.Abs, state.Abstract.Abstract}
-use Rattle.verifier_spec.specs.StackSets.{intersection}
-use Rattle.verifier_spec.specs.Ranges.{joined_range}
-use Rattle.verifier_spec.specs.Kinds.{range_of, same_region}
-use Rattle.verifier_spec.specs.States.{is_proper, is_within}
+use Rattle.verifier_spec.specs.{StackSets.intersection, Ranges.joined_range, Kinds.range_of, Kinds.same_region}
+use Rattle.verifier_spec.specs.{States.is_proper, States.is_within}
 
 -- the least interval that contains two; nothing is known where one of them is no number
 abbrev pub joined_numbers : Option Interval → Option Interval → Abs

@@ -1,12 +1,11 @@
 -- Abstract values of registers: their ranges and their order.
 use Rattle.std.specs.Prelude.{ℕ, ◌^◌, pos, neg_ℤ, Bool, true, false, ◌&&◌, not, nat_lt, nat_le, int_le, slice_index_or}
 use Rattle.std.specs.Prelude.{Option, Some, None}
-use Rattle.machine_spec.specs.declared.{limits.TheConstants.STACK_SIZE, instruction.Region.Region}
+use Rattle.machine_spec.specs.{declared.limits.TheConstants.STACK_SIZE, declared.instruction.Region.Region}
 use Rattle.machine_spec.specs.Traps.{is_stack}
 use Rattle.verifier_spec.specs.declared.{interval.Interval.Interval, state.Abs.Abs, state.Range.Range}
-use Rattle.verifier_spec.specs.declared.{state.Abstract.Abstract}
-use Rattle.verifier_spec.specs.Intervals.{from_to}
-use Rattle.verifier_spec.specs.Ranges.{lengths_from_to, interval_of}
+use Rattle.verifier_spec.specs.declared.state.Abstract.{Abstract}
+use Rattle.verifier_spec.specs.{Intervals.from_to, Ranges.lengths_from_to, Ranges.interval_of}
 
 -- what a state knows of a register; of one past r10, nothing
 abbrev pub kind_at : Abstract → ℕ → Abs

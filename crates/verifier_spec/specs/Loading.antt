@@ -2,10 +2,9 @@
 use Rattle.std.specs.Prelude.{◌≡◌, List, Option, Some, option_map, Result, Ok, Err}
 use Rattle.machine_spec.specs.declared.{helper.Helper.Helper, instruction.IsaFault.IsaFault, instruction.Placed.Placed}
 use Rattle.machine_spec.specs.Image.{Program, helpers_of, read_image}
-use Rattle.verifier_spec.specs.declared.fault.LoadFault.{LoadFault}
+use Rattle.verifier_spec.specs.{declared.fault.LoadFault.LoadFault, JoinedStates.joined_states}
 use Rattle.verifier_spec.specs.declared.fault.LoadFault.TheVariants.{Isa, Verify}
 use Rattle.verifier_spec.specs.Annotation.{Claims, IsAnnotation, fault_of}
-use Rattle.verifier_spec.specs.JoinedStates.{joined_states}
 
 -- A program is accepted: its image decodes to code that has an annotation, whatever list of abstract states that is.
 pub record IsAccepted (program : Program) : Type 0 where

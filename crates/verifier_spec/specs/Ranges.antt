@@ -1,7 +1,6 @@
 -- Ranges of lengths in bytes: when one is in its limit, their order and their join.
 use Rattle.std.specs.Prelude.{ℕ, min, max, Bool, ◌&&◌, nat_le}
-use Rattle.verifier_spec.specs.declared.{interval.Interval.Interval, state.Range.Range}
-use Rattle.verifier_spec.specs.Intervals.{from_to}
+use Rattle.verifier_spec.specs.{declared.interval.Interval.Interval, declared.state.Range.Range, Intervals.from_to}
 
 -- the lengths from one to another
 abbrev pub lengths_from_to : ℕ → ℕ → Range

@@ -2,17 +2,10 @@
 -- order of abstract states.
 use Rattle.std.specs.Prelude.{◌≡◌, Bool, true, false, ◌&&◌, List, Option, Some, None, is_some}
 use Rattle.machine_spec.specs.declared.{helper.Helper.Helper, instruction.Instruction.Instruction}
-use Rattle.machine_spec.specs.Summaries.{summary_of}
-use Rattle.machine_spec.specs.Image.{Program, form_at}
-use Rattle.machine_spec.specs.Machine.{Input, State}
-use Rattle.machine_spec.specs.Traps.{is_met}
-use Rattle.machine_spec.specs.Meaning.{Step}
-use Rattle.verifier_spec.specs.declared.state.Abstract.{Abstract}
-use Rattle.verifier_spec.specs.States.{is_proper}
-use Rattle.verifier_spec.specs.Checks.{failed_check}
-use Rattle.verifier_spec.specs.Transfer.{falls_to, jumps_to}
-use Rattle.verifier_spec.specs.Annotation.{is_edge_covered}
-use Rattle.verifier_spec.specs.StandsFor.{StandsFor}
+use Rattle.machine_spec.specs.{Summaries.summary_of, Image.Program, Image.form_at, Machine.Input, Machine.State}
+use Rattle.machine_spec.specs.{Traps.is_met, Meaning.Step}
+use Rattle.verifier_spec.specs.{declared.state.Abstract.Abstract, States.is_proper, Checks.failed_check}
+use Rattle.verifier_spec.specs.{Transfer.falls_to, Transfer.jumps_to, Annotation.is_edge_covered, StandsFor.StandsFor}
 
 -- a state takes the jump that an instruction is
 abbrev pub takes_jump : Instruction → State → Bool

@@ -1,10 +1,10 @@
 -- Abstract states: their ranges, their order, and the one that every run begins in.
 use Rattle.std.specs.Prelude.{ℕ, zero, suc, pos, Bool, true, ◌==◌, ◌&&◌, ◌||◌, not, [], ◌∷◌, length}
 use Rattle.std.specs.List.{list_all}
-use Rattle.wire_spec.specs.declared.{limits.TheConstants.MAX_KEY, limits.TheConstants.MAX_VALUE}
+use Rattle.wire_spec.specs.declared.limits.TheConstants.{MAX_KEY, MAX_VALUE}
 use Rattle.machine_spec.specs.declared.{limits.TheConstants.STACK_SIZE, instruction.Region.Region}
-use Rattle.verifier_spec.specs.declared.{state.Abs.Abs, state.Abstract.Abstract}
-use Rattle.verifier_spec.specs.StackSets.{is_set, no_places}
+use Rattle.verifier_spec.specs.{declared.state.Abs.Abs, declared.state.Abstract.Abstract, StackSets.is_set}
+use Rattle.verifier_spec.specs.StackSets.{no_places}
 use Rattle.verifier_spec.specs.Ranges.{lengths_from_to, is_proper_range, is_range_within}
 use Rattle.verifier_spec.specs.Kinds.{kind_at, is_proper_kind, is_kind_within}
 

@@ -7,22 +7,18 @@ use Rattle.machine_spec.specs.declared.{operation.Test.Test, instruction.Region.
 use Rattle.machine_spec.specs.declared.{instruction.Extension.Extension, instruction.Source.Source}
 use Rattle.machine_spec.specs.declared.{instruction.Instruction.Instruction, helper.Helper.Helper}
 use Rattle.machine_spec.specs.declared.{helper.Argument.Argument, summary.Condition.Condition}
+use Rattle.machine_spec.specs.declared.summary.Direction.TheVariants.{Write}
 use Rattle.machine_spec.specs.declared.operation.Width.TheVariants.{Bits32, Bits64}
 use Rattle.machine_spec.specs.declared.instruction.Extension.TheVariants.{Zero, Sign}
 use Rattle.machine_spec.specs.declared.instruction.Source.TheVariants.{Register, Immediate}
 use Rattle.machine_spec.specs.declared.instruction.Instruction.TheVariants.{Move, Compute, Load, Unary, Store, JumpIf}
 use Rattle.machine_spec.specs.declared.instruction.Instruction.TheVariants.{Jump, Wide, Call, Exit}
-use Rattle.machine_spec.specs.declared.summary.Direction.TheVariants.{Write}
-use Rattle.machine_spec.specs.Summaries.{summary_of}
-use Rattle.machine_spec.specs.Values.{immediate, byte_count}
-use Rattle.machine_spec.specs.Machine.{signature_of, helper_of}
-use Rattle.machine_spec.specs.Traps.{is_stack}
+use Rattle.machine_spec.specs.{Summaries.summary_of, Values.immediate, Values.byte_count, Machine.signature_of}
+use Rattle.machine_spec.specs.{Machine.helper_of, Traps.is_stack}
 use Rattle.verifier_spec.specs.declared.{interval.Interval.Interval, state.Abs.Abs, state.Range.Range}
 use Rattle.verifier_spec.specs.declared.{state.StackSet.StackSet, state.Abstract.Abstract}
 use Rattle.verifier_spec.specs.Intervals.{from_to, cut_to_width, result_range, changed_range, narrowed_interval}
-use Rattle.verifier_spec.specs.StackSets.{with_places}
-use Rattle.verifier_spec.specs.Ranges.{lengths_from_to}
-use Rattle.verifier_spec.specs.Kinds.{kind_at, range_of}
+use Rattle.verifier_spec.specs.{StackSets.with_places, Ranges.lengths_from_to, Kinds.kind_at, Kinds.range_of}
 use Rattle.verifier_spec.specs.Checks.{source_kind, least_displacement, greatest_displacement, Reach, reach_at}
 
 -- a register's kind changed

@@ -1,36 +1,29 @@
 -- The laws of batches: what is read is spelled so, what is spelled so is read, and no spelling begins
 -- another.
-use Rattle.std.proofs.Common.{◌≡◌, ℕ, zero, suc, ◌+◌, ◌-◌, ◌*◌, ◌^◌, ◌<◌, ◌≤◌, Bool, true, false, cond, ltb, eqb, ◌||◌}
-use Rattle.std.proofs.Common.{◌&&◌, not, List, [], ◌∷◌, ◌++◌, length, get_or, take, drop, Result, Ok, Err, refl, sym}
-use Rattle.std.proofs.Common.{ap, subst, ◌∙◌, append_assoc, drop-cons, inl, inr, arith}
-use Rattle.std.specs.Prelude.{ℤ, pos, negsuc, ◌≤ℤ◌, ◌<ℤ◌, fold, Option, Some, None, FitsSigned, int_lt, int_le}
+use Rattle.std.proofs.Common.{◌≡◌, ℕ, zero, suc, ◌+◌, ◌-◌, ◌^◌, ◌<◌, ◌≤◌, Bool, true, false, cond, ltb, eqb, ◌||◌, ◌&&◌}
+use Rattle.std.proofs.Common.{not, List, [], ◌∷◌, ◌++◌, length, get_or, take, drop, Result, Ok, Err, refl, sym, ap}
+use Rattle.std.proofs.Common.{subst, ◌∙◌, append_assoc, drop-cons, arith, ℤ, pos, negsuc, fold, Option, Some, None}
+use Rattle.std.proofs.Common.{FitsSigned, int_lt}
 use Rattle.std.specs.Int.{Width, w16, w32, w64, from_be_bytes, to_be_bytes, cast_signed, cast_unsigned, int_max}
-use Rattle.std.specs.List.{AllByRecursion, list_all}
-use Rattle.std.specs.Ordering.{int_eq}
-use Rattle.std.specs.Simd.Lanes.{Each1}
-use Rattle.std.proofs.lemmas.Bool.{cond_both, cases_lt, ltb-false, le-ltb, eqb-true, eq-eqb, ne_eqb}
-use Rattle.std.proofs.lemmas.Bool.Decides.{Decides-int_eq}
+use Rattle.std.specs.{List.AllByRecursion, List.list_all, Ordering.int_eq}
+use Rattle.std.proofs.lemmas.Bool.{cond_both, cases_lt, ltb-false, le-ltb, eqb-true, eq-eqb, ne_eqb, or_parts}
+use Rattle.std.proofs.{lemmas.Bool.Decides.Decides-int_eq, Math.Facts.sfits_to_z, lemmas.Simd.Each1-from_get_or}
 use Rattle.std.proofs.lemmas.Int.{ints, to_z_pos, to_z-of_z, of_z-to_z}
-use Rattle.std.proofs.Math.Facts.{sfits_to_z}
 use Rattle.std.proofs.lemmas.List.{append-nil, take-append-drop, drop-drop, length-append, length-take, length-drop}
-use Rattle.std.proofs.lemmas.List.{take_at, drop_at, get_or-take, get_or-drop}
+use Rattle.std.proofs.lemmas.List.{take_at, get_or-take, get_or-drop}
 use Rattle.std.proofs.lemmas.Nat.{be_bytes_2, be_bytes_4, be_bytes_8, from_be_bytes-to_be_bytes_2}
 use Rattle.std.proofs.lemmas.Nat.{from_be_bytes-to_be_bytes_4, from_be_bytes-to_be_bytes_8}
-use Rattle.std.proofs.lemmas.Simd.{Each1-from_get_or}
 use Rattle.wire_spec.specs.declared.{fault.BatchFault.BatchFault, record.Record.Record, record.Batch.Batch}
 use Rattle.wire_spec.specs.declared.fault.BatchFault.TheVariants as faults
-use Rattle.wire_spec.specs.Checksum.{checksum}
-use Rattle.wire_spec.specs.RecordSpelling.{RecordFits, record_spelling}
+use Rattle.wire_spec.specs.{Checksum.checksum, RecordSpelling.RecordFits, RecordSpelling.record_spelling}
 use Rattle.wire_spec.specs.RecordReading.{record_at}
-use Rattle.wire_spec.specs.BatchSpelling.{timestamps, greatest, IsTimestamp, signed}
+use Rattle.wire_spec.specs.BatchSpelling.{timestamps, greatest, IsTimestamp, signed, records_spelling}
+use Rattle.wire_spec.specs.BatchSpelling.{checksummed_bytes, batch_spelling, BatchFits}
 use Rattle.wire_spec.specs.declared.limits.TheConstants.{MAX_BATCH, MAX_RECORDS}
-use Rattle.wire_spec.specs.BatchSpelling.{records_spelling, checksummed_bytes, bytes_from_epoch, batch_spelling}
-use Rattle.wire_spec.specs.BatchSpelling.{BatchFits}
-use Rattle.wire_spec.specs.BatchReading.{◌>>=◌, number_at, signed_at, base_offset, batch_length, leader_epoch, magic}
-use Rattle.wire_spec.specs.BatchReading.{crc, attributes, last_offset_delta, base_timestamp, max_timestamp, producer_id}
-use Rattle.wire_spec.specs.BatchReading.{producer_epoch, base_sequence, record_count, with_front, batch_size}
-use Rattle.wire_spec.specs.BatchReading.{is_miscounted, is_timestamp, is_mistimed, record_or, records_at, count_at}
-use Rattle.wire_spec.specs.BatchReading.{timed_at, whole_at, size_at, batch_at}
+use Rattle.wire_spec.specs.BatchReading.{◌>>=◌, number_at, signed_at, base_offset, leader_epoch, magic, crc, attributes}
+use Rattle.wire_spec.specs.BatchReading.{last_offset_delta, base_timestamp, max_timestamp, producer_id, producer_epoch}
+use Rattle.wire_spec.specs.BatchReading.{base_sequence, record_count, is_miscounted, is_timestamp, is_mistimed}
+use Rattle.wire_spec.specs.BatchReading.{record_or, records_at, count_at, timed_at, whole_at, size_at, batch_at}
 use Rattle.wire_spec.proofs.Varints.{IsBytes, IsBytes-drop, IsBytes-take}
 use Rattle.wire_spec.proofs.Checksums.{checksum-lt}
 use Rattle.wire_spec.proofs.RecordLaws.{record_takes, record_again, one_record}
@@ -52,11 +45,7 @@ pub same_batch : (b c : Batch) → b.base_offset ≡ c.base_offset → b.leader_
     b.base_timestamp ≡ c.base_timestamp → b.producer_id ≡ c.producer_id → b.producer_epoch ≡ c.producer_epoch →
     b.base_sequence ≡ c.base_sequence → b.records ≡ c.records → b ≡ c
 unfolding of_fields
-same_batch b c e1 e2 e3 e4 e5 e6 e7 =
-    let same : of_fields b.base_offset b.leader_epoch b.base_timestamp b.producer_id b.producer_epoch b.base_sequence
-    b.records ≡ of_fields c.base_offset c.leader_epoch c.base_timestamp c.producer_id c.producer_epoch
-    c.base_sequence c.records = rw (e1, e2, e3, e4, e5, e6, e7) refl in
-    same
+same_batch b c e1 e2 e3 e4 e5 e6 e7 = grind (arith, of_fields)
 
 -- ---- Steps that may fail
 
@@ -77,10 +66,6 @@ done x = Ok x
 pub ok_is : {A : Type 0} (x y : A) → done x ≡ done y → x ≡ y
 ok_is x y e = cc
 
-from_or : (a b : Bool) → (a || b) ≡ false → (a ≡ false) × (b ≡ false)
-from_or true b e = absurd cc
-from_or false b e = (refl, e)
-
 from_and : (a b : Bool) → (a && b) ≡ true → (a ≡ true) × (b ≡ true)
 from_and true b e = (refl, e)
 from_and false b e = absurd cc
@@ -92,33 +77,13 @@ from_not false e = absurd cc
 -- ---- Numbers
 
 front_2 : (bytes : List ℕ) → from_be_bytes w16 (take 2 bytes) ≡ from_be_bytes w16 bytes
-front_2 bytes = omega (arith, get_or-take 2 bytes 0 0 (omega arith), get_or-take 2 bytes 1 0 (omega arith))
+front_2 bytes = grind (arith, get_or-take)
 
 front_4 : (bytes : List ℕ) → from_be_bytes w32 (take 4 bytes) ≡ from_be_bytes w32 bytes
-front_4 bytes = omega (
-  arith,
-  get_or-take 4 bytes 0 0 (omega arith),
-  get_or-take 4 bytes 1 0 (omega arith),
-  get_or-take
-      4 bytes 2 0 (omega arith),
-  get_or-take 4 bytes 3 0 (omega arith),
-)
+front_4 bytes = grind (arith, get_or-take)
 
 front_8 : (bytes : List ℕ) → from_be_bytes w64 (take 8 bytes) ≡ from_be_bytes w64 bytes
-front_8 bytes =
-    omega (
-      arith,
-      get_or-take 8 bytes 0 0 (omega arith),
-      get_or-take 8 bytes 1 0 (omega arith),
-      get_or-take 8 bytes 2 0
-          (omega arith),
-      get_or-take 8 bytes 3 0 (omega arith),
-      get_or-take 8 bytes 4 0 (omega arith),
-      get_or-take 8
-          bytes 5 0 (omega arith),
-      get_or-take 8 bytes 6 0 (omega arith),
-      get_or-take 8 bytes 7 0 (omega arith),
-    )
+front_8 bytes = grind (arith, get_or-take)
 
 unsigned_16 : (z : ℤ) → FitsSigned w16 z → cast_unsigned w16 z < 2 ^ 16
 unsigned_16 (pos n) h = omega (arith, h.sfits)
@@ -143,37 +108,13 @@ pub record IsWide (w : Width) (len limit : ℕ) : Type 0 where
   pub unsigned : (z : ℤ) → FitsSigned w z → cast_unsigned w z < limit
 
 wide16 : IsWide w16 2 (2 ^ 16)
-wide16 = record {
-  front = front_2;
-  back = λ bytes len fits. be_bytes_2 bytes _ len fits refl;
-  again = λ n lt. from_be_bytes-to_be_bytes_2 n lt;
-  below = λ bytes fits. omega (arith, fits 0, fits 1);
-  cast = λ n lt. of_z-to_z w16 n lt;
-  signed = λ n lt. sfits_to_z {w = w16} {n = n} (record { fits = lt });
-  unsigned = λ z f. unsigned_16 z f;
-}
+wide16 = grind (arith, front_2, be_bytes_2, from_be_bytes-to_be_bytes_2, of_z-to_z, sfits_to_z, unsigned_16)
 
 wide32 : IsWide w32 4 (2 ^ 32)
-wide32 = record {
-  front = front_4;
-  back = λ bytes len fits. be_bytes_4 bytes _ len fits refl;
-  again = λ n lt. from_be_bytes-to_be_bytes_4 n lt;
-  below = λ bytes fits. omega (arith, fits 0, fits 1, fits 2, fits 3);
-  cast = λ n lt. of_z-to_z w32 n lt;
-  signed = λ n lt. sfits_to_z {w = w32} {n = n} (record { fits = lt });
-  unsigned = λ z f. unsigned_32 z f;
-}
+wide32 = grind (arith, front_4, be_bytes_4, from_be_bytes-to_be_bytes_4, of_z-to_z, sfits_to_z, unsigned_32)
 
 wide64 : IsWide w64 8 (2 ^ 64)
-wide64 = record {
-  front = front_8;
-  back = λ bytes len fits. be_bytes_8 bytes _ len fits refl;
-  again = λ n lt. from_be_bytes-to_be_bytes_8 n lt;
-  below = λ bytes fits. omega (arith, fits 0, fits 1, fits 2, fits 3, fits 4, fits 5, fits 6, fits 7);
-  cast = λ n lt. of_z-to_z w64 n lt;
-  signed = λ n lt. sfits_to_z {w = w64} {n = n} (record { fits = lt });
-  unsigned = λ z f. unsigned_64 z f;
-}
+wide64 = grind (arith, front_8, be_bytes_8, from_be_bytes-to_be_bytes_8, of_z-to_z, sfits_to_z, unsigned_64)
 
 -- a field is the bytes at its place, and the next field follows it
 number_field : (w : Width) (len limit : ℕ) → IsWide w len limit → (at next : ℕ) (bytes : List ℕ) → IsBytes bytes →
@@ -200,8 +141,7 @@ signed_field w len limit wide at next bytes fits e le =
 
 signed_fits : (w : Width) (len limit : ℕ) → IsWide w len limit → (at : ℕ) (bytes : List ℕ) → IsBytes bytes →
     FitsSigned w (signed_at w at bytes)
-signed_fits w len limit wide at bytes fits =
-    wide.signed (number_at w at bytes) (wide.below (drop at bytes) (IsBytes-drop at bytes fits))
+signed_fits w len limit wide at bytes fits = grind arith
 
 -- ---- The bytes of a header that was read
 
@@ -264,12 +204,11 @@ records_take (suc n) place bytes rs fits e =
     let b = bind_ok (records_at n (suc place) a.0.1) (λ others. Ok (a.0.0 ∷ others)) rs a.2 in
     let first = record_takes (pos place) bytes a.0 fits (is_some place (record_at (pos place) bytes) a.0 a.1) in
     let second = records_take n (suc place) a.0.1 b.0 first.0.rest_fits b.1 in
-    let whole : bytes ≡ records_spelling place (a.0.0 ∷ b.0) = first.0.parts
-    ∙ ap (λ (r : List ℕ). record_spelling (pos place) a.0.0 ++ r) second.0 in
+    let whole : bytes ≡ records_spelling place (a.0.0 ∷ b.0) = grind arith in
     subst (λ (v : List Record). (bytes ≡ records_spelling place v) × (length v ≡ suc n) × AllByRecursion RecordFits v)
     (ok_is (a.0.0 ∷ b.0) rs b.2) (whole, ap suc second.1, (first.1, second.2))
 
-records_again : (place : ℕ) (rs : List Record) → place + length rs < 2 ^ 31 → AllByRecursion RecordFits rs →
+pub records_again : (place : ℕ) (rs : List Record) → place + length rs < 2 ^ 31 → AllByRecursion RecordFits rs →
     records_at (length rs) place (records_spelling place rs) ≡ Ok rs
 unfolding records_at
 records_again place [] small fits = refl
@@ -303,9 +242,7 @@ pub is_timestamp-from : (t : ℤ) → IsTimestamp t → is_timestamp t ≡ true
 is_timestamp-from t h = grind (arith, ints, h.0, h.1)
 
 pub IsTimestamp-from : (t : ℤ) → is_timestamp t ≡ true → IsTimestamp t
-IsTimestamp-from t h =
-    let b = from_and (int_le (pos 0) t) (int_lt t (pos (2 ^ 62))) h in
-    (grind (arith, ints, b.0), grind (arith, ints, b.1))
+IsTimestamp-from t h = grind (arith, from_and, ints)
 
 pub list_all-from : (ts : List ℤ) → AllByRecursion IsTimestamp ts → list_all is_timestamp ts ≡ true
 list_all-from [] h = refl
@@ -342,15 +279,14 @@ count_taken bytes n e =
     let c = guard_ok (not (eqb (crc bytes) (checksum (drop 21 bytes)))) faults.Crc _ n m.1 in
     let a = guard_ok (not (eqb (attributes bytes) 0)) faults.Attributes _ n c.1 in
     let k = guard_ok (is_miscounted bytes) faults.Count (done (record_count bytes)) n a.1 in
-    let none = from_or (eqb (record_count bytes) 0) (ltb MAX_RECORDS (record_count bytes) || not
+    let none = or_parts (eqb (record_count bytes) 0) (ltb MAX_RECORDS (record_count bytes) || not
     (eqb (last_offset_delta bytes + 1) (record_count bytes))) k.0 in
-    let many = from_or (ltb MAX_RECORDS (record_count bytes))
+    let many = or_parts (ltb MAX_RECORDS (record_count bytes))
     (not (eqb (last_offset_delta bytes + 1) (record_count bytes))) none.1 in
     let same : record_count bytes ≡ n = ok_is (record_count bytes) n k.1 in
     let least : 0 < record_count bytes = not_zero (record_count bytes) none.0 in
     let most : record_count bytes ≤ MAX_RECORDS = ltb-false MAX_RECORDS (record_count bytes) many.0 in
-    let last : last_offset_delta bytes + 1 ≡ record_count bytes =
-    eqb-true (last_offset_delta bytes + 1) (record_count bytes) (from_not _ many.1) in
+    let last : last_offset_delta bytes + 1 ≡ record_count bytes = grind (arith, eqb-true, from_not) in
     record {
       magic = eqb-true (magic bytes) 2 (from_not _ m.0);
       crc = eqb-true (crc bytes) (checksum (drop 21 bytes)) (from_not _ c.0);
@@ -367,15 +303,7 @@ counted_ok n last some few e = rw (not_none n some, le-ltb MAX_RECORDS n few, eq
 
 count_again : (bytes : List ℕ) (n : ℕ) → Counted bytes n → count_at bytes ≡ Ok n
 unfolding count_at
-count_again bytes n h =
-    let few : is_miscounted bytes ≡ false = rw h.count (counted_ok n (last_offset_delta bytes) h.some h.few h.last) in
-    rw (
-      eq-eqb (magic bytes) 2 h.magic,
-      eq-eqb (crc bytes) (checksum (drop 21 bytes)) h.crc,
-      eq-eqb (attributes bytes) 0
-          h.attributes,
-      few,
-    ) (ap done h.count)
+count_again bytes n h = grind (arith, counted_ok, eq-eqb)
 
 pub record Sized (bytes : List ℕ) (n : ℕ) : Type 0 where
   pub size : number_at w32 8 bytes + 12 ≡ n
@@ -387,50 +315,19 @@ more_by_12 : (m : ℕ) → 49 ≤ m → 61 ≤ m + 12
 more_by_12 m h = omega arith
 
 negative : (m : ℕ) → ltb m (2 ^ 31) ≡ false → int_lt (cast_signed w32 m) (pos 49) ≡ false → ⊥
-negative m high h =
-    let yes : int_lt (cast_signed w32 m) (pos 49) ≡ true = rw high refl in
-    let no : true ≡ false = sym yes ∙ h in
-    absurd cc
+negative m high h = grind arith
 
 long_enough : (m : ℕ) → int_lt (cast_signed w32 m) (pos 49) ≡ false → (cast_signed w32 m ≡ pos m) × (49 ≤ m)
-long_enough m h =
-    elim (cases_lt m (2 ^ 31)) [
-      | inl lt ↦ let e : cast_signed w32 m ≡ pos m = to_z_pos w32 m lt in (e, ltb-false m 49 (rw e at h))
-      | inr le ↦ absurd (negative m (le-ltb m (2 ^ 31) le) h)
-    ]
+long_enough m h = grind (arith, cases_lt, to_z_pos, ltb-false, negative, le-ltb)
 
 pub size_taken : (bytes : List ℕ) (n : ℕ) → size_at bytes ≡ Ok n → Sized bytes n
 unfolding size_at
-size_taken bytes n e =
-    let a = guard_ok (ltb (length bytes) 12) faults.Short _ n e in
-    let b = guard_ok (int_lt (batch_length bytes) (pos 49)) faults.Length _ n a.1 in
-    let c = guard_ok (ltb MAX_BATCH (batch_size bytes)) faults.TooLarge _ n b.1 in
-    let d = guard_ok (ltb (length bytes) (batch_size bytes)) faults.Short (done (batch_size bytes)) n c.1 in
-    let long = long_enough (number_at w32 8 bytes) b.0 in
-    let size : batch_size bytes ≡ number_at w32 8 bytes + 12 = ap with_front long.0 in
-    let same : batch_size bytes ≡ n = ok_is (batch_size bytes) n d.1 in
-    let most : batch_size bytes ≤ MAX_BATCH = ltb-false MAX_BATCH (batch_size bytes) c.0 in
-    let there : batch_size bytes ≤ length bytes = ltb-false (length bytes) (batch_size bytes) d.0 in
-    let whole : number_at w32 8 bytes + 12 ≡ n = sym size ∙ same in
-    let least : 49 ≤ number_at w32 8 bytes = long.1 in
-    record {
-      size = whole;
-      least = subst (λ (k : ℕ). 61 ≤ k) whole (more_by_12 (number_at w32 8 bytes) least);
-      most = subst (λ (k : ℕ). k ≤ MAX_BATCH) same most;
-      there = subst (λ (k : ℕ). k ≤ length bytes) same there;
-    }
+size_taken bytes n e = grind (arith, guard_ok, long_enough, ok_is, ltb-false, more_by_12)
 
 sized_by : (bytes : List ℕ) (n m : ℕ) → number_at w32 8 bytes ≡ m → m + 12 ≡ n → 61 ≤ n → n ≤ MAX_BATCH →
     n ≤ length bytes → size_at bytes ≡ Ok n
 unfolding size_at
-sized_by bytes n m number size least most there =
-    let low : m < 2 ^ 31 = omega arith in
-    let len : batch_length bytes ≡ pos m = ap (cast_signed w32) number ∙ to_z_pos w32 m low in
-    let front : ltb (length bytes) 12 ≡ false = le-ltb (length bytes) 12 (omega arith) in
-    let enough : ltb m 49 ≡ false = le-ltb m 49 (omega arith) in
-    let small : ltb MAX_BATCH n ≡ false = le-ltb MAX_BATCH n most in
-    let whole : ltb (length bytes) n ≡ false = le-ltb (length bytes) n there in
-    rw (front, len, enough, size, small, whole) refl
+sized_by bytes n m number size least most there = grind (arith, to_z_pos, le-ltb)
 
 size_again : (bytes : List ℕ) (n : ℕ) → Sized bytes n → size_at bytes ≡ Ok n
 size_again bytes n h = sized_by bytes n (number_at w32 8 bytes) refl h.size h.least h.most h.there
@@ -528,9 +425,9 @@ unfolding timed_at made_of
 timed_taken bytes rs b e =
     let ts = timestamps (base_timestamp bytes) rs in
     let t = guard_ok (is_mistimed bytes rs) faults.Timestamp (done (made_of bytes rs)) b e in
-    let base = from_or (not (is_timestamp (base_timestamp bytes)))
+    let base = or_parts (not (is_timestamp (base_timestamp bytes)))
     (not (list_all is_timestamp ts) || not (int_eq (max_timestamp bytes) (greatest ts))) t.0 in
-    let each = from_or (not (list_all is_timestamp ts)) (not (int_eq (max_timestamp bytes) (greatest ts))) base.1 in
+    let each = or_parts (not (list_all is_timestamp ts)) (not (int_eq (max_timestamp bytes) (greatest ts))) base.1 in
     let top : int_eq (max_timestamp bytes) (greatest ts) ≡ true =
     from_not (int_eq (max_timestamp bytes) (greatest ts)) each.1 in (
       record {
@@ -592,8 +489,7 @@ batch_takes bytes x fits e =
     let sized = size_taken bytes a.0 a.1 in
     let alone = take a.0 bytes in
     let len : length alone ≡ a.0 = omega (arith, length-take a.0 bytes, sized.there) in
-    let size : number_at w32 8 alone + 12 ≡ length alone =
-    omega (arith, length_alone a.0 bytes (omega (arith, sized.least)), sized.size) in
+    let size : number_at w32 8 alone + 12 ≡ length alone = grind (arith, length_alone) in
     let whole = whole_takes alone w.0 (IsBytes-take a.0 bytes fits) (omega (arith, sized.least))
     (omega (arith, sized.most)) size w.1 in
     subst (λ (y : Batch × ℕ). BatchFits y.0 × (y.1 ≤ length bytes) × (take y.1 bytes ≡ batch_spelling y.0))
@@ -651,24 +547,18 @@ records_length b = omega arith
 has_fields : (b : Batch) (rest : List ℕ) → BatchFits b → HasFields b (batch_spelling b ++ rest)
 unfolding batch_spelling
 has_fields b rest fits =
-    let zero_is : IsTimestamp (pos 0) = (omega (arith, ints), omega (arith, ints)) in
-    let top = timestamp_fits (greatest (timestamps b.base_timestamp b.records))
-    (max_timestamp_is (timestamps b.base_timestamp b.records) (pos 0) zero_is fits.each_timestamp) in
-    let whole = length-covered b in
-    record {
-      base_offset = back_64 b.base_offset fits.base_offset;
-      size = from_be_bytes-to_be_bytes_4 (9 + length (checksummed_bytes b)) (omega (arith, fits.few_bytes));
-      leader_epoch = back_32 b.leader_epoch fits.leader_epoch;
-      magic = refl;
-      attributes = from_be_bytes-to_be_bytes_2 0 (omega arith);
-      last = from_be_bytes-to_be_bytes_4 (length b.records - 1) (omega (arith, fits.few_records));
-      base_timestamp = back_64 b.base_timestamp (timestamp_fits b.base_timestamp fits.base_timestamp);
-      max_timestamp = back_64 (greatest (timestamps b.base_timestamp b.records)) top;
-      producer_id = back_64 b.producer_id fits.producer_id;
-      producer_epoch = back_16 b.producer_epoch fits.producer_epoch;
-      base_sequence = back_32 b.base_sequence fits.base_sequence;
-      count = from_be_bytes-to_be_bytes_4 (length b.records) (omega (arith, fits.few_records));
-    }
+    grind (
+      arith,
+      ints,
+      timestamp_fits,
+      max_timestamp_is,
+      length-covered,
+      back_64,
+      from_be_bytes-to_be_bytes_4,
+      back_32,
+      from_be_bytes-to_be_bytes_2,
+      back_16,
+    )
 
 crc_there : (b : Batch) (rest : List ℕ) → IsBytes (checksummed_bytes b) →
     crc (batch_spelling b ++ rest) ≡ checksum (checksummed_bytes b)
@@ -694,28 +584,7 @@ whole_by bytes n rs b e1 e2 e3 = rw (e1, e2, e3) refl
 
 timed_again : (b : Batch) (bytes : List ℕ) → BatchFits b → HasFields b bytes → timed_at bytes b.records ≡ Ok b
 unfolding timed_at
-timed_again b bytes fits s =
-    let ts = timestamps b.base_timestamp b.records in
-    let base : is_timestamp (base_timestamp bytes) ≡ true = ap is_timestamp s.base_timestamp
-    ∙ is_timestamp-from b.base_timestamp fits.base_timestamp in
-    let each : list_all is_timestamp (timestamps (base_timestamp bytes) b.records) ≡ true =
-    ap (λ (t : ℤ). list_all is_timestamp (timestamps t b.records)) s.base_timestamp
-    ∙ list_all-from ts fits.each_timestamp in
-    let same : max_timestamp bytes ≡ greatest (timestamps (base_timestamp bytes) b.records) = s.max_timestamp
-    ∙ ap (λ (t : ℤ). greatest (timestamps t b.records)) (sym s.base_timestamp) in
-    let top : int_eq (max_timestamp bytes) (greatest (timestamps (base_timestamp bytes) b.records)) ≡ true =
-    (Decides-int_eq (max_timestamp bytes) (greatest (timestamps (base_timestamp bytes) b.records))).1 same in
-    let made : Batch = record {
-      base_offset = base_offset bytes;
-      leader_epoch = leader_epoch bytes;
-      base_timestamp = base_timestamp bytes;
-      producer_id = producer_id bytes;
-      producer_epoch = producer_epoch bytes;
-      base_sequence = base_sequence bytes;
-      records = b.records;
-    } in
-    rw (base, each, top) (ap done (same_batch made b s.base_offset s.leader_epoch s.base_timestamp s.producer_id
-    s.producer_epoch s.base_sequence refl))
+timed_again b bytes fits s = grind (arith, is_timestamp-from, list_all-from, same_batch)
 
 whole_again : (b : Batch) → BatchFits b → IsBytes (batch_spelling b) → whole_at (batch_spelling b) ≡ Ok b
 whole_again b fits bytes =
@@ -728,20 +597,9 @@ whole_again b fits bytes =
     let sum : crc text ≡ checksum (drop 21 text) =
     alone_is b (λ (t : List ℕ). crc t ≡ checksum (checksummed_bytes b)) (crc_there b [] inner_bytes)
     ∙ ap checksum (sym inner) in
-    let behind : drop 61 text ≡ records_spelling 0 b.records =
-    alone_is b (λ (t : List ℕ). drop 61 t ≡ records_spelling 0 b.records)
-    (records_there b [] ∙ append-nil (records_spelling 0 b.records)) in
+    let behind : drop 61 text ≡ records_spelling 0 b.records = grind (arith, alone_is, records_there, append-nil) in
     let last : last_offset_delta text + 1 ≡ length b.records = omega (arith, s.last, fits.some_records) in
-    let counted : Counted text (length b.records) =
-    record {
-      magic = s.magic;
-      crc = sum;
-      attributes = s.attributes;
-      some = fits.some_records;
-      few = fits.few_records;
-      last = last;
-      count = s.count;
-    } in
+    let counted : Counted text (length b.records) = grind arith in
     let small : 0 + length b.records < 2 ^ 31 = omega (arith, fits.few_records) in
     whole_by text (length b.records) b.records b (count_again text (length b.records) counted)
     (ap (records_at (length b.records) 0) behind ∙ records_again 0 b.records small fits.records)
@@ -763,12 +621,7 @@ batch_again b rest fits bytes =
     let inner = records_length b in
     let alone : take n all ≡ text = take_at text rest n refl in
     let text_bytes : IsBytes text = subst IsBytes alone (IsBytes-take n all bytes) in
-    let sized : Sized all n = record {
-      size = omega (arith, s.size, whole);
-      least = omega (arith, whole, inner);
-      most = fits.few_bytes;
-      there = omega (arith, length-append text rest);
-    } in
+    let sized : Sized all n = grind (arith, length-append) in
     batch_by all n b (size_again all n sized) (ap whole_at alone ∙ whole_again b fits text_bytes)
 
 -- no spelling of a batch begins another

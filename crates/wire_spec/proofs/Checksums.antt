@@ -2,8 +2,7 @@
 use Rattle.std.proofs.Common.{◌≡◌, ℕ, zero, suc, ◌+◌, ◌*◌, ◌/◌, ◌%◌, ◌^◌, ◌<◌, ◌≤◌, List, [], ◌∷◌, length, arith, lit<}
 use Rattle.std.specs.Simd.Lanes.{Each1, number_l}
 use Rattle.std.proofs.lemmas.Nat.{xor_lt, shr_below, pow-add}
-use Rattle.std.proofs.Math.Pow.{pow_mono}
-use Rattle.std.proofs.Math.Nat.{lt_of_lt_of_le}
+use Rattle.std.proofs.{Math.Pow.pow_mono, Math.Nat.lt_of_lt_of_le}
 use Rattle.wire_spec.specs.Checksum.{generator, without_highest, remainder, checksum}
 
 without_highest-lt : (k p : ℕ) → 32 ≤ k → p < 2 ^ (k + 1) → without_highest p < 2 ^ k

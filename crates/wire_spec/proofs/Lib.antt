@@ -3,3 +3,4 @@ pub mod Checksums
 pub mod MoreBytes
 pub mod RecordLaws
 pub mod Varints
+pub mod Beginnings

@@ -1,19 +1,16 @@
 -- What bytes begin with, whatever follows them.
-use Rattle.std.proofs.Common.{◌≡◌, ℕ, zero, suc, ◌<◌, ◌≤◌, ◌==◌, Bool, true, false, cond, ltb, not, List, [], ◌∷◌, ◌++◌}
-use Rattle.std.proofs.Common.{length, take, drop, Result, Ok, Err, refl, sym, ap, ◌∙◌, inl, inr, arith}
-use Rattle.std.specs.Prelude.{ℤ, pos, Option, Some, None, int_lt}
+use Rattle.std.proofs.Common.{◌≡◌, ℕ, zero, suc, ◌<◌, ◌≤◌, Bool, true, false, cond, ltb, List, [], ◌∷◌, ◌++◌, length}
+use Rattle.std.proofs.Common.{take, Result, Ok, Err, refl, sym, ap, ◌∙◌, arith, ℤ, pos, Option, Some, None, int_lt}
 use Rattle.std.specs.Int.{w32, cast_signed}
 use Rattle.std.proofs.lemmas.Bool.{cases_lt, ltb-false, le-ltb, lt-ltb}
 use Rattle.std.proofs.lemmas.List.{length-append, take_at, take-append-le}
-use Rattle.wire_spec.specs.declared.{fault.BatchFault.BatchFault, record.Batch.Batch, record.Record.Record}
-use Rattle.wire_spec.specs.declared.fault.BatchFault.TheVariants as faults
-use Rattle.wire_spec.specs.Checksum.{checksum}
+use Rattle.wire_spec.specs.{declared.fault.BatchFault.BatchFault, declared.record.Batch.Batch}
+use Rattle.wire_spec.specs.{declared.record.Record.Record, declared.limits.TheConstants.MAX_BATCH}
 use Rattle.wire_spec.specs.RecordReading.{record_at}
-use Rattle.wire_spec.specs.declared.limits.TheConstants.{MAX_BATCH}
-use Rattle.wire_spec.specs.BatchReading.{◌>>=◌, number_at, batch_length, magic, crc, attributes, with_front, batch_size}
-use Rattle.wire_spec.specs.BatchReading.{is_miscounted, is_mistimed, record_or, records_at, count_at, timed_at}
-use Rattle.wire_spec.specs.BatchReading.{whole_at, size_at, IsPart, batch_at}
-use Rattle.wire_spec.proofs.BatchLaws.{Sized, size_taken, length_alone}
+use Rattle.wire_spec.specs.declared.fault.BatchFault.TheVariants as faults
+use Rattle.wire_spec.specs.BatchReading.{◌>>=◌, number_at, batch_length, with_front, batch_size, is_mistimed, record_or}
+use Rattle.wire_spec.specs.BatchReading.{records_at, count_at, timed_at, whole_at, size_at, IsPart, batch_at}
+use Rattle.wire_spec.proofs.BatchLaws.{size_taken, length_alone}
 
 -- ---- How many bytes a batch takes
 
@@ -58,11 +55,7 @@ size_of_long bytes more long whole =
 
 -- a size, or the refusal of a length, is that of the bytes with more behind them too
 pub size_at-append : (bytes more : List ℕ) → (IsPart bytes → ⊥) → size_at (bytes ++ more) ≡ size_at bytes
-size_at-append bytes more whole =
-    elim (cases_lt (length bytes) 12) [
-      | inl few ↦ absurd (whole (short_is_part bytes few))
-      | inr long ↦ size_of_long bytes more long whole
-    ]
+size_at-append bytes more whole = grind (arith, cases_lt, short_is_part, size_of_long)
 
 -- ---- Which batch it is
 
@@ -86,9 +79,7 @@ same_whole bytes more (Ok n) within =
 -- bytes that are no part of a batch begin with the same batch, or none for the same reason, whatever follows them
 pub batch_at-append : (bytes more : List ℕ) → (IsPart bytes → ⊥) → batch_at (bytes ++ more) ≡ batch_at bytes
 unfolding batch_at whole_of
-batch_at-append bytes more whole =
-    ap (λ (size : Result ℕ BatchFault). size >>= whole_of (bytes ++ more)) (size_at-append bytes more whole)
-    ∙ same_whole bytes more (size_at bytes) (size_within bytes)
+batch_at-append bytes more whole = grind (arith, whole_of, size_at-append, same_whole, size_within)
 
 -- ---- Only the length may be short
 
@@ -107,11 +98,7 @@ not_short-bind (Err fault) f h k = λ e. let same : fault ≡ faults.Short = cc 
 
 not_short-count : (bytes : List ℕ) → NotShort (count_at bytes)
 unfolding count_at
-not_short-count bytes =
-    not_short-cond (not (magic bytes == 2)) _ _ (λ e. absurd cc) (
-    not_short-cond (not (crc bytes == checksum (drop 21 bytes))) _ _ (λ e. absurd cc) (
-    not_short-cond (not (attributes bytes == 0)) _ _ (λ e. absurd cc) (
-    not_short-cond (is_miscounted bytes) _ _ (λ e. absurd cc) (λ e. absurd cc))))
+not_short-count bytes = grind (arith, not_short-cond)
 
 not_short-record : (place : ℕ) (read : Option (Record × List ℕ)) → NotShort (record_or place read)
 not_short-record place None = λ e. absurd cc
@@ -133,14 +120,9 @@ not_short-timed bytes records = not_short-cond (is_mistimed bytes records) _ _ (
 
 not_short-whole : (bytes : List ℕ) → NotShort (whole_at bytes)
 unfolding whole_at
-not_short-whole bytes =
-    not_short-bind (count_at bytes) _ (not_short-count bytes)
-    (λ count. not_short-bind (records_at count 0 (drop 61 bytes)) _ (not_short-records count 0 (drop 61 bytes))
-    (λ records. not_short-timed bytes records))
+not_short-whole bytes = grind (arith, not_short-bind, not_short-count, not_short-records, not_short-timed)
 
 -- bytes that are no part of a batch are not refused as short
 pub batch_at-not_short : (bytes : List ℕ) → (IsPart bytes → ⊥) → NotShort (batch_at bytes)
 unfolding batch_at
-batch_at-not_short bytes whole =
-    not_short-bind (size_at bytes) _ whole (λ size. not_short-bind (whole_at (take size bytes)) _
-    (not_short-whole (take size bytes)) (λ b. λ e. absurd cc))
+batch_at-not_short bytes whole = grind (arith, not_short-bind, not_short-whole)

@@ -1,16 +1,12 @@
 -- The laws of records: what is read is spelled so, and what is spelled so is read.
 use Rattle.std.proofs.Common.{◌≡◌, ℕ, zero, suc, ◌+◌, ◌-◌, ◌*◌, ◌^◌, ◌<◌, ◌≤◌, Bool, true, false, cond, ltb, ◌||◌, List}
-use Rattle.std.proofs.Common.{[], ◌∷◌, ◌++◌, length, take, drop, refl, sym, ap, subst, ◌∙◌, append_assoc, arith}
-use Rattle.std.specs.Prelude.{ℤ, pos, negsuc, Option, Some, None, Result, Ok, Err, IfSome, IsUtf8, FitsSigned}
-use Rattle.std.specs.Int.{w32, w64}
-use Rattle.std.specs.List.{flat_map, AllByRecursion}
-use Rattle.std.specs.Ordering.{int_eq}
-use Rattle.std.specs.Str.{is_utf8}
-use Rattle.std.proofs.lemmas.Bool.{ltb-false, le-ltb}
-use Rattle.std.proofs.lemmas.Bool.Decides.{Decides-int_eq}
-use Rattle.std.proofs.lemmas.List.{take-append-drop, length-append, length-take, length-drop, take_at, drop_at}
-use Rattle.std.proofs.lemmas.List.Concat.{flat_map-cons}
-use Rattle.std.proofs.lemmas.Str.{is_utf8-from_IsUtf8, IsUtf8-from_is_utf8}
+use Rattle.std.proofs.Common.{[], ◌∷◌, ◌++◌, length, take, drop, refl, sym, ap, subst, ◌∙◌, append_assoc, arith, ℤ, pos}
+use Rattle.std.proofs.Common.{negsuc, Option, Some, None, Result, Ok, Err, IfSome, FitsSigned}
+use Rattle.std.specs.{Int.w32, Int.w64, List.flat_map, List.AllByRecursion, Ordering.int_eq, Str.is_utf8}
+use Rattle.std.proofs.lemmas.Bool.{ltb-false, le-ltb, or_parts}
+use Rattle.std.proofs.{lemmas.Bool.Decides.Decides-int_eq, lemmas.List.Concat.flat_map-cons}
+use Rattle.std.proofs.{lemmas.Str.is_utf8-from_IsUtf8, lemmas.Str.IsUtf8-from_is_utf8, lemmas.Option.cond_some}
+use Rattle.std.proofs.lemmas.List.{take-append-drop, length-append, length-take, take_at, drop_at}
 use Rattle.wire_spec.specs.declared.{fault.VarintFault.VarintFault, record.Header.Header, record.Record.Record}
 use Rattle.wire_spec.specs.Varint.{varint, varlong, read_varint, read_varlong}
 use Rattle.wire_spec.specs.declared.limits.TheConstants.{MAX_KEY, MAX_VALUE, MAX_HEADERS, MAX_HEADER_KEY}
@@ -35,14 +31,6 @@ pub guard_some : {A : Type 0} (b : Bool) (r : Option A) (y : A) → cond b None 
 guard_some true r y e = absurd cc
 guard_some false r y e = (refl, e)
 
-pub wanted_some : {A : Type 0} (b : Bool) (x y : A) → cond b (Some x) None ≡ Some y → (b ≡ true) × (x ≡ y)
-wanted_some true x y e = (refl, cc)
-wanted_some false x y e = absurd cc
-
-from_or : (a b : Bool) → (a || b) ≡ false → (a ≡ false) × (b ≡ false)
-from_or true b e = absurd cc
-from_or false b e = (refl, e)
-
 abbrev whole : {A : Type 0} → A → Option A
 whole x = Some x
 
@@ -55,10 +43,7 @@ pub record Takes (bytes text rest : List ℕ) : Type 0 where
   pub rest_fits : IsBytes rest
 
 pub Takes-then : (a x b y c : List ℕ) → Takes a x b → Takes b y c → Takes a (x ++ y) c
-Takes-then a x b y c p q = record {
-  parts = p.parts ∙ ap (λ (t : List ℕ). x ++ t) q.parts ∙ sym (append_assoc x y c);
-  rest_fits = q.rest_fits;
-}
+Takes-then a x b y c p q = grind (arith, append_assoc)
 
 -- ---- Varints
 
@@ -117,7 +102,7 @@ bytes_take : (limit : ℕ) (z : ℤ) (bytes : List ℕ) (x : List ℕ × List �
 bytes_take limit (negsuc n) bytes x fits e = absurd cc
 bytes_take limit (pos n) bytes x fits e =
     let g = guard_some (ltb limit n || ltb (length bytes) n) (Some (take n bytes, drop n bytes)) x e in
-    let t = from_or (ltb limit n) (ltb (length bytes) n) g.0 in
+    let t = or_parts (ltb limit n) (ltb (length bytes) n) g.0 in
     let few : n ≤ limit = ltb-false limit n t.0 in
     let there : n ≤ length bytes = ltb-false (length bytes) n t.1 in
     let len : n ≡ length (take n bytes) = omega (arith, length-take n bytes) in
@@ -131,13 +116,7 @@ bytes_take limit (pos n) bytes x fits e =
 
 bytes_again : (limit : ℕ) (s rest : List ℕ) → length s ≤ limit →
     bytes_at limit (pos (length s)) (s ++ rest) ≡ Some (s, rest)
-bytes_again limit s rest few =
-    rw (
-      le-ltb limit (length s) few,
-      le-ltb (length (s ++ rest)) (length s) (omega (arith, length-append s rest)),
-      take_at s rest (length s) refl,
-      drop_at s rest (length s) refl,
-    ) refl
+bytes_again limit s rest few = grind (arith, le-ltb, length-append, take_at, drop_at)
 
 pub string_takes : (limit : ℕ) (bytes : List ℕ) (x : List ℕ × List ℕ) → IsBytes bytes → string_at limit bytes ≡ Some x →
     Takes bytes (string x.0) x.1 × (length x.0 ≤ limit)
@@ -154,18 +133,12 @@ string_takes limit bytes x fits e =
 pub string_again : (limit : ℕ) (s rest : List ℕ) → limit < 2 ^ 31 → length s ≤ limit →
     string_at limit (string s ++ rest) ≡ Some (s, rest)
 unfolding string_at
-string_again limit s rest small few =
-    let len = varint_again (pos (length s)) (s ++ rest) (fits_pos (length s) (omega arith)) in
-    let regrouped : string s ++ rest ≡ varint (pos (length s)) ++ (s ++ rest) =
-    append_assoc (varint (pos (length s))) s rest in
-    ap (λ (b : List ℕ). varint_at b >>= λ n. bytes_at limit n.0 n.1) regrouped ∙ rw len (bytes_again limit s rest few)
+string_again limit s rest small few = grind (arith, varint_again, fits_pos, append_assoc, bytes_again)
 
 nullable_bytes_take : (limit : ℕ) (z : ℤ) (bytes before : List ℕ) (x : Option (List ℕ) × List ℕ) → IsBytes bytes →
     Takes before (varint z) bytes → nullable_bytes_at limit z bytes ≡ Some x →
     Takes before (nullable x.0) x.1 × IfSome x.0 (λ s. length s ≤ limit)
-nullable_bytes_take limit (negsuc zero) bytes before x fits t e =
-    subst (λ (y : Option (List ℕ) × List ℕ). Takes before (nullable y.0) y.1 × IfSome y.0 (λ s. length s ≤ limit))
-    (some_is (None, bytes) x e) (t, tt)
+nullable_bytes_take limit (negsuc zero) bytes before x fits t e = grind (arith, some_is)
 nullable_bytes_take limit (negsuc (suc n)) bytes before x fits t e = absurd cc
 nullable_bytes_take limit (pos n) bytes before x fits t e =
     let b = bind_some (bytes_at limit (pos n) bytes) (λ y. Some (Some y.0, y.1)) x e in
@@ -188,12 +161,7 @@ pub nullable_again : (limit : ℕ) (o : Option (List ℕ)) (rest : List ℕ) →
     IfSome o (λ s. length s ≤ limit) → nullable_at limit (nullable o ++ rest) ≡ Some (o, rest)
 unfolding nullable_at
 nullable_again limit None rest small few = rw (varint_again (negsuc 0) rest (record { sfits = omega arith })) refl
-nullable_again limit (Some s) rest small few =
-    let len = varint_again (pos (length s)) (s ++ rest) (fits_pos (length s) (omega arith)) in
-    let regrouped : string s ++ rest ≡ varint (pos (length s)) ++ (s ++ rest) =
-    append_assoc (varint (pos (length s))) s rest in
-    ap (λ (b : List ℕ). varint_at b >>= λ n. nullable_bytes_at limit n.0 n.1) regrouped
-    ∙ rw (len, bytes_again limit s rest few) refl
+nullable_again limit (Some s) rest small few = grind (arith, varint_again, fits_pos, append_assoc, bytes_again)
 
 -- ---- Headers
 
@@ -207,7 +175,7 @@ header_takes bytes x fits e =
     let b = bind_some (nullable_at MAX_HEADER_VALUE a.0.1)
     (λ value. cond (is_utf8 a.0.0) (Some (record { key = a.0.0; value = value.0 }, value.1)) None) x a.2 in
     let made : Header × List ℕ = (record { key = a.0.0; value = b.0.0 }, b.0.1) in
-    let g = wanted_some (is_utf8 a.0.0) made x b.2 in
+    let g = cond_some (is_utf8 a.0.0) made x b.2 in
     let key = string_takes MAX_HEADER_KEY bytes a.0 fits a.1 in
     let value = nullable_takes MAX_HEADER_VALUE a.0.1 b.0 key.0.rest_fits b.1 in
     let both = Takes-then bytes (string a.0.0) a.0.1 (nullable b.0.0) b.0.1 key.0 value.0 in
@@ -216,20 +184,12 @@ header_takes bytes x fits e =
 
 pub header_again : (h : Header) (rest : List ℕ) → HeaderFits h → header_at (header h ++ rest) ≡ Some (h, rest)
 unfolding header_at
-header_again h rest fits =
-    let regrouped : header h ++ rest ≡ string h.key ++ (nullable h.value ++ rest) =
-    append_assoc (string h.key) (nullable h.value) rest in
-    let key = string_again MAX_HEADER_KEY h.key (nullable h.value ++ rest) (omega arith) fits.key in
-    let value = nullable_again MAX_HEADER_VALUE h.value rest (omega arith) fits.value in
-    ap header_at regrouped ∙ rw (key, value, is_utf8-from_IsUtf8 h.key fits.text) refl
+header_again h rest fits = grind (arith, append_assoc, string_again, nullable_again, is_utf8-from_IsUtf8)
 
 pub headers_take : (n : ℕ) (bytes : List ℕ) (x : List Header × List ℕ) → IsBytes bytes → headers_at n bytes ≡ Some x →
     Takes bytes (flat_map header x.0) x.1 × (length x.0 ≡ n) × AllByRecursion HeaderFits x.0
 unfolding headers_at
-headers_take zero bytes x fits e =
-    subst (λ (y : List Header × List ℕ). Takes bytes (flat_map header y.0) y.1 × (length y.0 ≡ 0)
-    × AllByRecursion HeaderFits y.0) (some_is ([], bytes) x e)
-    (record { parts = refl; rest_fits = fits }, refl, tt)
+headers_take zero bytes x fits e = grind (arith, some_is)
 headers_take (suc n) bytes x fits e =
     let a = bind_some (header_at bytes) (λ first. headers_at n first.1 >>= λ others. Some
     (first.0 ∷ others.0, others.1)) x e in
@@ -248,8 +208,7 @@ unfolding headers_at
 headers_again [] rest fits = refl
 headers_again (h ∷ hs) rest fits =
     let regrouped : flat_map header (h ∷ hs) ++ rest ≡ header h ++ (flat_map header hs ++ rest) =
-    ap (λ (x : List ℕ). x ++ rest) (flat_map-cons header h hs)
-    ∙ append_assoc (header h) (flat_map header hs) rest in
+    grind (arith, flat_map-cons, append_assoc) in
     ap (headers_at (suc (length hs))) regrouped
     ∙ rw (header_again h (flat_map header hs ++ rest) fits.0, headers_again hs rest fits.1) refl
 
@@ -280,7 +239,7 @@ delta_takes : (delta : ℤ) (bytes rest : List ℕ) → IsBytes bytes → delta_
 unfolding delta_at
 delta_takes delta bytes rest fits e =
     let b = bind_some (varint_at bytes) (λ n. cond (int_eq n.0 delta) (Some n.1) None) rest e in
-    let g = wanted_some (int_eq b.0.0 delta) b.0.1 rest b.2 in
+    let g = cond_some (int_eq b.0.0 delta) b.0.1 rest b.2 in
     let n = varint_takes bytes b.0 fits b.1 in
     let same : b.0.0 ≡ delta = (Decides-int_eq b.0.0 delta).0 g.0 in
     subst (λ (r : List ℕ). Takes bytes (varint delta) r) g.1 (subst (λ (z : ℤ). Takes bytes (varint z) b.0.1) same n.0)
@@ -389,20 +348,10 @@ body_again delta r rest h fits =
 pub length-nullable : (limit : ℕ) (o : Option (List ℕ)) → IfSome o (λ s. length s ≤ limit) →
     length (nullable o) ≤ 5 + limit
 length-nullable limit None h = omega (arith, length-varint (negsuc 0))
-length-nullable limit (Some s) h =
-    omega (arith, h, length-append (varint (pos (length s))) s, length-varint (pos (length s)))
+length-nullable limit (Some s) h = grind (arith, length-append, length-varint)
 
 pub length-header : (h : Header) → HeaderFits h → length (header h) ≤ MAX_HEADER_SIZE
-length-header h fits = omega (
-  arith,
-  fits.key,
-  length-append (string h.key) (nullable h.value),
-  length-append
-      (varint (pos (length h.key))) h.key,
-  length-varint (pos (length h.key)),
-  length-nullable MAX_HEADER_VALUE
-      h.value fits.value,
-)
+length-header h fits = grind (arith, length-append, length-varint, length-nullable)
 
 pub length-headers : (hs : List Header) → AllByRecursion HeaderFits hs →
     length (flat_map header hs) ≤ MAX_HEADER_SIZE * length hs
@@ -418,29 +367,7 @@ length-headers (h ∷ hs) fits =
 -- the bytes of a record after its length
 pub length-record_body : (delta : ℤ) (r : Record) → RecordFits r → length (record_body delta r) ≤ MAX_BODY_SIZE
 length-record_body delta r fits =
-    let hs = flat_map header r.headers in
-    let n = varint (pos (length r.headers)) in
-    let v = nullable r.value in
-    let k = nullable r.key in
-    let d = varint delta in
-    let t = varlong r.timestamp_delta in
-    omega (
-      arith,
-      fits.count,
-      length-append n hs,
-      length-append v (n ++ hs),
-      length-append k (v ++ (n ++ hs)),
-      length-append d (k ++ (v ++ (n ++ hs))),
-      length-append t (d ++ (k ++ (v ++ (n ++ hs)))),
-      length-varlong
-          r.timestamp_delta,
-      length-varint delta,
-      length-varint (pos (length r.headers)),
-      length-nullable MAX_KEY
-          r.key fits.key,
-      length-nullable MAX_VALUE r.value fits.value,
-      length-headers r.headers fits.headers,
-    )
+    grind (arith, length-append, length-varlong, length-varint, length-nullable, length-headers)
 
 pub record_takes : (delta : ℤ) (bytes : List ℕ) (x : Record × List ℕ) → IsBytes bytes → record_at delta bytes ≡ Some x →
     Takes bytes (record_spelling delta x.0) x.1 × RecordFits x.0
@@ -450,13 +377,11 @@ record_takes delta bytes x fits e =
     (int_eq len.0 (pos (length len.1 - length body.1))) (Some body) None) x e in
     let b = bind_some (body_at delta a.0.1) (λ body. cond (int_eq a.0.0 (pos (length a.0.1 - length body.1)))
     (Some body) None) x a.2 in
-    let g = wanted_some (int_eq a.0.0 (pos (length a.0.1 - length b.0.1))) b.0 x b.2 in
+    let g = cond_some (int_eq a.0.0 (pos (length a.0.1 - length b.0.1))) b.0 x b.2 in
     let n = varint_takes bytes a.0 fits a.1 in
     let t = body_takes delta a.0.1 b.0 n.0.rest_fits b.1 in
-    let used : length a.0.1 - length b.0.1 ≡ length (record_body delta b.0.0) =
-    omega (arith, ap length t.0.parts, length-append (record_body delta b.0.0) b.0.1) in
-    let len : a.0.0 ≡ pos (length (record_body delta b.0.0)) =
-    (Decides-int_eq a.0.0 (pos (length a.0.1 - length b.0.1))).0 g.0 ∙ ap pos used in
+    let used : length a.0.1 - length b.0.1 ≡ length (record_body delta b.0.0) = grind (arith, length-append) in
+    let len : a.0.0 ≡ pos (length (record_body delta b.0.0)) = grind arith in
     let both : Takes bytes (record_spelling delta b.0.0) b.0.1 =
     Takes-then bytes (varint (pos (length (record_body delta b.0.0)))) a.0.1 (record_body delta b.0.0) b.0.1
     (subst (λ (z : ℤ). Takes bytes (varint z) a.0.1) len n.0) t.0 in
@@ -466,20 +391,7 @@ pub record_again : (delta : ℤ) (r : Record) (rest : List ℕ) → FitsSigned w
     record_at delta (record_spelling delta r ++ rest) ≡ Some (r, rest)
 unfolding record_at
 record_again delta r rest h fits =
-    let body = record_body delta r in
-    let regrouped : record_spelling delta r ++ rest ≡ varint (pos (length body)) ++ (body ++ rest) =
-    append_assoc (varint (pos (length body))) body rest in
-    let small : FitsSigned w32 (pos (length body)) =
-    fits_pos (length body) (omega (arith, length-record_body delta r fits)) in
-    let used : length (body ++ rest) - length rest ≡ length body = omega (arith, length-append body rest) in
-    ap (record_at delta) regrouped
-    ∙ rw (
-      varint_again (pos (length body)) (body ++ rest) small,
-      body_again delta r rest h fits,
-      used,
-      same_int
-          (pos (length body)),
-    ) refl
+    grind (arith, append_assoc, fits_pos, length-record_body, length-append, varint_again, body_again, same_int)
 
 -- two readings of the same bytes
 same_pair : {A : Type 0} (read : List ℕ → Option (A × List ℕ)) (a b : List ℕ) (u v : A) (x y : List ℕ) → a ≡ b →
@@ -504,8 +416,7 @@ one_record r s c d x y p q fits also e =
     let small_s : FitsSigned w32 (pos (length body_s)) =
     fits_pos (length body_s) (omega (arith, length-record_body d s also)) in
     let strings : varint (pos (length body_r)) ++ (body_r ++ x) ≡ varint (pos (length body_s)) ++ (body_s ++ y) =
-    sym (append_assoc (varint (pos (length body_r))) body_r x) ∙ e
-    ∙ append_assoc (varint (pos (length body_s))) body_s y in
+    grind (arith, append_assoc) in
     let bodies = (same_pair varint_at (varint (pos (length body_r)) ++ (body_r ++ x))
     (varint (pos (length body_s)) ++ (body_s ++ y)) (pos (length body_r)) (pos (length body_s)) (body_r ++ x)
     (body_s ++ y) strings (varint_again (pos (length body_r)) (body_r ++ x) small_r)
@@ -521,9 +432,7 @@ one_record r s c d x y p q fits also e =
     let delta : c ≡ d = (same_pair varint_at (varint c ++ after_delta c r x) (varint d ++ after_delta d s y) c d
     (after_delta c r x) (after_delta d s y) deltas (varint_again c (after_delta c r x) p)
     (varint_again d (after_delta d s y) q)).0 in
-    let again_s : record_at c (record_spelling d s ++ y) ≡ Some (s, y) =
-    subst (λ (z : ℤ). record_at z (record_spelling d s ++ y) ≡ Some (s, y)) (sym delta)
-    (record_again d s y q also) in
+    let again_s : record_at c (record_spelling d s ++ y) ≡ Some (s, y) = grind (arith, record_again) in
     let both = same_pair (record_at c) (record_spelling c r ++ x) (record_spelling d s ++ y) r s x y e
     (record_again c r x p fits) again_s in
     (both.0, delta, both.1)

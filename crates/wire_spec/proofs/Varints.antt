@@ -2,15 +2,14 @@
 -- and what is spelled so is read.
 use Rattle.std.proofs.Common.{◌≡◌, ℕ, zero, suc, ◌+◌, ◌-◌, ◌*◌, ◌/◌, ◌%◌, ◌^◌, ◌<◌, ◌≤◌, ◌⊎◌, ℤ, pos, negsuc, Bool}
 use Rattle.std.proofs.Common.{true, false, cond, ◌&&◌, ltb, eqb, List, [], ◌∷◌, ◌++◌, length, get_or, take, drop}
-use Rattle.std.proofs.Common.{Option, Some, None, Result, Ok, Err, refl, sym, ap, subst, ◌∙◌, arith, inl, inr}
+use Rattle.std.proofs.Common.{Option, Some, None, Result, Ok, Err, refl, sym, ap, subst, ◌∙◌, arith, inl, inr, IfOk}
+use Rattle.std.proofs.Common.{FitsSigned}
 use Rattle.std.proofs.lemmas.Bool.{cases_lt, cases_eq, eq-eqb, eqb-true, eqb-false, ne_eqb, ltb-false, ltb-true, le-ltb}
 use Rattle.std.proofs.lemmas.Bool.{lt-ltb}
 use Rattle.std.proofs.lemmas.List.{length-append, length-take, get_or-drop, get_or-take, get_or_past}
 use Rattle.std.proofs.lemmas.List.{get_or_append_left, take_at}
-use Rattle.std.proofs.lemmas.List.Sums.{position_or_len_is}
-use Rattle.std.proofs.lemmas.List.Quantifiers.{position-Some}
+use Rattle.std.proofs.{lemmas.List.Sums.position_or_len_is, lemmas.List.Quantifiers.position-Some}
 use Rattle.std.proofs.lemmas.Bool.Decides.{nat_tests}
-use Rattle.std.specs.Prelude.{IfOk, FitsSigned}
 use Rattle.std.specs.Int.{w32, w64}
 use Rattle.wire_spec.specs.declared.fault.VarintFault.{VarintFault}
 use Rattle.wire_spec.specs.declared.fault.VarintFault.TheVariants.{Short, Long, NotShortest}
@@ -26,11 +25,7 @@ unzigzag-zigzag (negsuc n) = grind (arith, nat_tests)
 
 -- an even number and an odd one
 even_or_odd : (n : ℕ) → (eqb (n % 2) 0 ≡ true) × (2 * (n / 2) ≡ n) ⊎ (eqb (n % 2) 0 ≡ false) × (2 * (n / 2) + 1 ≡ n)
-even_or_odd n =
-    elim (cases_eq (n % 2) 0) [
-      | inl e ↦ inl (eq-eqb (n % 2) 0 e, omega arith)
-      | inr e ↦ inr (ne_eqb (n % 2) 0 e, omega arith)
-    ]
+even_or_odd n = grind (arith, cases_eq, eq-eqb, ne_eqb)
 
 pub zigzag-unzigzag : (n : ℕ) → zigzag (unzigzag n) ≡ n
 zigzag-unzigzag n = elim (even_or_odd n) [ inl e ↦ rw e.0 e.1 | inr e ↦ rw e.0 e.1 ]
@@ -46,18 +41,10 @@ zigzag-fits_64 (pos n) h = omega (arith, h.sfits)
 zigzag-fits_64 (negsuc n) h = omega (arith, h.sfits)
 
 pub unzigzag-fits_32 : (n : ℕ) → n < 2 ^ 32 → FitsSigned w32 (unzigzag n)
-unzigzag-fits_32 n h = elim (even_or_odd n) [
-  | inl e ↦ rw e.0 (record { sfits = omega (arith, e.1) })
-  | inr e ↦
-      rw e.0 (record { sfits = omega (arith, e.1) })
-]
+unzigzag-fits_32 n h = grind (arith, even_or_odd)
 
 pub unzigzag-fits_64 : (n : ℕ) → n < 2 ^ 64 → FitsSigned w64 (unzigzag n)
-unzigzag-fits_64 n h = elim (even_or_odd n) [
-  | inl e ↦ rw e.0 (record { sfits = omega (arith, e.1) })
-  | inr e ↦
-      rw e.0 (record { sfits = omega (arith, e.1) })
-]
+unzigzag-fits_64 n h = grind (arith, even_or_odd)
 
 -- ---- The forms of a number
 
@@ -88,18 +75,7 @@ first_or P n base step (suc k) h = step k (omega arith)
 
 pub Parts-of : (form : List ℕ) (n : ℕ) → IsBase128 form n → (last : ℕ) × Parts form n last
 Parts-of [] n h = absurd h
-Parts-of (b ∷ []) n h = (
-  0,
-  record {
-    size = refl;
-    ends = record { within = omega arith; before = λ k lt. absurd (omega arith); ends = h.0 };
-    number = omega arith;
-    low = omega arith;
-    high = omega arith;
-    nonzero = λ p. omega arith;
-    some = λ p. absurd (omega arith);
-  },
-)
+Parts-of (b ∷ []) n h = grind arith
 Parts-of (b ∷ c ∷ bs) n h =
     let inner = Parts-of (c ∷ bs) h.2 h.5 in
     let last = inner.0 in
@@ -205,11 +181,7 @@ pub IsBytes-drop : (n : ℕ) (bytes : List ℕ) → IsBytes bytes → IsBytes (d
 IsBytes-drop n bytes h i = rw get_or-drop (h (n + i))
 
 pub IsBytes-take : (n : ℕ) (bytes : List ℕ) → IsBytes bytes → IsBytes (take n bytes)
-IsBytes-take n bytes h i =
-    elim (cases_lt i n) [
-      | inl lt ↦ rw (get_or-take n bytes i 0 lt) (h i)
-      | inr le ↦ rw (get_or_past (take n bytes) i 0 (omega (arith, length-take n bytes))) (omega arith)
-    ]
+IsBytes-take n bytes h i = grind (arith, cases_lt, get_or-take, get_or_past, length-take)
 
 worth-pos : (j x : ℕ) → 0 < x → 0 < worth j x
 worth-pos zero x h = h
@@ -258,22 +230,7 @@ below_128 b = ltb b 128
 
 pub last_place_is : (most : ℕ) (bytes : List ℕ) (last : ℕ) → EndsAt bytes last → last < most →
     last_place most bytes ≡ Some last
-last_place_is most bytes last e lt =
-    let len : last < length (take most bytes) = omega (arith, length-take most bytes, e.within) in
-    let place = position_or_len_is below_128 (take most bytes) last 0 (omega arith)
-    (λ k h. let g = get_or-take most bytes k 0 (omega arith) in rw g (le-ltb (get_or bytes k 0) 128 (e.before k h)))
-    (λ h. let g = get_or-take most bytes last 0 lt in rw g (lt-ltb (get_or bytes last 0) 128 e.ends)) in
-    rw (place, lt-ltb last (length (take most bytes)) len) refl
-
-pub last_place_none : (most : ℕ) (bytes : List ℕ) → ((k : ℕ) → k < most → k < length bytes → 128 ≤ get_or bytes k 0) →
-    last_place most bytes ≡ None
-last_place_none most bytes h =
-    let place = position_or_len_is below_128 (take most bytes) (length (take most bytes)) 0 (omega arith)
-    (λ k lt. let g = get_or-take most bytes k 0 (omega (arith, length-take most bytes)) in
-    rw g (le-ltb (get_or bytes k 0) 128 (h k (omega (arith, length-take most bytes))
-    (omega (arith, length-take most bytes)))))
-    (λ h. absurd (omega arith)) in
-    rw (place, le-ltb (length (take most bytes)) (length (take most bytes)) (omega arith)) refl
+last_place_is most bytes last e lt = grind (arith, length-take, position_or_len_is, get_or-take, le-ltb, lt-ltb)
 
 pub EndsAt-from : (most : ℕ) (bytes : List ℕ) (last : ℕ) → last_place most bytes ≡ Some last →
     EndsAt bytes last × (last < most)
@@ -308,14 +265,7 @@ guard_ok false d r y e = (refl, e)
 pub read_to_ok : (most top : ℕ) (bytes : List ℕ) (last : ℕ) → (last ≡ most - 1 → get_or bytes last 0 ≤ top) →
     (0 < last → 0 < get_or bytes last 0) → read_to most top bytes (Some last)
     ≡ Ok (groups_value (take (last + 1) bytes), last + 1)
-read_to_ok most top bytes last narrow some =
-    let first : (eqb last (most - 1) && ltb top (get_or bytes last 0)) ≡ false =
-    and_no (eqb last (most - 1)) (ltb top (get_or bytes last 0))
-    (λ e. le-ltb top (get_or bytes last 0) (narrow (eqb-true last (most - 1) e))) in
-    let second : (ltb 0 last && eqb (get_or bytes last 0) 0) ≡ false =
-    and_no (ltb 0 last) (eqb (get_or bytes last 0) 0) (λ e. ne_eqb (get_or bytes last 0) 0
-    (λ z. absurd (omega (arith, z, some (ltb-true 0 last e))))) in
-    rw (first, second) refl
+read_to_ok most top bytes last narrow some = grind (arith, and_no, le-ltb, eqb-true, ne_eqb, ltb-true)
 
 -- what a read of bytes up to a place says
 pub record ReadTo (most top : ℕ) (bytes : List ℕ) (last n used : ℕ) : Type 0 where
@@ -327,22 +277,7 @@ pub record ReadTo (most top : ℕ) (bytes : List ℕ) (last n used : ℕ) : Type
 ReadTo-from : (most top : ℕ) (bytes : List ℕ) (last n used : ℕ) → read_to most top bytes (Some last) ≡ Ok (n, used) →
     ReadTo most top bytes last n used
 ReadTo-from most top bytes last n used e =
-    let a = guard_ok (eqb last (most - 1) && ltb top (get_or bytes last 0)) Long
-    (cond (ltb 0 last && eqb (get_or bytes last 0) 0) (Err NotShortest)
-    (Ok (groups_value (take (last + 1) bytes), last + 1))) (n, used) e in
-    let b = guard_ok (ltb 0 last && eqb (get_or bytes last 0) 0) NotShortest
-    (Ok (groups_value (take (last + 1) bytes), last + 1)) (n, used) a.1 in
-    let same : ◌≡◌ {A = ℕ × ℕ} (groups_value (take (last + 1) bytes), last + 1) (n, used) = cc (b.1) in
-    record {
-      narrow = λ h. ltb-false top (get_or bytes last 0) (from_and_no (eqb last (most - 1))
-          (ltb top (get_or bytes last 0)) a.0 (eq-eqb last (most - 1) h));
-      some = λ h. let ne : get_or bytes last 0 ≡ 0 →
-          ⊥ = eqb-false (get_or bytes last 0) 0 (from_and_no (ltb 0 last) (eqb (get_or bytes last 0) 0) b.0
-          (lt-ltb 0 last h)) in elim (cases_lt 0 (get_or bytes last 0))
-          [ inl lt ↦ lt | inr le ↦ absurd (ne (omega arith)) ];
-      number = ap (λ (p : ℕ × ℕ). p.0) same;
-      size = ap (λ (p : ℕ × ℕ). p.1) same;
-    }
+    grind (arith, guard_ok, ltb-false, from_and_no, eq-eqb, eqb-false, lt-ltb, cases_lt)
 
 -- A width: of at most that many groups, the last one at most top, are the numbers below the limit.
 pub record IsWide (most top limit : ℕ) : Type 0 where
@@ -412,8 +347,7 @@ form_below most top limit wide bytes last n ends lt narrow form =
     let parts = Parts-of (take (suc last) bytes) n form in
     let p = parts.1 in
     let same : parts.0 ≡ last = omega (arith, p.size, length-take (suc last) bytes, ends.within) in
-    let high : n < worth last (get_or (take (suc last) bytes) last 0 + 1) =
-    subst (λ (k : ℕ). n < worth k (get_or (take (suc last) bytes) k 0 + 1)) same p.high in
+    let high : n < worth last (get_or (take (suc last) bytes) last 0 + 1) = grind arith in
     let byte : get_or (take (suc last) bytes) last 0 ≡ get_or bytes last 0 =
     get_or-take (suc last) bytes last 0 (omega arith) in
     let high' : n < worth last (get_or bytes last 0 + 1) = rw byte at high in
@@ -432,9 +366,7 @@ Taken-from most top limit wide bytes n used (Some last) fits place e =
     let plus : last + 1 ≡ suc last = omega arith in
     let number : groups_value (take (suc last) bytes) ≡ n =
     subst (λ (k : ℕ). groups_value (take k bytes) ≡ n) plus r.number in
-    let formed : IsBase128 (take used bytes) n =
-    subst (λ (m : ℕ). IsBase128 (take used bytes) m) number
-    (subst (λ (k : ℕ). IsBase128 (take k bytes) (groups_value (take (suc last) bytes))) size form) in
+    let formed : IsBase128 (take used bytes) n = grind arith in
     record {
       within = omega (arith, ends.0.within);
       form = formed;
@@ -455,11 +387,7 @@ read_form most top limit wide form rest n lt h =
     let p = parts.1 in
     let same : get_or (form ++ rest) last 0 ≡ get_or form last 0 = get_or_append_left form rest 0 last p.ends.within in
     let w = wide.within last (get_or form last 0) n p.low lt p.some in
-    let ends : EndsAt (form ++ rest) last = record {
-      within = omega (arith, p.ends.within, length-append form rest);
-      before = λ k less. rw (get_or_append_left form rest 0 k (omega (arith, p.ends.within))) (p.ends.before k less);
-      ends = rw same p.ends.ends;
-    } in
+    let ends : EndsAt (form ++ rest) last = grind (arith, length-append, get_or_append_left) in
     let taken : take (last + 1) (form ++ rest) ≡ form = take_at form rest (last + 1) (omega (arith, p.size)) in
     let size : last + 1 ≡ length form = omega (arith, p.size) in
     let read = read_to_ok most top (form ++ rest) last (λ e. rw same (w.1 e)) (λ q. rw same (p.some q)) in
@@ -468,16 +396,10 @@ read_form most top limit wide form rest n lt h =
 
 -- ---- Varints and varlongs
 
-abbrev signed_ok : ℤ × ℕ → Result (ℤ × ℕ) VarintFault
-signed_ok x = Ok x
-
 -- the unsigned number behind a signed one that was read
 read_signed-ok : (r : Result (ℕ × ℕ) VarintFault) (z : ℤ) (used : ℕ) → read_signed r ≡ Ok (z, used) →
     (n : ℕ) × (r ≡ Ok (n, used)) × (unzigzag n ≡ z)
-read_signed-ok (Ok x) z used e =
-    let same : signed_ok (unzigzag x.0, x.1) ≡ signed_ok (z, used) = e in
-    let pair : ◌≡◌ {A = ℤ × ℕ} (unzigzag x.0, x.1) (z, used) = cc in
-    (x.0, ap (λ (u : ℕ). Ok (x.0, u)) (ap (λ (p : ℤ × ℕ). p.1) pair), ap (λ (p : ℤ × ℕ). p.0) pair)
+read_signed-ok (Ok x) z used e = grind arith
 read_signed-ok (Err f) z used e = absurd cc
 
 -- what a varint that was read from the front has
@@ -553,14 +475,10 @@ pub varlong_is : (form : List ℕ) (z : ℤ) → IsVarlong form z → form ≡ v
 varlong_is form z h = one_form_of form (varlong z) (zigzag z) h.spelled (IsVarlong-varlong z h.fits).spelled
 
 pub one_varint : (a b x y : List ℕ) (z w : ℤ) → IsVarint a z → IsVarint b w → a ++ x ≡ b ++ y → (a ≡ b) × (z ≡ w)
-one_varint a b x y z w p q e =
-    let one = one_form a b x y (zigzag z) (zigzag w) p.spelled q.spelled e in
-    (one.0, sym (unzigzag-zigzag z) ∙ ap unzigzag one.1 ∙ unzigzag-zigzag w)
+one_varint a b x y z w p q e = grind (arith, one_form, unzigzag-zigzag)
 
 pub one_varlong : (a b x y : List ℕ) (z w : ℤ) → IsVarlong a z → IsVarlong b w → a ++ x ≡ b ++ y → (a ≡ b) × (z ≡ w)
-one_varlong a b x y z w p q e =
-    let one = one_form a b x y (zigzag z) (zigzag w) p.spelled q.spelled e in
-    (one.0, sym (unzigzag-zigzag z) ∙ ap unzigzag one.1 ∙ unzigzag-zigzag w)
+one_varlong a b x y z w p q e = grind (arith, one_form, unzigzag-zigzag)
 
 -- ---- One group more
 
@@ -604,18 +522,11 @@ nine_groups k n le lt = omega (arith, worth-le k 9 1 le (omega arith))
 pub reads_at : (most top : ℕ) (bytes : List ℕ) (at number : ℕ) → EndsAt bytes at → at < most →
     (at ≡ most - 1 → get_or bytes at 0 ≤ top) → (0 < at → 0 < get_or bytes at 0) →
     number ≡ groups_value (take (at + 1) bytes) → Ok (number, at + 1) ≡ read_base128 most top bytes
-reads_at most top bytes at number ends lt narrow some is =
-    sym (ap (read_to most top bytes) (last_place_is most bytes at ends lt) ∙ read_to_ok most top bytes at narrow some
-    ∙ rw (← is) refl)
+reads_at most top bytes at number ends lt narrow some is = grind (arith, last_place_is, read_to_ok)
 
 pub refuses_zero : (most top : ℕ) (bytes : List ℕ) (at : ℕ) → EndsAt bytes at → at < most → 0 < at →
     get_or bytes at 0 ≡ 0 → Err NotShortest ≡ read_base128 most top bytes
-refuses_zero most top bytes at ends lt some zero_there =
-    let first : (eqb at (most - 1) && ltb top (get_or bytes at 0)) ≡ false =
-    and_no (eqb at (most - 1)) (ltb top (get_or bytes at 0))
-    (λ e. le-ltb top (get_or bytes at 0) (omega (arith, zero_there))) in
-    sym (ap (read_to most top bytes) (last_place_is most bytes at ends lt)
-    ∙ rw (first, lt-ltb 0 at some, eq-eqb (get_or bytes at 0) 0 zero_there) refl)
+refuses_zero most top bytes at ends lt some zero_there = grind (arith, and_no, le-ltb, last_place_is, lt-ltb, eq-eqb)
 
 -- what is read is spelled so, of an answer
 pub varint_found : (bytes : List ℕ) (r : Result (ℤ × ℕ) VarintFault) → IsBytes bytes → r ≡ read_varint bytes →

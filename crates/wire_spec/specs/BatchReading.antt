@@ -1,16 +1,14 @@
 -- Reading a record batch (Apache Kafka documentation, "Message Format": "Record Batch"): the batch at the front of the
 -- bytes, and how many of them it takes, or the first refusal. Numbers are big-endian.
-use Rattle.std.specs.Prelude.{◌≡◌, ℕ, zero, suc, ◌+◌, ◌^◌, ℤ, pos, negsuc, int_lt, int_le, List, [], ◌∷◌, length, take}
+use Rattle.std.specs.Prelude.{◌≡◌, ℕ, zero, suc, ◌+◌, ℤ, pos, negsuc, int_lt, int_le, List, [], ◌∷◌, length, take}
 use Rattle.std.specs.Prelude.{drop, slice_index, Option, Some, None, Result, Ok, Err, Bool, nat_lt, ◌==◌, ◌&&◌, ◌||◌}
 use Rattle.std.specs.Prelude.{not, if◌then◌else◌}
-use Rattle.std.specs.{List.list_all, Int.Width, Int.w16, Int.w32, Int.w64, Int.from_be_bytes, Int.cast_signed}
-use Rattle.std.specs.{Ordering.int_eq}
-use Rattle.wire_spec.specs.declared.{limits.TheConstants.TIMESTAMP_END, fault.BatchFault.BatchFault}
-use Rattle.wire_spec.specs.declared.{record.Record.Record, record.Batch.Batch}
-use Rattle.wire_spec.specs.Checksum.{checksum}
-use Rattle.wire_spec.specs.RecordReading.{record_at}
-use Rattle.wire_spec.specs.BatchSpelling.{timestamps, greatest}
-use Rattle.wire_spec.specs.declared.limits.TheConstants.{MAX_BATCH, MAX_RECORDS}
+use Rattle.std.specs.{List.list_all, Ordering.int_eq}
+use Rattle.std.specs.Int.{Width, w16, w32, w64, from_be_bytes, cast_signed}
+use Rattle.wire_spec.specs.declared.limits.TheConstants.{TIMESTAMP_END, MAX_BATCH, MAX_RECORDS}
+use Rattle.wire_spec.specs.declared.{fault.BatchFault.BatchFault, record.Record.Record, record.Batch.Batch}
+use Rattle.wire_spec.specs.{Checksum.checksum, RecordReading.record_at, BatchSpelling.timestamps}
+use Rattle.wire_spec.specs.BatchSpelling.{greatest}
 
 -- the unsigned number that begins at a place of the bytes, counted from 0; bytes past the end count as 0
 abbrev pub number_at : Width → ℕ → List ℕ → ℕ

@@ -1,13 +1,12 @@
 -- The one spelling of a record batch (Apache Kafka documentation, "Message Format": "Record Batch",
 -- magic 2, without compression, transactions or control records).
-use Rattle.std.specs.Prelude.{ℕ, suc, ◌+◌, ◌-◌, ◌^◌, ◌<◌, ◌≤◌, ℤ, pos, ◌+ℤ◌, ◌≤ℤ◌, ◌<ℤ◌, List, [], ◌∷◌, ◌++◌, length}
+use Rattle.std.specs.Prelude.{ℕ, suc, ◌+◌, ◌-◌, ◌<◌, ◌≤◌, ℤ, pos, ◌+ℤ◌, ◌≤ℤ◌, ◌<ℤ◌, List, [], ◌∷◌, ◌++◌, length}
 use Rattle.std.specs.Prelude.{map, fold, FitsSigned}
-use Rattle.std.specs.{List.AllByRecursion, Int.Width, Int.w16, Int.w32, Int.w64, Int.to_be_bytes, Int.cast_unsigned}
-use Rattle.std.specs.{Int.int_max}
+use Rattle.std.specs.List.{AllByRecursion}
+use Rattle.std.specs.Int.{Width, w16, w32, w64, to_be_bytes, cast_unsigned, int_max}
 use Rattle.wire_spec.specs.declared.{record.Record.Record, record.Batch.Batch}
 use Rattle.wire_spec.specs.declared.limits.TheConstants.{TIMESTAMP_END, MAX_BATCH, MAX_RECORDS}
-use Rattle.wire_spec.specs.Checksum.{checksum}
-use Rattle.wire_spec.specs.RecordSpelling.{RecordFits, record_spelling}
+use Rattle.wire_spec.specs.{Checksum.checksum, RecordSpelling.RecordFits, RecordSpelling.record_spelling}
 
 -- ---- Timestamps
 

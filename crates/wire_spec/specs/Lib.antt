@@ -5,3 +5,4 @@ pub mod Memory
 pub mod RecordReading
 pub mod RecordSpelling
 pub mod Varint
+pub mod Writing

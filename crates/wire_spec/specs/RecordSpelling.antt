@@ -4,8 +4,7 @@ use Rattle.std.specs.Prelude.{IsUtf8}
 use Rattle.std.specs.{List.flat_map, List.AllByRecursion, Int.w64}
 use Rattle.wire_spec.specs.declared.limits.TheConstants.{MAX_KEY, MAX_VALUE, MAX_HEADERS, MAX_HEADER_KEY}
 use Rattle.wire_spec.specs.declared.limits.TheConstants.{MAX_HEADER_VALUE}
-use Rattle.wire_spec.specs.declared.{record.Header.Header, record.Record.Record}
-use Rattle.wire_spec.specs.Varint.{varint, varlong}
+use Rattle.wire_spec.specs.{declared.record.Header.Header, declared.record.Record.Record, Varint.varint, Varint.varlong}
 
 -- a header that has a spelling: its key is UTF-8 of at most 255 bytes, its value null or of at most 4,096
 pub record HeaderFits (h : Header) : Type 0 where

@@ -1,15 +1,14 @@
 -- The rows of an item, taken for one output after the other.
-use Rattle.std.proofs.Common.{◌≡◌, ℕ, zero, suc, ◌+◌, ◌<◌, ◌≤◌, List, [], ◌∷◌, ◌++◌, length, All, Some, slice_get}
-use Rattle.std.proofs.Common.{slice_set, refl, sym, ap, subst, ◌∙◌, arith}
-use Rattle.std.proofs.lemmas.Option.{same_Some, get_or_from_slice_get}
-use Rattle.std.proofs.lemmas.List.{length-append, get_or-set_other}
-use Rattle.log_spec.specs.declared.row.Row.{Row}
-use Rattle.log_spec.specs.Logs.{IsRowsAt, RowFits}
+use Rattle.std.proofs.Common.{◌≡◌, ℕ, ◌+◌, ◌<◌, ◌≤◌, List, [], ◌∷◌, ◌++◌, length, All, Some, slice_get, slice_set, refl}
+use Rattle.std.proofs.Common.{sym, ap, subst, ◌∙◌, arith}
+use Rattle.std.proofs.{lemmas.Option.get_or_from_slice_get, lemmas.List.length-append, lemmas.List.get_or-set_other}
+use Rattle.log_spec.specs.{declared.row.Row.Row, Logs.IsRowsAt, Logs.RowFits}
 use Rattle.part_log.specs.Parts.{Log}
 use Rattle.fates.specs.Totals.{Totals}
 use Rattle.item_rows.specs.ItemRows.{rows_in}
 use Rattle.worker.specs.Walks.{last, AreRowsOfLast, AreCountsOfLast}
 use Rattle.worker.specs.Processed.{OutputShare, output_share, IsOfLast, IsShare, AreInTurn}
+use Rattle.log_spec.proofs.LogLaws.{pushed}
 
 -- the rows of the first outputs are taken, and those of the others are left
 pub record AreTaken (walk : Log) (all left : List (List Row)) (n : ℕ) (shares : List OutputShare) : Type 0 where
@@ -26,18 +25,6 @@ none_taken walk all = record {
   left_are = λ output le. refl;
   each = λ output share e. absurd cc;
 }
-
--- the last element of a list, or one before it
-pushed : {A : Type 0} (P : ℕ → A → Type 0) (xs : List A) (n : ℕ) (x : A) →
-    ((k : ℕ) (y : A) → slice_get xs k ≡ Some y → P (n + k) y) → P (n + length xs) x → (k : ℕ) (y : A) →
-    slice_get (xs ++ x ∷ []) k ≡ Some y → P (n + k) y
-pushed P [] n x all at zero y e = subst (P (n + 0)) (same_Some x y e) at
-pushed P [] n x all at (suc k) y e = absurd cc
-pushed P (z ∷ xs) n x all at zero y e = all zero y e
-pushed P (z ∷ xs) n x all at (suc k) y e =
-    let move : (j : ℕ) → n + suc j ≡ (n + 1) + j = λ j. omega arith in
-    subst (λ m. P m y) (sym (move k)) (pushed P xs (n + 1) x (λ j w h. subst (λ m. P m w) (move j) (all (suc j) w h))
-    (subst (λ m. P m x) (move (length xs)) at) k y e)
 
 pub one_more : (walk : Log) (all left after : List (List Row)) (n : ℕ) (shares : List OutputShare) (rows : List Row)
     (share : OutputShare) → AreTaken walk all left n shares → slice_get left n ≡ Some rows →

@@ -1,7 +1,6 @@
 -- What processing a walk's last item gives.
 use Rattle.std.specs.Prelude.{◌≡◌, ℕ, ◌<◌, List, length, All, slice_get, Some}
-use Rattle.log_spec.specs.declared.row.Row.{Row}
-use Rattle.log_spec.specs.Logs.{IsRowsAt, RowFits}
+use Rattle.log_spec.specs.{declared.row.Row.Row, Logs.IsRowsAt, Logs.RowFits}
 use Rattle.fates.specs.Totals.{Totals}
 use Rattle.item_rows.specs.ItemRows.{rows_in}
 use Rattle.part_log.specs.Parts.{Log}

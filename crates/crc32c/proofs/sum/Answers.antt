@@ -1,10 +1,8 @@
 use Rattle.std.proofs.Common.{◌≡◌, ap, arith, ◌∙◌, bit_xor, length, ◌/◌}
 use Rattle.std.specs.List.{concat}
 use Rattle.crc32c.specs.Register.{register_after}
-use Rattle.crc32c.proofs.Folding.{after_window-none}
-use Rattle.crc32c.proofs.Steps.{checksum_is, each_below}
-use Rattle.crc32c.proofs.Blocks.{after-blocks, blocks-are}
-use Rattle.crc32c.proofs.sum.Goals.{then-blocks-lt-MANY, else-blocks-lt-MANY}
+use Rattle.crc32c.proofs.{Folding.after_window-none, Steps.checksum_is, Steps.each_below, Blocks.after-blocks}
+use Rattle.crc32c.proofs.{Blocks.blocks-are, sum.Goals.then-blocks-lt-MANY, sum.Goals.else-blocks-lt-MANY}
 use Rattle.crc32c.proofs.sum.Goals as goal
 
 pub returns : goal.returns

@@ -1,7 +1,6 @@
 use Rattle.std.proofs.Common.{◌≡◌, drop}
 use Rattle.std.specs.List.{list_any}
-use Rattle.machine_spec.specs.declared.helper.Argument.{Argument}
-use Rattle.machine_spec.specs.Traps.{argument_registers}
+use Rattle.machine_spec.specs.{declared.helper.Argument.Argument, Traps.argument_registers}
 use Rattle.verifier_spec.specs.Kinds.{kind_at, is_unknown}
 use Rattle.abstract_regs.proofs.checks.is_one_unknown.Given as goal
 

@@ -1,7 +1,6 @@
 use Rattle.std.proofs.Common.{◌≡◌, false, drop}
 use Rattle.std.specs.List.{list_any, fold}
-use Rattle.verifier_spec.specs.Checks.{is_wrong_argument_kind}
-use Rattle.verifier_spec.specs.Transfer.{with_argument}
+use Rattle.verifier_spec.specs.{Checks.is_wrong_argument_kind, Transfer.with_argument}
 use Rattle.abstract_regs.proofs.transfer.with_arguments.Given as goal
 
 abbrev pub invariant-loop-argument : goal.invariant-loop-argument

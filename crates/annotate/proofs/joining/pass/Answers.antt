@@ -1,7 +1,6 @@
 use Rattle.std.proofs.Common.{sym, subst, arith}
 use Rattle.machine_spec.specs.Image.{helpers_of}
-use Rattle.verifier_spec.specs.Annotation.{Claims}
-use Rattle.verifier_spec.specs.Checks.{jump_of}
+use Rattle.verifier_spec.specs.{Annotation.Claims, Checks.jump_of}
 use Rattle.verifier_spec.proofs.BestAnnotation.{target_later}
 use Rattle.annotate.specs.Passing.{IsPassed}
 use Rattle.annotate.proofs.Passing.{first_passed, passed_next, passed_all}

@@ -1,9 +1,7 @@
 use Rattle.std.proofs.Common.{refl, sym, subst, ◌≢◌, ◌∙◌}
 use Rattle.machine_spec.specs.Image.{helpers_of, program_of}
 use Rattle.verifier_spec.specs.declared.fault.Check.TheVariants as check
-use Rattle.verifier_spec.specs.Run.{Annotated}
-use Rattle.verifier_spec.specs.Annotation.{Claims, IsAnnotation}
-use Rattle.verifier_spec.specs.JoinedStates.{joined_states}
+use Rattle.verifier_spec.specs.{Run.Annotated, Annotation.Claims, Annotation.IsAnnotation, JoinedStates.joined_states}
 use Rattle.annotate.specs.Loads.{Accepts}
 use Rattle.annotate.proofs.Answered.{isa_refused}
 use Rattle.annotate.proofs.Best.{joined_best, claimed_refused, no_claims_fault}

@@ -1,6 +1,5 @@
 use Rattle.std.proofs.Common.{rules, ◌≡◌, ◌≢◌, Err, refl}
-use Rattle.wire_spec.specs.declared.fault.BatchFault.TheVariants.{Memory}
-use Rattle.wire_spec.specs.BatchReading.{batch_at}
+use Rattle.wire_spec.specs.{declared.fault.BatchFault.TheVariants.Memory, BatchReading.batch_at}
 use Rattle.batch.proofs.FeedLaws.{is_refusal}
 use Rattle.batch.proofs.feed.cut.Goals as goal
 

@@ -1,6 +1,5 @@
 use Rattle.std.proofs.Common.{ℕ, ◌<◌, get_or}
-use Rattle.wire_spec.specs.declared.record.Record.{Record}
-use Rattle.wire_spec.specs.RecordSpelling.{RecordFits}
+use Rattle.wire_spec.specs.{declared.record.Record.Record, RecordSpelling.RecordFits}
 use Rattle.batch.proofs.limits.records_fit.Given as goal
 
 abbrev pub invariant-loop-record : goal.invariant-loop-record

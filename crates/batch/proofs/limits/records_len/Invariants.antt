@@ -1,6 +1,5 @@
 use Rattle.std.proofs.Common.{◌≡◌, ◌≤◌, ◌*◌, length, take}
-use Rattle.wire_spec.specs.declared.limits.TheConstants.{MAX_RECORD_SIZE}
-use Rattle.wire_spec.specs.BatchSpelling.{records_spelling}
+use Rattle.wire_spec.specs.{declared.limits.TheConstants.MAX_RECORD_SIZE, BatchSpelling.records_spelling}
 use Rattle.batch.proofs.limits.records_len.Given as goal
 
 abbrev pub invariant-loop-place : goal.invariant-loop-place

@@ -1,11 +1,9 @@
 use Rattle.std.proofs.Common.{◌≡◌, ◌∙◌, ◌+◌, ◌≤◌, suc, [], ◌∷◌, ◌++◌, length, drop, get_or, drop-cons, subst, sym, ap}
 use Rattle.std.proofs.Common.{arith}
-use Rattle.std.proofs.lemmas.List.{drop_all}
-use Rattle.std.proofs.lemmas.Result.{err_from_is_err_and}
+use Rattle.std.proofs.{lemmas.List.drop_all, lemmas.Result.err_from_is_err_and}
 use Rattle.wire_spec.specs.BatchReading.{records_at}
 use Rattle.kafka_record.specs.Spans.{spanned}
-use Rattle.batch.specs.declared.packed.Entry.{Entry}
-use Rattle.batch.specs.Packed.{entry_records, AreEntriesOf}
+use Rattle.batch.specs.{declared.packed.Entry.Entry, Packed.entry_records, Packed.AreEntriesOf}
 use Rattle.batch.proofs.Loop.{goes_on, ends, is_done, is_over}
 use Rattle.batch.proofs.PackedLaws.{one_more, one_more_of}
 use Rattle.batch.proofs.packed.entries_of.Goals as goal

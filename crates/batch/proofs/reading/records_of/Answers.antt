@@ -1,6 +1,5 @@
 use Rattle.std.proofs.Common.{◌≡◌, ◌+◌, ◌≤◌, suc, [], ◌∷◌, ◌++◌, length, drop, get_or, drop-cons, arith}
-use Rattle.std.proofs.lemmas.List.{drop_all}
-use Rattle.std.proofs.lemmas.Result.{err_from_is_err_and}
+use Rattle.std.proofs.{lemmas.List.drop_all, lemmas.Result.err_from_is_err_and}
 use Rattle.wire_spec.specs.BatchReading.{records_at}
 use Rattle.batch.proofs.Loop.{goes_on, ends, is_done, is_over}
 use Rattle.batch.proofs.reading.records_of.Goals as goal

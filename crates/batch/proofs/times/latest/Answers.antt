@@ -1,7 +1,6 @@
 use Rattle.std.proofs.Common.{rules, ◌≡◌, ◌+ℤ◌, ℤ, ◌+◌, Some, None, sym, ap, ◌∙◌, subst, FitsSigned, to_z, of_z}
 use Rattle.std.proofs.Common.{int_cmp}
-use Rattle.std.specs.Int.{w64, int_max}
-use Rattle.std.specs.Ordering.{ord_max}
+use Rattle.std.specs.{Int.w64, Int.int_max, Ordering.ord_max}
 use Rattle.std.proofs.lemmas.Int.{to_z-of_z}
 use Rattle.batch.specs.Latest.{when_timestamp}
 use Rattle.batch.proofs.Latest.{UpTo, one_more, one_wrong, at_end, max_is}

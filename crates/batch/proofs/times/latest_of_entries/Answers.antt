@@ -1,12 +1,8 @@
 use Rattle.std.proofs.Common.{rules, ◌≡◌, ◌+ℤ◌, ℤ, ◌+◌, ◌<◌, ◌≤◌, Some, None, sym, ap, ◌∙◌, subst, FitsSigned, to_z}
-use Rattle.std.proofs.Common.{of_z}
-use Rattle.std.proofs.Common.{int_cmp, length, get_or, arith}
-use Rattle.std.specs.Int.{w64, int_max}
-use Rattle.std.specs.Ordering.{ord_max}
-use Rattle.std.proofs.lemmas.Int.{to_z-of_z}
-use Rattle.std.proofs.lemmas.List.{length-map, get_or_default}
-use Rattle.batch.specs.Latest.{when_timestamp}
-use Rattle.batch.specs.Packed.{entry_record, entry_records}
+use Rattle.std.proofs.Common.{of_z, int_cmp, length, get_or, arith}
+use Rattle.std.specs.{Int.w64, Int.int_max, Ordering.ord_max}
+use Rattle.std.proofs.{lemmas.Int.to_z-of_z, lemmas.List.length-map, lemmas.List.get_or_default}
+use Rattle.batch.specs.{Latest.when_timestamp, Packed.entry_record, Packed.entry_records}
 use Rattle.batch.proofs.Latest.{UpTo, one_more, one_wrong, at_end, max_is}
 use Rattle.batch.proofs.PackedLaws.{no_entry, record_or}
 use Rattle.batch.proofs.times.latest_of_entries.Goals as goal

@@ -1,14 +1,10 @@
 use Rattle.std.proofs.Common.{rules, ◌≡◌, ℕ, ℤ, ◌+◌, List, ◌++◌, All, length, sym, ap, subst, ◌∙◌, to_z, of_z}
-use Rattle.std.proofs.Common.{FitsSigned}
-use Rattle.std.proofs.Common.{arith}
+use Rattle.std.proofs.Common.{FitsSigned, arith}
 use Rattle.std.specs.Int.{w64}
-use Rattle.std.proofs.lemmas.Int.{to_z-of_z}
-use Rattle.std.proofs.lemmas.List.Elements.{All-from_recursion}
-use Rattle.wire_spec.specs.declared.record.Record.{Record}
-use Rattle.wire_spec.specs.RecordSpelling.{RecordFits}
+use Rattle.std.proofs.{lemmas.Int.to_z-of_z, lemmas.List.Elements.All-from_recursion}
+use Rattle.wire_spec.specs.{declared.record.Record.Record, RecordSpelling.RecordFits}
 use Rattle.wire_spec.specs.BatchSpelling.{greatest, timestamps, records_spelling}
-use Rattle.batch.proofs.WithinLimits.{spelling_length}
-use Rattle.batch.proofs.Written.{finished_is}
+use Rattle.batch.proofs.{WithinLimits.spelling_length, Written.finished_is}
 use Rattle.batch.proofs.writing.encode.Goals as goal
 
 pub begin-requires-clause-most : goal.begin-requires-clause-most

@@ -1,10 +1,8 @@
-use Rattle.std.proofs.Common.{◌≡◌, Err, Ok, Option, Result, sym, subst, ◌∙◌, rules}
-use Rattle.std.specs.Prelude.{Some}
+use Rattle.std.proofs.Common.{◌≡◌, Err, Ok, Option, Result, sym, subst, ◌∙◌, rules, Some}
 use Rattle.wire_spec.specs.declared.record.Batch.{Batch}
 use Rattle.batch.specs.Streams.{Gives}
 use Rattle.batch_reader.specs.Readings.{inlet, left, ReadsBatch, CountsCut}
-use Rattle.batch_reader.specs.declared.reader.ReadFault.{ReadFault}
-use Rattle.batch_reader.specs.declared.reader.ReadFault.TheVariants.{Batch as Refused}
+use Rattle.batch_reader.specs.declared.{reader.ReadFault.ReadFault, reader.ReadFault.TheVariants.Batch as Refused}
 use Rattle.batch_reader.proofs.ReadingLaws.{refuses, gives_batch}
 use Rattle.batch_reader.proofs.reader.next_of.Goals as goal
 

@@ -1,5 +1,4 @@
-use Rattle.std.proofs.Common.{length, string_bytes, refl}
-use Rattle.std.specs.Prelude.{codes}
+use Rattle.std.proofs.Common.{length, string_bytes, refl, codes}
 use Rattle.wire_spec.specs.BatchReading.{base_offset}
 use Rattle.batch_text.specs.Lines.{count_field, field, place_part}
 use Rattle.batch_text.proofs.TextLaws.{pushed_four, place_is}

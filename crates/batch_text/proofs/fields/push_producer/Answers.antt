@@ -1,5 +1,4 @@
-use Rattle.std.proofs.Common.{string_bytes}
-use Rattle.std.specs.Prelude.{codes}
+use Rattle.std.proofs.Common.{string_bytes, codes}
 use Rattle.wire_spec.specs.BatchReading.{leader_epoch, producer_id, producer_epoch, base_sequence}
 use Rattle.batch_text.specs.Lines.{field, producer_part}
 use Rattle.batch_text.proofs.TextLaws.{pushed_four, producer_is}

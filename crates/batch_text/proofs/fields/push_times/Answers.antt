@@ -1,5 +1,4 @@
-use Rattle.std.proofs.Common.{string_bytes}
-use Rattle.std.specs.Prelude.{codes}
+use Rattle.std.proofs.Common.{string_bytes, codes}
 use Rattle.wire_spec.specs.BatchReading.{base_timestamp, max_timestamp}
 use Rattle.batch_text.specs.Lines.{field, time_part}
 use Rattle.batch_text.proofs.TextLaws.{pushed, time_is}

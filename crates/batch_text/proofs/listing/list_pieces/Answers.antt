@@ -1,8 +1,6 @@
-use Rattle.std.proofs.Common.{rules, ◌≡◌, ℕ, ◌+◌, ◌≤◌, length, Ok, Err, sym, ap, subst, ◌∙◌}
-use Rattle.std.specs.Prelude.{Some}
+use Rattle.std.proofs.Common.{rules, ◌≡◌, ℕ, ◌+◌, ◌≤◌, length, Ok, Err, sym, ap, subst, ◌∙◌, Some}
 use Rattle.std.specs.Io.KnownBytes.{prepend_known}
-use Rattle.batch_text.specs.declared.listing.ListFault.{ListFault}
-use Rattle.batch_text.specs.Listings.{Lists, Takes}
+use Rattle.batch_text.specs.{declared.listing.ListFault.ListFault, Listings.Lists, Listings.Takes}
 use Rattle.batch_text.proofs.ListingLaws.{goes_on, refused, unlisted}
 use Rattle.batch_text.proofs.listing.list_pieces.Goals as goal
 

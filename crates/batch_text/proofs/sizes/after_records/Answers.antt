@@ -1,5 +1,4 @@
-use Rattle.std.proofs.Common.{rules, ◌≡◌, ◌+◌, ◌-◌, ◌<◌, arith, ap, sym, ◌∙◌}
-use Rattle.std.specs.Prelude.{Some, None}
+use Rattle.std.proofs.Common.{rules, ◌≡◌, ◌+◌, ◌-◌, ◌<◌, arith, ap, sym, ◌∙◌, Some, None}
 use Rattle.batch_text.specs.Causes.{after_record, after_records}
 use Rattle.batch_text.proofs.CauseLaws.{after_none, after_one, after_all}
 use Rattle.batch_text.proofs.sizes.after_records.Goals as goal

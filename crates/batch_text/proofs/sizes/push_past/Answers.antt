@@ -1,5 +1,4 @@
-use Rattle.std.proofs.Common.{◌++◌, string_bytes, refl}
-use Rattle.std.specs.Prelude.{codes}
+use Rattle.std.proofs.Common.{◌++◌, string_bytes, refl, codes}
 use Rattle.batch_text.specs.Lines.{count_field}
 use Rattle.batch_text.proofs.TextLaws.{pushed, str_pushed}
 use Rattle.batch_text.proofs.sizes.push_past.Goals as goal

@@ -1,5 +1,4 @@
-use Rattle.std.proofs.Common.{◌≡◌, false, length, Err, rules, arith}
-use Rattle.std.specs.Prelude.{◌==◌}
+use Rattle.std.proofs.Common.{◌≡◌, false, length, Err, rules, arith, ◌==◌}
 use Rattle.batch_transform.specs.Passes.{PassesOne, TakesOne}
 use Rattle.batch_transform.proofs.PassLaws.{passed_until}
 use Rattle.batch_transform.proofs.pass.pass_all.Goals as goal

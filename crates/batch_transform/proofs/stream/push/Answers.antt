@@ -1,14 +1,12 @@
 use Rattle.std.proofs.Common.{◌≡◌, ◌+◌, ◌≤◌, List, length, Some, refl, sym, subst, rules, arith}
 use Rattle.std.proofs.lemmas.List.{with_items_is}
 use Rattle.wire_spec.specs.declared.limits.TheConstants.{TIMESTAMP_END, MAX_RECORDS}
-use Rattle.log_spec.specs.declared.row.Row.{Row}
-use Rattle.log_spec.specs.Logs.{Records}
+use Rattle.log_spec.specs.{declared.row.Row.Row, Logs.Records}
 use Rattle.fates.specs.Totals.{Totals, AreItemCounts}
 use Rattle.item_rows.specs.ItemRows.{rows_in, AreItemRows}
 use Rattle.transform.specs.Outlets.{Outflow}
 use Rattle.transform.specs.Transforms.{origin_of, InEach, Fills}
-use Rattle.batch_transform.specs.declared.{stream.Stream.Stream}
-use Rattle.batch_transform.specs.Passes.{flow_of}
+use Rattle.batch_transform.specs.{declared.stream.Stream.Stream, Passes.flow_of}
 use Rattle.transform.proofs.CountLaws.{batch_counted}
 use Rattle.batch_transform.proofs.PassLaws.{pushed}
 use Rattle.batch_transform.proofs.stream.push.Goals as goal

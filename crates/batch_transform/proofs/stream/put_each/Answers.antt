@@ -1,7 +1,5 @@
-use Rattle.std.proofs.Common.{◌<◌, ◌≤◌, List, length, sym, subst, arith}
-use Rattle.std.specs.Prelude.{All}
-use Rattle.log_spec.specs.declared.row.Row.{Row}
-use Rattle.log_spec.specs.Logs.{RowFits}
+use Rattle.std.proofs.Common.{◌<◌, ◌≤◌, List, length, sym, subst, arith, All}
+use Rattle.log_spec.specs.{declared.row.Row.Row, Logs.RowFits}
 use Rattle.item_rows.specs.ItemRows.{rows_in}
 use Rattle.transform.specs.Transforms.{Fills}
 use Rattle.transform.proofs.EachLaws.{first_none, first_more, first_all, rows_at}

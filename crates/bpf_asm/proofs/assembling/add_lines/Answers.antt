@@ -1,7 +1,6 @@
 use Rattle.std.proofs.Common.{◌≡◌, ◌-◌, ◌≤◌, ◌∙◌, ap, length, drop, take, arith}
 use Rattle.std.specs.List.{position_or_len}
-use Rattle.std.proofs.lemmas.List.{take_rest, length-drop}
-use Rattle.std.proofs.lemmas.Result.{err_from_is_err_and}
+use Rattle.std.proofs.{lemmas.List.take_rest, lemmas.List.length-drop, lemmas.Result.err_from_is_err_and}
 use Rattle.bpf_asm.specs.Reading.{is_line_feed}
 use Rattle.bpf_asm.proofs.Lines.{read_more, read_refused}
 use Rattle.bpf_asm.proofs.assembling.add_lines.Goals as goal
@@ -18,10 +17,9 @@ loop-start-preserved c =
     let line = take end (take (length text - start) (drop start text)) in
     let size : length (take (length text - start) (drop start text)) ≡ length text - start = ap length rest
     ∙ length-drop start text in
-    let end_within : end ≤ length (take (length text - start) (drop start text)) = c.place_of-end.ensures.is_within in
     record {
-      within = omega (arith, size, end_within);
-      counted = omega (arith, c.loop-start.invariant.counted);
+      within = omega arith;
+      counted = omega arith;
       read = read_more text line c.loop-start.image.items c.add_line.new.image.items c.loop-start.number start end
           within place (ap (take end) rest) c.in_ok-add_line.ensures.ok c.loop-start.invariant.read;
     }

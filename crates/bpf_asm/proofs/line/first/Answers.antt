@@ -1,4 +1,4 @@
-use Rattle.std.proofs.Common.{◌+◌, ◌∙◌, ap, sym, List, [], ◌∷◌, ℕ, arith}
+use Rattle.std.proofs.Common.{◌+◌, arith}
 use Rattle.std.proofs.lemmas.List.{take_rest}
 use Rattle.bpf_asm.proofs.Scanning.{first_operand, last_operand}
 use Rattle.bpf_asm.proofs.line.first.Goals as goal
@@ -11,5 +11,5 @@ returns-then-end-text c =
 
 pub returns-else-end-text : goal.returns-else-end-text
 returns-else-end-text c =
-    last_operand c.args.text.now c.place_of-end.result (omega arith) c.place_of-end.ensures.is
-    ∙ ap (λ (operand : List ℕ). operand ∷ []) (sym c.after_spaces-else-end-text.ensures)
+    rw c.after_spaces-else-end-text.ensures
+    (last_operand c.args.text.now c.place_of-end.result (omega arith) c.place_of-end.ensures.is)

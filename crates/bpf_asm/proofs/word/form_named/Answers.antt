@@ -1,10 +1,8 @@
-use Rattle.std.proofs.Common.{◌≡◌, ◌∙◌, ◌++◌, ap, sym, ℕ, List, Option, Some, None}
-use Rattle.std.specs.Prelude.{find}
+use Rattle.std.proofs.Common.{◌≡◌, ◌∙◌, ◌++◌, sym, ℕ, List, Option, Some, None, find}
 use Rattle.std.specs.{Option.option_or, Str.bytes_eq}
 use Rattle.std.proofs.lemmas.List.Folds.{find-append}
 use Rattle.machine_spec.specs.declared.{instruction.Instruction.Instruction, opcode.TheConstants.TEMPLATES}
-use Rattle.bpf_asm.specs.declared.word.TheConstants.{OTHER_FORMS}
-use Rattle.bpf_asm.specs.Words.{word_of, form_named}
+use Rattle.bpf_asm.specs.{declared.word.TheConstants.OTHER_FORMS, Words.word_of, Words.form_named}
 use Rattle.bpf_asm.proofs.word.form_named.Goals as goal
 
 -- a search of one table and then of another is one of both
@@ -13,8 +11,7 @@ in_both : (word : List ℕ) (forms others : List Instruction) (first : Option In
     option_or first (find (λ form. bytes_eq (word_of form) word) others)
     ≡ find (λ form. bytes_eq (word_of form) word) (forms ++ others)
 in_both word forms others first found =
-    ap (λ (o : Option Instruction). option_or o (find (λ form. bytes_eq (word_of form) word) others)) (sym found)
-    ∙ sym (find-append (λ form. bytes_eq (word_of form) word) forms others)
+    rw (find-append (λ form. bytes_eq (word_of form) word) forms others, found)
 
 pub returns-in-Some : goal.returns-in-Some
 unfolding form_named

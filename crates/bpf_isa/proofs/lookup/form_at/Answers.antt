@@ -1,7 +1,5 @@
-use Rattle.std.proofs.Common.{◌≡◌, ℕ, List, Option, Some, None, sym, ap, ◌∙◌}
-use Rattle.std.specs.Prelude.{IfSome}
-use Rattle.machine_spec.specs.declared.instruction.Instruction.{Instruction}
-use Rattle.machine_spec.specs.Image.{form_at, if_read}
+use Rattle.std.proofs.Common.{◌≡◌, ℕ, List, Option, Some, None, sym, ap, ◌∙◌, IfSome}
+use Rattle.machine_spec.specs.{declared.instruction.Instruction.Instruction, Image.form_at, Image.if_read}
 use Rattle.bpf_isa.specs.Spelling.{HasRegisters}
 use Rattle.bpf_isa.proofs.Bytes.{form_read, slot_registers}
 use Rattle.bpf_isa.proofs.lookup.form_at.Goals as goal

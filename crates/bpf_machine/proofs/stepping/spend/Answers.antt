@@ -1,6 +1,5 @@
 use Rattle.std.proofs.Common.{ap, ◌∙◌}
-use Rattle.machine_spec.specs.Values.{Registers, Nothing}
-use Rattle.machine_spec.specs.Machine.{with_register}
+use Rattle.machine_spec.specs.{Values.Registers, Values.Nothing, Machine.with_register}
 use Rattle.bpf_machine.specs.Views.{value_of, registers_of}
 use Rattle.bpf_machine.proofs.Pieces.{registers-spent}
 use Rattle.bpf_machine.proofs.stepping.spend.Goals as goal

@@ -1,8 +1,6 @@
 use Rattle.std.proofs.Common.{◌<◌, ◌^◌, ap, ◌∙◌, arith}
 use Rattle.machine_spec.specs.Image.{Program, program_of, slot_count}
-use Rattle.machine_spec.specs.Values.{Value}
-use Rattle.machine_spec.specs.Machine.{Input, State}
-use Rattle.machine_spec.specs.Meaning.{outcome_of}
+use Rattle.machine_spec.specs.{Values.Value, Machine.Input, Machine.State, Meaning.outcome_of}
 use Rattle.helpers.specs.Emitted.{emissions_in}
 use Rattle.bpf_machine.specs.States.{state_in}
 use Rattle.bpf_machine.proofs.Bounds.{near_of, step_further}

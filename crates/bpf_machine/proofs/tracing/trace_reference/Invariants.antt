@@ -1,6 +1,5 @@
 use Rattle.std.proofs.Common.{◌+◌, ◌-◌}
-use Rattle.machine_spec.specs.Image.{slot_count}
-use Rattle.machine_spec.specs.Meaning.{Reaches}
+use Rattle.machine_spec.specs.{Image.slot_count, Meaning.Reaches}
 use Rattle.bpf_machine.specs.States.{program_run, input_of, state_of}
 use Rattle.bpf_machine.proofs.tracing.trace_reference.Given as goal
 

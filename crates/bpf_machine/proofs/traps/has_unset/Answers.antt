@@ -1,5 +1,4 @@
-use Rattle.std.proofs.Common.{◌≡◌, ◌+◌, false, sym, ap, ◌∙◌}
-use Rattle.std.specs.Prelude.{is_none}
+use Rattle.std.proofs.Common.{◌≡◌, ◌+◌, false, sym, ap, ◌∙◌, is_none}
 use Rattle.bpf_machine.specs.Views.{stack_of}
 use Rattle.bpf_machine.proofs.Loads.{unset_open}
 use Rattle.bpf_machine.proofs.traps.has_unset.Goals as goal

@@ -1,8 +1,6 @@
 use Rattle.std.proofs.Common.{◌≡◌, drop}
 use Rattle.std.specs.List.{list_any}
-use Rattle.machine_spec.specs.declared.helper.Argument.{Argument}
-use Rattle.machine_spec.specs.Values.{is_nothing}
-use Rattle.machine_spec.specs.Traps.{argument_registers}
+use Rattle.machine_spec.specs.{declared.helper.Argument.Argument, Values.is_nothing, Traps.argument_registers}
 use Rattle.bpf_machine.specs.Views.{registers_of}
 use Rattle.bpf_machine.proofs.traps.is_one_nothing.Given as goal
 

@@ -1,5 +1,4 @@
-use Rattle.std.proofs.Common.{◌≡◌, take}
-use Rattle.std.specs.Prelude.{None}
+use Rattle.std.proofs.Common.{◌≡◌, take, None}
 use Rattle.log_spec.specs.Catalogue.{among}
 use Rattle.catalogue.proofs.versions.place_of.Given as goal
 

@@ -1,5 +1,4 @@
-use Rattle.std.proofs.Common.{rules, ◌≡◌, ◌<◌, length, take, get_or, true, ◌++◌, ◌∷◌, [], ◌∙◌}
-use Rattle.std.specs.Prelude.{None}
+use Rattle.std.proofs.Common.{rules, ◌≡◌, ◌<◌, length, take, get_or, true, ◌++◌, ◌∷◌, [], ◌∙◌, None}
 use Rattle.std.specs.Str.{bytes_eq}
 use Rattle.log_spec.specs.Catalogue.{among}
 use Rattle.catalogue.proofs.VersionLaws.{with_version-set, with_version-push}

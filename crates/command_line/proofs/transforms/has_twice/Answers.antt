@@ -1,4 +1,4 @@
-use Rattle.std.proofs.Common.{◌≡◌, false, sym, ◌∙◌}
+use Rattle.std.proofs.Common.{false, sym, ◌∙◌}
 use Rattle.command_line.proofs.CallLaws.{one_distinct}
 use Rattle.command_line.proofs.transforms.has_twice.Goals as goal
 

@@ -1,7 +1,6 @@
 use Rattle.std.proofs.Common.{◌≢◌, Option, Some, None, sym, ◌∙◌, inl, inr}
 use Rattle.explain.specs.declared.explanation.Refusal.{Refusal}
-use Rattle.commands.specs.declared.status.Status.TheVariants.{Failed}
-use Rattle.commands.specs.Explanations.{status_of_refusal}
+use Rattle.commands.specs.{declared.status.Status.TheVariants.Failed, Explanations.status_of_refusal}
 use Rattle.commands.proofs.call.explain_bytes.Goals as goal
 
 not_failed : (refusal : Option Refusal) → status_of_refusal refusal ≢ Failed

@@ -1,5 +1,4 @@
-use Rattle.std.proofs.Common.{◌≡◌, take, refl}
-use Rattle.std.specs.Prelude.{Some, option_map}
+use Rattle.std.proofs.Common.{◌≡◌, take, refl, Some, option_map}
 use Rattle.commands.specs.Images.{first_bytes}
 use Rattle.commands.proofs.image.read_first.Goals as goal
 

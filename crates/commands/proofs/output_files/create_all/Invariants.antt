@@ -1,5 +1,4 @@
-use Rattle.std.proofs.Common.{◌≡◌, true, length}
-use Rattle.std.specs.Prelude.{All}
+use Rattle.std.proofs.Common.{◌≡◌, true, length, All}
 use Rattle.command_line.specs.Calls.{names_of}
 use Rattle.commands.specs.FileTransforms.{KeepsOthers, IsFresh}
 use Rattle.commands.proofs.output_files.create_all.Given as goal

@@ -1,5 +1,4 @@
-use Rattle.std.proofs.Common.{ℕ, List, [], ap, ◌∙◌}
-use Rattle.std.specs.Prelude.{Option}
+use Rattle.std.proofs.Common.{ℕ, List, [], ap, ◌∙◌, Option}
 use Rattle.batch.specs.Streams.{Open}
 use Rattle.batch_reader.specs.Readings.{inlet, none_given}
 use Rattle.commands.proofs.transforming.write_files.Goals as goal

@@ -1,8 +1,5 @@
-use Rattle.std.proofs.Common.{sym, ap, ◌∙◌, inl, inr, subst, ◌≡◌, ◌≢◌, ℕ, List, Option, Some}
-use Rattle.std.specs.Prelude.{codes}
-use Rattle.std.proofs.Math.Path.{fun_ext}
-use Rattle.std.proofs.lemmas.Bool.{cases_Bool}
-use Rattle.std.proofs.lemmas.Slice.Eq.{bytes_eq-Decides}
+use Rattle.std.proofs.Common.{sym, ap, ◌∙◌, inl, inr, subst, ◌≡◌, ◌≢◌, ℕ, List, Option, Some, codes}
+use Rattle.std.proofs.{Math.Path.fun_ext, lemmas.Bool.cases_Bool, lemmas.Slice.Eq.bytes_eq-Decides}
 use Rattle.std.specs.Str.{bytes_eq}
 use Rattle.commands.specs.Rechecks.{RechecksAs}
 use Rattle.commands_tests.specs.Shelves.{bytes_in, with_file}

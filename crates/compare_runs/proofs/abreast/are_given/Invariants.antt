@@ -1,7 +1,6 @@
 use Rattle.std.proofs.Common.{ℕ, ◌<◌, get_or}
 use Rattle.wire_spec.specs.declared.record.Record.{Record}
-use Rattle.machine_spec.specs.declared.outcome.Place.{Place}
-use Rattle.machine_spec.specs.Meaning.{IsPlace}
+use Rattle.machine_spec.specs.{declared.outcome.Place.Place, Meaning.IsPlace}
 use Rattle.exec.specs.Records.{IsShortRecord}
 use Rattle.compare_runs.proofs.abreast.are_given.Given as goal
 

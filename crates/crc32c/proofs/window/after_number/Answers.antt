@@ -1,7 +1,6 @@
 use Rattle.std.proofs.Common.{◌∙◌, refl, arith}
 use Rattle.std.specs.Int.{w128, to_le_bytes}
-use Rattle.crc32c.proofs.Numbers.{bytes-below}
-use Rattle.crc32c.proofs.Places.{after-bytes_of}
+use Rattle.crc32c.proofs.{Numbers.bytes-below, Places.after-bytes_of}
 use Rattle.crc32c.proofs.window.after_number.Goals as goal
 
 pub returns : goal.returns

@@ -1,6 +1,5 @@
 use Rattle.std.proofs.Common.{◌≡◌, arith, length, rules}
-use Rattle.crc32c.proofs.Places.{Blocks-from, folded_is}
-use Rattle.crc32c.proofs.Steps.{each_below}
+use Rattle.crc32c.proofs.{Places.Blocks-from, Places.folded_is, Steps.each_below}
 use Rattle.crc32c.proofs.window.folded.Goals as goal
 
 pub returns : goal.returns

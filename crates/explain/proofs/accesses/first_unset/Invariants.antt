@@ -1,5 +1,4 @@
-use Rattle.std.proofs.Common.{◌≡◌}
-use Rattle.std.specs.Prelude.{None}
+use Rattle.std.proofs.Common.{◌≡◌, None}
 use Rattle.explain.specs.Reasons.{first_below, is_unset_in}
 use Rattle.explain.proofs.accesses.first_unset.Given as goal
 

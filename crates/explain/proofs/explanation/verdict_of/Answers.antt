@@ -1,6 +1,5 @@
 use Rattle.std.proofs.Common.{subst}
-use Rattle.verifier_spec.specs.declared.fault.LoadFault.{LoadFault}
-use Rattle.verifier_spec.specs.declared.fault.LoadFault.TheVariants.{Isa}
+use Rattle.verifier_spec.specs.declared.{fault.LoadFault.LoadFault, fault.LoadFault.TheVariants.Isa}
 use Rattle.annotate.specs.Loads.{FaultIs}
 use Rattle.explain.proofs.Verdicts.{not_read}
 use Rattle.explain.proofs.explanation.verdict_of.Goals as goal

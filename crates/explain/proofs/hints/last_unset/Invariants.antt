@@ -1,7 +1,5 @@
-use Rattle.std.proofs.Common.{◌≡◌}
-use Rattle.std.specs.Prelude.{None}
-use Rattle.explain.specs.Reasons.{first_below}
-use Rattle.explain.specs.Hints.{ends_unset}
+use Rattle.std.proofs.Common.{◌≡◌, None}
+use Rattle.explain.specs.{Reasons.first_below, Hints.ends_unset}
 use Rattle.explain.proofs.hints.last_unset.Given as goal
 
 abbrev pub invariant-loop-place : goal.invariant-loop-place

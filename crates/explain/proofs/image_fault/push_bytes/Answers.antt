@@ -1,5 +1,4 @@
-use Rattle.std.proofs.Common.{◌≡◌, ◌++◌, rules, string_bytes}
-use Rattle.std.specs.Prelude.{slice_index}
+use Rattle.std.proofs.Common.{◌≡◌, ◌++◌, rules, string_bytes, slice_index}
 use Rattle.explain.specs.ImageFaults.{byte_text}
 use Rattle.explain.proofs.Growing.{none_yet, one_more}
 use Rattle.explain.proofs.image_fault.push_bytes.Goals as goal

@@ -1,7 +1,5 @@
-use Rattle.std.proofs.Common.{◌≡◌, ◌++◌, string_bytes}
-use Rattle.std.specs.Prelude.{slice_index}
-use Rattle.explain.specs.ImageFaults.{byte_text}
-use Rattle.explain.specs.Texts.{texts_below}
+use Rattle.std.proofs.Common.{◌≡◌, ◌++◌, string_bytes, slice_index}
+use Rattle.explain.specs.{ImageFaults.byte_text, Texts.texts_below}
 use Rattle.explain.proofs.image_fault.push_bytes.Given as goal
 
 abbrev pub invariant-loop-i : goal.invariant-loop-i

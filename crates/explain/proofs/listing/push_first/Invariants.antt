@@ -1,6 +1,5 @@
 use Rattle.std.proofs.Common.{◌≡◌, ◌++◌, string_bytes}
-use Rattle.explain.specs.Texts.{texts_below}
-use Rattle.explain.specs.Ways.{lines_where, is_selected}
+use Rattle.explain.specs.{Texts.texts_below, Ways.lines_where, Ways.is_selected}
 use Rattle.explain.proofs.listing.push_first.Given as goal
 
 abbrev pub invariant-loop-k : goal.invariant-loop-k

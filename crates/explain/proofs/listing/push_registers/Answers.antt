@@ -1,6 +1,5 @@
 use Rattle.std.proofs.Common.{◌≡◌, ◌++◌, ap, ◌∙◌, rules, string_bytes}
-use Rattle.verifier_spec.specs.declared.state.Abs.{Abs}
-use Rattle.verifier_spec.specs.Kinds.{kind_at}
+use Rattle.verifier_spec.specs.{declared.state.Abs.Abs, Kinds.kind_at}
 use Rattle.explain.specs.Texts.{register_text}
 use Rattle.explain.proofs.Growing.{none_yet, one_more}
 use Rattle.explain.proofs.listing.push_registers.Goals as goal

@@ -1,7 +1,5 @@
-use Rattle.std.proofs.Common.{◌≡◌}
-use Rattle.std.specs.Prelude.{None}
-use Rattle.explain.specs.Reasons.{first_below}
-use Rattle.explain.specs.Meetings.{arrives}
+use Rattle.std.proofs.Common.{◌≡◌, None}
+use Rattle.explain.specs.{Reasons.first_below, Meetings.arrives}
 use Rattle.explain.proofs.meeting.first_arrival.Given as goal
 
 abbrev pub invariant-loop-k : goal.invariant-loop-k

@@ -1,5 +1,4 @@
-use Rattle.std.proofs.Common.{◌≡◌, drop}
-use Rattle.std.specs.Prelude.{find}
+use Rattle.std.proofs.Common.{◌≡◌, drop, find}
 use Rattle.verifier_spec.specs.Checks.{is_wrong_argument_kind}
 use Rattle.explain.proofs.operands.first_wrong.Given as goal
 

@@ -1,5 +1,4 @@
-use Rattle.std.proofs.Common.{◌≡◌, drop}
-use Rattle.std.specs.Prelude.{find}
+use Rattle.std.proofs.Common.{◌≡◌, drop, find}
 use Rattle.std.specs.List.{flat_map}
 use Rattle.machine_spec.specs.Traps.{argument_registers}
 use Rattle.verifier_spec.specs.Kinds.{kind_at, is_unknown}

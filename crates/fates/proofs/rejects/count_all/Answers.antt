@@ -1,7 +1,6 @@
 use Rattle.std.proofs.Common.{◌≡◌, List, ℕ, ap, subst, arith, Option}
 use Rattle.std.specs.Prelude.{unwrap_or}
-use Rattle.fates.specs.Totals.{rejects_of}
-use Rattle.fates.specs.Rejects.{as_summed}
+use Rattle.fates.specs.{Totals.rejects_of, Rejects.as_summed}
 use Rattle.fates.proofs.RejectLaws.{Setting, setting_next, first_count, first_in, first_listed}
 use Rattle.fates.proofs.rejects.count_all.Goals as goal
 

@@ -1,6 +1,5 @@
 use Rattle.std.proofs.Common.{◌≡◌, ◌+◌, List, ℕ, Some, subst, arith}
-use Rattle.fates.specs.Totals.{rejects_of}
-use Rattle.fates.specs.Rejects.{IsSet, as_listed}
+use Rattle.fates.specs.{Totals.rejects_of, Rejects.IsSet, Rejects.as_listed}
 use Rattle.fates.proofs.RejectLaws.{Setting, setting_next, first_count}
 use Rattle.fates.proofs.rejects.list_all.Goals as goal
 

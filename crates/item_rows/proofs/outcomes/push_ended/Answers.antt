@@ -1,7 +1,6 @@
 use Rattle.std.proofs.Common.{◌≡◌, List, refl, sym, subst, ◌∙◌}
 use Rattle.std.proofs.lemmas.Option.{same_Some}
-use Rattle.helpers.specs.declared.emitted.Emitted.{Emitted}
-use Rattle.helpers.specs.Emitted.{emissions_in}
+use Rattle.helpers.specs.{declared.emitted.Emitted.Emitted, Emitted.emissions_in}
 use Rattle.exec.specs.declared.ending.Ending.{Ending}
 use Rattle.exec.specs.Endings.{Ended, outcome_in, outcome_with}
 use Rattle.log_spec.specs.Logs.{rows_of}

@@ -1,9 +1,6 @@
 use Rattle.std.proofs.Common.{◌≡◌, List, refl, sym, subst}
-use Rattle.helpers.specs.declared.emitted.Emitted.{Emitted}
-use Rattle.helpers.specs.Emitted.{emissions_in}
-use Rattle.exec.specs.declared.ending.Ending.{Ending}
-use Rattle.exec.specs.declared.ending.Ending.TheVariants.{Rejected}
-use Rattle.exec.specs.Endings.{outcome_with}
+use Rattle.helpers.specs.{declared.emitted.Emitted.Emitted, Emitted.emissions_in}
+use Rattle.exec.specs.{declared.ending.Ending.Ending, declared.ending.Ending.TheVariants.Rejected, Endings.outcome_with}
 use Rattle.log_spec.specs.Logs.{rows_of, rows_to}
 use Rattle.fates.specs.declared.fate.Fate.TheVariants as fate
 use Rattle.fates.specs.Fates.{fate_of}

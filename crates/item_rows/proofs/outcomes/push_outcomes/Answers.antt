@@ -1,26 +1,20 @@
 use Rattle.std.proofs.Common.{◌≡◌, ◌<◌, ◌+◌, ◌++◌, List, length, map, take, get_or, slice_get, Some, sym, ap, subst}
-use Rattle.std.proofs.Common.{◌∙◌}
-use Rattle.std.proofs.Common.{arith, [], ◌∷◌}
+use Rattle.std.proofs.Common.{◌∙◌, arith, [], ◌∷◌}
 use Rattle.std.proofs.lemmas.List.{length-map, length-take, map-append, take_more, get_or_default}
 use Rattle.std.proofs.lemmas.Option.{slice_get-get_or, get_or_from_slice_get}
-use Rattle.exec.specs.declared.ending.Ending.TheVariants.{Kept}
 use Rattle.machine_spec.specs.declared.{outcome.Outcome.Outcome, outcome.Place.Place}
-use Rattle.exec.specs.Endings.{Ended, outcome_in, outcomes_of}
-use Rattle.fates.specs.declared.fate.Fate.{Fate}
-use Rattle.fates.specs.Fates.{fate_of}
-use Rattle.fates.specs.Totals.{AreCounts}
+use Rattle.exec.specs.Endings.{outcome_in, outcomes_of}
+use Rattle.fates.specs.{declared.fate.Fate.Fate, Fates.fate_of, Totals.AreCounts}
 use Rattle.item_rows.specs.ItemRows.{Adds}
 use Rattle.item_rows.specs.Blocks.{records_from, rows_of_each, AreFatesMore}
 use Rattle.item_rows.proofs.RowLaws.{take_all}
-use Rattle.item_rows.proofs.BlockLaws.{one_fate, fates_then, outcome_more, outcomes_long, outcome_here}
-use Rattle.item_rows.proofs.BlockLaws.{between_at, between_long}
+use Rattle.item_rows.proofs.BlockLaws.{one_fate, fates_then, outcome_more, outcomes_long, outcome_here, between_at}
+use Rattle.item_rows.proofs.BlockLaws.{between_long}
 use Rattle.item_rows.proofs.outcomes.push_outcomes.Goals as goal
+use Rattle.exec.proofs.Outcomes.{no_ending}
 
 abbrev nowhere : Place
 nowhere = record { partition = 0; offset = 0; timestamp = 0; outputs = 0 }
-
-no_ending : Ended
-no_ending = record { ending = Kept; emitted = [] }
 
 pub push_ended-requires-clause-within : goal.push_ended-requires-clause-within
 push_ended-requires-clause-within c = omega (

@@ -2,8 +2,7 @@ use Rattle.std.proofs.Common.{◌≡◌, ◌-◌, List, ◌++◌, sym, ap, subst
 use Rattle.std.proofs.lemmas.List.{length-append, length-map, map-append, append-nil}
 use Rattle.std.specs.Vec.Iter.{drain_items}
 use Rattle.machine_spec.specs.declared.outcome.Emission.{Emission}
-use Rattle.helpers.specs.declared.emitted.Emitted.{Emitted}
-use Rattle.helpers.specs.Emitted.{emission_in, emissions_in}
+use Rattle.helpers.specs.{declared.emitted.Emitted.Emitted, Emitted.emission_in, Emitted.emissions_in}
 use Rattle.log_spec.specs.Logs.{rows_to}
 use Rattle.item_rows.specs.ItemRows.{Adds}
 use Rattle.item_rows.proofs.RowLaws.{emissions_more, take_all}

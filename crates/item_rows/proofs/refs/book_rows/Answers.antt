@@ -2,8 +2,7 @@ use Rattle.std.proofs.Common.{length, ◌∙◌, arith}
 use Rattle.std.proofs.lemmas.List.{length-map}
 use Rattle.std.specs.Arc.{arc_value}
 use Rattle.item_rows.specs.RowRefs.{row_in, rows_by}
-use Rattle.item_rows.proofs.RowLaws.{take_all}
-use Rattle.item_rows.proofs.RefLaws.{within_at, one_taken}
+use Rattle.item_rows.proofs.{RowLaws.take_all, RefLaws.within_at, RefLaws.one_taken}
 use Rattle.item_rows.proofs.refs.book_rows.Goals as goal
 
 pub of-requires : goal.of-requires

@@ -1,8 +1,7 @@
 use Rattle.std.proofs.Common.{[], ◌∙◌, arith}
 use Rattle.std.proofs.lemmas.List.{length-map}
 use Rattle.item_rows.specs.RowRefs.{row_in, rows_by}
-use Rattle.item_rows.proofs.RowLaws.{take_all}
-use Rattle.item_rows.proofs.RefLaws.{within_at, one_taken}
+use Rattle.item_rows.proofs.{RowLaws.take_all, RefLaws.within_at, RefLaws.one_taken}
 use Rattle.item_rows.proofs.refs.given_rows.Goals as goal
 
 pub of_given-requires : goal.of_given-requires

@@ -1,5 +1,4 @@
-use Rattle.std.proofs.Common.{◌+◌, ◌-◌, ◌≤◌, [], arith, length, take, drop, subst, unwrap_or, option_map}
-use Rattle.std.specs.Prelude.{Option}
+use Rattle.std.proofs.Common.{◌+◌, ◌-◌, ◌≤◌, [], arith, length, take, drop, subst, unwrap_or, option_map, Option}
 use Rattle.std.proofs.lemmas.List.{length-take}
 use Rattle.bytes.proofs.Ranges.{slice_range-slice_range}
 use Rattle.kafka_record.specs.declared.spans.Extent.{Extent}

@@ -1,7 +1,5 @@
-use Rattle.std.proofs.Common.{List, All, IsTrue, subst, rules}
-use Rattle.std.specs.Prelude.{◌↔◌}
-use Rattle.wire_spec.specs.declared.record.Header.{Header}
-use Rattle.wire_spec.specs.RecordSpelling.{HeaderFits}
+use Rattle.std.proofs.Common.{List, All, IsTrue, subst, rules, ◌↔◌}
+use Rattle.wire_spec.specs.{declared.record.Header.Header, RecordSpelling.HeaderFits}
 use Rattle.kafka_record.proofs.Within.{fits_iff}
 use Rattle.kafka_record.proofs.limits.fits.Goals as goal
 

@@ -1,6 +1,5 @@
 use Rattle.std.proofs.Common.{ℕ, ◌<◌, get_or}
-use Rattle.wire_spec.specs.declared.record.Header.{Header}
-use Rattle.wire_spec.specs.RecordSpelling.{HeaderFits}
+use Rattle.wire_spec.specs.{declared.record.Header.Header, RecordSpelling.HeaderFits}
 use Rattle.kafka_record.proofs.limits.headers_fit.Given as goal
 
 abbrev pub invariant-loop-header : goal.invariant-loop-header

@@ -1,7 +1,5 @@
-use Rattle.std.proofs.Common.{drop, refl, ◌≡◌, arith}
-use Rattle.std.specs.Prelude.{None, Err, ok_or}
-use Rattle.wire_spec.specs.Memory.{IsFault}
-use Rattle.wire_spec.specs.RecordReading.{record_at}
+use Rattle.std.proofs.Common.{drop, refl, ◌≡◌, arith, None, Err, ok_or}
+use Rattle.wire_spec.specs.{Memory.IsFault, RecordReading.record_at}
 use Rattle.kafka_record.specs.declared.fault.RecordFault.TheVariants.{Bad, Memory}
 use Rattle.kafka_record.proofs.Answered.{past_end, is_only}
 use Rattle.kafka_record.proofs.reading.read.Goals as goal

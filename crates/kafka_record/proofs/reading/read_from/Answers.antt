@@ -1,10 +1,8 @@
-use Rattle.std.proofs.Common.{drop, subst, arith}
-use Rattle.std.specs.Prelude.{ℤ, ok_or}
+use Rattle.std.proofs.Common.{drop, subst, arith, ℤ, ok_or}
 use Rattle.std.specs.Int.{w32}
 use Rattle.std.proofs.lemmas.Int.{to_z-of_z}
-use Rattle.wire_spec.specs.RecordReading.{record_at}
+use Rattle.wire_spec.specs.{RecordReading.record_at, Memory.AnswersAs}
 use Rattle.wire_spec.proofs.Varints.{IsBytes}
-use Rattle.wire_spec.specs.Memory.{AnswersAs}
 use Rattle.kafka_record.specs.declared.fault.RecordFault.TheVariants.{Bad, Memory}
 use Rattle.kafka_record.proofs.Answered.{view, is_found, is_only}
 use Rattle.kafka_record.proofs.reading.read_from.Goals as goal

@@ -1,9 +1,7 @@
-use Rattle.std.proofs.Common.{◌≡◌, ◌∙◌, ◌+◌, ◌-◌, ℕ, List, drop, ap, refl, arith, rules}
-use Rattle.std.specs.Prelude.{Some, None, FitsSigned}
+use Rattle.std.proofs.Common.{◌≡◌, ◌∙◌, ◌+◌, ◌-◌, ℕ, List, drop, ap, refl, arith, rules, Some, None, FitsSigned}
 use Rattle.std.specs.Int.{w32}
 use Rattle.std.proofs.lemmas.Int.{to_z-of_z}
-use Rattle.wire_spec.specs.declared.record.Record.{Record}
-use Rattle.wire_spec.specs.RecordReading.{record_at}
+use Rattle.wire_spec.specs.{declared.record.Record.Record, RecordReading.record_at}
 use Rattle.kafka_record.proofs.Answered.{read_ok, as_answer, record_reads}
 use Rattle.kafka_record.proofs.reading.record_from.Goals as goal
 

@@ -1,12 +1,8 @@
-use Rattle.std.proofs.Common.{◌≡◌, ◌∙◌, ◌+◌, ◌≤◌, ◌<◌, ◌^◌, List, All, length, sym, ap, subst, arith}
-use Rattle.std.specs.Prelude.{ℤ, pos}
-use Rattle.std.specs.Int.{w32, w64}
-use Rattle.std.specs.List.{flat_map}
-use Rattle.std.proofs.lemmas.Int.{to_z-of_z, to_z_pos}
-use Rattle.std.proofs.lemmas.List.Elements.{All-from_recursion}
-use Rattle.wire_spec.specs.declared.record.Header.{Header}
-use Rattle.wire_spec.specs.declared.limits.TheConstants.{MAX_BODY_SIZE}
-use Rattle.wire_spec.specs.Varint.{varint, varlong}
+use Rattle.std.proofs.Common.{◌≡◌, ◌∙◌, ◌+◌, ◌≤◌, ◌<◌, ◌^◌, List, All, length, sym, ap, subst, arith, ℤ, pos}
+use Rattle.std.specs.{Int.w32, Int.w64, List.flat_map}
+use Rattle.std.proofs.{lemmas.Int.to_z-of_z, lemmas.Int.to_z_pos, lemmas.List.Elements.All-from_recursion}
+use Rattle.wire_spec.specs.{declared.record.Header.Header, declared.limits.TheConstants.MAX_BODY_SIZE, Varint.varint}
+use Rattle.wire_spec.specs.Varint.{varlong}
 use Rattle.wire_spec.specs.RecordSpelling.{HeaderFits, header, record_body}
 use Rattle.wire_spec.proofs.RecordLaws.{length-record_body}
 use Rattle.kafka_record.specs.Parts.{record_with}

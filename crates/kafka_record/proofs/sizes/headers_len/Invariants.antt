@@ -1,7 +1,6 @@
 use Rattle.std.proofs.Common.{◌≡◌, ◌*◌, ◌≤◌, length, take}
 use Rattle.std.specs.List.{flat_map}
-use Rattle.wire_spec.specs.declared.limits.TheConstants.{MAX_HEADER_SIZE}
-use Rattle.wire_spec.specs.RecordSpelling.{header}
+use Rattle.wire_spec.specs.{declared.limits.TheConstants.MAX_HEADER_SIZE, RecordSpelling.header}
 use Rattle.kafka_record.proofs.sizes.headers_len.Given as goal
 
 abbrev pub invariant-loop-one : goal.invariant-loop-one

@@ -1,10 +1,8 @@
-use Rattle.std.proofs.Common.{◌≤◌, length, arith, rules}
-use Rattle.std.specs.Prelude.{FitsSigned}
+use Rattle.std.proofs.Common.{◌≤◌, length, arith, rules, FitsSigned}
 use Rattle.std.specs.Int.{w32}
 use Rattle.std.proofs.lemmas.Int.{to_z-of_z}
 use Rattle.wire_spec.proofs.Varints.{IsBytes}
-use Rattle.kafka_record.proofs.Answered.{read_ok}
-use Rattle.kafka_record.proofs.Spelled.{parts_in}
+use Rattle.kafka_record.proofs.{Answered.read_ok, Spelled.parts_in}
 use Rattle.kafka_record.proofs.span_reading.span_body_from.Goals as goal
 
 pub returns-clause-within : goal.returns-clause-within

@@ -1,10 +1,7 @@
 use Rattle.std.proofs.Common.{List, All, sym, subst}
-use Rattle.std.proofs.lemmas.List.Elements.{All-from_recursion}
-use Rattle.std.proofs.lemmas.Result.{on_ok_weaker}
-use Rattle.std.proofs.lemmas.Int.{to_z-of_z}
+use Rattle.std.proofs.{lemmas.List.Elements.All-from_recursion, lemmas.Result.on_ok_weaker, lemmas.Int.to_z-of_z}
 use Rattle.std.specs.Int.{w32, w64}
-use Rattle.wire_spec.specs.declared.record.Header.{Header}
-use Rattle.wire_spec.specs.RecordSpelling.{HeaderFits}
+use Rattle.wire_spec.specs.{declared.record.Header.Header, RecordSpelling.HeaderFits}
 use Rattle.kafka_record.specs.Parts.{record_with}
 use Rattle.kafka_record.proofs.Written.{body_is}
 use Rattle.kafka_record.proofs.writing.put_body.Goals as goal

@@ -1,10 +1,7 @@
-use Rattle.std.proofs.Common.{◌≡◌, ℕ, ℤ, List, ◌++◌, length, ap, ◌∙◌, append_assoc, to_z, of_z}
-use Rattle.std.specs.Prelude.{pos}
+use Rattle.std.proofs.Common.{◌≡◌, ℕ, ℤ, List, ◌++◌, length, ap, ◌∙◌, append_assoc, to_z, of_z, pos}
 use Rattle.std.specs.Int.{w32, w64}
-use Rattle.std.proofs.lemmas.Int.{to_z-of_z}
-use Rattle.std.proofs.lemmas.Result.{on_ok_weaker}
-use Rattle.wire_spec.specs.Varint.{varint}
-use Rattle.wire_spec.specs.RecordSpelling.{record_body}
+use Rattle.std.proofs.{lemmas.Int.to_z-of_z, lemmas.Result.on_ok_weaker}
+use Rattle.wire_spec.specs.{Varint.varint, RecordSpelling.record_body}
 use Rattle.kafka_record.specs.Parts.{record_with}
 use Rattle.kafka_record.proofs.writing.put_record.Goals as goal
 

@@ -1,6 +1,5 @@
 use Rattle.std.specs.Int.{w32, w64}
-use Rattle.std.proofs.lemmas.Int.{to_z-of_z}
-use Rattle.std.proofs.lemmas.Result.{on_ok_weaker}
+use Rattle.std.proofs.{lemmas.Int.to_z-of_z, lemmas.Result.on_ok_weaker}
 use Rattle.kafka_record.proofs.Written.{spelled_is}
 use Rattle.kafka_record.proofs.writing.put_spelled.Goals as goal
 

@@ -1,8 +1,7 @@
-use Rattle.std.proofs.Common.{◌≡◌, ℕ, Err, sym, subst, rules}
+use Rattle.std.proofs.Common.{ℕ, Err, sym, subst, rules}
 use Rattle.batch_transform.specs.Transformed.{IsTransformed, TransformsBatches}
-use Rattle.klog_c.specs.Batches.{origin_of, TransformsSource}
-use Rattle.klog_c.specs.Numbers.{stop_number}
-use Rattle.klog_c.specs.declared.{transforming.Stopped.Stopped}
+use Rattle.klog_c.specs.{Batches.origin_of, Batches.TransformsSource, Numbers.stop_number}
+use Rattle.klog_c.specs.declared.transforming.Stopped.{Stopped}
 use Rattle.klog_c.proofs.Sources.{filled, stopped}
 use Rattle.klog_c.proofs.transforming.transform_source.Goals as goal
 

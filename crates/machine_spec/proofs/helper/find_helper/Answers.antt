@@ -1,15 +1,12 @@
 use Rattle.std.proofs.Common.{◌≡◌, ℕ, ◌<◌, Bool, true, List, length, get_or, drop, ℤ, Some, find, FitsSigned, to_z}
 use Rattle.std.proofs.Common.{of_z, w32, sym, ap, subst, ◌∙◌, arith, rules}
 use Rattle.std.specs.Ordering.{int_eq}
-use Rattle.std.proofs.Math.Seq.{drop-cons}
-use Rattle.std.proofs.lemmas.Bool.{cond-true}
-use Rattle.std.proofs.lemmas.Bool.Decides.{Decides-int_eq}
-use Rattle.std.proofs.lemmas.Int.{ints, to_z-of_z}
-use Rattle.machine_spec.specs.declared.{helper.Signature.Signature, helper.Helper.Helper}
+use Rattle.std.proofs.{Math.Seq.drop-cons, lemmas.Bool.cond-true, lemmas.Bool.Decides.Decides-int_eq, lemmas.Int.ints}
+use Rattle.std.proofs.lemmas.Int.{to_z-of_z}
+use Rattle.machine_spec.specs.{declared.helper.Signature.Signature, declared.helper.Helper.Helper, Machine.signature_of}
 use Rattle.machine_spec.specs.declared.helper.Helper.TheVariants.{LoadValue, LoadKey, EmitRecord, EmitValue, Emit}
-use Rattle.machine_spec.specs.declared.helper.Helper.TheVariants.{EmitNull, Offset, Timestamp, Partition}
-use Rattle.machine_spec.specs.declared.helper.Helper.TheVariants.{HeaderCount, HeaderKey, HeaderValue}
-use Rattle.machine_spec.specs.Machine.{signature_of}
+use Rattle.machine_spec.specs.declared.helper.Helper.TheVariants.{EmitNull, Offset, Timestamp, Partition, HeaderCount}
+use Rattle.machine_spec.specs.declared.helper.Helper.TheVariants.{HeaderKey, HeaderValue}
 use Rattle.machine_spec.proofs.helper.find_helper.Goals as goal
 
 -- what a search from a place on finds there

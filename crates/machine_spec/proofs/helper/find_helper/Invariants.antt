@@ -1,8 +1,6 @@
-use Rattle.std.proofs.Common.{◌≡◌, drop}
-use Rattle.std.specs.Prelude.{find}
+use Rattle.std.proofs.Common.{◌≡◌, drop, find}
 use Rattle.std.specs.Ordering.{int_eq}
-use Rattle.machine_spec.specs.declared.helper.Helper.{Helper}
-use Rattle.machine_spec.specs.Machine.{signature_of}
+use Rattle.machine_spec.specs.{declared.helper.Helper.Helper, Machine.signature_of}
 use Rattle.machine_spec.proofs.helper.find_helper.Given as goal
 
 abbrev pub invariant-loop-helper : goal.invariant-loop-helper

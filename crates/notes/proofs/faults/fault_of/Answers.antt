@@ -1,6 +1,5 @@
 use Rattle.std.proofs.Common.{sym, ◌∙◌, length}
-use Rattle.verifier_spec.specs.States.{entry_state}
-use Rattle.verifier_spec.specs.Annotation.{claim_at, is_covered}
+use Rattle.verifier_spec.specs.{States.entry_state, Annotation.claim_at, Annotation.is_covered}
 use Rattle.notes.proofs.Loop.{proper_started}
 use Rattle.notes.proofs.faults.fault_of.Goals as goal
 

@@ -1,8 +1,6 @@
-use Rattle.std.proofs.Common.{◌≡◌, sym, ap, ◌∙◌, subst, arith, true}
-use Rattle.std.specs.Prelude.{IfSome, Some}
+use Rattle.std.proofs.Common.{◌≡◌, sym, ap, ◌∙◌, subst, arith, true, IfSome, Some}
 use Rattle.machine_spec.specs.Image.{helpers_of}
-use Rattle.verifier_spec.specs.States.{is_proper}
-use Rattle.verifier_spec.specs.Annotation.{claim_at}
+use Rattle.verifier_spec.specs.{States.is_proper, Annotation.claim_at}
 use Rattle.notes.specs.Derived.{given_or, derived_at}
 use Rattle.notes.proofs.Derived.{is_derived}
 use Rattle.notes.proofs.Steps.{HasFollowed, none_done, follows_first, more_done, old_claim, followed_claim}

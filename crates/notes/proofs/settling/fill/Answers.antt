@@ -1,9 +1,7 @@
-use Rattle.std.proofs.Common.{ap, ◌∙◌, arith, length}
-use Rattle.std.specs.Prelude.{Option, None}
+use Rattle.std.proofs.Common.{ap, ◌∙◌, arith, length, Option, None}
 use Rattle.std.proofs.lemmas.List.{length-replicate}
 use Rattle.machine_spec.specs.Image.{helpers_of}
-use Rattle.verifier_spec.specs.declared.state.Abstract.{Abstract}
-use Rattle.verifier_spec.specs.Annotation.{claim_at}
+use Rattle.verifier_spec.specs.{declared.state.Abstract.Abstract, Annotation.claim_at}
 use Rattle.notes.specs.Derived.{pair_at}
 use Rattle.notes.proofs.Derived.{derived_same}
 use Rattle.notes.proofs.settling.fill.Goals as goal

@@ -1,5 +1,4 @@
-use Rattle.std.proofs.Common.{ap, ◌∙◌}
-use Rattle.std.specs.Prelude.{Some}
+use Rattle.std.proofs.Common.{ap, ◌∙◌, Some}
 use Rattle.machine_spec.specs.Image.{helpers_of}
 use Rattle.notes.specs.Derived.{state_fallen_to, given_or}
 use Rattle.notes.proofs.Steps.{claim_at-set}

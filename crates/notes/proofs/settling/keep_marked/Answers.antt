@@ -1,5 +1,4 @@
-use Rattle.std.proofs.Common.{ap, ◌∙◌, arith, cond, get_or, false}
-use Rattle.std.specs.Prelude.{None}
+use Rattle.std.proofs.Common.{ap, ◌∙◌, arith, cond, get_or, false, None}
 use Rattle.notes.proofs.Steps.{none_done, one_done, old_claim, if_marked}
 use Rattle.notes.proofs.settling.keep_marked.Goals as goal
 

@@ -1,5 +1,4 @@
-use Rattle.std.proofs.Common.{ap, ◌∙◌}
-use Rattle.std.specs.Prelude.{Some}
+use Rattle.std.proofs.Common.{ap, ◌∙◌, Some}
 use Rattle.notes.specs.Derived.{given_or}
 use Rattle.notes.proofs.Steps.{put_one}
 use Rattle.notes.proofs.settling.put.Goals as goal

@@ -2,8 +2,7 @@ use Rattle.std.proofs.Common.{◌∙◌, length}
 use Rattle.machine_spec.specs.Image.{helpers_of}
 use Rattle.verifier_spec.specs.Annotation.{claim_at}
 use Rattle.notes.specs.Derived.{at_targets}
-use Rattle.notes.proofs.Derived.{derived_same, proper_same}
-use Rattle.notes.proofs.Steps.{marked_given}
+use Rattle.notes.proofs.{Derived.derived_same, Derived.proper_same, Steps.marked_given}
 use Rattle.notes.proofs.settling.settle.Goals as goal
 
 pub returns-clause-states : goal.returns-clause-states

@@ -1,5 +1,4 @@
-use Rattle.std.proofs.Common.{◌+◌, ◌++◌, ◌∷◌, [], List, length, ap, sym, ◌∙◌, refl}
-use Rattle.std.specs.Prelude.{Some, None}
+use Rattle.std.proofs.Common.{◌+◌, ◌++◌, ◌∷◌, [], List, length, ap, sym, ◌∙◌, refl, Some, None}
 use Rattle.machine_spec.specs.Image.{Program, program_of}
 use Rattle.program_table.specs.Tables.{table_view}
 use Rattle.program_table.proofs.TableLaws.{programs_of-absent, with_program-absent, refusal_new, refused_program}

@@ -1,12 +1,10 @@
 use Rattle.std.proofs.Common.{◌≡◌, ◌<◌, ◌≤◌, ◌-◌, ◌^◌, ◌++◌, ◌∷◌, [], map, length, get_or, ap, sym, ◌∙◌, refl, arith}
-use Rattle.std.specs.Arc.{arc_value}
-use Rattle.std.specs.Vec.{vec_len}
-use Rattle.program_table.specs.declared.table.Entry.{Entry}
-use Rattle.std.specs.Prelude.{Some, None}
+use Rattle.std.proofs.Common.{Some, None}
+use Rattle.std.specs.{Arc.arc_value, Vec.vec_len}
+use Rattle.program_table.specs.{declared.table.Entry.Entry, Tables.table_view}
 use Rattle.machine_spec.specs.Image.{Program, program_of}
 use Rattle.log_spec.specs.declared.event.Refusal.TheVariants as refusal
 use Rattle.log_spec.specs.Catalogue.{programs_of}
-use Rattle.program_table.specs.Tables.{table_view}
 use Rattle.program_table.proofs.TableLaws.{versions_here, refusal_here, has_name-found, with_program-found}
 use Rattle.program_table.proofs.TableLaws.{table-set_same, refusal_versions, map-push, refused_early, refused_program}
 use Rattle.program_table.proofs.table.add_version.Goals as goal

@@ -1,6 +1,5 @@
 use Rattle.std.proofs.Common.{ap, sym, subst, List, length, arith}
-use Rattle.report.specs.Holdings.{Held}
-use Rattle.report.specs.Snapshots.{AreOutputs, AreTallies}
+use Rattle.report.specs.{Holdings.Held, Snapshots.AreOutputs, Snapshots.AreTallies}
 use Rattle.report.proofs.gathering.gather.Goals as goal
 
 pub tallies-requires-clause-some : goal.tallies-requires-clause-some

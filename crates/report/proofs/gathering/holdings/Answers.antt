@@ -1,7 +1,6 @@
 use Rattle.std.proofs.Common.{◌≡◌, ◌++◌, ◌∷◌, [], ℕ, List, length, sym, ap, subst, arith}
 use Rattle.std.proofs.lemmas.List.{length_push}
-use Rattle.report.specs.Holdings.{Held, IsOutput}
-use Rattle.report.specs.Snapshots.{AreOutputs}
+use Rattle.report.specs.{Holdings.Held, Holdings.IsOutput, Snapshots.AreOutputs}
 use Rattle.report.proofs.PlaceLaws.{each_pushed}
 use Rattle.report.proofs.gathering.holdings.Goals as goal
 

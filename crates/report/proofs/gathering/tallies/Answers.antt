@@ -1,8 +1,7 @@
 use Rattle.std.proofs.Common.{◌≡◌, ◌++◌, ◌∷◌, [], ℕ, List, length, sym, ap, subst, arith}
 use Rattle.std.proofs.lemmas.List.{length_push}
 use Rattle.part_log.specs.Parts.{Log}
-use Rattle.report.specs.Totals.{Tallied, IsTallied}
-use Rattle.report.specs.Snapshots.{IsLeast, AreTallies}
+use Rattle.report.specs.{Totals.Tallied, Totals.IsTallied, Snapshots.IsLeast, Snapshots.AreTallies}
 use Rattle.report.proofs.PlaceLaws.{each_pushed}
 use Rattle.report.proofs.gathering.tallies.Goals as goal
 

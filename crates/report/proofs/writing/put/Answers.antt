@@ -1,8 +1,9 @@
 use Rattle.std.proofs.Common.{◌≤◌, List, ℕ, length, take, drop, subst, arith, length-drop}
 use Rattle.std.specs.Io.KnownBytes.{Appends}
-use Rattle.report.specs.Writes.{HasBegun}
-use Rattle.report.proofs.WrittenLaws.{writes_fault, rest_is, begun_on, written_on}
+use Rattle.report.proofs.WrittenLaws.{writes_fault, rest_is}
 use Rattle.report.proofs.writing.put.Goals as goal
+use Rattle.wire_spec.proofs.Beginnings.{written_on, begun_on}
+use Rattle.wire_spec.specs.Writing.{HasBegun}
 
 pub returns-in_err-done : goal.returns-in_err-done
 returns-in_err-done g c =

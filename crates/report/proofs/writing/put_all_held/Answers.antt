@@ -1,10 +1,9 @@
 use Rattle.std.proofs.Common.{List, subst}
 use Rattle.std.specs.List.{flat_map}
-use Rattle.report.specs.Holdings.{Held}
-use Rattle.report.specs.Texts.{output_lines}
-use Rattle.report.specs.Writes.{HasBegun}
+use Rattle.report.specs.{Holdings.Held, Texts.output_lines}
 use Rattle.report.proofs.WrittenLaws.{writes_fault, next_begun}
 use Rattle.report.proofs.writing.put_all_held.Goals as goal
+use Rattle.wire_spec.specs.Writing.{HasBegun}
 
 pub returns-in_err-put_output_held : goal.returns-in_err-put_output_held
 returns-in_err-put_output_held g c =

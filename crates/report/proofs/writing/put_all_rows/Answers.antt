@@ -1,10 +1,9 @@
 use Rattle.std.proofs.Common.{List, subst}
 use Rattle.std.specs.List.{flat_map}
-use Rattle.report.specs.Holdings.{Held}
-use Rattle.report.specs.Texts.{output_rows}
-use Rattle.report.specs.Writes.{HasBegun}
+use Rattle.report.specs.{Holdings.Held, Texts.output_rows}
 use Rattle.report.proofs.WrittenLaws.{writes_fault, next_begun}
 use Rattle.report.proofs.writing.put_all_rows.Goals as goal
+use Rattle.wire_spec.specs.Writing.{HasBegun}
 
 pub returns-in_err-put_output_rows : goal.returns-in_err-put_output_rows
 returns-in_err-put_output_rows g c =

@@ -1,6 +1,5 @@
 use Rattle.std.proofs.Common.{take}
-use Rattle.std.specs.List.{flat_map}
-use Rattle.std.specs.Io.KnownBytes.{Appends}
+use Rattle.std.specs.{List.flat_map, Io.KnownBytes.Appends}
 use Rattle.report.specs.Texts.{held_line}
 use Rattle.report.proofs.writing.put_output_held.Given as goal
 

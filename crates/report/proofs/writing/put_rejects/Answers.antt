@@ -1,11 +1,10 @@
 use Rattle.std.proofs.Common.{◌≡◌, List, ◌∷◌, ◌++◌, ℕ, map, rules, sym, ap, subst, ◌∙◌}
-use Rattle.std.specs.List.{flat_map}
+use Rattle.std.specs.{List.flat_map, Map.Iter.deref_pair}
 use Rattle.std.proofs.lemmas.Map.Iter.{rest_so_far, rest_more}
-use Rattle.report.specs.Writes.{HasBegun}
-use Rattle.std.specs.Map.Iter.{deref_pair}
 use Rattle.report.specs.Texts.{reject_line, rejects_text}
 use Rattle.report.proofs.WrittenLaws.{seen_more, writes_fault, begun_part, begun_next}
 use Rattle.report.proofs.writing.put_rejects.Goals as goal
+use Rattle.wire_spec.specs.Writing.{HasBegun}
 
 pub loop-code-preserved : goal.loop-code-preserved
 loop-code-preserved g c =

@@ -1,6 +1,5 @@
 use Rattle.std.proofs.Common.{map}
-use Rattle.std.specs.Map.Iter.{deref_pair}
-use Rattle.std.specs.Io.KnownBytes.{Appends}
+use Rattle.std.specs.{Map.Iter.deref_pair, Io.KnownBytes.Appends}
 use Rattle.report.specs.Texts.{rejects_text}
 use Rattle.report.proofs.writing.put_rejects.Given as goal
 

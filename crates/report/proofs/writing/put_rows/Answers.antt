@@ -2,9 +2,9 @@ use Rattle.std.proofs.Common.{◌≡◌, ◌<◌, List, ℕ, length, get_or, rul
 use Rattle.log_spec.specs.declared.row.Row.{Row}
 use Rattle.script.specs.Texts.{row_line}
 use Rattle.report.specs.Texts.{held_rows}
-use Rattle.report.specs.Writes.{HasBegun}
 use Rattle.report.proofs.WrittenLaws.{writes_fault, part_begun, next_begun}
 use Rattle.report.proofs.writing.put_rows.Goals as goal
+use Rattle.wire_spec.specs.Writing.{HasBegun}
 
 pub returns-in_err-push_row : goal.returns-in_err-push_row
 returns-in_err-push_row g c =

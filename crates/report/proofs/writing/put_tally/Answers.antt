@@ -3,9 +3,9 @@ use Rattle.std.specs.Io.KnownBytes.{Appends}
 use Rattle.part_log.specs.Parts.{Log}
 use Rattle.fates.specs.Totals.{Totals}
 use Rattle.report.specs.Texts.{items_line, rejects_text, tally_text}
-use Rattle.report.specs.Writes.{HasBegun}
 use Rattle.report.proofs.WrittenLaws.{writes_fault, writes_then, writes_same, begun_first}
 use Rattle.report.proofs.writing.put_tally.Goals as goal
+use Rattle.wire_spec.specs.Writing.{HasBegun}
 
 pub returns-in_err-put : goal.returns-in_err-put
 returns-in_err-put g c =

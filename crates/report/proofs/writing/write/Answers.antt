@@ -1,12 +1,11 @@
 use Rattle.std.proofs.Common.{◌++◌, List, ℕ, subst}
-use Rattle.std.specs.List.{flat_map}
-use Rattle.std.specs.Io.KnownBytes.{Appends}
-use Rattle.report.specs.Holdings.{Held}
-use Rattle.report.specs.Totals.{Tallied}
+use Rattle.std.specs.{List.flat_map, Io.KnownBytes.Appends}
+use Rattle.report.specs.{Holdings.Held, Totals.Tallied, Writes.Writes}
 use Rattle.report.specs.Texts.{output_rows, output_lines, tally_text, report_text}
-use Rattle.report.specs.Writes.{HasBegun, Writes}
-use Rattle.report.proofs.WrittenLaws.{writes_fault, writes_then, begun_first, begun_then}
+use Rattle.report.proofs.WrittenLaws.{writes_fault, writes_then, begun_first}
 use Rattle.report.proofs.writing.write.Goals as goal
+use Rattle.wire_spec.proofs.Beginnings.{begun_then}
+use Rattle.wire_spec.specs.Writing.{HasBegun}
 
 pub returns-in_err-put_all_rows : goal.returns-in_err-put_all_rows
 returns-in_err-put_all_rows g c =

@@ -1,8 +1,7 @@
 use Rattle.std.proofs.Common.{◌≡◌, ℕ, ◌+◌, ◌<◌, pos, Bool, true, false, length, max, sym, ap, subst, ◌∙◌, arith, rules}
 use Rattle.wire_spec.specs.RecordSpelling.{record_spelling}
 use Rattle.log_spec.specs.declared.row.Row.{Row}
-use Rattle.row_batch.specs.RowBatches.{record_of}
-use Rattle.row_batch.specs.FirstRows.{PutsIfRoom}
+use Rattle.row_batch.specs.{RowBatches.record_of, FirstRows.PutsIfRoom}
 use Rattle.row_batch.proofs.Places.{part, part_at, part_length, fits_at}
 use Rattle.row_batch.proofs.RoomLaws.{SoFar, one_more_put, no_more_put}
 use Rattle.row_batch.proofs.records.put_most.Goals as goal

@@ -1,5 +1,4 @@
-use Rattle.row_batch.proofs.Places.{part}
-use Rattle.row_batch.proofs.RoomLaws.{SoFar}
+use Rattle.row_batch.proofs.{Places.part, RoomLaws.SoFar}
 use Rattle.row_batch.proofs.records.put_most.Given as goal
 
 -- the first rows so far are at the end, and have room in one batch

@@ -1,7 +1,6 @@
 use Rattle.std.proofs.Common.{◌≤◌, length, drop, length-drop, arith}
 use Rattle.wire_spec.specs.declared.limits.TheConstants.{MAX_RECORDS}
-use Rattle.row_batch.proofs.RowLaws.{most_taken}
-use Rattle.row_batch.proofs.Places.{part_fits}
+use Rattle.row_batch.proofs.{RowLaws.most_taken, Places.part_fits}
 use Rattle.row_batch.proofs.rows.row_batch.Goals as goal
 
 pub first_batch-requires-clause-fit : goal.first_batch-requires-clause-fit

@@ -1,7 +1,6 @@
 -- The pieces that `split` gives at a space are the words.
 use Rattle.std.proofs.Common.{lit<}
-use Rattle.std.proofs.lemmas.Iterator.Consumers.{map_from_collect}
-use Rattle.std.proofs.lemmas.Iterator.Splits.{YieldsList-from_str_split}
+use Rattle.std.proofs.{lemmas.Iterator.Consumers.map_from_collect, lemmas.Iterator.Splits.YieldsList-from_str_split}
 use Rattle.script.proofs.words.words.Goals as goal
 
 pub returns : goal.returns

@@ -1,6 +1,5 @@
 use Rattle.std.proofs.Common.{ℕ, bit_and, slice_index, ◌∙◌, arith, length-set}
-use Rattle.std.proofs.lemmas.List.Edits.{fill_by_more}
-use Rattle.std.proofs.lemmas.List.FromFn.{fill_by_all}
+use Rattle.std.proofs.{lemmas.List.Edits.fill_by_more, lemmas.List.FromFn.fill_by_all}
 use Rattle.stack_bytes.proofs.order.common_words.Goals as goal
 
 pub loop-word-preserved : goal.loop-word-preserved

@@ -1,6 +1,5 @@
 use Rattle.std.proofs.Common.{◌≡◌, true}
-use Rattle.verifier_spec.specs.Kinds.{kind_at, is_kind_within}
-use Rattle.verifier_spec.specs.States.{each_below}
+use Rattle.verifier_spec.specs.{Kinds.kind_at, Kinds.is_kind_within, States.each_below}
 use Rattle.state_order.proofs.order.are_registers_within.Given as goal
 
 abbrev pub invariant-loop-register : goal.invariant-loop-register

@@ -1,6 +1,5 @@
 use Rattle.std.proofs.Common.{◌≡◌, ◌≤◌, length, Err, Result, sym, subst, rules, arith}
-use Rattle.transform.specs.declared.flow.TransformFault.{TransformFault}
-use Rattle.transform.specs.Transforms.{Empties, EndsEach}
+use Rattle.transform.specs.{declared.flow.TransformFault.TransformFault, Transforms.Empties, Transforms.EndsEach}
 use Rattle.transform.proofs.EachLaws.{first_none, first_more, first_all}
 use Rattle.transform.proofs.FillLaws.{ended_one}
 use Rattle.transform.proofs.flow.end_each.Goals as goal

@@ -1,10 +1,7 @@
-use Rattle.std.proofs.Common.{◌≡◌, ◌<◌, ◌≤◌, List, length, Err, Result, sym, subst, rules, arith}
-use Rattle.std.specs.Prelude.{All}
-use Rattle.log_spec.specs.declared.row.Row.{Row}
-use Rattle.log_spec.specs.Logs.{RowFits}
+use Rattle.std.proofs.Common.{◌≡◌, ◌<◌, ◌≤◌, List, length, Err, Result, sym, subst, rules, arith, All}
+use Rattle.log_spec.specs.{declared.row.Row.Row, Logs.RowFits}
 use Rattle.item_rows.specs.ItemRows.{rows_in}
-use Rattle.transform.specs.declared.flow.TransformFault.{TransformFault}
-use Rattle.transform.specs.Transforms.{Fills, PutsEach}
+use Rattle.transform.specs.{declared.flow.TransformFault.TransformFault, Transforms.Fills, Transforms.PutsEach}
 use Rattle.transform.proofs.EachLaws.{first_none, first_more, first_all, rows_at}
 use Rattle.transform.proofs.FillLaws.{put_stopped}
 use Rattle.transform.proofs.flow.put_each.Goals as goal

@@ -1,10 +1,10 @@
 use Rattle.std.proofs.Common.{◌≡◌, ◌≤◌, List, ℕ, length, take, drop, Result, Err, subst, sym, rules, arith, length-drop}
 use Rattle.std.specs.Io.KnownBytes.{Appends}
 use Rattle.std.proofs.lemmas.List.{take_rest}
-use Rattle.transform.specs.declared.outlet.OutletFault.{OutletFault}
-use Rattle.transform.specs.Outlets.{HasBegun, Writes}
-use Rattle.transform.proofs.WrittenLaws.{begun_on, written_on}
+use Rattle.transform.specs.{declared.outlet.OutletFault.OutletFault, Outlets.Writes}
 use Rattle.transform.proofs.outlet.put_batch.Goals as goal
+use Rattle.wire_spec.proofs.Beginnings.{written_on, begun_on}
+use Rattle.wire_spec.specs.Writing.{HasBegun}
 
 pub returns-in_err-done : goal.returns-in_err-done
 returns-in_err-done g c =

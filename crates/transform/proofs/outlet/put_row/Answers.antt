@@ -1,8 +1,7 @@
 use Rattle.std.proofs.Common.{◌≡◌, ◌∷◌, false, Bool, Err, Result, sym, subst, rules}
-use Rattle.transform.specs.declared.outlet.OutletFault.{OutletFault}
+use Rattle.transform.specs.{declared.outlet.OutletFault.OutletFault, Backlogs.TakesRow, Outlets.outflow}
+use Rattle.transform.specs.Outlets.{PutsFirst}
 use Rattle.transform.specs.declared.outlet.OutletFault.TheVariants as fault
-use Rattle.transform.specs.Backlogs.{TakesRow}
-use Rattle.transform.specs.Outlets.{outflow, PutsFirst}
 use Rattle.transform.proofs.OpenLaws.{put_after, stops_before, stops_after, stops_open}
 use Rattle.transform.proofs.outlet.put_row.Goals as goal
 

@@ -1,7 +1,5 @@
 use Rattle.std.proofs.Common.{◌≡◌, ◌+◌, drop, slice_index_or, Err, Result, sym, subst, rules, arith}
-use Rattle.transform.specs.declared.outlet.OutletFault.{OutletFault}
-use Rattle.transform.specs.Backlogs.{with_rows}
-use Rattle.transform.specs.Outlets.{PutsFull}
+use Rattle.transform.specs.{declared.outlet.OutletFault.OutletFault, Backlogs.with_rows, Outlets.PutsFull}
 use Rattle.transform.proofs.OpenLaws.{room_for, row_is, put_next, put_stops}
 use Rattle.transform.proofs.outlet.put_rows.Goals as goal
 

@@ -1,6 +1,5 @@
 use Rattle.std.proofs.Common.{drop}
-use Rattle.transform.specs.Backlogs.{with_rows}
-use Rattle.transform.specs.Outlets.{WroteFull}
+use Rattle.transform.specs.{Backlogs.with_rows, Outlets.WroteFull}
 use Rattle.transform.proofs.outlet.put_rows.Given as goal
 
 abbrev pub invariant-loop-index : goal.invariant-loop-index

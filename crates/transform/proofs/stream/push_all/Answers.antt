@@ -1,5 +1,4 @@
-use Rattle.std.proofs.Common.{◌≡◌, Err, Ok, rules}
-use Rattle.std.specs.Prelude.{Some}
+use Rattle.std.proofs.Common.{◌≡◌, Err, Ok, rules, Some}
 use Rattle.batch_reader.specs.Readings.{ReadsBatch}
 use Rattle.transform.specs.declared.stream.StreamFault.TheVariants as fault
 use Rattle.transform.specs.Transforms.{Pushes}

@@ -1,6 +1,5 @@
 use Rattle.std.proofs.Common.{◌≡◌, Err, Ok, false, sym, ◌∙◌, rules}
-use Rattle.transform.specs.Transforms.{EndsFlow}
-use Rattle.transform.specs.Streams.{is_broken}
+use Rattle.transform.specs.{Transforms.EndsFlow, Streams.is_broken}
 use Rattle.transform.proofs.StreamLaws.{all_written, unwritten}
 use Rattle.transform.proofs.stream.transform_watched.Goals as goal
 

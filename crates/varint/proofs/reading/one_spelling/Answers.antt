@@ -1,5 +1,4 @@
-use Rattle.std.proofs.Common.{subst, sym}
-use Rattle.std.specs.Prelude.{List, ℕ}
+use Rattle.std.proofs.Common.{subst, sym, List, ℕ}
 use Rattle.wire_spec.specs.Varint.{IsVarint, IsVarlong}
 use Rattle.wire_spec.proofs.Varints.{one_varint, one_varlong, varint_is, varlong_is, IsVarint-varint, IsVarlong-varlong}
 use Rattle.varint.proofs.reading.one_spelling.Goals as goal

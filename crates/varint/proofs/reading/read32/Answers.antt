@@ -8,4 +8,4 @@ returns-clause-found c = varint_found c.args.bytes.now c.varint_of.result (λ i.
     c.varint_of.ensures
 
 pub returns-clause-only : goal.returns-clause-only
-returns-clause-only c = λ form rest z h e. c.varint_of.ensures ∙ ap read_varint e ∙ read_varint-form form rest z h
+returns-clause-only c = grind (arith, read_varint-form)

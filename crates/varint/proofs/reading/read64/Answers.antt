@@ -8,4 +8,4 @@ returns-clause-found c = varlong_found c.args.bytes.now c.varlong_of.result (λ 
     c.varlong_of.ensures
 
 pub returns-clause-only : goal.returns-clause-only
-returns-clause-only c = λ form rest z h e. c.varlong_of.ensures ∙ ap read_varlong e ∙ read_varlong-form form rest z h
+returns-clause-only c = grind (arith, read_varlong-form)

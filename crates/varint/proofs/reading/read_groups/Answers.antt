@@ -2,8 +2,6 @@ use Rattle.std.proofs.Common.{◌-◌, ◌<◌, get_or, below_more, arith}
 use Rattle.wire_spec.proofs.Varints.{EndsAt, reads_at, refuses_zero}
 use Rattle.varint.proofs.Steps.{Sum, sum_at, is_early}
 use Rattle.varint.proofs.reading.read_groups.Goals as goal
-use Rattle.varint.proofs.reading.read_groups.Goals.{else-byte-eq0-via-then-byte-eq0+else-at-gt0}
-use Rattle.varint.proofs.reading.read_groups.Goals.{else-byte-eq0-via-else-byte-eq0}
 
 pub returns-then-at-gt0 : goal.returns-then-at-gt0
 returns-then-at-gt0 c =
@@ -40,12 +38,7 @@ pub overflow_add-number : goal.overflow_add-number
 overflow_add-number c = omega (arith, (sum_more c).fits)
 
 pub loop-at-preserved : goal.loop-at-preserved
-loop-at-preserved c = record {
-  within = omega arith;
-  before = below_more _ _ c.loop-at.invariant.before c.if-byte-lt128.false;
-  number_is = (sum_more c).adds.number_is;
-  below = (sum_more c).adds.below;
-}
+loop-at-preserved c = grind (arith, below_more, sum_more)
 
 pub returns-then-byte-eq0-2 : goal.returns-then-byte-eq0-2
 returns-then-byte-eq0-2 c =

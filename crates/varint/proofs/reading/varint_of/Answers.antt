@@ -1,5 +1,4 @@
-use Rattle.std.proofs.Common.{◌^◌, Ok, sym, ap, ◌∙◌, arith}
-use Rattle.std.specs.Prelude.{ℤ, FitsSigned}
+use Rattle.std.proofs.Common.{◌^◌, Ok, sym, ap, ◌∙◌, arith, ℤ, FitsSigned}
 use Rattle.std.specs.Int.{w32}
 use Rattle.wire_spec.specs.Varint.{read_signed, read_varint}
 use Rattle.wire_spec.proofs.Varints.{wide_32, read_taken, unzigzag-fits_32}
@@ -16,5 +15,4 @@ overflow_cast-result c = rw (cast_64 c.signed_of.result (fits c)) (fits c)
 
 pub returns : goal.returns
 unfolding read_varint
-returns c = ap (λ (z : ℤ). Ok (z, c.in_ok-number.used)) (cast_32 c.signed_of.result (fits c) ∙ c.signed_of.ensures)
-    ∙ ap read_signed c.in_ok-number.ensures
+returns c = grind (arith, cast_32, fits)

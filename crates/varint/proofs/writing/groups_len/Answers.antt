@@ -8,8 +8,7 @@ returns-then-rest-lt128 c = len_last c.loop-len.len c.loop-len.rest (length (gro
     c.loop-len-test.true c.if-rest-lt128.true c.loop-len.invariant
 
 pub loop-len-preserved : goal.loop-len-preserved
-loop-len-preserved c = len_more c.loop-len.len c.loop-len.rest _ c.loop-len-test.true c.if-rest-lt128.false
-    c.loop-len.invariant
+loop-len-preserved c = grind (arith, len_more)
 
 pub returns : goal.returns
 returns c = len_end c.loop-len.len c.loop-len.rest (length (groups 10 c.args.number)) (omega arith) (omega arith)

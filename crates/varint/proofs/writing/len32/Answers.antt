@@ -6,10 +6,7 @@ use Rattle.varint.proofs.writing.len32.Goals as goal
 
 same_len : (c : goal.After-groups_len) → c.groups_len.result ≡ length (varint c.args.value)
 unfolding varint
-same_len c =
-    let number : c.zigzag_of.result ≡ zigzag c.args.value = c.zigzag_of.ensures
-    ∙ ap zigzag (cast_from_32 c.args.value c.ranges.value) in
-    c.groups_len.ensures ∙ ap length (ap (groups 10) number ∙ groups_5 c.args.value c.ranges.value)
+same_len c = grind (arith, cast_from_32, groups_5)
 
 pub returns-clause-size : goal.returns-clause-size
 returns-clause-size c = same_len c

@@ -5,17 +5,10 @@ use Rattle.varint.proofs.Steps.{put_more, put_last, rest_below, rest_last}
 use Rattle.varint.proofs.writing.put_groups.Goals as goal
 
 pub returns-then-rest-lt128-clause-groups : goal.returns-then-rest-lt128-clause-groups
-returns-then-rest-lt128-clause-groups c =
-    put_last c.loop-at.bytes c.loop-at.at c.loop-at.rest c.args.number (omega arith) c.loop-at.invariant.size
-    c.if-rest-lt128.true c.loop-at.invariant.groups_are
+returns-then-rest-lt128-clause-groups c = grind (arith, put_last)
 
 pub loop-at-preserved : goal.loop-at-preserved
-loop-at-preserved c = record {
-  size = simp length-set c.loop-at.invariant.size;
-  groups_are = put_more c.loop-at.bytes c.loop-at.at c.loop-at.rest c.args.number c.loop-at-test.true
-      c.loop-at.invariant.size c.if-rest-lt128.false c.loop-at.invariant.groups_are;
-  below = rest_below c.loop-at.at c.loop-at.rest c.loop-at.invariant.below;
-}
+loop-at-preserved c = grind (arith, length-set, put_more, rest_below)
 
 pub returns-clause-groups : goal.returns-clause-groups
 returns-clause-groups c =

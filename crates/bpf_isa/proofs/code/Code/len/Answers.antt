@@ -4,10 +4,8 @@ use Rattle.bpf_isa.proofs.code.Code.len.Goals as goal
 
 pub returns-clause-is_positive : goal.returns-clause-is_positive
 returns-clause-is_positive c =
-    let some = code_some c.self.invariant.image.image c.self.inside.placed c.self.invariant.image.is_code in
-    omega (arith, some)
+    omega (arith, code_some c.self.invariant.image.image c.self.inside.placed c.self.invariant.image.is_code)
 
 pub returns-clause-is_small : goal.returns-clause-is_small
 returns-clause-is_small c =
-    let few = code_few c.self.invariant.image.image c.self.inside.placed c.self.invariant.image.is_code in
-    omega (arith, few)
+    omega (arith, code_few c.self.invariant.image.image c.self.inside.placed c.self.invariant.image.is_code)

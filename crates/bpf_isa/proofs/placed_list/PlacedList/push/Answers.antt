@@ -1,6 +1,5 @@
-use Rattle.std.proofs.Common.{rules, ◌≡◌, ℕ, List, [], ◌∷◌, ◌++◌, ap, ◌∙◌}
-use Rattle.machine_spec.specs.declared.{instruction.Instruction.Instruction, instruction.Placed.Placed}
-use Rattle.bpf_isa.specs.Code.{placed_of}
+use Rattle.std.proofs.Common.{rules, ◌≡◌, List, [], ◌∷◌, ◌++◌, ap, ◌∙◌}
+use Rattle.machine_spec.specs.declared.instruction.Placed.{Placed}
 use Rattle.bpf_isa.proofs.SideBySide.{placed_push}
 use Rattle.bpf_isa.proofs.placed_list.PlacedList.push.Goals as goal
 
@@ -9,8 +8,6 @@ returns c =
     let slots : c.push.new.self.items ≡ c.self.inside.slots.items ++ c.args.placed.slot ∷ [] = search rules in
     let instructions : c.push-2.new.self.items ≡ c.self.inside.instructions.items ++ c.args.placed.instruction ∷ [] =
     search rules in
-    ap (λ (l : List ℕ). placed_of l c.push-2.new.self.items) slots
-    ∙ ap (λ (l : List Instruction). placed_of (c.self.inside.slots.items ++ c.args.placed.slot ∷ []) l) instructions
-    ∙ placed_push c.self.inside.slots.items c.self.inside.instructions.items c.args.placed.slot
-    c.args.placed.instruction c.self.invariant
-    ∙ ap (λ (l : List Placed). l ++ c.args.placed ∷ []) c.self.view_is
+    rw (slots, instructions) (placed_push c.self.inside.slots.items c.self.inside.instructions.items
+    c.args.placed.slot c.args.placed.instruction c.self.invariant
+    ∙ ap (λ (l : List Placed). l ++ c.args.placed ∷ []) c.self.view_is)

@@ -1,7 +1,6 @@
 use Rattle.std.proofs.Common.{◌≡◌}
 use Rattle.machine_spec.specs.Machine.{byte_in, bytes_from}
-use Rattle.bpf_machine.specs.Views.{stack_of}
-use Rattle.bpf_machine.specs.States.{input_of}
+use Rattle.bpf_machine.specs.{Views.stack_of, States.input_of}
 use Rattle.bpf_machine.proofs.memory.Run.bytes_from.Given as goal
 
 abbrev pub invariant-loop-k : goal.invariant-loop-k

@@ -1,7 +1,6 @@
 use Rattle.std.proofs.Common.{subst}
 use Rattle.log_spec.specs.Catalogue.{among}
-use Rattle.catalogue.specs.Finders.{Seen}
-use Rattle.catalogue.specs.Versions.{IsNoOlder, number_and_program}
+use Rattle.catalogue.specs.{Finders.Seen, Versions.IsNoOlder, Versions.number_and_program}
 use Rattle.catalogue.proofs.VersionLaws.{never_back-result}
 use Rattle.catalogue.proofs.finder.Finder.find.Goals as goal
 

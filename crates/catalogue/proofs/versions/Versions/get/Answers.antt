@@ -1,5 +1,4 @@
-use Rattle.std.proofs.Common.{rules, ◌≡◌, List, sym, ap, subst, ◌∙◌}
-use Rattle.std.specs.Prelude.{Some}
+use Rattle.std.proofs.Common.{rules, ◌≡◌, List, sym, ap, subst, ◌∙◌, Some}
 use Rattle.std.specs.Arc.{arc_value}
 use Rattle.log_spec.specs.Catalogue.{Version, among}
 use Rattle.catalogue.proofs.VersionLaws.{among-found}

@@ -1,7 +1,6 @@
 use Rattle.std.proofs.Common.{◌≡◌, ℕ, List, IfOk, rules, string_bytes, subst}
 use Rattle.script.specs.Texts.{load_line}
-use Rattle.commands.proofs.Loaded.{loads}
-use Rattle.commands.proofs.Written.{line_printed}
+use Rattle.commands.proofs.{Loaded.loads, Written.line_printed}
 use Rattle.commands.proofs.session.Session.load.Goals as goal
 
 pub returns-clause-loaded : goal.returns-clause-loaded

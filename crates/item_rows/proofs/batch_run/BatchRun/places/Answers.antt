@@ -4,8 +4,7 @@ use Rattle.wire_spec.specs.declared.record.Record.{Record}
 use Rattle.machine_spec.specs.declared.outcome.Place.{Place}
 use Rattle.log_spec.specs.Logs.{FitsRecord, place_of}
 use Rattle.item_rows.specs.Blocks.{places_from}
-use Rattle.item_rows.proofs.RowLaws.{each_at, take_all}
-use Rattle.item_rows.proofs.BlockLaws.{places-next}
+use Rattle.item_rows.proofs.{RowLaws.each_at, RowLaws.take_all, BlockLaws.places-next}
 use Rattle.item_rows.proofs.batch_run.BatchRun.places.Goals as goal
 
 pub place-requires-clause-from : goal.place-requires-clause-from

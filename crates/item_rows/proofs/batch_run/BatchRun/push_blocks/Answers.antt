@@ -2,15 +2,12 @@ use Rattle.std.proofs.Common.{◌≡◌, ℕ, ◌+◌, ◌<◌, ◌≤◌, ◌++
 use Rattle.std.proofs.Common.{arith}
 use Rattle.std.proofs.lemmas.List.{take-append-drop, length-take-le}
 use Rattle.wire_spec.specs.declared.record.Record.{Record}
-use Rattle.machine_spec.specs.declared.outcome.Place.{Place}
-use Rattle.machine_spec.specs.Meaning.{IsPlace}
+use Rattle.machine_spec.specs.{declared.outcome.Place.Place, Meaning.IsPlace}
 use Rattle.log_spec.specs.declared.row.Row.{Row}
 use Rattle.exec.specs.Endings.{outcomes_of}
 use Rattle.log_item.specs.Programs.{RunsSafelyOnEach}
-use Rattle.fates.specs.Fates.{fate_of}
-use Rattle.fates.specs.Totals.{Totals}
-use Rattle.item_rows.specs.declared.batch_run.BatchRun.{BatchRun}
-use Rattle.item_rows.specs.ItemRows.{Adds}
+use Rattle.fates.specs.{Fates.fate_of, Totals.Totals}
+use Rattle.item_rows.specs.{declared.batch_run.BatchRun.BatchRun, ItemRows.Adds}
 use Rattle.item_rows.specs.Blocks.{records_from, rows_of_each, AreFatesMore, CanRun, HaveRun}
 use Rattle.item_rows.proofs.BlockLaws.{run_then, can_run_rest, can_run_first, places_given, places_long, meant_run}
 use Rattle.item_rows.proofs.BlockLaws.{on_ok, is_part}

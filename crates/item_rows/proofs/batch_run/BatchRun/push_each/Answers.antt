@@ -5,11 +5,10 @@ use Rattle.wire_spec.specs.declared.record.Record.{Record}
 use Rattle.machine_spec.specs.declared.outcome.Place.{Place}
 use Rattle.log_spec.specs.Logs.{IsRecordRows, place_of}
 use Rattle.fates.specs.Fates.{IsFate}
-use Rattle.item_rows.specs.ItemRows.{Adds}
-use Rattle.item_rows.specs.RowParts.{no_record}
-use Rattle.item_rows.specs.Blocks.{program_in, HaveRun}
+use Rattle.item_rows.specs.{ItemRows.Adds, Blocks.program_in, Blocks.HaveRun}
 use Rattle.item_rows.proofs.BlockLaws.{one_fate, one_run, run_then, run_counted}
 use Rattle.item_rows.proofs.batch_run.BatchRun.push_each.Goals as goal
+use Rattle.exec.specs.Runs.{no_record}
 
 pub add-requires : goal.add-requires
 add-requires c =

@@ -4,10 +4,8 @@ use Rattle.machine_spec.specs.Meaning.{Means}
 use Rattle.helpers.specs.Emitted.{emissions_in}
 use Rattle.exec.specs.Endings.{outcome_with}
 use Rattle.log_spec.specs.Logs.{rows_of, IsRecordRows}
-use Rattle.fates.specs.declared.fate.Fate.{Fate}
-use Rattle.fates.specs.Fates.{fate_of, IsFate}
-use Rattle.item_rows.specs.ItemRows.{Adds}
-use Rattle.item_rows.specs.Blocks.{program_in}
+use Rattle.fates.specs.{declared.fate.Fate.Fate, Fates.fate_of, Fates.IsFate}
+use Rattle.item_rows.specs.{ItemRows.Adds, Blocks.program_in}
 use Rattle.item_rows.proofs.RowLaws.{if_ok, outcome_rows, record_made}
 use Rattle.item_rows.proofs.batch_run.BatchRun.push_record.Goals as goal
 

@@ -1,7 +1,6 @@
 use Rattle.std.proofs.Common.{List, sym, subst, ◌∙◌}
 use Rattle.machine_spec.specs.declared.outcome.Place.{Place}
-use Rattle.exec.specs.Abreast.{AreGiven}
-use Rattle.exec.specs.Endings.{outcomes_of}
+use Rattle.exec.specs.{Abreast.AreGiven, Endings.outcomes_of}
 use Rattle.log_item.specs.Programs.{RunsSafelyOnEach}
 use Rattle.item_rows.proofs.BlockLaws.{places_given}
 use Rattle.item_rows.proofs.batch_run.BatchRun.run_block.Goals as goal

@@ -1,9 +1,6 @@
 use Rattle.std.proofs.Common.{List, ◌++◌, ◌∷◌, [], length, sym, ap, subst, ◌∙◌, arith}
-use Rattle.log_spec.specs.declared.row.Row.{Row}
-use Rattle.log_spec.specs.Logs.{row_of}
-use Rattle.item_rows.specs.declared.refs.Slot.{Slot}
-use Rattle.item_rows.specs.RowParts.{whole}
-use Rattle.item_rows.specs.RowRefs.{rows_by, AreWithin}
+use Rattle.log_spec.specs.{declared.row.Row.Row, Logs.row_of}
+use Rattle.item_rows.specs.{declared.refs.Slot.Slot, RowParts.whole, RowRefs.rows_by, RowRefs.AreWithin}
 use Rattle.item_rows.proofs.RefLaws.{given_more, one_within, none_made}
 use Rattle.item_rows.proofs.refs.RowRefs.push_given.Goals as goal
 

@@ -1,10 +1,8 @@
 use Rattle.std.proofs.Common.{◌≡◌, ℕ, ◌+◌, Some, List, ◌++◌, ◌∷◌, [], length, sym, ap, subst, ◌∙◌, arith}
 use Rattle.std.proofs.lemmas.List.{length-append}
-use Rattle.log_spec.specs.declared.row.Row.{Row}
-use Rattle.log_spec.specs.Logs.{row_of}
+use Rattle.log_spec.specs.{declared.row.Row.Row, Logs.row_of}
 use Rattle.machine_spec.specs.declared.outcome.Emission.{Emission}
-use Rattle.item_rows.specs.declared.refs.Slot.{Slot}
-use Rattle.item_rows.specs.RowRefs.{rows_by, AreWithin}
+use Rattle.item_rows.specs.{declared.refs.Slot.Slot, RowRefs.rows_by, RowRefs.AreWithin}
 use Rattle.item_rows.proofs.RefLaws.{made_more, one_within, all_within, last_made}
 use Rattle.item_rows.proofs.refs.RowRefs.push_made.Goals as goal
 

@@ -2,8 +2,7 @@ use Rattle.std.proofs.Common.{◌≡◌, ◌<◌, List, length, slice_get, Some,
 use Rattle.std.proofs.lemmas.List.{length-map}
 use Rattle.machine_spec.specs.declared.outcome.Emission.{Emission}
 use Rattle.log_spec.specs.declared.row.Row.{Row}
-use Rattle.item_rows.specs.RowParts.{IsWithin}
-use Rattle.item_rows.specs.RowRefs.{row_in, rows_by}
+use Rattle.item_rows.specs.{RowParts.IsWithin, RowRefs.row_in, RowRefs.rows_by}
 use Rattle.item_rows.proofs.RefLaws.{within_at, row_at}
 use Rattle.item_rows.proofs.refs.RowRefs.row.Goals as goal
 

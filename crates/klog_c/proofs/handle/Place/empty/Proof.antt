@@ -30,8 +30,7 @@ use denote.Struct.Owning.{shape, to}
 use denote.Triple.Spec.{triple_of}
 use denote.Triple.Table.{entered}
 use denote.Triple.Walked.{says, Stays, stay_dropped, walk_of, ends_at, Goes-dropped, walk_Meets}
-use Rattle.std.proofs.Common.{arith}
-use Rattle.std.specs.Prelude.{None}
+use Rattle.std.proofs.Common.{arith, None}
 use Rattle.std.specs.contracts.alloc.Global as Heap
 use Rattle.std.proofs.alloc.Calls.{handle_tells}
 use Rattle.klog_c.proofs.AsBox.{E}

@@ -1,7 +1,5 @@
-use Rattle.std.proofs.Common.{◌≡◌, ℕ, IfOk, subst}
-use Rattle.machine_spec.specs.declared.outcome.Outcome.{Outcome}
-use Rattle.machine_spec.specs.Image.{Program, program_of}
-use Rattle.machine_spec.specs.Machine.{Input}
+use Rattle.std.proofs.Common.{ℕ, IfOk, subst}
+use Rattle.machine_spec.specs.{declared.outcome.Outcome.Outcome, Image.Program, Image.program_of, Machine.Input}
 use Rattle.machine_spec.specs.Meaning.{Means}
 use Rattle.log_item.specs.Programs.{RunsSafely}
 use Rattle.log_item.proofs.RunLaws.{run_means, run_safe}

@@ -1,8 +1,6 @@
-use Rattle.std.proofs.Common.{Result, Ok, Err, subst}
-use Rattle.std.specs.Prelude.{OnOk}
+use Rattle.std.proofs.Common.{Result, Ok, Err, subst, OnOk}
 use Rattle.machine_spec.specs.Image.{Program}
-use Rattle.exec.specs.Endings.{outcomes_of}
-use Rattle.exec.specs.Abreast.{AreOutcomes}
+use Rattle.exec.specs.{Endings.outcomes_of, Abreast.AreOutcomes}
 use Rattle.log_item.specs.Programs.{RunsSafelyOnEach}
 use Rattle.log_item.proofs.RunLaws.{runs_safe}
 use Rattle.log_item.proofs.program.Program.run_block.Goals as goal

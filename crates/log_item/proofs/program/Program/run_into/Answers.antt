@@ -1,11 +1,8 @@
-use Rattle.std.proofs.Common.{◌≡◌, ℕ, IfOk, subst}
-use Rattle.machine_spec.specs.declared.outcome.Outcome.{Outcome}
-use Rattle.machine_spec.specs.Image.{Program, program_of}
-use Rattle.machine_spec.specs.Machine.{Input}
+use Rattle.std.proofs.Common.{ℕ, IfOk, subst}
+use Rattle.machine_spec.specs.{declared.outcome.Outcome.Outcome, Image.Program, Image.program_of, Machine.Input}
 use Rattle.machine_spec.specs.Meaning.{Means}
 use Rattle.helpers.specs.Emitted.{emissions_in}
-use Rattle.exec.specs.declared.ending.Ending.{Ending}
-use Rattle.exec.specs.Endings.{outcome_with}
+use Rattle.exec.specs.{declared.ending.Ending.Ending, Endings.outcome_with}
 use Rattle.log_item.specs.Programs.{RunsSafely}
 use Rattle.log_item.proofs.RunLaws.{run_means, run_safe}
 use Rattle.log_item.proofs.program.Program.run_into.Goals as goal

@@ -1,8 +1,7 @@
 use Rattle.std.proofs.Common.{List, sym, subst, rules}
 use Rattle.arrayvec.proofs.ArrayVecLemmas.{items-with_items}
 use Rattle.machine_spec.specs.Image.{program_of}
-use Rattle.program_table.specs.declared.table.Entry.{Entry}
-use Rattle.program_table.specs.Tables.{table_view, IsTable}
+use Rattle.program_table.specs.{declared.table.Entry.Entry, Tables.table_view, Tables.IsTable}
 use Rattle.program_table.proofs.KeptTables.{is_table-loaded}
 use Rattle.program_table.proofs.table.ProgramTable.load.Goals as goal
 

@@ -1,7 +1,6 @@
 use Rattle.std.proofs.Common.{◌≡◌, ℕ, List, length, rules, sym, subst, ◌∙◌}
 use Rattle.std.specs.Arc.{arc_value}
-use Rattle.log_spec.specs.declared.row.Row.{Row}
-use Rattle.log_spec.specs.Logs.{IsRowsOf}
+use Rattle.log_spec.specs.{declared.row.Row.Row, Logs.IsRowsOf}
 use Rattle.part_log.specs.Parts.{Log}
 use Rattle.fates.specs.Totals.{Totals, AreCountsOf}
 use Rattle.out_book.specs.Books.{rows_from}

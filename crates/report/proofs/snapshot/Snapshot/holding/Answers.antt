@@ -1,7 +1,6 @@
 use Rattle.std.proofs.Common.{◌<◌, List, length, refl, sym, subst}
 use Rattle.std.proofs.lemmas.Option.{slice_get_read}
-use Rattle.report.specs.Holdings.{Held}
-use Rattle.report.specs.Snapshots.{Gathered}
+use Rattle.report.specs.{Holdings.Held, Snapshots.Gathered}
 use Rattle.report.proofs.snapshot.Snapshot.holding.Goals as goal
 
 pub returns-clause-output : goal.returns-clause-output

@@ -1,7 +1,6 @@
 use Rattle.std.proofs.Common.{◌<◌, List, length, refl, sym, subst}
 use Rattle.std.proofs.lemmas.Option.{slice_get_read}
-use Rattle.report.specs.Totals.{Tallied}
-use Rattle.report.specs.Snapshots.{Gathered, IsLeast}
+use Rattle.report.specs.{Totals.Tallied, Snapshots.Gathered, Snapshots.IsLeast}
 use Rattle.report.proofs.snapshot.Snapshot.tally.Goals as goal
 
 pub returns-clause-least : goal.returns-clause-least

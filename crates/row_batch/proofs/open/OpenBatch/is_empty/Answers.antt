@@ -1,5 +1,4 @@
-use Rattle.std.proofs.Common.{ℕ, length, sym, ap, ◌∙◌}
-use Rattle.std.specs.Prelude.{◌==◌}
+use Rattle.std.proofs.Common.{ℕ, length, sym, ap, ◌∙◌, ◌==◌}
 use Rattle.row_batch.proofs.OpenLaws.{count_in}
 use Rattle.row_batch.proofs.open.OpenBatch.is_empty.Goals as goal
 

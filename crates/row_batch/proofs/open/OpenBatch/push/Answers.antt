@@ -1,5 +1,4 @@
-use Rattle.std.proofs.Common.{◌≡◌, max, Result, Ok, Err, subst}
-use Rattle.std.specs.Prelude.{OnErr}
+use Rattle.std.proofs.Common.{◌≡◌, max, Result, Ok, Err, subst, OnErr}
 use Rattle.log_spec.specs.declared.row.Row.{Row}
 use Rattle.row_batch.proofs.OpenLaws.{none_changed, left_out, left_few, not_first, added_rows, added_few, added_open}
 use Rattle.row_batch.proofs.open.OpenBatch.push.Goals as goal

@@ -1,12 +1,10 @@
 use Rattle.std.proofs.Common.{◌≡◌, ℕ, List, ◌++◌, length, drop, to_z, ap, ◌∙◌, arith}
 use Rattle.std.specs.Int.{w64}
 use Rattle.std.proofs.lemmas.Int.{to_z_pos}
-use Rattle.wire_spec.specs.declared.{record.Batch.Batch}
+use Rattle.wire_spec.specs.declared.record.Batch.{Batch}
 use Rattle.batch.specs.Heads.{front_of, header_of}
 use Rattle.row_batch.specs.RowBatches.{head_of}
-use Rattle.row_batch.proofs.RowLaws.{first_fits}
-use Rattle.row_batch.proofs.RoomLaws.{front_long}
-use Rattle.row_batch.proofs.ShownLaws.{none_in}
+use Rattle.row_batch.proofs.{RowLaws.first_fits, RoomLaws.front_long, ShownLaws.none_in}
 use Rattle.row_batch.proofs.OpenLaws.{some_in, long_enough, taken_is}
 use Rattle.row_batch.proofs.open.OpenBatch.take.Goals as goal
 

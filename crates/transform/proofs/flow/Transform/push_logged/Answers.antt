@@ -2,8 +2,7 @@ use Rattle.std.proofs.Common.{◌≡◌, ◌+◌, ◌≤◌, List, length, Some,
 use Rattle.std.specs.Vec.{with_items}
 use Rattle.std.proofs.lemmas.List.{with_items_is}
 use Rattle.wire_spec.specs.declared.limits.TheConstants.{TIMESTAMP_END, MAX_RECORDS}
-use Rattle.log_spec.specs.declared.row.Row.{Row}
-use Rattle.log_spec.specs.Logs.{Records}
+use Rattle.log_spec.specs.{declared.row.Row.Row, Logs.Records}
 use Rattle.fates.specs.Totals.{Totals, AreItemCounts}
 use Rattle.item_rows.specs.ItemRows.{AreItemRows}
 use Rattle.transform.specs.Outlets.{Outflow}

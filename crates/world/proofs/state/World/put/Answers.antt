@@ -1,7 +1,6 @@
-use Rattle.std.proofs.Common.{◌≡◌, ◌<◌, ◌++◌, ◌∷◌, [], List, set, sym, ap, subst, ◌∙◌}
+use Rattle.std.proofs.Common.{◌≡◌, ◌++◌, ◌∷◌, [], List, set, sym, ap, subst, ◌∙◌}
 use Rattle.std.proofs.lemmas.List.{get_or_read}
-use Rattle.log_spec.specs.Logs.{Item as LogItem}
-use Rattle.log_spec.specs.Worlds.{World, log_of}
+use Rattle.log_spec.specs.{Logs.Item as LogItem, Worlds.World, Worlds.log_of}
 use Rattle.log_item.specs.Items.{item_view}
 use Rattle.world.specs.Views.{world_seen, IsCore}
 use Rattle.world.proofs.CoreLaws.{core-appended, seen_input}

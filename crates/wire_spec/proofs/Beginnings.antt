@@ -1,19 +1,14 @@
 -- Bytes that are written in pieces.
-use Rattle.std.proofs.Common.{◌≡◌, ℕ, ◌+◌, List, [], ◌++◌, length, take, drop, Option, Some, None, sym, subst}
-use Rattle.std.proofs.Common.{◌∙◌, append-nil, arith}
+use Rattle.std.proofs.Common.{ℕ, ◌+◌, List, [], ◌++◌, length, take, drop, Option, Some, None, sym, subst, ◌∙◌}
+use Rattle.std.proofs.Common.{append-nil}
 use Rattle.std.specs.Io.KnownBytes.{Appends, Keeps}
-use Rattle.std.proofs.KnownBytes.{Appends-nil, Appends-trans}
-use Rattle.std.proofs.Math.Seq.{take-add, take-append-add}
-use Rattle.std.proofs.lemmas.List.{take_all}
-use Rattle.transform.specs.Outlets.{HasBegun}
+use Rattle.std.proofs.{KnownBytes.Appends-trans, Math.Seq.take-add, Math.Seq.take-append-add}
+use Rattle.wire_spec.specs.Writing.{HasBegun}
 
 pub kept_none : (a b : Option (List ℕ)) → Keeps a b → Appends a b []
 kept_none None b k = tt
 kept_none (Some xs) None k = absurd k
 kept_none (Some xs) (Some ys) k = k ∙ sym (append-nil xs)
-
-pub begun_none : (a : Option (List ℕ)) (bytes : List ℕ) → HasBegun a a bytes
-begun_none a bytes = record { count = 0; written = Appends-nil a }
 
 pub begun_kept : (a b : Option (List ℕ)) (bytes : List ℕ) → Keeps a b → HasBegun a b bytes
 begun_kept a b bytes k = record { count = 0; written = kept_none a b k }
@@ -33,10 +28,6 @@ pub begun_on : (a b c : Option (List ℕ)) (done : ℕ) (bytes : List ℕ) → A
     HasBegun b c (drop done bytes) → HasBegun a c bytes
 begun_on a b c done bytes h g =
     record { count = done + g.count; written = written_on a b c done g.count bytes h g.written }
-
-pub whole_bytes : (a b : Option (List ℕ)) (done : ℕ) (bytes : List ℕ) → done ≡ length bytes →
-    Appends a b (take done bytes) → Appends a b bytes
-whole_bytes a b done bytes e h = subst (λ (bs : List ℕ). Appends a b bs) (take_all done bytes (omega (arith, e))) h
 
 -- some bytes, and then a beginning of others
 pub begun_then : (a b c : Option (List ℕ)) (x y : List ℕ) → Appends a b x → HasBegun b c y → HasBegun a c (x ++ y)
