@@ -6,12 +6,11 @@ ghost use Rattle.verifier_spec.specs.Kinds.{kind_at, is_unknown, furthest};
 ghost use Rattle.verifier_spec.specs.Checks.{reads_unknown, is_one_sign, least_displacement, greatest_displacement, can_move, can_compute_kinds, has_wrong_kinds, has_wrong_base_kind, has_wrong_condition_kind, reach_at, reach_of, may_write_record, may_leave_record, may_leave_stack, may_read_unset, named_reach, may_name_wrongly, may_be_wrong_room, is_whole, is_wrong_argument_kind, may_exit_wrongly, failed_check};
 ghost use Rattle.machine_spec.specs.Image.{helpers_of};
 
+use lattice::{contains_all, kinds, same_region};
 use machine_spec::{
     Argument, Condition, Direction, Helper, Instruction, MemoryOperand, Operands, Operation,
     Region, STACK_SIZE, Source, Summary, Table, Width,
 };
-use stack_bytes::contains_all;
-use state_order::{kinds, same_region};
 use verifier_spec::{Abs, Abstract, Check, Interval};
 
 /// The first number that is negative where it is read as signed: 2^63.

@@ -10,8 +10,8 @@ ghost use Rattle.machine_spec.specs.Image.{helpers_of};
 ghost use Rattle.machine_spec.specs.declared.helper.TheConstants.{HELPERS};
 
 use crate::{checks, transfer};
+use lattice::kinds;
 use machine_spec::{Instruction, Region, STACK_SIZE, Table};
-use state_order::kinds;
 use std::marker::Model;
 use verifier_spec::{Abs, Abstract, Check, Range, StackSet};
 use wire_spec::{MAX_KEY, MAX_VALUE};
@@ -69,7 +69,7 @@ impl State {
             },
             set,
         };
-        if state_order::is_proper(&inner) {
+        if lattice::is_proper(&inner) {
             Some(State { inner })
         } else {
             None
@@ -132,7 +132,7 @@ impl State {
         ensures proper { is_proper self.now ≡ true }
         ensures outer_proper { is_proper outer.now ≡ true }
     {
-        state_order::is_within(&self.inner, &outer.inner)
+        lattice::is_within(&self.inner, &outer.inner)
     }
 
     /// The least state that this one and another are both within: of each register what both know,
@@ -144,7 +144,7 @@ impl State {
         ensures joined_proper { is_proper result ≡ true }
     {
         State {
-            inner: state_order::joined(&self.inner, &other.inner),
+            inner: lattice::joined(&self.inner, &other.inner),
         }
     }
 

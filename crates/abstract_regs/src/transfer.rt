@@ -10,13 +10,12 @@ ghost use Rattle.verifier_spec.specs.Transfer.{with_kind, numbers, on_ranges, mo
 ghost use Rattle.machine_spec.specs.declared.helper.TheConstants.{HELPERS};
 
 use crate::checks;
+use lattice::{kinds, with_places};
 use machine_spec::{
     Argument, Change, Condition, Extension, Helper, Instruction, Operation, Region, Size, Source,
     Summary, Test, Width,
 };
-use stack_bytes::{StackSet, with_places};
-use state_order::kinds;
-use verifier_spec::{Abs, Abstract, Interval, Range};
+use verifier_spec::{Abs, Abstract, Interval, Range, StackSet};
 
 // ---- a register's kind
 
@@ -64,7 +63,7 @@ fn on_ranges(width: Width, operation: Operation, a: Interval, b: Option<Interval
     ensures proper { is_proper_kind result ≡ true }
 {
     match b {
-        Some(range) => numbers(intervals::result_range(width, operation, a, range)),
+        Some(range) => numbers(lattice::result_range(width, operation, a, range)),
         None => Abs::None,
     }
 }
@@ -145,7 +144,7 @@ fn moved_kind(state: &Abstract, width: Width, kind: Abs) -> Abs
 {
     match width {
         Width::Bits32 => match kinds::range_of(state, kind) {
-            Some(range) => numbers(intervals::cut(Width::Bits32, range)),
+            Some(range) => numbers(lattice::cut(Width::Bits32, range)),
             None => Abs::None,
         },
         Width::Bits64 => kind,
@@ -159,7 +158,7 @@ fn changed_kind(state: &Abstract, change: Change, kind: Abs) -> Abs
     ensures proper { is_proper_kind result ≡ true }
 {
     match kinds::range_of(state, kind) {
-        Some(range) => numbers(intervals::changed_range(change, range)),
+        Some(range) => numbers(lattice::changed_range(change, range)),
         None => Abs::None,
     }
 }
@@ -292,14 +291,14 @@ fn edge_of(
         Abs::None => Some(*state),
         Abs::Num(low, high) => {
             let range = Interval { low, high };
-            match intervals::narrowed(test.0, test.1, along, range, constant) {
+            match lattice::narrowed(test.0, test.1, along, range, constant) {
                 Some(part) => Some(with_kind(state, register, numbers(part))),
                 None => None,
             }
         }
         Abs::Len(region) => {
             let range = kinds::length_interval(state, region);
-            let narrow = intervals::narrowed(test.0, test.1, along, range, constant);
+            let narrow = lattice::narrowed(test.0, test.1, along, range, constant);
             length_edge(state, register, region, narrow)
         }
         Abs::Addr(_, _, _) => Some(*state),

@@ -6,9 +6,8 @@ ghost use Rattle.explain.specs.Reasons as definitions;
 ghost use Rattle.explain.specs.Reasons.{first_below};
 
 use crate::reason::{Reached, Reason};
+use lattice::{contains_all, kinds};
 use machine_spec::{MemoryOperand, STACK_SIZE};
-use stack_bytes::contains_all;
-use state_order::kinds;
 use verifier_spec::{Abs, Abstract, StackSet};
 
 fn first_byte(low: i64, offset: i16) -> i128

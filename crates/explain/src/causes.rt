@@ -11,9 +11,9 @@ use crate::reason::Reason;
 use crate::registers::unknown_register;
 use abstract_regs::State;
 use bpf_isa::Code;
+use lattice::kinds;
 use machine_spec::{Placed, Summary};
 use notes::claim_at;
-use state_order::kinds;
 use verifier_spec::{Abstract, Check, VerifyFault};
 
 // ---- jumps

@@ -12,9 +12,9 @@ use crate::hint::{Edge, Hint};
 use crate::reason::Reason;
 use abstract_regs::State;
 use bpf_isa::Code;
+use lattice::{kinds, same_region};
 use machine_spec::{MAX_SLOTS, Placed, Summary, Table};
 use notes::claim_at;
-use state_order::{kinds, same_region};
 use verifier_spec::Abs;
 
 // ---- the kind that an edge propagates

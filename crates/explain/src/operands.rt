@@ -7,10 +7,10 @@ ghost use Rattle.explain.specs.Reasons as definitions;
 
 use crate::reason::Reason;
 use abstract_regs::{greatest_displacement, is_one_sign, is_wrong_argument, least_displacement};
+use lattice::kinds;
 use machine_spec::{
     Argument, Condition, MemoryOperand, Operands, Operation, Source, Summary, Width,
 };
-use state_order::kinds;
 use verifier_spec::{Abs, Abstract, Interval};
 
 // ---- operands

@@ -6,8 +6,8 @@ ghost use Rattle.machine_spec.specs.Traps.{source_registers, operand_registers, 
 ghost use Rattle.verifier_spec.specs.Kinds.{kind_at, is_unknown};
 ghost use Rattle.explain.specs.Reasons as definitions;
 
+use lattice::kinds;
 use machine_spec::{Argument, Condition, Helper, MemoryOperand, Operands, Source, Summary};
-use state_order::kinds;
 use verifier_spec::Abstract;
 
 fn is_unknown_at(state: &Abstract, register: u8) -> bool

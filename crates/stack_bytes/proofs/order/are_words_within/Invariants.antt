@@ -1,6 +1,0 @@
-use Rattle.std.proofs.Common.{ℕ, ◌<◌}
-use Rattle.stack_bytes.proofs.Words.{HasBits}
-use Rattle.stack_bytes.proofs.order.are_words_within.Given as goal
-
-abbrev pub invariant-loop-word : goal.invariant-loop-word
-invariant-loop-word l = (w : ℕ) → w < l.word → HasBits l.inner l.outer w
