@@ -8,8 +8,8 @@ Each block of instructions that run one after the other is a box: what is known 
 the test by which it is taken. The refused instruction is red, with what the fault is about below it. Blocks that nothing reaches are
 grey; those that the verifier did not come to, since it refused an instruction before them, have a dashed border.
 
-It runs `klog explain IMAGE`, by helper table 1 or the one that is named, and `klog dis IMAGE`, by KLOG, `klog` on the path, or crates/klog/out/klog. Where the image is no program,
-it prints the fault and ends with status 1.
+It runs `klog explain IMAGE`, by helper table 1 or the one that is named, and `klog dis IMAGE`, by KLOG, `klog` on the path,
+or crates/klog/out/klog. Where the image is no program, it prints the fault and ends with status 1.
 """
 import argparse
 import collections
@@ -40,9 +40,14 @@ class NoProgram(Exception):
     """What klog prints where it has nothing to explain."""
 
 
-def program(given):
+def built_klog():
+    """The program that `rt run` left in crates/klog, or None."""
     built = os.path.join(TOP, "crates", "klog", "out", "klog")
-    found = given or shutil.which("klog") or (built if os.path.exists(built) else None)
+    return built if os.path.exists(built) else None
+
+
+def program(given):
+    found = given or shutil.which("klog") or built_klog()
     if found is None:
         raise NoProgram("no klog: give --klog, or have it on the path")
     return found

@@ -1,7 +1,7 @@
 #!/usr/bin/env python3
 """Ends klog's standard output at every byte, and compares what is written, printed and returned.
 
-    tools/cut_output.py KLOG [SCRIPT ...]     # KLOG: the built program; the scripts of examples/ if none is named
+    tools/dev/cut_output.py KLOG [SCRIPT ...]     # KLOG: the built program; the scripts of examples/ if none is named
 
 Each script is run once with room for all that it prints. Then it is run for each byte of that output with a file that takes
 no more than the bytes before it (the limit on file size, as a full disk has), once with a standard output that is
@@ -16,7 +16,7 @@ import sys
 import tempfile
 from pathlib import Path
 
-EXAMPLES = Path(__file__).resolve().parent.parent / "examples"
+EXAMPLES = Path(__file__).resolve().parents[2] / "examples"
 
 
 def limited(size):

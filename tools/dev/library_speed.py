@@ -4,7 +4,7 @@
 Not part of the build. On Debian, and Linux, with a folder that tools/build_library.sh made:
 
     apt-get install -y python3-kafka golang-go golang-github-shopify-sarama-dev
-    /usr/bin/python3 tools/library_speed.py FOLDER KLOG [MIB [ROUNDS]]    # 64 and 5 if not given
+    /usr/bin/python3 tools/dev/library_speed.py FOLDER KLOG [MIB [ROUNDS]]    # 64 and 5 if not given
 
 A file of make_segment.py in /dev/shm has batches of 10,000 records, with values of 64 bytes. C, Go and Python transform
 each batch by a call of its own and copy each output's batches; the others read and write files. A row has the most
@@ -20,7 +20,7 @@ import time
 
 from transform_speed import TOOLS, built_peer, timed
 
-EXAMPLES = f"{TOOLS}/../examples"
+EXAMPLES = f"{TOOLS}/../../examples"
 LIBRARY = f"{EXAMPLES}/library"
 PROGRAMS = {"forward": (f"{EXAMPLES}/forward.bin", 1), "keep half": (f"{EXAMPLES}/c/filter_first_byte.bin", 1),
             "route to four": (f"{EXAMPLES}/c/route_by_hash.bin", 4)}

@@ -4,10 +4,10 @@
 Not part of the build. On Debian, and Linux, with a libklog.so that tools/build_library.sh made:
 
     apt-get install -y python3-kafka python3-confluent-kafka
-    /usr/bin/python3 tools/kafka_scaling.py LIBRARY record           # a run of a program in Python, by itself
-    /usr/bin/python3 tools/kafka_scaling.py LIBRARY members 1 2 4    # as many members on one topic, in turn
-    /usr/bin/python3 tools/kafka_scaling.py LIBRARY rest 1 100 1000  # a member of a topic of as many idle partitions
-    /usr/bin/python3 tools/kafka_scaling.py LIBRARY shares           # a member joins, leaves, dies
+    /usr/bin/python3 tools/dev/kafka_scaling.py LIBRARY record           # a run of a program in Python, by itself
+    /usr/bin/python3 tools/dev/kafka_scaling.py LIBRARY members 1 2 4    # as many members on one topic, in turn
+    /usr/bin/python3 tools/dev/kafka_scaling.py LIBRARY rest 1 100 1000  # a member of a topic of as many idle partitions
+    /usr/bin/python3 tools/dev/kafka_scaling.py LIBRARY shares           # a member joins, leaves, dies
 
 `members` and `rest` take the mock cluster as it is, without the transactions of mock_kafka.py: it answers a transaction's
 requests and keeps nothing of them, which costs the members the same. The topic has 64 partitions, as the mock cluster
@@ -26,7 +26,7 @@ from confluent_kafka import Consumer, TopicPartition
 from make_segment import batch_of, some_record
 from mock_kafka import Front, MockCluster
 
-TOP = os.path.join(os.path.dirname(os.path.abspath(__file__)), "..")
+TOP = os.path.join(os.path.dirname(os.path.abspath(__file__)), "..", "..")
 PARTITIONS, BATCH = 64, 500
 GIVEN = r"in assigned \[\d.*"  # what a member says that got partitions
 TICKS = os.sysconf("SC_CLK_TCK")

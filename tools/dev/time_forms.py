@@ -1,7 +1,7 @@
 #!/usr/bin/env python3
 """Times programs of one form each by several builds of bench_exec in turn, and prints the least time of each.
 
-    tools/time_forms.py ROUNDS BENCH [BENCH ...]     # BENCH: a built crates/bench_exec/out/bench_exec; ROUNDS: 10, say
+    tools/dev/time_forms.py ROUNDS BENCH [BENCH ...]     # BENCH: a built crates/bench_exec/out/bench_exec; ROUNDS: 10, say
 
 The programs are of the forms that the first interpreter had: moves, sums, loads of each size, jumps that compare a register
 with a number, calls of helper 3 and EXIT. A line has the program's name and then, for each build, the least of ROUNDS times in

@@ -1,7 +1,7 @@
 #!/usr/bin/env python3
 """Compiles the transforms of a folder, makes their images, has klog check and run them, and prints a table of them.
 
-    tools/transforms.py [FOLDER] [--compiler COMPILER] [--options OPTIONS] [--klog KLOG]
+    tools/dev/transforms.py [FOLDER] [--compiler COMPILER] [--options OPTIONS] [--klog KLOG]
 
 FOLDER is examples/c/transforms, if it is not given; docs/transforms.md has what is printed of it, and of
 examples/c/tried.
@@ -9,8 +9,8 @@ examples/c/tried.
 NAME.c is a transform as anyone would write it who has read the head of klog.h. Where it is refused, NAME_klog.c is one
 that is accepted, and its comment says why and what is changed. The comment of NAME.c has examples: a record's key and
 value, after `with` its headers, and what is emitted of it. Both are run on them, by helper table 2 where the source
-calls a helper of headers. KLOG is `klog` on the path or crates/klog/out/klog, if it is not given; without any, the
-second implementation (tools/second_machine.py) says what klog would. The status is 1 where a transform has no accepted
+calls a helper of headers. KLOG is that of tools/graph.py, if it is not given; without any, the
+second implementation (tools/dev/second_machine.py) says what klog would. The status is 1 where a transform has no accepted
 form, or an example gives something else.
 """
 import argparse
@@ -23,11 +23,15 @@ import subprocess
 import sys
 import tempfile
 
+TOOLS = os.path.dirname(os.path.dirname(os.path.abspath(__file__)))
+sys.path.insert(0, TOOLS)
+
+from graph import built_klog
+from image import Refused, image_of
 from second_broker import Record, spell
 from second_machine import Refused as Fault, decode, run, verify
-from image import Refused, image_of
 
-TOP = os.path.dirname(os.path.dirname(os.path.abspath(__file__)))
+TOP = os.path.dirname(TOOLS)
 FOLDER = os.path.join(TOP, "examples", "c", "transforms")
 OUTPUTS = 4
 
@@ -95,7 +99,7 @@ def table_of(path):
 class Model:
     """The second implementation."""
 
-    name = "tools/second_machine.py"
+    name = "tools/dev/second_machine.py"
 
     def check(self, image, table):
         try:
@@ -144,8 +148,7 @@ class Klog:
 
 
 def judge(given, folder):
-    built = os.path.join(TOP, "crates", "klog", "out", "klog")
-    program = given or shutil.which("klog") or (built if os.path.exists(built) else None)
+    program = given or shutil.which("klog") or built_klog()
     return Klog(program, folder) if program else Model()
 
 

@@ -1,6 +1,6 @@
 /* Refuses one request for memory of the program beside which it is loaded: the one with the number in the variable REFUSE,
    counting from 1. The file that REFUSE_COUNT names has eight bytes, in which it counts the requests, however the program ends.
-   Requests that the C library makes for itself are neither counted nor refused. tools/refuse_each.py builds and uses it. */
+   Requests that the C library makes for itself are neither counted nor refused. tools/dev/refuse_each.py builds and uses it. */
 #define _GNU_SOURCE
 #include <fcntl.h>
 #include <link.h>

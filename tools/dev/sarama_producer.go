@@ -1,7 +1,7 @@
 // Sends three records to partition 0 of topic t of a broker on this machine, by the Go client of Debian's package
-// golang-github-shopify-sarama-dev. tools/kafka_clients.py calls it:
+// golang-github-shopify-sarama-dev. tools/dev/kafka_clients.py calls it:
 //
-//	GO111MODULE=off GOPATH=/usr/share/gocode go run tools/sarama_producer.go ADDRESS VERSION none|gzip plain|idempotent
+//	GO111MODULE=off GOPATH=/usr/share/gocode go run tools/dev/sarama_producer.go ADDRESS VERSION none|gzip plain|idempotent
 package main
 
 import (

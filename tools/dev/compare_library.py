@@ -3,7 +3,7 @@
 
 Not part of the build. With a folder that tools/build_library.sh made:
 
-    tools/compare_library.py FOLDER/libklog.so [COUNT [SEED [KLOG]]]
+    tools/dev/compare_library.py FOLDER/libklog.so [COUNT [SEED [KLOG]]]
 
 Each program is loaded, and run on ten records with headers and on some record batches, some of them damaged. It prints
 the first image on which the fault's text, an outcome, an output's batches or the counts differ, and ends with status 1;
@@ -17,7 +17,7 @@ import struct
 import subprocess
 import sys
 
-sys.path.insert(0, os.path.join(os.path.dirname(os.path.abspath(__file__)), "..", "examples", "library"))
+sys.path.insert(0, os.path.join(os.path.dirname(os.path.abspath(__file__)), "..", "..", "examples", "library"))
 
 from compare import accepted_image, some_batch, some_bytes, some_header, some_image
 from klog_engine import Engine, Fault, Program, Transformed
@@ -200,7 +200,7 @@ def compare_script(rng, engine, klog, image, table):
 
 def main():
     if not 2 <= len(sys.argv) <= 5:
-        sys.exit("usage: tools/compare_library.py LIBRARY [COUNT [SEED [KLOG]]]")
+        sys.exit("usage: tools/dev/compare_library.py LIBRARY [COUNT [SEED [KLOG]]]")
     count = int(sys.argv[2]) if len(sys.argv) > 2 else 1000
     rng, engine = random.Random(int(sys.argv[3]) if len(sys.argv) > 3 else 1), Engine(sys.argv[1])
     klog = sys.argv[4] if len(sys.argv) > 4 else None

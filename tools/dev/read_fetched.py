@@ -4,7 +4,7 @@
 Not part of the build. On Debian, with a built program (`rt run` in crates/klog leaves it in out/klog):
 
     apt-get install -y python3-kafka
-    /usr/bin/python3 tools/read_fetched.py crates/klog/out/klog [COUNT [SEED]]
+    /usr/bin/python3 tools/dev/read_fetched.py crates/klog/out/klog [COUNT [SEED]]
 
 Each script appends batches that the client's builder makes, runs a program that passes each record on, and fetches rows
 from several places on. The client's `MemoryRecords` reads each printed batch: its checksum must be right, and offsets,

@@ -1,9 +1,9 @@
 #!/usr/bin/env python3
 """Prints for each crate its lines, its tests, its must-fail edits and, where asked for, the processor seconds of its proof.
 
-    tools/crate_table.py                       lines, tests and edits alone, in a second
-    tools/crate_table.py --prove               also proves each crate in a fresh clone of what is committed, by one job, lowest first
-    tools/crate_table.py --times FILE [ROWS]   what proofs, tests and edits took in a whole run of the gate, of the 15 crates that took
+    tools/dev/crate_table.py                       lines, tests and edits alone, in a second
+    tools/dev/crate_table.py --prove               also proves each crate in a fresh clone of what is committed, by one job, lowest first
+    tools/dev/crate_table.py --times FILE [ROWS]   what proofs, tests and edits took in a whole run of the gate, of the 15 crates that took
                                                most, or ROWS of them, and the sums of others and all
 
 FILE has a line for each call of `rattle`: its folder, its words, and then user, system and elapsed seconds and kilobytes, as

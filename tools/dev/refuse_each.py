@@ -3,15 +3,15 @@
 
 Not part of the build. From the top of the repository:
 
-    tools/refuse_each.py [CRATE [WORD]]       or a path, as `out/tests`, of its built tests in place of CRATE
+    tools/dev/refuse_each.py [CRATE [WORD]]       or a path, as `out/tests`, of its built tests in place of CRATE
 
 `rt test` proves the crate and builds its tests. Then each test runs once with no request refused, and once for each request that
-it made in that run, with that one refused. With a word only the tests run whose names have it, as `tools/refuse_each.py
+it made in that run, with that one refused. With a word only the tests run whose names have it, as `tools/dev/refuse_each.py
 broker_tests reports::refusals`; if no crate is named, those of broker_tests whose names have `memory::`. A run passes where
 the test ends with status 0.
 For each test it prints how many requests and runs there were and how many runs passed, how often each call was refused and with
 which fault (the lines `refused CALL: FAULT` that the tests print), and in full each run that did not pass. It ends with status 1
-where there is such a run. Wants a C compiler; tools/refuse_memory.c says which requests count.
+where there is such a run. Wants a C compiler; tools/dev/refuse_memory.c says which requests count.
 """
 import collections
 import os
@@ -21,7 +21,7 @@ import tempfile
 import time
 
 TOOLS = os.path.dirname(os.path.abspath(__file__))
-TOP = os.path.dirname(TOOLS)
+TOP = os.path.dirname(os.path.dirname(TOOLS))
 REFUSED = "refused "
 
 

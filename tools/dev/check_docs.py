@@ -1,7 +1,7 @@
 #!/usr/bin/env python3
 """Runs the commands of the docs, and fails where one of them prints something else.
 
-    tools/check_docs.py KLOG          # KLOG: the built program, crates/klog/out/klog after `rt run`
+    tools/dev/check_docs.py KLOG          # KLOG: the built program, crates/klog/out/klog after `rt run`
 
 In README.md and docs/*.md a block of code whose first line begins with `$ ` is a transcript: each such line is a command,
 and what follows it is what the command prints, errors too. A block under `<!-- file: NAME -->` is a file. A block under
@@ -17,7 +17,7 @@ import sys
 import tempfile
 from pathlib import Path
 
-TOP = Path(__file__).resolve().parent.parent
+TOP = Path(__file__).resolve().parents[2]
 PICTURES = TOP / "docs" / "pictures"
 PRINTED = r"<!-- printed by (?P<command>.*?) -->\n(?P<printed>.*?)<!-- end -->"
 BLOCK = r"(?:<!-- (?P<mark>.*?) -->\n+)?```\w*\n(?P<block>.*?)```"

@@ -4,7 +4,7 @@
 Not part of the build. On Debian, with a libklog.so that tools/build_library.sh made:
 
     apt-get install -y python3-confluent-kafka
-    /usr/bin/python3 tools/kafka_group_test.py LIBRARY [RUNS [RECORDS]]        # 1 run of 100,000 records if not given
+    /usr/bin/python3 tools/dev/kafka_group_test.py LIBRARY [RUNS [RECORDS]]        # 1 run of 100,000 records if not given
 
 The cluster is librdkafka's mock cluster behind the front of mock_kafka.py, which says what it adds. Two members share a
 topic of four partitions. One is killed (SIGKILL) and started again at each of four moments of a transaction: its first
@@ -30,7 +30,7 @@ from confluent_kafka import OFFSET_BEGINNING, Consumer, KafkaError, Producer, To
 
 from mock_kafka import Front, MockCluster
 
-TOP = os.path.join(os.path.dirname(os.path.abspath(__file__)), "..")
+TOP = os.path.join(os.path.dirname(os.path.abspath(__file__)), "..", "..")
 PARTITIONS, OUTPUTS = 4, ["out0", "out1", "out2", "out3"]
 SESSION, PAUSE, LIMIT = 10, 20, 300  # seconds: the group waits for a member; it is stopped; all wait for anything
 

@@ -1,6 +1,6 @@
 // Prints the rows of crates/program_tests/src/operations.rt and changes.rt: what C makes of each operation, change and test of a jump.
 //
-//     cc -O1 -fsanitize=undefined -fno-sanitize-recover -o /tmp/arithmetic_vectors tools/arithmetic_vectors.c && /tmp/arithmetic_vectors
+//     cc -O1 -fsanitize=undefined -fno-sanitize-recover -o /tmp/arithmetic_vectors tools/dev/arithmetic_vectors.c && /tmp/arithmetic_vectors
 //
 // C leaves some cases undefined, and RFC 9669 (section 4.1) defines them; these are written out below: division and
 // remainder by 0, the least number by -1, shift counts past the width.

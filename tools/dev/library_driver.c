@@ -4,7 +4,7 @@
  * It fails where a fault is none of the function's, where a fault changes a handle or a buffer, or where the first
  * image, which forwards each record to output 0, gives another record or batch than it was given. A sanitizer finds the rest:
  *	cc -std=c99 -D_POSIX_C_SOURCE=200809L -g -fsanitize=address,undefined -fno-sanitize-recover -pthread -IFOLDER \
- *		tools/library_driver.c FOLDER/libklog.a -o library_driver */
+ *		tools/dev/library_driver.c FOLDER/libklog.a -o library_driver */
 #include "klog_engine.h"
 
 #include <pthread.h>

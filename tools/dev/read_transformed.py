@@ -4,7 +4,7 @@
 Not part of the build. On Debian:
 
     apt-get install -y python3-kafka python3-confluent-kafka
-    /usr/bin/python3 tools/read_transformed.py KLOG [MIB]     # 64 if not given
+    /usr/bin/python3 tools/dev/read_transformed.py KLOG [MIB]     # 64 if not given
 
 A file of make_segment.py goes through a program with one output, and through one with four. python3-kafka reads each
 output's batches, whose checksums must be right. librdkafka's consumer gets them from its mock cluster, to which they
@@ -109,7 +109,7 @@ def main():
         reader = Reader(f"{program}{q}" for program in ("forward", "route_by_hash") for q in range(4))
         for program, image, route in (("forward", "forward.bin", lambda key: 0), ("route_by_hash", "c/route_by_hash.bin", routed)):
             names = outs[:1] if program == "forward" else outs
-            words = [sys.argv[1], "transform", f"{TOOLS}/../examples/{image}", segment, *names]
+            words = [sys.argv[1], "transform", f"{TOOLS}/../../examples/{image}", segment, *names]
             subprocess.run(words, check=True, stderr=subprocess.DEVNULL)
             for q, name in enumerate(names):
                 found = {"python3-kafka": by_python(name), "librdkafka": reader.read(f"{program}{q}", name)}

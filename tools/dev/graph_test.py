@@ -1,9 +1,9 @@
 #!/usr/bin/env python3
 """Tests tools/graph.py on images of known blocks, edges and verdicts, and on random ones.
 
-    tools/graph_test.py [--klog KLOG]
+    tools/dev/graph_test.py [--klog KLOG]
 
-Without KLOG a stand-in prints what klog would, as docs/commands.md says, from the second implementation in tools/second_machine.py. Where
+Without KLOG a stand-in prints what klog would, as docs/commands.md says, from the second implementation in tools/dev/second_machine.py. Where
 Graphviz is installed it reads each graph.
 """
 import argparse
@@ -19,7 +19,7 @@ from second_machine import LIMIT, Refused, decode, edges, entry, joined, shape_f
 from compare_texts import assembled, disassembled
 from image_test import assembled as laid_out, some_program
 
-TOOLS = os.path.dirname(os.path.abspath(__file__))
+TOOLS = os.path.dirname(os.path.dirname(os.path.abspath(__file__)))
 
 
 # ---- the stand-in

@@ -4,7 +4,7 @@ random texts and images.
 
 Not part of the build. With a built program (`rt run` in crates/klog leaves it in out/klog):
 
-    tools/compare_texts.py crates/klog/out/klog [COUNT [SEED]]
+    tools/dev/compare_texts.py crates/klog/out/klog [COUNT [SEED]]
 
 It prints the first call on which status, standard output, standard error or the written image differ, and ends with
 status 1; else how many calls were compared, and how often each fault was met. Before them come fixed calls on files that
@@ -335,7 +335,7 @@ def little_memory():
 
 def usage():
     """What is said where words are no call: the calls of the first table of docs/commands.md."""
-    with open(os.path.join(os.path.dirname(os.path.abspath(__file__)), "..", "docs", "commands.md")) as text:
+    with open(os.path.join(os.path.dirname(os.path.abspath(__file__)), "..", "..", "docs", "commands.md")) as text:
         return "\n".join(["usage:"] + re.findall(r"^\| `(klog [^`]*)` \|", text.read(), re.M))
 
 

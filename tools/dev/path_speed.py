@@ -4,7 +4,7 @@
 Not part of the build. On Debian, after `rt run` in crates/bench_path:
 
     apt-get install -y golang-go golang-github-shopify-sarama-dev
-    python3 tools/path_speed.py [ROUNDS]    # 4 if not given
+    python3 tools/dev/path_speed.py [ROUNDS]    # 4 if not given
 
 Each round runs `bench_path` and the Go program (transform_peer.go) in turn, on one core, on batches of 10,000 records of
 64 bytes and a key. A row has the least time of the rounds in ns a record: from memory to the batches of the outputs, the
@@ -19,7 +19,7 @@ import tempfile
 sys.dont_write_bytecode = True
 from transform_speed import TOOLS, built_peer
 
-TOP = os.path.dirname(TOOLS)
+TOP = os.path.dirname(os.path.dirname(TOOLS))
 BENCH = f"{TOP}/crates/bench_path/out/bench_path"
 PROGRAMS = [("forward.bin", "forward"), ("c/filter_first_byte.bin", "keep"), ("c/route_by_value.bin", "value"), ("c/route_by_hash.bin", "key")]
 ROW = re.compile(r"  (\S+): ([\d.]+) ns a record, from a reader ([\d.]+)")

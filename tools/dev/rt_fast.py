@@ -1,9 +1,9 @@
 #!/usr/bin/env python3
 """Runs `rt` with less work before and between its checks. Not part of the build; it gives no verdict.
 
-    tools/rt_fast.py WORDS ..              rt WORDS, in a crate's folder: check, run, test, try, lib
-    tools/rt_fast.py libraries N [CRATE ..]    at the top: builds all libraries, or those named and what they use, N at a time
-    tools/rt_fast.py compiles              in a crate's folder: whether it and its tests compile, over the sources below
+    tools/dev/rt_fast.py WORDS ..              rt WORDS, in a crate's folder: check, run, test, try, lib
+    tools/dev/rt_fast.py libraries N [CRATE ..]    at the top: builds all libraries, or those named and what they use, N at a time
+    tools/dev/rt_fast.py compiles              in a crate's folder: whether it and its tests compile, over the sources below
 
 `rt` sums up all files below a crate for each library that it names, again and again, and in a new clone reads each crate above
 all others before it builds a library. Here the sum of a crate is made once a call, and no crate is read before: so edit nothing

@@ -3,7 +3,7 @@
 
 Not part of the build. With a built program (`rt run` in crates/klog leaves it in out/klog):
 
-    tools/compare.py crates/klog/out/klog [COUNT [SEED]]
+    tools/dev/compare.py crates/klog/out/klog [COUNT [SEED]]
 
 It prints the first script on which status, standard output or standard error differ, and ends with status 1; else how
 many scripts were compared, and how often each fault was met.

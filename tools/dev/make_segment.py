@@ -4,7 +4,7 @@
 Not part of the build. On Debian:
 
     apt-get install -y python3-kafka
-    /usr/bin/python3 tools/make_segment.py FILE MIB [VALUE [RECORDS]]
+    /usr/bin/python3 tools/dev/make_segment.py FILE MIB [VALUE [RECORDS]]
 
 FILE gets at least MIB mebibytes, with VALUE bytes a value (200) and RECORDS records a batch (500). Each key is a
 customer's number in 16 bytes; one value in 64 is null, one empty, and one record has two headers. 64 batches are made by

@@ -4,8 +4,8 @@
 Not part of the build. On Debian:
 
     apt-get install -y python3-kafka
-    /usr/bin/python3 tools/kafka_batches.py make           # batches in hex, as the tests of `batch` hold them
-    /usr/bin/python3 tools/kafka_batches.py read HEX..     # what the client reads of a batch in hex
+    /usr/bin/python3 tools/dev/kafka_batches.py make           # batches in hex, as the tests of `batch` hold them
+    /usr/bin/python3 tools/dev/kafka_batches.py read HEX..     # what the client reads of a batch in hex
 
 `make` uses the client's own builder of uncompressed batches of magic 2; no broker is needed. `read` checks
 the crc by the client's own function first.

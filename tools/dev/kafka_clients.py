@@ -4,7 +4,7 @@
 Not part of the build. On Debian:
 
     apt-get install -y python3-kafka python3-confluent-kafka golang-go golang-github-shopify-sarama-dev
-    /usr/bin/python3 tools/kafka_clients.py KLOG           # KLOG: the built program, crates/klog/out/klog after `rt run`
+    /usr/bin/python3 tools/dev/kafka_clients.py KLOG           # KLOG: the built program, crates/klog/out/klog after `rt run`
 
 A small broker on 127.0.0.1 takes what each client produces and keeps the bytes of its batches. Each client, with
 each setting, sends three records; then `klog run stdin` appends the bytes. One line for each: the client, the setting,
@@ -168,7 +168,7 @@ def python(version, **settings):
 
 
 def sarama(program, version, compression="none", idempotent=False):
-    """The Go client sarama, by a program that was built of tools/sarama_producer.go."""
+    """The Go client sarama, by a program that was built of tools/dev/sarama_producer.go."""
 
     def send(broker):
         words = [program, f"127.0.0.1:{broker.port}", version, compression, "idempotent" if idempotent else "plain"]
@@ -178,7 +178,7 @@ def sarama(program, version, compression="none", idempotent=False):
 
 
 def built_sarama(folder):
-    """Builds tools/sarama_producer.go with Debian's Go packages; the program's name."""
+    """Builds tools/dev/sarama_producer.go with Debian's Go packages; the program's name."""
     program, source = os.path.join(folder, "sarama"), os.path.join(os.path.dirname(os.path.abspath(__file__)), "sarama_producer.go")
     ways = {**os.environ, "GO111MODULE": "off", "GOPATH": "/usr/share/gocode"}
     subprocess.run(["go", "build", "-o", program, source], check=True, env=ways, stderr=subprocess.DEVNULL)

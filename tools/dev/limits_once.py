@@ -1,7 +1,7 @@
 #!/usr/bin/env python3
 """Counts the numerals of the crates that equal a limit and stand outside the constant that has it.
 
-    tools/limits_once.py
+    tools/dev/limits_once.py
 
 The limits are the constants of 1,000 and more in src/limits.rt of the ground floor's crates, those that are computed
 from others among them. Looked at are the sources, definitions and proofs of every crate but tests, benchmarks and
@@ -11,7 +11,7 @@ one.
 """
 import glob, os, re, sys
 
-CRATES = os.path.join(os.path.dirname(os.path.dirname(os.path.abspath(__file__))), "crates")
+CRATES = os.path.join(os.path.dirname(os.path.abspath(__file__)), "..", "..", "crates")
 FLOOR = ("wire_spec", "machine_spec", "log_spec")
 LEFT_OUT = re.compile(r"(_tests|fixtures)$|^(bench_.*|soak|embedding|compare_runs)$")
 NUMERAL = re.compile(r"(?<![\w.])[0-9][0-9_]*(?![\w.])")

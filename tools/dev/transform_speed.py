@@ -4,7 +4,7 @@
 Not part of the build. On Debian, and Linux:
 
     apt-get install -y python3-kafka golang-go golang-github-shopify-sarama-dev
-    /usr/bin/python3 tools/transform_speed.py KLOG [MIB [ROUNDS [FOLDER]]]    # 1,024, 3 and /dev/shm if not given
+    /usr/bin/python3 tools/dev/transform_speed.py KLOG [MIB [ROUNDS [FOLDER]]]    # 1,024, 3 and /dev/shm if not given
 
 Each round runs each program once, in turn, on a file of make_segment.py in FOLDER, which needs three times its size. A
 row has the least processor seconds (user and system) and the least seconds of a program's rounds, the records a second
@@ -80,7 +80,7 @@ def main():
     klog, given = os.path.abspath(sys.argv[1]), sys.argv[2:]
     mib, rounds = given[0] if given else "1024", int(given[1]) if len(given) > 1 else 3
     with tempfile.TemporaryDirectory(dir=given[2] if len(given) > 2 else "/dev/shm") as folder:
-        segment, outs, programs = f"{folder}/segment", [f"{folder}/out{q}" for q in range(4)], f"{TOOLS}/../examples"
+        segment, outs, programs = f"{folder}/segment", [f"{folder}/out{q}" for q in range(4)], f"{TOOLS}/../../examples"
         made = subprocess.run([sys.executable, f"{TOOLS}/make_segment.py", segment, mib], check=True, capture_output=True, text=True)
         print(made.stdout, end="", flush=True)
         peer, count = built_peer(folder), int(made.stdout.split()[-2])

@@ -1,13 +1,13 @@
 #!/usr/bin/env python3
 """Tests tools/image.py.
 
-    tools/image_test.py [--programs COUNT] [--seed SEED] [--klog KLOG]
+    tools/dev/image_test.py [--programs COUNT] [--seed SEED] [--klog KLOG]
 
 Random programs whose jumps lead forward, of every form of instruction that klog takes, are laid out in another order, with jumps
 put in and blocks that nothing reaches, and packed into objects; the images made of these run as the programs, on random records.
 Programs with a loop and objects that are damaged are refused. Then each example in C is compiled by each compiler that is here, at
 each level and for each version of the machine. What the verifier says of them is said by the second implementation in
-tools/second_machine.py, and by the program KLOG too if it is given.
+tools/dev/second_machine.py, and by the program KLOG too if it is given.
 """
 import argparse
 import collections
@@ -21,13 +21,16 @@ import subprocess
 import sys
 import tempfile
 
+TOOLS = os.path.dirname(os.path.dirname(os.path.abspath(__file__)))
+sys.path.insert(0, TOOLS)
+
 from bpf_object import Damaged, Lines, Object
+from image import Refused, image_of
 from second_broker import Record
 from second_machine import KNOWN, TESTS, Refused as Fault, decode, run, verify
-from image import Refused, image_of
 
-TOP = os.path.dirname(os.path.dirname(os.path.abspath(__file__)))
-IMAGE = os.path.join(TOP, "tools", "image.py")
+TOP = os.path.dirname(TOOLS)
+IMAGE = os.path.join(TOOLS, "image.py")
 PROFILE = KNOWN - {0x20, 0x28, 0x30, 0x40, 0x48, 0x50, 0xC3, 0xDB}
 
 

@@ -1,11 +1,11 @@
 #!/usr/bin/env python3
 """Tests examples/c/klog.h: each helper and each form in a transform of its own, by each compiler that is here.
 
-    tools/klog_h_test.py [--klog KLOG]
+    tools/dev/klog_h_test.py [--klog KLOG]
 
 Each is compiled at -O1, -O2 and -Os for each version of the machine from v2 on, must be accepted, and must give what is wanted of
 some records. Of a form there is plain C beside it that does the same; it is refused at -O2, or the form would not be needed.
-What klog says comes from KLOG, or as tools/transforms.py says.
+What klog says comes from KLOG, or as tools/dev/transforms.py says.
 """
 import argparse
 import collections
@@ -14,8 +14,7 @@ import shutil
 import sys
 import tempfile
 
-from image import Refused
-from transforms import Example, Transforms, judge
+from transforms import Example, Refused, Transforms, judge
 
 COMPILERS = [("clang", ("v2", "v3")), ("clang-19", ("v2", "v3", "v4"))]
 

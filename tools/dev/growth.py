@@ -3,7 +3,7 @@
 
 Not part of the build. From the top of the repository:
 
-    tools/growth.py KLOG [WORD]
+    tools/dev/growth.py KLOG [WORD]
 
 Each row is a script of one kind in two sizes, the second ten times the first or as large as klog takes. The columns are the
 seconds and the most memory of each, and the time of the second by that of the first: about ten where the time grows with the
