@@ -384,7 +384,7 @@ def object_faults(rng, good):
     yield text(machine=62), "is of machine 62, not of BPF (247): compile with `-target bpf`"
     yield text()[:16] + b"\2\0" + text()[18:], "is linked: give the object that `-c` writes"
     yield text()[:40] + bytes(8) + text()[48:], "has no sections"
-    yield text(name="main"), "has no function `transform`: it has `main`; name one by --function"
+    yield text(name="main"), "has no function `transform`: it has `main`"
     yield text(padding=b"\0\0\0"), "`transform` is no whole number of slots: 16 bytes at byte "
     yield packed(rng, slot(0x05, 0, 0, 4) + slot(0x95)), "slot 0 jumps to slot 5, where no instruction of `transform` begins"
     yield packed(rng, slot(0x05, 0, 0, 1) + wide(1, 1) + slot(0x95)), "slot 0 jumps to slot 2, where no instruction of `transform` begins"
