@@ -9,7 +9,7 @@ the test by which it is taken. The refused instruction is red, with what the fau
 grey; those that the verifier did not come to, since it refused an instruction before them, have a dashed border.
 
 It runs `klog explain IMAGE`, by helper table 1 or the one that is named, and `klog dis IMAGE`, by KLOG, `klog` on the path,
-or crates/klog/out/klog. Where the image is no program, it prints the fault and ends with status 1.
+crates/klog/out/klog, or out/klog. Where the image is no program, it prints the fault and ends with status 1.
 """
 import argparse
 import collections
@@ -41,9 +41,9 @@ class NoProgram(Exception):
 
 
 def built_klog():
-    """The program that `rt run` left in crates/klog, or None."""
-    built = os.path.join(TOP, "crates", "klog", "out", "klog")
-    return built if os.path.exists(built) else None
+    """The proved program where it was built, else that of quick_build.sh, or None."""
+    places = (os.path.join(TOP, "crates", "klog", "out", "klog"), os.path.join(TOP, "out", "klog"))
+    return next(filter(os.path.exists, places), None)
 
 
 def program(given):
