@@ -15,6 +15,7 @@ pub mod Ranges
 pub mod RangesMonotone
 pub mod RangesProper
 pub mod RangesSound
+pub mod Reaches
 pub mod Registers
 pub mod Rooms
 pub mod Safety

@@ -1,15 +1,15 @@
 -- Checks and transfer keep the order of states: of two states, one within the other, the first passes each check that
 -- the second passes, and what an edge propagates from the first is within what it propagates from the second.
-use Rattle.std.proofs.Common.{◌≡◌, ℕ, zero, suc, ◌+◌, ◌-◌, ◌<◌, ◌≤◌, ℤ, pos, ◌+ℤ◌, neg_ℤ, ◌≤ℤ◌, Bool, true, false, not}
-use Rattle.std.proofs.Common.{List, [], ◌∷◌, length, get_or, Option, Some, None, unsigned_abs, ◌&&◌, refl, ap, inl, inr}
+use Rattle.std.proofs.Common.{◌≡◌, ℕ, zero, suc, ◌<◌, ◌≤◌, ℤ, pos, ◌+ℤ◌, ◌≤ℤ◌, Bool, true, false, not}
+use Rattle.std.proofs.Common.{List, [], ◌∷◌, length, get_or, Option, Some, None, unsigned_abs, ◌&&◌, refl, inl, inr}
 use Rattle.std.proofs.Common.{⊎_elim, arith}
 use Rattle.std.specs.{Ordering.int_eq, List.list_any, List.fold}
 use Rattle.std.proofs.{lemmas.Bool.Decides.Decides-int_eq, lemmas.Int.ints}
 use Rattle.std.proofs.lemmas.Bool.{and_parts, and_from, and_right, or_parts, not-false, not_from_true, cases_Bool}
-use Rattle.machine_spec.specs.declared.{limits.TheConstants.STACK_SIZE, instruction.Region.Region}
+use Rattle.machine_spec.specs.declared.{instruction.Region.Region}
 use Rattle.machine_spec.specs.declared.{instruction.Size.Size, instruction.Extension.Extension, helper.Helper.Helper}
 use Rattle.machine_spec.specs.declared.{helper.Argument.Argument, instruction.Instruction.Instruction}
-use Rattle.machine_spec.specs.declared.{summary.Operands.Operands, summary.Direction.Direction}
+use Rattle.machine_spec.specs.declared.{summary.Operands.Operands}
 use Rattle.machine_spec.specs.declared.{summary.MemoryOperand.MemoryOperand, summary.Condition.Condition}
 use Rattle.machine_spec.specs.declared.{summary.Summary.Summary, operation.Width.Width, instruction.Source.Source}
 use Rattle.machine_spec.specs.declared.operation.Width.TheVariants.{Bits32, Bits64}
@@ -21,7 +21,7 @@ use Rattle.machine_spec.specs.declared.instruction.Instruction.TheVariants.{Wide
 use Rattle.machine_spec.specs.declared.summary.Operands.TheVariants as operands
 use Rattle.machine_spec.specs.declared.summary.Direction.TheVariants as direction
 use Rattle.machine_spec.specs.{Summaries.summary_of, Values.byte_count, Machine.signature_of, Machine.helper_of}
-use Rattle.machine_spec.specs.Traps.{helper_called, arguments_of, read_registers, is_read, is_stack}
+use Rattle.machine_spec.specs.Traps.{helper_called, arguments_of, read_registers, is_stack}
 use Rattle.verifier_spec.specs.declared.{interval.Interval.Interval, state.Abs.Abs, state.StackSet.StackSet}
 use Rattle.verifier_spec.specs.declared.state.Abstract.{Abstract}
 use Rattle.verifier_spec.specs.declared.state.Abs.TheVariants as abs
@@ -29,49 +29,24 @@ use Rattle.verifier_spec.specs.{Intervals.from_to, StackSets.is_set, Ranges.leng
 use Rattle.verifier_spec.specs.{States.is_within, Annotation.is_edge_covered, Soundness.KeepsOrder}
 use Rattle.verifier_spec.specs.Kinds.{same_region, kind_at, range_of, is_unknown, is_number_kind, is_address_kind}
 use Rattle.verifier_spec.specs.Kinds.{is_proper_kind, is_kind_within}
-use Rattle.verifier_spec.specs.Checks.{source_kind, reads_unknown, has_wrong_kinds, has_wrong_base_kind}
-use Rattle.verifier_spec.specs.Checks.{has_wrong_condition_kind, reach_at, reach_of, is_reach_within, may_write_record}
-use Rattle.verifier_spec.specs.Checks.{may_leave_record, may_leave_stack, are_set, reach_length, may_read_unset, Reach}
-use Rattle.verifier_spec.specs.Checks.{named_reach, may_name_wrongly, may_be_wrong_room, is_whole}
-use Rattle.verifier_spec.specs.Checks.{is_wrong_argument_kind, may_call_wrongly, may_exit_wrongly, failed_check}
-use Rattle.verifier_spec.specs.Transfer.{with_stored, with_room, with_argument, with_kind, moved_kind, changed_kind}
+use Rattle.verifier_spec.specs.Checks.{source_kind, has_wrong_kinds, has_wrong_base_kind}
+use Rattle.verifier_spec.specs.Checks.{has_wrong_condition_kind, reach_at, reach_of, may_write_record}
+use Rattle.verifier_spec.specs.Checks.{named_reach, may_name_wrongly, is_whole}
+use Rattle.verifier_spec.specs.Checks.{is_wrong_argument_kind, may_exit_wrongly, failed_check}
+use Rattle.verifier_spec.specs.Transfer.{with_stored, with_room, with_argument, with_kind}
 use Rattle.verifier_spec.specs.Transfer.{loaded_kind, answer_kind, after_call_kinds, called_kinds, jump_edge, falls_to}
 use Rattle.verifier_spec.specs.Transfer.{jumps_to}
-use Rattle.verifier_spec.proofs.Order.{IsNarrower, IsWithin, within_parts, within_from, region_is}
-use Rattle.verifier_spec.proofs.Proper.{proper_parts, kind_at_proper, addr_order, source_proper}
+use Rattle.verifier_spec.proofs.Order.{IsWithin, within_parts, within_from, region_is}
+use Rattle.verifier_spec.proofs.Proper.{proper_parts, kind_at_proper, addr_order, number_if_ranged}
 use Rattle.verifier_spec.proofs.{Ranges.range_refl, Tighter.tested_within}
-use Rattle.verifier_spec.proofs.Safety.{if_kept, if_chosen, reach_over, Passes, passes, failed_from, set_at, none_kept}
-use Rattle.verifier_spec.proofs.Safety.{named_parts, named_kinds, room_kinds, whole_parts}
+use Rattle.verifier_spec.proofs.Safety.{Passes, passes, failed_from, none_kept}
+use Rattle.verifier_spec.proofs.Reaches.{AreReaches, at_reaches, IsRight, write_part, right_part, named_part}
+use Rattle.verifier_spec.proofs.Reaches.{room_kinds, room_part, whole_parts}
 use Rattle.verifier_spec.proofs.StackSets.{places_kept, places_set, places_only}
-use Rattle.verifier_spec.proofs.Whole.{le_z-true, shift_le, gap_is}
-use Rattle.verifier_spec.proofs.Wider.{kind_within, known_within, number_within, address_within, AreAddresses}
-use Rattle.verifier_spec.proofs.Wider.{addresses_within, AreRanges, ranges_within, can_within, computed_within}
-use Rattle.verifier_spec.proofs.Wider.{changed_within, low_half_within, source_within, within_set}
-
--- ---- bytes of a region
-
-set_from : (set : StackSet) (place count : ℕ) → ((q : ℕ) → place ≤ q → q < place + count → is_set set q ≡ true) →
-    are_set set place count ≡ true
-set_from set place zero h = refl
-set_from set place (suc count) h =
-    and_from _ _ (h place (omega arith) (omega arith))
-    (set_from set (place + 1) count (λ q low high. h q (omega arith) (omega arith)))
-
--- the places that a narrower reach may read are among those of a wider one
-set_within : (inner outer : StackSet) (lo hi low high : ℤ) (size most : ℕ) →
-    ((q : ℕ) → q < 512 → is_set outer q ≡ true → is_set inner q ≡ true) → low ≤ℤ lo → lo ≤ℤ hi → hi ≤ℤ high →
-    size ≤ most → pos 0 ≤ℤ low → (high +ℤ pos most) ≤ℤ pos STACK_SIZE →
-    are_set outer (unsigned_abs low) (unsigned_abs (high +ℤ neg_ℤ low) + most) ≡ true →
-    are_set inner (unsigned_abs lo) (unsigned_abs (hi +ℤ neg_ℤ lo) + size) ≡ true
-set_within inner outer (pos m) (pos n) (pos k) (pos l) size most s p order q few from to h =
-    let all : are_set outer k ((l - k) + most) ≡ true = rw (gap_is k l (omega (arith, ints))) at h in
-    let k_m : k ≤ m = omega (arith, ints) in
-    let m_n : m ≤ n = omega (arith, ints) in
-    let n_l : n ≤ l = omega (arith, ints) in
-    let l_s : l + most ≤ 512 = omega (arith, ints) in
-    rw (gap_is m n m_n) (set_from inner _ _
-    (λ i low high. s i (omega arith) (set_at outer k ((l - k) + most) i all (omega arith) (omega arith))))
-set_within inner outer lo hi low high size most s p order q few from to h = absurd (omega (arith, ints))
+use Rattle.verifier_spec.proofs.Whole.{shift_le}
+use Rattle.verifier_spec.proofs.Wider.{kind_within, known_within, AreAddresses, AreRanges, Narrows, register_narrows}
+use Rattle.verifier_spec.proofs.Wider.{source_narrows, can_within, computed_within, changed_within, low_half_within}
+use Rattle.verifier_spec.proofs.Wider.{source_within, within_set}
 
 -- a call changes both sides alike
 called_pairs : (P : Abs → Abs → Type 0) (js ks : List Abs) (answer : Abs) (q : ℕ) → length js ≡ 11 → length ks ≡ 11 →
@@ -115,73 +90,6 @@ room_set inner outer at lo hi low high part whole kept p order r more q inside h
       | inr many ↦ room_keeps inner at lo hi part q inside (kept q inside (rw many at h))
     ]
 
--- a reach from between the places of a wider one, and of no more bytes
-record AreReaches (inner outer : Option Reach) : Type 0 where
-  direction : Direction
-  at : Region
-  lo : ℤ
-  hi : ℤ
-  low : ℤ
-  high : ℤ
-  size : ℕ
-  most : ℕ
-  inner_is : inner ≡ Some (reach_over direction at lo hi size)
-  outer_is : outer ≡ Some (reach_over direction at low high most)
-  from : low ≤ℤ lo
-  order : lo ≤ℤ hi
-  to : hi ≤ℤ high
-  few : size ≤ most
-
-write_part : {inner outer : Option Reach} → AreReaches inner outer → may_write_record outer ≡ false →
-    may_write_record inner ≡ false
-write_part x c =
-    let c' : may_write_record (Some (reach_over x.direction x.at x.low x.high x.most)) ≡ false = rw x.outer_is at c in
-    rw x.inner_is c'
-
-stack_part : {inner outer : Option Reach} → AreReaches inner outer → may_leave_stack outer ≡ false →
-    may_leave_stack inner ≡ false
-stack_part x c =
-    let c' : may_leave_stack (Some (reach_over x.direction x.at x.low x.high x.most)) ≡ false = rw x.outer_is at c in
-    rw x.inner_is (grind (arith, ints))
-
-record_part : {inner outer : Option Reach} (a b : Abstract) → IsNarrower a b → AreReaches inner outer →
-    may_leave_record b outer ≡ false → may_leave_record a inner ≡ false
-record_part a b n x c =
-    let c' : may_leave_record b (Some (reach_over x.direction x.at x.low x.high x.most)) ≡ false = rw x.outer_is at c in
-    let longer = n x.at in
-    rw x.inner_is (grind (arith, ints))
-
-unset_part : {inner outer : Option Reach} (a b : Abstract) → IsWithin a b → AreReaches inner outer →
-    may_leave_stack outer ≡ false → may_read_unset b outer ≡ false → may_read_unset a inner ≡ false
-unset_part a b w x c u =
-    let outer' = reach_over x.direction x.at x.low x.high x.most in
-    let inner' = reach_over x.direction x.at x.lo x.hi x.size in
-    let c' : may_leave_stack (Some outer') ≡ false = rw x.outer_is at c in
-    let u' : may_read_unset b (Some outer') ≡ false = rw x.outer_is at u in
-    rw x.inner_is (if_kept (is_read x.direction && is_stack x.at)
-    (are_set b.set (unsigned_abs x.low) (reach_length outer'))
-    (are_set a.set (unsigned_abs x.lo) (reach_length inner'))
-    (λ e. let t = and_parts _ _ (if_chosen (is_stack x.at) (is_reach_within outer' STACK_SIZE)
-    (and_parts _ _ e).1 c') in
-    set_within a.set b.set x.lo x.hi x.low x.high x.size x.most w.set x.from x.order x.to x.few
-    (le_z-true (pos 0) x.low t.0) (le_z-true (x.high +ℤ pos x.most) (pos STACK_SIZE) t.1)) u')
-
-name_part : {inner outer : Option Reach} (a b : Abstract) → IsWithin a b → AreReaches inner outer →
-    may_name_wrongly b outer ≡ false → may_name_wrongly a inner ≡ false
-name_part {inner} {outer} a b w x c =
-    let parts = named_parts b outer c in
-    let inside = record_part a b w.lengths x parts.0 in
-    let on_stack = stack_part x parts.1 in
-    let read = unset_part a b w x parts.1 parts.2 in
-    cc
-
--- room within wider room is right where that is
-room_within : (at : Region) (lo hi low high : ℤ) (part whole : Interval) → low ≤ℤ lo → lo ≤ℤ hi → hi ≤ℤ high →
-    whole.low ≤ part.low → part.high ≤ whole.high →
-    may_be_wrong_room (Some (reach_over direction.Write at low high whole.high)) (Some whole) ≡ false →
-    may_be_wrong_room (Some (reach_over direction.Write at lo hi part.high)) (Some part) ≡ false
-room_within at lo hi low high part whole p order q more few c = grind (arith, ints)
-
 whole_within : (a : Abstract) (j k : Abs) (at : Region) → is_proper_kind j ≡ true →
     is_kind_within a j (abs.Addr at (pos 0) (pos 0)) ≡ true → is_kind_within a k (abs.Len at) ≡ true →
     is_whole j k ≡ true
@@ -193,34 +101,30 @@ whole_within a (abs.Addr r lo hi) (abs.Len q) at p h k =
 whole_within a j k at p h l = cc
 
 module _ (a b : Abstract) (w : IsWithin a b) (pa : is_proper a ≡ true) (pb : is_proper b ≡ true) where
+  narrows : (r : ℕ) → Narrows a b (kind_at a r) (kind_at b r)
+  narrows = register_narrows a b w pa pb
+
   -- ---- the rows of the checks
 
-  unset_kept : (m : Summary) → reads_unknown m b ≡ false → reads_unknown m a ≡ false
-  unset_kept m c = none_kept (λ r. is_unknown (kind_at b r)) (λ r. is_unknown (kind_at a r))
-      (λ r. known_within a _ _ (kind_within a b w pb r)) (read_registers m) c
-
   number_at : (r : ℕ) → is_number_kind (kind_at b r) ≡ true → is_number_kind (kind_at a r) ≡ true
-  number_at r = number_within a _ _ (kind_within a b w pb r)
+  number_at r u = number_if_ranged a _ _ ((narrows r).number u).inner_is
 
   source_number : (width : Width) (source : Source) → is_number_kind (source_kind b width source) ≡ true →
       is_number_kind (source_kind a width source) ≡ true
-  source_number width source = number_within a _ _
-      (source_within a b width source w pb)
+  source_number width source u =
+      number_if_ranged a _ _ ((source_narrows a b w pa pb width source).number u).inner_is
 
   operands_kept : (takes : Operands) → has_wrong_kinds takes b ≡ false → has_wrong_kinds takes a ≡ false
   operands_kept (operands.Number width source) c = not_from_true _ (source_number width source (not-false _ c))
   operands_kept (operands.Computed width operation dst source) c =
-      not_from_true _ (can_within a b w.lengths pa pb width operation (kind_at a dst) (source_kind a width source)
-      (source_kind b width source) (kind_at_proper a dst pa) (source_proper a width source pa)
-      (source_proper b width source pb) (source_within a b width source w pb)
-      (kind_at b dst) (kind_at_proper b dst pb) (kind_within a b w pb dst) (not-false _ c))
+      not_from_true _ (can_within a b width operation _ _ _ (source_narrows a b w pa pb width source) (kind_at b dst)
+      (narrows dst) (not-false _ c))
   operands_kept takes c = refl
 
   base_kept : (memory : Option MemoryOperand) → has_wrong_base_kind memory b ≡ false →
       has_wrong_base_kind memory a ≡ false
   base_kept None c = refl
-  base_kept (Some m) c = not_from_true _ (address_within a _ _
-      (kind_within a b w pb m.base) (not-false _ c))
+  base_kept (Some m) c = rw ((narrows m.base).address (not-false _ c)).inner
 
   condition_kept : (condition : Option Condition) → has_wrong_condition_kind condition b ≡ false →
       has_wrong_condition_kind condition a ≡ false
@@ -229,84 +133,19 @@ module _ (a b : Abstract) (w : IsWithin a b) (pa : is_proper a ≡ true) (pb : i
       let p = and_parts _ _ (not-false _ c) in
       not_from_true _ (and_from _ _ (number_at k.dst p.0) (source_number k.width k.source p.1))
 
-  bases : (base : ℕ) → is_address_kind (kind_at b base) ≡ true → AreAddresses (kind_at a base) (kind_at b base)
-  bases base is = addresses_within a _ _ (kind_at_proper a _ pa)
-      (kind_within a b w pb base) is
-
   reaches : (m : MemoryOperand) → has_wrong_base_kind (Some m) b ≡ false →
       AreReaches (reach_of (Some m) a) (reach_of (Some m) b)
-  reaches m k =
-      let x = bases m.base (not-false _ k) in
-      record {
-        direction = m.direction;
-        at = x.at;
-        lo = x.lo +ℤ m.offset;
-        hi = x.hi +ℤ m.offset;
-        low = x.low +ℤ m.offset;
-        high = x.high +ℤ m.offset;
-        size = byte_count m.size;
-        most = byte_count m.size;
-        inner_is = ap (λ k. reach_at m.direction k m.offset m.size) x.inner;
-        outer_is = ap (λ k. reach_at m.direction k m.offset m.size) x.outer;
-        from = shift_le _ _ _ x.from;
-        order = shift_le _ _ _ x.order;
-        to = shift_le _ _ _ x.to;
-        few = omega arith;
-      }
+  reaches m k = at_reaches m.direction m.offset m.size ((narrows m.base).address (not-false _ k))
 
   record_write_kept : (memory : Option MemoryOperand) → has_wrong_base_kind memory b ≡ false →
       may_write_record (reach_of memory b) ≡ false → may_write_record (reach_of memory a) ≡ false
   record_write_kept None k c = refl
   record_write_kept (Some m) k c = write_part (reaches m k) c
 
-  record_bounds_kept : (memory : Option MemoryOperand) → has_wrong_base_kind memory b ≡ false →
-      may_leave_record b (reach_of memory b) ≡ false → may_leave_record a (reach_of memory a) ≡ false
-  record_bounds_kept None k c = refl
-  record_bounds_kept (Some m) k c = record_part a b w.lengths (reaches m k) c
-
-  stack_bounds_kept : (memory : Option MemoryOperand) → has_wrong_base_kind memory b ≡ false →
-      may_leave_stack (reach_of memory b) ≡ false → may_leave_stack (reach_of memory a) ≡ false
-  stack_bounds_kept None k c = refl
-  stack_bounds_kept (Some m) k c = stack_part (reaches m k) c
-
-  stack_unset_kept : (memory : Option MemoryOperand) → has_wrong_base_kind memory b ≡ false →
-      may_leave_stack (reach_of memory b) ≡ false → may_read_unset b (reach_of memory b) ≡ false →
-      may_read_unset a (reach_of memory a) ≡ false
-  stack_unset_kept None k c u = refl
-  stack_unset_kept (Some m) k c u = unset_part a b w (reaches m k) c u
-
-  number_ranges : (count : ℕ) → is_number_kind (kind_at b count) ≡ true →
-      AreRanges a b (kind_at a count) (kind_at b count)
-  number_ranges count is = ranges_within a b w.lengths pa pb _ _
-      (kind_at_proper a _ pa) (kind_at_proper b count pb) (kind_within a b w pb count) is
-
-  named_reaches : (address count : ℕ) → AreAddresses (kind_at a address) (kind_at b address) →
-      AreRanges a b (kind_at a count) (kind_at b count) →
-      AreReaches (named_reach direction.Read (kind_at a address) (range_of a (kind_at a count)))
-      (named_reach direction.Read (kind_at b address) (range_of b (kind_at b count)))
-  named_reaches address count x y = record {
-    direction = direction.Read;
-    at = x.at;
-    lo = x.lo;
-    hi = x.hi;
-    low = x.low;
-    high = x.high;
-    size = y.inner.high;
-    most = y.outer.high;
-    inner_is = rw (x.inner, y.inner_is);
-    outer_is = rw (x.outer, y.outer_is);
-    from = x.from;
-    order = x.order;
-    to = x.to;
-    few = y.part.high;
-  }
-
-  named_kept : (address count : ℕ) →
-      may_name_wrongly b (named_reach direction.Read (kind_at b address) (range_of b (kind_at b count))) ≡ false →
-      may_name_wrongly a (named_reach direction.Read (kind_at a address) (range_of a (kind_at a count))) ≡ false
-  named_kept address count c =
-      let kinds = named_kinds b _ _ c in
-      name_part a b w (named_reaches address count (bases address kinds.0) (number_ranges count kinds.1)) c
+  memory_kept : (memory : Option MemoryOperand) → has_wrong_base_kind memory b ≡ false →
+      IsRight b (reach_of memory b) → IsRight a (reach_of memory a)
+  memory_kept None k r = assumption
+  memory_kept (Some m) k r = right_part a b w.lengths w.set (reaches m k) r
 
   -- what names a whole key or value does so in a narrower state
   whole_kept : (address count : ℕ) → is_whole (kind_at b address) (kind_at b count) ≡ true →
@@ -321,33 +160,14 @@ module _ (a b : Abstract) (w : IsWithin a b) (pa : is_proper a ≡ true) (pb : i
       ≡ false → (not (is_whole (kind_at a address) (kind_at a count))
       && may_name_wrongly a (named_reach direction.Read (kind_at a address) (range_of a (kind_at a count)))) ≡ false
   bytes_kept address count true is c = rw (whole_kept address count is) refl
-  bytes_kept address count false is c = and_right _ _ (named_kept address count c)
-
-  room_kept : (address count : ℕ) →
-      may_be_wrong_room (named_reach direction.Write (kind_at b address) (range_of b (kind_at b count)))
-      (range_of b (kind_at b count)) ≡ false →
-      may_be_wrong_room (named_reach direction.Write (kind_at a address) (range_of a (kind_at a count)))
-      (range_of a (kind_at a count)) ≡ false
-  room_kept address count c =
-      let kinds = room_kinds b _ _ c in
-      let x = bases address kinds.0 in
-      let y = number_ranges count kinds.1 in
-      let c' : may_be_wrong_room (named_reach direction.Write (abs.Addr x.at x.low x.high) (Some y.outer))
-      (Some y.outer) ≡ false = rw (x.outer, y.outer_is) at c in
-      rw (x.inner, y.inner_is) (room_within x.at x.lo x.hi x.low x.high y.inner y.outer x.from x.order x.to y.part.low
-      y.part.high c')
+  bytes_kept address count false is c =
+      and_right _ _ (named_part a b _ _ _ _ (narrows address) (narrows count) w.lengths w.set c)
 
   argument_kept : (x : Argument) → is_wrong_argument_kind b x ≡ false → is_wrong_argument_kind a x ≡ false
   argument_kept argument.Nothing c = refl
-  argument_kept (argument.Number r) c =
-      not_from_true _ (number_at r (not-false _ c))
-  argument_kept (argument.Bytes address count) c =
-      bytes_kept address count (is_whole (kind_at b address) (kind_at b count)) refl c
-  argument_kept (argument.Room address count) c = room_kept address count c
-
-  call_kept : (call : Option ℤ) → may_call_wrongly call b ≡ false → may_call_wrongly call a ≡ false
-  call_kept call c = none_kept (is_wrong_argument_kind b) (is_wrong_argument_kind a) argument_kept
-      (arguments_of (helper_called call)) c
+  argument_kept (argument.Number r) c = not_from_true _ (number_at r (not-false _ c))
+  argument_kept (argument.Bytes address count) c = bytes_kept address count _ refl c
+  argument_kept (argument.Room address count) c = room_part a b _ _ _ _ (narrows address) (narrows count) c
 
   exit_kept : (exits : Bool) → may_exit_wrongly exits b ≡ false → may_exit_wrongly exits a ≡ false
   exit_kept false c = refl
@@ -356,15 +176,15 @@ module _ (a b : Abstract) (w : IsWithin a b) (pa : is_proper a ≡ true) (pb : i
   passes_kept : (helpers : List Helper) (m : Summary) → Passes helpers m b → Passes helpers m a
   passes_kept helpers m p = assumption (
     p,
-    unset_kept m p.unset,
+    none_kept (λ r. is_unknown (kind_at b r)) (λ r. is_unknown (kind_at a r))
+        (λ r. known_within a _ _ (kind_within a b w pb r)) (read_registers m) p.unset,
     operands_kept m.takes p.operands,
     base_kept m.memory p.base,
     condition_kept m.condition p.condition,
     record_write_kept m.memory p.base p.record_write,
-    record_bounds_kept m.memory p.base p.record_bounds,
-    stack_bounds_kept m.memory p.base p.stack_bounds,
-    stack_unset_kept m.memory p.base p.stack_bounds p.stack_unset,
-    call_kept m.call p.argument,
+    memory_kept m.memory p.base (assumption p),
+    none_kept (is_wrong_argument_kind b) (is_wrong_argument_kind a) argument_kept
+        (arguments_of (helper_called m.call)) p.argument,
     exit_kept m.exits p.exit,
   )
 
@@ -387,7 +207,7 @@ module _ (a b : Abstract) (w : IsWithin a b) (pa : is_proper a ≡ true) (pb : i
       → is_within (record a { set = with_stored a.set (reach_at direction.Write (kind_at a base) offset size) })
       (record b { set = with_stored b.set (reach_at direction.Write (kind_at b base) offset size) }) ≡ true
   store_edge size base offset address =
-      let x = bases base address in
+      let x = (narrows base).address address in
       let bytes = from_to (byte_count size) (byte_count size) in
       let kept : (q : ℕ) → q < 512 →
       is_set (with_stored b.set (reach_at direction.Write (kind_at b base) offset size)) q ≡ true →
@@ -412,7 +232,7 @@ module _ (a b : Abstract) (w : IsWithin a b) (pa : is_proper a ≡ true) (pb : i
       is_set (with_argument b outer x) q ≡ true → is_set (with_argument a inner x) q ≡ true
   argument_set (argument.Room address count) c inner outer kept =
       let kinds = room_kinds b _ _ c in
-      room_set_at address count (bases address kinds.0) (number_ranges count kinds.1) inner outer kept
+      room_set_at address count ((narrows address).address kinds.0) ((narrows count).number kinds.1) inner outer kept
   argument_set x c inner outer kept = kept
 
   arguments_set : (xs : List Argument) → list_any (is_wrong_argument_kind b) xs ≡ false → (inner outer : StackSet) →
@@ -441,24 +261,16 @@ module _ (a b : Abstract) (w : IsWithin a b) (pa : is_proper a ≡ true) (pb : i
       is_edge_covered (falls_to i a) (falls_to i b) ≡ true
   unfolding falls_to
   falls_kept helpers (Move Bits64 dst source) h p =
-      set_edge dst (source_kind a Bits64 source) (source_kind b Bits64 source) (source_within a b Bits64 source w pb)
+      set_edge dst (source_kind a Bits64 source) (source_kind b Bits64 source) (source_within a b w pa pb Bits64 source)
   falls_kept helpers (Move Bits32 dst source) h p =
-      let j = source_kind a Bits32 source in
-      let k = source_kind b Bits32 source in
-      let ranges = ranges_within a b w.lengths pa pb j k (source_proper a Bits32 source pa)
-      (source_proper b Bits32 source pb) (source_within a b Bits32 source w pb) (not-false _ p.operands) in
-      set_edge dst (moved_kind a Bits32 j) (moved_kind b Bits32 k) (low_half_within a b j k ranges)
+      set_edge dst _ _ (low_half_within a b (source_kind a Bits32 source) (source_kind b Bits32 source)
+      ((source_narrows a b w pa pb Bits32 source).number (not-false _ p.operands)))
   falls_kept helpers (Compute width operation dst source) h p =
-      set_edge dst _ _
-      (computed_within a b w.lengths pa pb width operation (kind_at a dst) (source_kind a width source)
-      (source_kind b width source) (kind_at_proper a dst pa) (source_proper a width source pa)
-      (source_proper b width source pb) (source_within a b width source w pb)
-      (kind_at b dst) (kind_at_proper b dst pb) (kind_within a b w pb dst) (not-false _ p.operands))
+      set_edge dst _ _ (computed_within a b width operation _ _ _ (source_narrows a b w pa pb width source)
+      (kind_at b dst) (narrows dst) (not-false _ p.operands))
   falls_kept helpers (Unary change dst src) h p =
-      let ranges = ranges_within a b w.lengths pa pb _ _ (kind_at_proper a src pa)
-      (kind_at_proper b src pb) (kind_within a b w pb src) (not-false _ p.operands) in
-      set_edge dst (changed_kind a change (kind_at a src)) (changed_kind b change (kind_at b src))
-      (changed_within a b change _ _ ranges)
+      set_edge dst _ _ (changed_within a b change (kind_at a src) (kind_at b src)
+      ((narrows src).number (not-false _ p.operands)))
   falls_kept helpers (Load size extension dst base offset) h p =
       set_edge dst (loaded_kind size extension) (loaded_kind size extension) (loaded_kept size extension)
   falls_kept helpers (Store size base offset source) h p = store_edge size base offset (not-false _ p.base)

@@ -142,7 +142,7 @@ range_at a (abs.Len r) p q k =
     }
 range_at a kind p q k = cc
 
-number_if_ranged : (a : Abstract) (kind : Abs) (range : Interval) → range_of a kind ≡ Some range →
+pub number_if_ranged : (a : Abstract) (kind : Abs) (range : Interval) → range_of a kind ≡ Some range →
     is_number_kind kind ≡ true
 number_if_ranged a (abs.Num lo hi) range e = refl
 number_if_ranged a (abs.Len r) range e = refl

@@ -2,7 +2,7 @@
 use Rattle.std.proofs.Common.{◌≡◌, ℕ, zero, suc, ◌≤◌, ℤ, ◌+ℤ◌, ◌≤ℤ◌, true, false, List, [], ◌∷◌, length, get_or, set}
 use Rattle.std.proofs.Common.{Some, refl, sym, ap, ◌∙◌, ⊎_elim, arith}
 use Rattle.std.proofs.lemmas.Int.{ints}
-use Rattle.std.proofs.lemmas.Bool.{and_parts, and_from, cases_lt, false≢true}
+use Rattle.std.proofs.lemmas.Bool.{and_parts, and_from, cases_lt}
 use Rattle.machine_spec.specs.{declared.operation.Width.Width, declared.operation.Operation.Operation}
 use Rattle.machine_spec.specs.{declared.operation.Change.Change, declared.instruction.Region.Region}
 use Rattle.machine_spec.specs.{declared.instruction.Source.Source, Values.immediate, Values.moves_address}
@@ -11,7 +11,8 @@ use Rattle.machine_spec.specs.declared.instruction.Region.TheVariants as region
 use Rattle.machine_spec.specs.declared.instruction.Source.TheVariants.{Register, Immediate}
 use Rattle.verifier_spec.specs.declared.{interval.Interval.Interval, state.Abs.Abs, state.Abstract.Abstract}
 use Rattle.verifier_spec.specs.declared.state.Abs.TheVariants as abs
-use Rattle.verifier_spec.specs.{Intervals.IsPartOf, Intervals.IsRangeOf, Ranges.lengths_from_to, States.is_proper}
+use Rattle.verifier_spec.specs.{Intervals.IsPartOf, Intervals.IsRangeOf, Intervals.result_range}
+use Rattle.verifier_spec.specs.{Ranges.lengths_from_to, States.is_proper}
 use Rattle.verifier_spec.specs.Kinds.{kind_at, length_range, range_of, is_unknown, is_number_kind, is_address_kind}
 use Rattle.verifier_spec.specs.Kinds.{is_proper_kind, is_kind_within, same_region}
 use Rattle.verifier_spec.specs.Checks.{source_kind, is_one_sign, least_displacement, greatest_displacement, can_move}
@@ -19,7 +20,7 @@ use Rattle.verifier_spec.specs.Checks.{can_compute_kinds}
 use Rattle.verifier_spec.specs.Transfer.{with_kind, numbers, on_ranges, moved_address, moved_kind, computed_kind}
 use Rattle.verifier_spec.specs.Transfer.{changed_kind}
 use Rattle.verifier_spec.proofs.Order.{IsNarrower, IsWithin, region_is}
-use Rattle.verifier_spec.proofs.Proper.{proper_parts, unknown_past, addr_order, proper_range}
+use Rattle.verifier_spec.proofs.Proper.{proper_parts, unknown_past, addr_order, proper_range, kind_at_proper, source_proper}
 use Rattle.verifier_spec.proofs.Ranges.{range_part, range_refl, range_trans}
 use Rattle.verifier_spec.proofs.RangesMonotone.{cut_part, result_part, changed_part}
 use Rattle.verifier_spec.proofs.Sums.{least_part, greatest_part, moved_parts, number_if_moves}
@@ -43,30 +44,7 @@ kind_within a b w p r =
 
 pub known_within : (a : Abstract) (j k : Abs) → is_kind_within a j k ≡ true → is_unknown k ≡ false →
     is_unknown j ≡ false
-known_within a j abs.None h u = cc
-known_within a abs.None k h u = cc
-known_within a j k h u = refl
-
-pub number_within : (a : Abstract) (j k : Abs) → is_kind_within a j k ≡ true → is_number_kind k ≡ true →
-    is_number_kind j ≡ true
-number_within a j abs.None h u = absurd (false≢true u)
-number_within a j (abs.Addr r lo hi) h u = absurd (false≢true u)
-number_within a abs.None (abs.Num lo hi) h u = h
-number_within a abs.None (abs.Len r) h u = h
-number_within a (abs.Num l m) k h u = refl
-number_within a (abs.Len r) k h u = refl
-number_within a (abs.Addr r lo hi) (abs.Num l m) h u = h
-number_within a (abs.Addr r lo hi) (abs.Len q) h u = h
-
-pub address_within : (a : Abstract) (j k : Abs) → is_kind_within a j k ≡ true → is_address_kind k ≡ true →
-    is_address_kind j ≡ true
-address_within a j abs.None h u = absurd (false≢true u)
-address_within a j (abs.Num lo hi) h u = absurd (false≢true u)
-address_within a j (abs.Len r) h u = absurd (false≢true u)
-address_within a abs.None (abs.Addr r lo hi) h u = h
-address_within a (abs.Num l m) (abs.Addr r lo hi) h u = h
-address_within a (abs.Len q) (abs.Addr r lo hi) h u = h
-address_within a (abs.Addr q l m) (abs.Addr r lo hi) h u = refl
+known_within a j k h u = grind arith
 
 -- the numbers of two kinds, of which those of the first are among those of the second
 pub record AreRanges (a b : Abstract) (j k : Abs) : Type 0 where
@@ -77,6 +55,25 @@ pub record AreRanges (a b : Abstract) (j k : Abs) : Type 0 where
   pub inner_range : IsRangeOf Bits64 inner
   pub outer_range : IsRangeOf Bits64 outer
   pub part : IsPartOf inner outer
+
+-- two addresses of one region, of which the first is among the second
+pub record AreAddresses (j k : Abs) : Type 0 where
+  pub at : Region
+  pub lo : ℤ
+  pub hi : ℤ
+  pub low : ℤ
+  pub high : ℤ
+  pub inner : j ≡ abs.Addr at lo hi
+  pub outer : k ≡ abs.Addr at low high
+  pub order : lo ≤ℤ hi
+  pub from : low ≤ℤ lo
+  pub to : hi ≤ℤ high
+
+-- What checks and transfer read of two kinds, of which the first is narrower: where the second is a number, it is a part
+-- of that, and where the second is an address, one between its ends.
+pub record Narrows (a b : Abstract) (j k : Abs) : Type 0 where
+  pub number : is_number_kind k ≡ true → AreRanges a b j k
+  pub address : is_address_kind k ≡ true → AreAddresses j k
 
 module _ (a b : Abstract) (n : IsNarrower a b) (pa : is_proper a ≡ true) (pb : is_proper b ≡ true) where
   are_ranges : (j k : Abs) (inner outer : Interval) → is_proper_kind j ≡ true → is_proper_kind k ≡ true →
@@ -102,36 +99,28 @@ module _ (a b : Abstract) (n : IsNarrower a b) (pa : is_proper a ≡ true) (pb :
       are_ranges _ _ _ _ pj pk refl refl (range_part _ _ (rw (← region_is r q h) (n r)))
   ranges_within j k pj pk h u = cc
 
--- two addresses of one region
-pub record AreAddresses (j k : Abs) : Type 0 where
-  pub at : Region
-  pub lo : ℤ
-  pub hi : ℤ
-  pub low : ℤ
-  pub high : ℤ
-  pub inner : j ≡ abs.Addr at lo hi
-  pub outer : k ≡ abs.Addr at low high
-  pub order : lo ≤ℤ hi
-  pub from : low ≤ℤ lo
-  pub to : hi ≤ℤ high
+  addresses_within : (j k : Abs) → is_proper_kind j ≡ true → is_kind_within a j k ≡ true → is_address_kind k ≡ true →
+      AreAddresses j k
+  addresses_within j abs.None q h u = cc
+  addresses_within (abs.Addr g lo hi) (abs.Addr r low high) q h u =
+      record {
+        at = g;
+        lo = lo;
+        hi = hi;
+        low = low;
+        high = high;
+        inner = refl;
+        outer = ap (λ x. abs.Addr x low high) (sym (region_is g r (and_parts _ _ h).0));
+        order = addr_order g lo hi q;
+        from = grind (arith, ints);
+        to = grind (arith, ints);
+      }
+  addresses_within j k q h u = cc
 
-pub addresses_within : (a : Abstract) (j k : Abs) → is_proper_kind j ≡ true → is_kind_within a j k ≡ true →
-    is_address_kind k ≡ true → AreAddresses j k
-addresses_within a j abs.None q h u = cc
-addresses_within a (abs.Addr g lo hi) (abs.Addr r low high) q h u =
-    record {
-      at = g;
-      lo = lo;
-      hi = hi;
-      low = low;
-      high = high;
-      inner = refl;
-      outer = ap (λ x. abs.Addr x low high) (sym (region_is g r (and_parts _ _ h).0));
-      order = addr_order g lo hi q;
-      from = grind (arith, ints);
-      to = grind (arith, ints);
-    }
-addresses_within a j k q h u = cc
+  pub narrows_within : (j k : Abs) → is_proper_kind j ≡ true → is_proper_kind k ≡ true → is_kind_within a j k ≡ true →
+      Narrows a b j k
+  narrows_within j k pj pk h =
+      record { number = ranges_within j k pj pk h; address = addresses_within j k pj h }
 
 pub same_as_itself : (at : Region) → same_region at at ≡ true
 same_as_itself region.Stack = refl
@@ -170,83 +159,59 @@ module _ (operation : Operation) (lo hi low high : ℤ) (x range : Interval) (p 
         ≡ true
     moved_within a at = and_from _ _ (same_as_itself at) (and_from _ _ (le-le_z _ _ low_moves) (le-le_z _ _ high_moves))
 
-module _ (a : Abstract) (width : Width) (operation : Operation) where
-  numbers_can : (j k : Abs) → is_number_kind j ≡ true → is_number_kind k ≡ true →
+module _ (a b : Abstract) (width : Width) (operation : Operation) (j k k' : Abs) (y : Narrows a b k k') where
+  -- what a wider pair of kinds allows, a narrower pair does, and what it makes of them is within
+  numbers_can : {x z : Interval} → range_of a j ≡ Some x → range_of a k ≡ Some z →
       can_compute_kinds a width operation j k ≡ true
-  numbers_can abs.None k u v = u
-  numbers_can (abs.Num lo hi) k u v = v
-  numbers_can (abs.Len r) k u v = v
-  numbers_can (abs.Addr r lo hi) k u v = absurd (false≢true u)
+  numbers_can {x} {z} e f = grind arith
 
-  numbers_computed : (j k : Abs) → is_number_kind j ≡ true →
-      computed_kind a width operation j k ≡ on_ranges width operation (range_of a j) (range_of a k)
-  numbers_computed (abs.Num lo hi) k u = refl
-  numbers_computed (abs.Len r) k u = refl
-  numbers_computed j k u = cc
+  -- the number that moves an address
+  record Moves (low high : ℤ) : Type 0 where
+    moves : moves_address width operation ≡ true
+    by : AreRanges a b k k'
+    can : can_move operation low high (Some by.outer) ≡ true
 
-module _ (a b : Abstract) (n : IsNarrower a b) (pa : is_proper a ≡ true) (pb : is_proper b ≡ true) (width : Width)
-    (operation : Operation) (j k k' : Abs) (pj : is_proper_kind j ≡ true)
-    (pk : is_proper_kind k ≡ true) (pk' : is_proper_kind k' ≡ true) (hk : is_kind_within a k k' ≡ true)
-  where
-    -- what a wider pair of kinds allows, a narrower pair does, and what it makes of them is within
-    number_can : (j' : Abs) → is_kind_within a j j' ≡ true → is_number_kind j' ≡ true → is_number_kind k' ≡ true →
-        can_compute_kinds a width operation j k ≡ true
-    number_can j' hj u v = numbers_can a width operation j k (number_within a _ _ hj u) (number_within a _ _ hk v)
+  moves_if : (j' : Abs) (x : AreAddresses j j') → can_compute_kinds b width operation j' k' ≡ true →
+      Moves x.low x.high
+  moves_if j' x can =
+      let can' : can_compute_kinds b width operation (abs.Addr x.at x.low x.high) k' ≡ true = rw x.outer at can in
+      let c = and_parts _ _ can' in
+      let by = y.number (number_if_moves b operation _ _ _ c.1) in
+      record { moves = c.0; by = by; can = rw by.outer_is at c.1 }
 
-    number_computed : (j' : Abs) → is_proper_kind j' ≡ true → is_kind_within a j j' ≡ true →
-        is_number_kind j' ≡ true → is_number_kind k' ≡ true →
-        is_kind_within a (computed_kind a width operation j k)
-        (on_ranges width operation (range_of b j') (range_of b k')) ≡ true
-    number_computed j' pj' hj u v =
-        let x = ranges_within a b n pa pb _ _ pj pj' hj u in
-        let y = ranges_within a b n pa pb _ _ pk pk' hk v in
-        rw (
-          numbers_computed a width operation j k (number_within a _ _ hj u),
-          x.inner_is,
-          x.outer_is,
-          y.inner_is,
-          y.outer_is,
-        ) (numbers_within a _ _ (result_part width operation _ _ _ _ x.inner_range y.inner_range
-        x.outer_range y.outer_range x.part y.part))
+  pub can_within : (j' : Abs) → Narrows a b j j' → can_compute_kinds b width operation j' k' ≡ true →
+      can_compute_kinds a width operation j k ≡ true
+  can_within abs.None x can = cc
+  can_within (abs.Addr r low high) x can =
+      let z = x.address refl in
+      let m = moves_if (abs.Addr r low high) z can in
+      rw (z.inner, m.by.inner_is) (and_from _ _ m.moves (can_move_within operation _ _ _ _ _ _ z.from z.to
+      m.by.inner_range.order m.by.part m.can))
+  can_within j' x can = numbers_can (x.number refl).inner_is (y.number can).inner_is
 
-    -- the number that moves an address
-    record Moves (low high : ℤ) : Type 0 where
-      moves : moves_address width operation ≡ true
-      by : AreRanges a b k k'
-      can : can_move operation low high (Some by.outer) ≡ true
+  numbers_computed : {x z : Interval} → range_of a j ≡ Some x → range_of a k ≡ Some z →
+      computed_kind a width operation j k ≡ numbers (result_range width operation x z)
+  numbers_computed {x} {z} e f = grind arith
 
-    moves_if : (j' : Abs) (x : AreAddresses j j') → can_compute_kinds b width operation j' k' ≡ true →
-        Moves x.low x.high
-    moves_if j' x can =
-        let can' : can_compute_kinds b width operation (abs.Addr x.at x.low x.high) k' ≡ true = rw x.outer at can in
-        let c = and_parts _ _ can' in
-        let y = ranges_within a b n pa pb _ _ pk pk' hk (number_if_moves b operation _ _ _ c.1) in
-        record { moves = c.0; by = y; can = rw y.outer_is at c.1 }
+  number_computed : (j' : Abs) → AreRanges a b j j' → AreRanges a b k k' →
+      is_kind_within a (computed_kind a width operation j k)
+      (on_ranges width operation (range_of b j') (range_of b k')) ≡ true
+  number_computed j' x z =
+      rw (numbers_computed x.inner_is z.inner_is, x.outer_is, z.outer_is) (numbers_within a _ _ (result_part width
+      operation _ _ _ _ x.inner_range z.inner_range x.outer_range z.outer_range x.part z.part))
 
-    pub can_within : (j' : Abs) → is_proper_kind j' ≡ true → is_kind_within a j j' ≡ true →
-        can_compute_kinds b width operation j' k' ≡ true → can_compute_kinds a width operation j k ≡ true
-    can_within abs.None pj' hj can = cc
-    can_within (abs.Addr r low high) pj' hj can =
-        let x = addresses_within a _ _ pj hj refl in
-        let m = moves_if (abs.Addr r low high) x can in
-        rw (x.inner, m.by.inner_is) (and_from _ _ m.moves (can_move_within operation _ _ _ _ _ _ x.from x.to
-        m.by.inner_range.order m.by.part m.can))
-    can_within j' pj' hj can = number_can j' hj refl can
+  address_computed : (j' : Abs) → AreAddresses j j' → can_compute_kinds b width operation j' k' ≡ true →
+      is_kind_within a (computed_kind a width operation j k) (computed_kind b width operation j' k') ≡ true
+  address_computed j' x can =
+      let m = moves_if j' x can in
+      rw (x.inner, x.outer, m.by.inner_is, m.by.outer_is) (moved_within operation _ _ _ _ _ _ x.from x.to
+      m.by.inner_range.order m.by.part m.can a x.at)
 
-    address_computed : (j' : Abs) → AreAddresses j j' → can_compute_kinds b width operation j' k' ≡ true →
-        is_kind_within a (computed_kind a width operation j k) (computed_kind b width operation j' k') ≡ true
-    address_computed j' x can =
-        let m = moves_if j' x can in
-        rw (x.inner, x.outer, m.by.inner_is, m.by.outer_is) (moved_within operation _ _ _ _ _ _ x.from x.to
-        m.by.inner_range.order m.by.part m.can a x.at)
-
-    pub computed_within : (j' : Abs) → is_proper_kind j' ≡ true → is_kind_within a j j' ≡ true →
-        can_compute_kinds b width operation j' k' ≡ true →
-        is_kind_within a (computed_kind a width operation j k) (computed_kind b width operation j' k') ≡ true
-    computed_within abs.None pj' hj can = cc
-    computed_within (abs.Addr r low high) pj' hj can =
-        address_computed (abs.Addr r low high) (addresses_within a _ _ pj hj refl) can
-    computed_within j' pj' hj can = number_computed j' pj' hj refl can
+  pub computed_within : (j' : Abs) → Narrows a b j j' → can_compute_kinds b width operation j' k' ≡ true →
+      is_kind_within a (computed_kind a width operation j k) (computed_kind b width operation j' k') ≡ true
+  computed_within abs.None x can = cc
+  computed_within (abs.Addr r low high) x can = address_computed (abs.Addr r low high) (x.address refl) can
+  computed_within j' x can = number_computed j' (x.number refl) (y.number can)
 
 -- a change, and a move of the low half, of a narrower kind is within that of a wider one
 pub changed_within : (a b : Abstract) (change : Change) (j k : Abs) → AreRanges a b j k →
@@ -259,14 +224,23 @@ pub low_half_within : (a b : Abstract) (j k : Abs) → AreRanges a b j k →
 low_half_within a b j k x = rw (x.inner_is, x.outer_is)
     (numbers_within a _ _ (cut_part Bits32 _ _ x.inner_range x.part))
 
--- ---- the source of an instruction
+-- ---- what two states know of a register, and of the source of an instruction
 
-pub source_within : (a b : Abstract) (width : Width) (source : Source) → IsWithin a b → is_proper b ≡ true →
-    is_kind_within a (source_kind a width source) (source_kind b width source) ≡ true
-source_within a b width (Register r) w p = kind_within a b w p r
-source_within a b width (Immediate imm) w p =
-    let c = immediate width imm in
-    range_refl (lengths_from_to c c)
+module _ (a b : Abstract) (w : IsWithin a b) (pa : is_proper a ≡ true) (pb : is_proper b ≡ true) where
+  pub register_narrows : (r : ℕ) → Narrows a b (kind_at a r) (kind_at b r)
+  register_narrows r =
+      narrows_within a b w.lengths pa pb _ _ (kind_at_proper a r pa) (kind_at_proper b r pb) (kind_within a b w pb r)
+
+  pub source_within : (width : Width) (source : Source) →
+      is_kind_within a (source_kind a width source) (source_kind b width source) ≡ true
+  source_within width (Register r) = kind_within a b w pb r
+  source_within width (Immediate imm) = range_refl (lengths_from_to (immediate width imm) (immediate width imm))
+
+  pub source_narrows : (width : Width) (source : Source) →
+      Narrows a b (source_kind a width source) (source_kind b width source)
+  source_narrows width source =
+      narrows_within a b w.lengths pa pb _ _ (source_proper a width source pa) (source_proper b width source pb)
+      (source_within width source)
 
 -- ---- registers
 
