@@ -1,5 +1,5 @@
 //! Calls that memory is refused to. The test passes as it is, and in a run in which one request for
-//! memory is refused: `tools/refuse_each.py wire_tests refused::` runs it once for each of its requests.
+//! memory is refused: `tools/dev/refuse_each.py wire_tests refused::` runs it once for each of its requests.
 //! A call that was refused answers in its own form for that, and right when it is made again.
 
 use crate::damage::THREE;

@@ -1,5 +1,5 @@
 //! A report where memory runs out. The test passes as it is, and in a run in which one request for
-//! memory is refused: `tools/refuse_each.py` runs it once for each of its requests.
+//! memory is refused: `tools/dev/refuse_each.py` runs it once for each of its requests.
 
 ghost use Rattle.broker.specs.Layouts.{IsNamed};
 
