@@ -77,7 +77,7 @@ rows_then start old program batches batch q all rows follows are lt before =
     rows_more start.input q (length start.outputs) program start.offset batches batch rows (rows_in all q) before
     with_offset
 
-total_more : (batches : List Batch) (batch : Batch) →
+pub total_more : (batches : List Batch) (batch : Batch) →
     records_of (batches ++ batch ∷ []) ≡ records_of batches + length batch.records
 total_more [] batch = omega arith
 total_more (first ∷ batches) batch = omega (arith, total_more batches batch)

@@ -1,5 +1,5 @@
 -- One batch that is pushed.
-use Rattle.std.proofs.Common.{◌≡◌, ℕ, ◌+◌, ◌≤◌, List, length, Some, Result, Ok, Err, arith}
+use Rattle.std.proofs.Common.{◌≡◌, ℕ, ◌+◌, ◌≤◌, List, length, Some, Result, Ok, Err, OnOk, arith}
 use Rattle.wire_spec.specs.declared.record.Batch.{Batch}
 use Rattle.wire_spec.specs.declared.limits.TheConstants.{TIMESTAMP_END, MAX_RECORDS}
 use Rattle.machine_spec.specs.Image.{Program}
@@ -39,3 +39,8 @@ pushed program batch old new all (Ok done) rows put input offset counts = (all, 
 pushed program batch old new all (Err (fault.Output output why)) rows put input offset counts = (all, rows, put)
 pushed program batch old new all (Err fault.Full) rows put input offset counts = absurd put
 pushed program batch old new all (Err fault.Memory) rows put input offset counts = absurd put
+
+-- what holds holds where a call went well
+pub where_ok : {P : Type 0} (result : Result (Unit {0}) TransformFault) → P → OnOk result P
+where_ok (Ok done) holds = holds
+where_ok (Err why) holds = tt

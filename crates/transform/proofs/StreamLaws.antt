@@ -1,9 +1,12 @@
 -- Batches of a reader that are pushed one after the other, and the end.
-use Rattle.std.proofs.Common.{◌≡◌, ℕ, ◌+◌, ◌-◌, ◌≤◌, false, List, [], ◌∷◌, ◌++◌, length, drop, Option, Some}
-use Rattle.std.proofs.Common.{Result, Ok, Err, refl, sym, ap, subst, ◌∙◌, inl, inr, arith, ◌^◌, min}
+use Rattle.std.proofs.Common.{◌≡◌, ℕ, ◌+◌, ◌-◌, ◌≤◌, true, false, List, [], ◌∷◌, ◌++◌, length, take, drop, Option, Some}
+use Rattle.std.proofs.Common.{None, Result, Ok, Err, refl, sym, ap, subst, ◌∙◌, ◌⊎◌, inl, inr, arith, ◌^◌, min}
+use Rattle.std.proofs.Common.{slice_get, append_assoc, append-nil}
 use Rattle.std.proofs.{Math.Nat.min-eq_left, lemmas.List.length-drop, lemmas.List.length_push, lemmas.Option.same_Some}
+use Rattle.std.proofs.{lemmas.List.take_all, lemmas.List.take-append-le, lemmas.Option.slice_get_within}
 use Rattle.wire_spec.specs.{declared.record.Batch.Batch, BatchReading.batch_at}
 use Rattle.machine_spec.specs.Image.{Program}
+use Rattle.log_spec.proofs.LogLaws.{pushed}
 use Rattle.batch.specs.Batches.{AreBatches}
 use Rattle.batch.proofs.FeedLaws.{batch_at-taken}
 use Rattle.batch_reader.specs.declared.{reader.Position.Position, reader.ReadFault.ReadFault}
@@ -12,9 +15,12 @@ use Rattle.batch_reader.specs.Readings.{Inlet, left_of, IsOpen, LosesBatch, Read
 use Rattle.transform.specs.declared.{stream.StreamFault.StreamFault, flow.TransformFault.TransformFault}
 use Rattle.transform.specs.declared.stream.StreamFault.TheVariants as fault
 use Rattle.transform.specs.declared.flow.TransformFault.TheVariants as stop
-use Rattle.transform.specs.Transforms.{Flow, Follows, Pushes, EndsFlow}
-use Rattle.transform.specs.Streams.{Begins, Gave, is_broken, Completed, PushesAll, TransformsAll}
+use Rattle.transform.specs.Transforms.{Flow, Follows, Pushes, EndsFlow, records_of}
+use Rattle.transform.specs.Tellings.{Telling, telling, AddsTellings}
+use Rattle.transform.specs.Streams.{Begins, Gave, EndsAt, Pushed, is_broken, Completed, Transformed, IsToldAfter}
+use Rattle.transform.specs.Streams.{AreTellings, ArePushed, PushesWatched, TransformsWatched}
 use Rattle.transform.proofs.FollowLaws.{none_follows, one_follows, one_stops, end_finishes, end_counts, end_stops}
+use Rattle.transform.proofs.FollowLaws.{total_more}
 
 -- ---- what a reader gave
 
@@ -96,72 +102,161 @@ gave_more old mid new given batch gave (going, loses, counts) = record {
       );
 }
 
+-- ---- what a watcher is told
+
+adds_nothing : (told : Option (List Telling)) → AddsTellings told [] told
+adds_nothing told all is = (all, is, sym (append-nil all))
+
+adds_then : (one two three : Option (List Telling)) (first later : List Telling) → AddsTellings one first two →
+    AddsTellings two later three → AddsTellings one (first ++ later) three
+adds_then one two three first later adds more all is =
+    let late = more all is in
+    let early = adds late.0 late.1 in (
+      early.0,
+      early.1,
+      late.2 ∙ ap (λ (ts : List Telling). ts ++ later) early.2 ∙ append_assoc early.0 first later,
+    )
+
+none_told : (reader : Inlet) (start : Flow) → AreTellings reader start [] []
+none_told reader start = record { count = refl; each = λ k told at. absurd cc }
+
+one_told : (reader mid : Inlet) (start : Flow) (batches : List Batch) (batch : Batch) (tellings : List Telling)
+    (records : ℕ) → AreTellings reader start batches tellings → Gave reader (batches ++ batch ∷ []) mid →
+    records ≡ start.counts.records + records_of (batches ++ batch ∷ []) →
+    AreTellings reader start (batches ++ batch ∷ []) (tellings ++ telling mid.given records ∷ [])
+one_told reader mid start batches batch tellings records so_far gave counted =
+    let last = telling mid.given records in
+    let all = batches ++ batch ∷ [] in
+    let AtCount : ℕ → Telling → Type 0 = λ n told. IsToldAfter reader start (take n all) told in
+    let whole : take (1 + length tellings) all ≡ all =
+    take_all (1 + length tellings) all (omega (arith, length_push batches batch, so_far.count)) in
+    let here : IsToldAfter reader start all last = record {
+      mid = mid;
+      gave = gave;
+      position = refl;
+      records = counted;
+    } in
+    let before : (k : ℕ) (told : Telling) → slice_get tellings k ≡ Some told → AtCount (1 + k) told = λ k told at.
+    let same : take (1 + k) all ≡ take (1 + k) batches =
+    take-append-le (1 + k) batches (batch ∷ [])
+    (omega (arith, slice_get_within tellings k told at, so_far.count)) in
+    subst (λ (bs : List Batch). IsToldAfter reader start bs told) (sym same) (so_far.each k told at) in record {
+      count = omega (arith, length_push batches batch, length_push tellings last, so_far.count);
+      each = pushed AtCount tellings 1 last before
+          (subst (λ (bs : List Batch). IsToldAfter reader start bs last) (sym whole) here);
+    }
+
 -- what is known after some batches
-pub record Underway (program : Program) (first : Inlet) (start : Flow) (reader : Inlet) (now : Flow) : Type 0 where
+pub record Underway (program : Program) (first : Inlet) (start : Flow) (old : Option (List Telling)) (reader : Inlet)
+    (now : Flow) (new : Option (List Telling)) : Type 0 where
   pub batches : List Batch
   pub follows : Follows start program batches now
   pub gave : Gave first batches reader
   pub is_open : IsOpen reader
+  pub counted : now.counts.records ≡ start.counts.records + records_of batches
+  pub tellings : List Telling
+  pub are : AreTellings first start batches tellings
+  pub told : AddsTellings old tellings new
 
-pub begun : (program : Program) (first : Inlet) (start : Flow) → IsOpen first → Underway program first start first start
-begun program first start is_open = record {
+pub begun : (program : Program) (first : Inlet) (start : Flow) (old : Option (List Telling)) → IsOpen first →
+    Underway program first start old first start old
+begun program first start old is_open = record {
   batches = [];
   follows = none_follows start program;
   gave = gave_none first;
   is_open = is_open;
+  counted = omega arith;
+  tellings = [];
+  are = none_told first start;
+  told = adds_nothing old;
 }
 
-pub goes_on : (program : Program) (first : Inlet) (start : Flow) (mid after : Inlet) (old new : Flow) (batch : Batch) →
-    Underway program first start mid old → ReadsBatch mid (Ok (Some batch)) after →
-    Pushes program batch old (Ok tt) new →
-    Underway program first start after new
-goes_on program first start mid after old new batch so_far reads pushes = record {
-  batches = so_far.batches ++ batch ∷ [];
-  follows = one_follows start old new program so_far.batches batch so_far.follows pushes;
-  gave = gave_more first mid after so_far.batches batch so_far.gave reads;
-  is_open = reads.0;
-}
+pub goes_on : (program : Program) (first : Inlet) (start : Flow) (old : Option (List Telling)) (mid after : Inlet)
+    (before now : Flow) (so_told new : Option (List Telling)) (batch : Batch) →
+    Underway program first start old mid before so_told → ReadsBatch mid (Ok (Some batch)) after →
+    Pushes program batch before (Ok tt) now →
+    now.counts.records ≡ before.counts.records + length batch.records →
+    AddsTellings so_told (telling after.given now.counts.records ∷ []) new →
+    Underway program first start old after now new
+goes_on program first start old mid after before now so_told new batch so_far reads pushes more tells =
+    let gave = gave_more first mid after so_far.batches batch so_far.gave reads in
+    let counted : now.counts.records ≡ start.counts.records + records_of (so_far.batches ++ batch ∷ []) =
+    omega (arith, more, so_far.counted, total_more so_far.batches batch) in record {
+      batches = so_far.batches ++ batch ∷ [];
+      follows = one_follows start before now program so_far.batches batch so_far.follows pushes;
+      gave = gave;
+      is_open = reads.0;
+      counted = counted;
+      tellings = so_far.tellings ++ telling after.given now.counts.records ∷ [];
+      are = one_told first after start so_far.batches batch so_far.tellings now.counts.records so_far.are gave counted;
+      told = adds_then old so_told new so_far.tellings (telling after.given now.counts.records ∷ []) so_far.told tells;
+    }
 
 -- ---- how that ends
 
-pub unread : (program : Program) (first : Inlet) (start : Flow) (mid after : Inlet) (now : Flow) (why : ReadFault)
-    (result : Result (Unit {0}) StreamFault) → Underway program first start mid now → ReadsBatch mid (Err why) after →
-    result ≡ Err (fault.Read why) → PushesAll program first start result after now
-unread program first start mid after now why result so_far reads is =
-    subst (λ (r : Result (Unit {0}) StreamFault). PushesAll program first start r after now) (sym is)
-    (so_far.batches, mid, so_far.gave, reads, so_far.follows)
+pub at_end : (program : Program) (first : Inlet) (start : Flow) (old : Option (List Telling)) (mid after : Inlet)
+    (now : Flow) (new : Option (List Telling)) → Underway program first start old mid now new →
+    ReadsBatch mid (Ok None) after → PushesWatched program first start (Ok tt) after now old new
+at_end program first start old mid after now new so_far reads = record {
+  all = (so_far.batches, mid, so_far.gave, reads, so_far.follows);
+  told = (so_far.batches, so_far.tellings, refl, so_far.are, so_far.told);
+}
 
-pub unpushed : (program : Program) (first : Inlet) (start : Flow) (mid after : Inlet) (old new : Flow) (batch : Batch)
-    (why : TransformFault) (result : Result (Unit {0}) StreamFault) → Underway program first start mid old →
-    ReadsBatch mid (Ok (Some batch)) after → Pushes program batch old (Err why) new →
-    result ≡ Err (fault.Transform why) → PushesAll program first start result after new
-unpushed program first start mid after old new batch why result so_far reads pushes is =
-    subst (λ (r : Result (Unit {0}) StreamFault). PushesAll program first start r after new) (sym is)
+pub unread : (program : Program) (first : Inlet) (start : Flow) (old : Option (List Telling)) (mid after : Inlet)
+    (now : Flow) (new : Option (List Telling)) (why : ReadFault) (result : Result (Unit {0}) StreamFault) →
+    Underway program first start old mid now new → ReadsBatch mid (Err why) after → result ≡ Err (fault.Read why) →
+    PushesWatched program first start result after now old new
+unread program first start old mid after now new why result so_far reads is =
+    subst (λ (r : Result (Unit {0}) StreamFault). PushesWatched program first start r after now old new) (sym is)
+    (record {
+      all = (so_far.batches, mid, so_far.gave, reads, so_far.follows);
+      told = (so_far.batches, so_far.tellings, refl, so_far.are, so_far.told);
+    })
+
+pub unpushed : (program : Program) (first : Inlet) (start : Flow) (old : Option (List Telling)) (mid after : Inlet)
+    (before now : Flow) (new : Option (List Telling)) (batch : Batch) (why : TransformFault)
+    (result : Result (Unit {0}) StreamFault) → Underway program first start old mid before new →
+    ReadsBatch mid (Ok (Some batch)) after → Pushes program batch before (Err why) now →
+    result ≡ Err (fault.Transform why) → PushesWatched program first start result after now old new
+unpushed program first start old mid after before now new batch why result so_far reads pushes is =
+    subst (λ (r : Result (Unit {0}) StreamFault). PushesWatched program first start r after now old new) (sym is)
     (by_fault why pushes)
   where
-    by_fault : (why : TransformFault) → Pushes program batch old (Err why) new →
-        PushesAll program first start (Err (fault.Transform why)) after new
-    by_fault (stop.Output output cause) pushes = (
-      so_far.batches ++ batch ∷ [],
-      after,
-      gave_more first mid after so_far.batches batch so_far.gave reads,
-      inl refl,
-      one_stops start old new program so_far.batches batch output cause so_far.follows pushes,
-    )
-    by_fault stop.Full (top, same) = (
-      so_far.batches,
-      mid,
-      so_far.gave,
-      (omega (arith, top, so_far.follows.offset), batch, reads),
-      subst (λ (f : Flow). Follows start program so_far.batches f) (sym same) so_far.follows,
-    )
-    by_fault stop.Memory same = (
-      so_far.batches,
-      mid,
-      so_far.gave,
-      (batch, reads),
-      subst (λ (f : Flow). Follows start program so_far.batches f) (sym same) so_far.follows,
-    )
+    still : now ≡ before → Follows start program so_far.batches now
+    still same = subst (λ (f : Flow). Follows start program so_far.batches f) (sym same) so_far.follows
+
+    by_fault : (why : TransformFault) → Pushes program batch before (Err why) now →
+        PushesWatched program first start (Err (fault.Transform why)) after now old new
+    by_fault (stop.Output output cause) pushes = record {
+      all = (
+        so_far.batches ++ batch ∷ [],
+        after,
+        gave_more first mid after so_far.batches batch so_far.gave reads,
+        inl refl,
+        one_stops start before now program so_far.batches batch output cause so_far.follows pushes,
+      );
+      told = (
+        so_far.batches,
+        so_far.tellings,
+        (before, so_far.follows, inr (batch, refl, pushes)),
+        so_far.are,
+        so_far.told,
+      );
+    }
+    by_fault stop.Full (top, same) = record {
+      all = (
+        so_far.batches,
+        mid,
+        so_far.gave,
+        (omega (arith, top, so_far.follows.offset), batch, reads),
+        still same,
+      );
+      told = (so_far.batches, so_far.tellings, refl, so_far.are, so_far.told);
+    }
+    by_fault stop.Memory same = record {
+      all = (so_far.batches, mid, so_far.gave, (batch, reads), still same);
+      told = (so_far.batches, so_far.tellings, refl, so_far.are, so_far.told);
+    }
 
 -- ---- and what waits is written
 
@@ -174,48 +269,114 @@ written start mid new program batches follows ends = record {
   counts = end_counts start mid new program batches (Ok tt) follows ends;
 }
 
-pub all_written : (program : Program) (first : Inlet) (start : Flow) (result : Result (Unit {0}) StreamFault)
-    (after : Inlet) (mid new : Flow) → is_broken result ≡ false → PushesAll program first start result after mid →
-    EndsFlow mid (Ok tt) new → TransformsAll program first start result after new
-all_written program first start (Ok done) after mid new is (batches, last, gave, at, pushed) ends =
-    (batches, last, gave, at, written start mid new program batches pushed ends)
-all_written program first start (Err (fault.Read why)) after mid new is (batches, last, gave, at, pushed) ends =
-    (batches, last, gave, at, written start mid new program batches pushed ends)
-all_written program first start (Err (fault.Transform stop.Full)) after mid new is (batches, last, gave, at, pushed)
-    ends = (batches, last, gave, at, written start mid new program batches pushed ends)
-all_written program first start (Err (fault.Transform stop.Memory)) after mid new is (batches, last, gave, at, pushed)
-    ends = (batches, last, gave, at, written start mid new program batches pushed ends)
-all_written program first start (Err (fault.Transform (stop.Output output why))) after mid new is pushed ends =
-    absurd cc
-
 -- no batch more was given where one isn't read
 none_more : (old new : Inlet) (why : ReadFault) → ReadsBatch old (Err why) new → new.given ≡ old.given
 none_more old new (read.Batch cause) reads = reads.1
 none_more old new read.Read reads = reads
 none_more old new read.Memory reads = reads
 
+-- What is known where no output partition failed: all batches were pushed, and the reader gave none more, or one.
+record Unbroken (start : Flow) (program : Program) (batches pushed : List Batch)
+    (result : Result (Unit {0}) StreamFault) (mid now : Flow) (last after : Inlet) : Type 0 where
+  follows : Follows start program batches mid
+  all_pushed : batches ≡ pushed
+  done : Completed start program batches now → Transformed start program batches result now
+  told : ArePushed start program batches result now pushed
+  given : (after.given ≡ last.given) ⊎ ((batch : Batch) × ReadsBatch last (Ok (Some batch)) after)
+
+unbroken : (start : Flow) (program : Program) (batches pushed : List Batch) (result : Result (Unit {0}) StreamFault)
+    (mid now : Flow) (last after : Inlet) → is_broken result ≡ false → EndsAt start batches last result after →
+    Pushed start program batches result mid → ArePushed start program batches result mid pushed →
+    Unbroken start program batches pushed result mid now last after
+unbroken start program batches pushed (Ok done) mid now last after is at follows are = record {
+  follows = follows;
+  all_pushed = are;
+  done = λ completed. completed;
+  told = are;
+  given = inl at.2;
+}
+unbroken start program batches pushed (Err (fault.Read why)) mid now last after is at follows are = record {
+  follows = follows;
+  all_pushed = are;
+  done = λ completed. completed;
+  told = are;
+  given = inl (none_more last after why at);
+}
+unbroken start program batches pushed (Err (fault.Transform stop.Full)) mid now last after is at follows are = record {
+  follows = follows;
+  all_pushed = are;
+  done = λ completed. completed;
+  told = are;
+  given = inr (at.1, at.2);
+}
+unbroken start program batches pushed (Err (fault.Transform stop.Memory)) mid now last after is at follows are =
+    record {
+      follows = follows;
+      all_pushed = are;
+      done = λ completed. completed;
+      told = are;
+      given = inr at;
+    }
+unbroken start program batches pushed (Err (fault.Transform (stop.Output output why))) mid now last after is at follows
+    are = absurd cc
+
+pub all_written : (program : Program) (first : Inlet) (start : Flow) (result : Result (Unit {0}) StreamFault)
+    (after : Inlet) (mid now : Flow) (old new : Option (List Telling)) → is_broken result ≡ false →
+    PushesWatched program first start result after mid old new → EndsFlow mid (Ok tt) now →
+    TransformsWatched program first start result after now old new
+all_written program first start result after mid now old new is watched ends =
+    let batches = watched.all.0 in let last = watched.all.1 in let tells = watched.told in
+    let known : Unbroken start program batches tells.0 result mid now last after =
+    unbroken start program batches tells.0 result mid now last after is watched.all.3 watched.all.4 tells.2 in record {
+      all = (
+        batches,
+        last,
+        watched.all.2,
+        watched.all.3,
+        known.done (written start mid now program batches known.follows ends),
+      );
+      told = (tells.0, tells.1, known.told, tells.3, tells.4);
+    }
+
 -- an output partition failed at the end
 pub unwritten : (program : Program) (first : Inlet) (start : Flow) (result : Result (Unit {0}) StreamFault)
-    (after : Inlet) (mid new : Flow) (why : TransformFault) → is_broken result ≡ false →
-    PushesAll program first start result after mid → EndsFlow mid (Err why) new →
-    TransformsAll program first start (Err (fault.Transform why)) after new
-unwritten program first start result after mid new stop.Full is pushed ends = absurd ends.0
-unwritten program first start result after mid new stop.Memory is pushed ends = absurd ends.0
-unwritten program first start (Ok done) after mid new (stop.Output output why) is (batches, last, gave, at, pushed)
-    ends = (batches, last, gave, inl at.2, end_stops start mid new program batches output why pushed ends)
-unwritten program first start (Err (fault.Read cause)) after mid new (stop.Output output why) is
-    (batches, last, gave, at, pushed) ends = (
-      batches,
-      last,
-      gave,
-      inl (none_more last after cause at),
-      end_stops start mid new program batches output why pushed ends,
-    )
-unwritten program first start (Err (fault.Transform stop.Full)) after mid new (stop.Output output why) is
-    (batches, last, gave, at, pushed) ends =
-    (batches, last, gave, inr (at.1, at.2), end_stops start mid new program batches output why pushed ends)
-unwritten program first start (Err (fault.Transform stop.Memory)) after mid new (stop.Output output why) is
-    (batches, last, gave, at, pushed) ends =
-    (batches, last, gave, inr at, end_stops start mid new program batches output why pushed ends)
-unwritten program first start (Err (fault.Transform (stop.Output number cause))) after mid new (stop.Output output why)
-    is pushed ends = absurd cc
+    (after : Inlet) (mid now : Flow) (old new : Option (List Telling)) (why : TransformFault) →
+    is_broken result ≡ false → PushesWatched program first start result after mid old new →
+    EndsFlow mid (Err why) now → TransformsWatched program first start (Err (fault.Transform why)) after now old new
+unwritten program first start result after mid now old new stop.Full is watched ends = absurd ends.0
+unwritten program first start result after mid now old new stop.Memory is watched ends = absurd ends.0
+unwritten program first start result after mid now old new (stop.Output output why) is watched ends =
+    let batches = watched.all.0 in let last = watched.all.1 in let tells = watched.told in
+    let known : Unbroken start program batches tells.0 result mid now last after =
+    unbroken start program batches tells.0 result mid now last after is watched.all.3 watched.all.4 tells.2 in record {
+      all = (
+        batches,
+        last,
+        watched.all.2,
+        known.given,
+        end_stops start mid now program batches output why known.follows ends,
+      );
+      told = (
+        tells.0,
+        tells.1,
+        (
+          mid,
+          subst (λ (bs : List Batch). Follows start program bs mid) known.all_pushed known.follows,
+          inl (known.all_pushed, ends),
+        ),
+        tells.3,
+        tells.4,
+      );
+    }
+
+-- an output partition failed before the end, so that nothing more is written
+pub stays_broken : (program : Program) (first : Inlet) (start : Flow) (result : Result (Unit {0}) StreamFault)
+    (after : Inlet) (now : Flow) (old new : Option (List Telling)) → is_broken result ≡ true →
+    PushesWatched program first start result after now old new →
+    TransformsWatched program first start result after now old new
+stays_broken program first start (Err (fault.Transform (stop.Output output why))) after now old new is watched =
+    record { all = watched.all; told = watched.told }
+stays_broken program first start (Ok done) after now old new is watched = absurd cc
+stays_broken program first start (Err (fault.Read why)) after now old new is watched = absurd cc
+stays_broken program first start (Err (fault.Transform stop.Full)) after now old new is watched = absurd cc
+stays_broken program first start (Err (fault.Transform stop.Memory)) after now old new is watched = absurd cc

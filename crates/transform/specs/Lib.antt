@@ -1,4 +1,5 @@
 pub mod Backlogs
 pub mod Outlets
 pub mod Transforms
+pub mod Tellings
 pub mod Streams

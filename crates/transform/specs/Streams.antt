@@ -1,15 +1,16 @@
 -- All batches of a reader through a program.
-use Rattle.std.specs.Prelude.{◌≡◌, ◌⊎◌, ℕ, ◌+◌, ◌^◌, ◌<◌, Bool, true, false, List, length, Option, Some, None}
-use Rattle.std.specs.Prelude.{Result, Ok, Err}
+use Rattle.std.specs.Prelude.{◌≡◌, ◌⊎◌, ℕ, ◌+◌, ◌^◌, ◌<◌, Bool, true, false, List, [], ◌∷◌, ◌++◌, length, Option, Some}
+use Rattle.std.specs.Prelude.{None, Result, Ok, Err, slice_get, take}
 use Rattle.wire_spec.specs.declared.record.Batch.{Batch}
 use Rattle.wire_spec.specs.declared.limits.TheConstants.{TIMESTAMP_END, MAX_RECORDS}
 use Rattle.machine_spec.specs.Image.{Program}
 use Rattle.batch.specs.Batches.{AreBatches}
 use Rattle.batch_reader.specs.Readings.{Inlet, left_of, ReadsBatch}
-use Rattle.transform.specs.declared.stream.StreamFault.{StreamFault}
+use Rattle.transform.specs.declared.{stream.StreamFault.StreamFault, flow.TransformFault.TransformFault}
 use Rattle.transform.specs.declared.stream.StreamFault.TheVariants as fault
 use Rattle.transform.specs.declared.flow.TransformFault.TheVariants as stop
-use Rattle.transform.specs.Transforms.{Flow, Follows, Finished, Broken, CountsBatches, records_of}
+use Rattle.transform.specs.Transforms.{Flow, Follows, Finished, Broken, CountsBatches, Pushes, EndsFlow, records_of}
+use Rattle.transform.specs.Tellings.{Telling, AddsTellings}
 
 -- where bytes are known, they begin with these batches, one after the other, and those are the others
 abbrev pub Begins : Option (List ℕ) → List Batch → Option (List ℕ) → Type 0
@@ -76,3 +77,49 @@ PushesAll program reader start result after now = (batches : List Batch) × (mid
 abbrev pub TransformsAll : Program → Inlet → Flow → Result (Unit {0}) StreamFault → Inlet → Flow → Type 0
 TransformsAll program reader start result after now = (batches : List Batch) × (mid : Inlet)
     × Gave reader batches mid × EndsAt start batches mid result after × Transformed start program batches result now
+
+-- ---- What a watcher is told
+
+-- what is told after these batches: how much the reader had given with them, and how many records were counted with
+-- theirs
+pub record IsToldAfter (reader : Inlet) (start : Flow) (batches : List Batch) (told : Telling) : Type 0 where
+  pub mid : Inlet
+  pub gave : Gave reader batches mid
+  pub position : told.position ≡ mid.given
+  pub records : told.records ≡ start.counts.records + records_of batches
+
+-- one telling for each of these batches: that at index k is of the first 1 + k of them
+pub record AreTellings (reader : Inlet) (start : Flow) (batches : List Batch) (tellings : List Telling) : Type 0 where
+  pub count : length tellings ≡ length batches
+  pub each : (k : ℕ) (told : Telling) → slice_get tellings k ≡ Some told →
+      IsToldAfter reader start (take (1 + k) batches) told
+
+-- Which of the batches were pushed with success: all. Where an output partition failed, that was at the end of them
+-- all, or at the last one, which is not among them then.
+abbrev pub ArePushed : Flow → Program → List Batch → Result (Unit {0}) StreamFault → Flow → List Batch → Type 0
+ArePushed start program batches (Err (fault.Transform (stop.Output output why))) now pushed =
+    let failure : Result (Unit {0}) TransformFault = Err (stop.Output output why) in
+    (mid : Flow) × Follows start program pushed mid
+    × (((batches ≡ pushed) × EndsFlow mid failure now)
+    ⊎ ((failed : Batch) × (batches ≡ pushed ++ failed ∷ []) × Pushes program failed mid failure now))
+ArePushed start program batches result now pushed = batches ≡ pushed
+
+-- A watcher was told of each batch that was pushed with success, in order and once, and of nothing else.
+abbrev pub Tells : Inlet → Flow → Program → List Batch → Result (Unit {0}) StreamFault → Flow → Option (List Telling) →
+    Option (List Telling) → Type 0
+Tells reader start program batches result now old new =
+    (pushed : List Batch) × (tellings : List Telling) × ArePushed start program batches result now pushed
+    × AreTellings reader start pushed tellings × AddsTellings old tellings new
+
+-- the batches that a reader gave were pushed, and a watcher was told of them
+pub record PushesWatched (program : Program) (reader : Inlet) (start : Flow) (result : Result (Unit {0}) StreamFault)
+    (after : Inlet) (now : Flow) (old new : Option (List Telling)) : Type 0 where
+  pub all : PushesAll program reader start result after now
+  pub told : Tells reader start program all.0 result now old new
+
+-- the batches that a reader gave were transformed, and a watcher was told of them
+pub record TransformsWatched (program : Program) (reader : Inlet) (start : Flow)
+    (result : Result (Unit {0}) StreamFault) (after : Inlet) (now : Flow) (old new : Option (List Telling)) : Type 0
+  where
+    pub all : TransformsAll program reader start result after now
+    pub told : Tells reader start program all.0 result now old new

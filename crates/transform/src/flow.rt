@@ -1,6 +1,6 @@
 //! Record batches through a program, into output partitions.
 
-ghost use Rattle.std.specs.Prelude.{◌≡◌, ℕ, ◌<◌, ◌≤◌, length, slice_get, All, Some};
+ghost use Rattle.std.specs.Prelude.{◌≡◌, ℕ, ◌+◌, ◌<◌, ◌≤◌, length, slice_get, All, Some, OnOk};
 ghost use Rattle.wire_spec.specs.declared.limits.TheConstants.{TIMESTAMP_END};
 ghost use Rattle.log_spec.specs.Logs.{FitsLog, RowFits};
 ghost use Rattle.item_rows.specs.ItemRows.{rows_in};
@@ -127,7 +127,8 @@ impl<W: Write> Transform<W> {
     /// batches of its rows, and that one maybe a beginning of one more.
     pub fn push(&mut self, program: &Program, batch: Batch) -> Result<(), TransformFault>
         requires { FitsLog batch }
-        ensures { Pushes program.now batch self.old result self.new }
+        ensures pushes { Pushes program.now batch self.old result self.new }
+        ensures counted { OnOk result (self.new.counts.records ≡ self.old.counts.records + length batch.records) }
     {
         let logged = LoggedBatch::new(self.blocks.alloc(), batch)?;
         self.push_logged(program, logged)
@@ -140,7 +141,8 @@ impl<W: Write> Transform<W> {
         batch: PackedBatch,
     ) -> Result<(), TransformFault>
         requires { FitsLog batch }
-        ensures { Pushes program.now batch self.old result self.new }
+        ensures pushes { Pushes program.now batch self.old result self.new }
+        ensures counted { OnOk result (self.new.counts.records ≡ self.old.counts.records + length batch.records) }
     {
         let logged = LoggedBatch::packed(self.blocks.alloc(), batch)?;
         self.push_logged(program, logged)
@@ -148,7 +150,8 @@ impl<W: Write> Transform<W> {
 
     // The same of a batch as a log has it.
     fn push_logged(&mut self, program: &Program, batch: LoggedBatch) -> Result<(), TransformFault>
-        ensures { Pushes program.now batch self.old result self.new }
+        ensures pushes { Pushes program.now batch self.old result self.new }
+        ensures counted { OnOk result (self.new.counts.records ≡ self.old.counts.records + length batch.records) }
     {
         if self.offset > TIMESTAMP_END - MAX_RECORDS as u64 {
             return Err(TransformFault::Full);

@@ -1,9 +1,10 @@
 //! All batches of a reader through a program.
 
-ghost use Rattle.std.specs.Prelude.{◌≡◌, IfOk, IfSome};
+ghost use Rattle.std.specs.Prelude.{◌≡◌, List, [], ◌∷◌, Option, None, IfOk, IfSome};
 ghost use Rattle.log_spec.specs.Logs.{FitsLog};
 ghost use Rattle.batch_reader.specs.Readings.{IsOpen, ReadsBatch};
-ghost use Rattle.transform.specs.Streams.{is_broken, PushesAll, TransformsAll};
+ghost use Rattle.transform.specs.Streams.{is_broken, PushesWatched, TransformsAll, TransformsWatched};
+ghost use Rattle.transform.specs.Tellings.{Telling, telling, AddsTellings};
 ghost use Rattle.transform.specs.declared.stream.StreamFault.TheVariants.{Read as Unread, Transform as Stopped};
 
 use crate::flow::{Transform, TransformFault};
@@ -42,8 +43,13 @@ impl From<TransformFault> for StreamFault {
 
 /// What looks at a stream after each batch.
 pub trait Watch {
-    /// How much of the reader was given so far, and how many records it had.
-    fn batch_done(&mut self, position: Position, records: u64);
+    /// What it was told, in order, where that is known.
+    ghost told: { Self → Option (List Telling) } = { λ _. None };
+
+    /// How much of the reader was given so far, and how many records were counted, with those before the
+    /// stream's first batch. That is no offset: offsets may begin at another number than 0.
+    fn batch_done(&mut self, position: Position, records: u64)
+        ensures { AddsTellings (told self.old) (telling position records ∷ []) (told self.new) };
 }
 
 /// Looks at nothing.
@@ -70,7 +76,8 @@ pub fn transform_all<R: Read, W: Write>(
     transform_watched(program, reader, stream, &mut Unwatched)
 }
 
-/// The same, with a look at the stream after each batch.
+/// The same. The watcher is told once after each batch that was pushed, and not of one at which an output
+/// partition failed.
 pub fn transform_watched<R: Read, W: Write, V: Watch>(
     program: &Program,
     reader: &mut BatchReader<R>,
@@ -78,7 +85,7 @@ pub fn transform_watched<R: Read, W: Write, V: Watch>(
     watch: &mut V,
 ) -> Result<(), StreamFault>
     requires { IsOpen reader.old }
-    ensures { TransformsAll program.now reader.old stream.old result reader.new stream.new }
+    ensures { TransformsWatched program.now reader.old stream.old result reader.new stream.new (V.told watch.old) (V.told watch.new) }
 {
     let pushed = push_all(program, reader, stream, watch);
     if is_broken(&pushed) {
@@ -105,7 +112,7 @@ fn is_broken(pushed: &Result<(), StreamFault>) -> bool
     }
 }
 
-// Runs a program on all batches of a reader.
+// Runs a program on all batches of a reader, and tells a watcher of each.
 fn push_all<R: Read, W: Write, V: Watch>(
     program: &Program,
     reader: &mut BatchReader<R>,
@@ -113,14 +120,14 @@ fn push_all<R: Read, W: Write, V: Watch>(
     watch: &mut V,
 ) -> Result<(), StreamFault>
     requires { IsOpen reader.old }
-    ensures { PushesAll program.now reader.old stream.old result reader.new stream.new }
+    ensures { PushesWatched program.now reader.old stream.old result reader.new stream.new (V.told watch.old) (V.told watch.new) }
 {
     for _ in 0..u64::MAX {
         match next_batch(reader)? {
             None => return Ok(()),
             Some(batch) => stream.push_packed(program, batch)?,
         }
-        watch.batch_done(reader.position(), stream.offset());
+        watch.batch_done(reader.position(), stream.counts().records());
     }
     Err(StreamFault::Read(ReadFault::Read))
 }

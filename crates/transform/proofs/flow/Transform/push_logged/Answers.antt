@@ -1,4 +1,4 @@
-use Rattle.std.proofs.Common.{◌≡◌, ◌+◌, ◌≤◌, List, length, Some, refl, sym, subst, rules, arith}
+use Rattle.std.proofs.Common.{◌≡◌, ◌+◌, ◌≤◌, List, length, Some, refl, sym, ap, subst, rules, arith}
 use Rattle.std.specs.Vec.{with_items}
 use Rattle.std.proofs.lemmas.List.{with_items_is}
 use Rattle.wire_spec.specs.declared.limits.TheConstants.{TIMESTAMP_END, MAX_RECORDS}
@@ -8,7 +8,7 @@ use Rattle.item_rows.specs.ItemRows.{AreItemRows}
 use Rattle.transform.specs.Outlets.{Outflow}
 use Rattle.transform.specs.Transforms.{Flow, flow, IsFlow, origin_of, PutsEach, Pushes}
 use Rattle.transform.proofs.CountLaws.{batch_counted, counts_batch}
-use Rattle.transform.proofs.PushLaws.{as_many, still_flow, pushed}
+use Rattle.transform.proofs.PushLaws.{as_many, still_flow, pushed, where_ok}
 use Rattle.transform.proofs.flow.Transform.push_logged.Goals as goal
 
 pub add_all-requires : goal.add_all-requires
@@ -48,8 +48,8 @@ invariant_of-self-2 g c =
     (omega (arith, counted, more, c.in_ok-add_all.ensures.records))
     (omega (arith, more, c.len-fits.ensures.fits.count)) room)
 
-pub returns : goal.returns
-returns g c =
+pub returns-clause-pushes : goal.returns-clause-pushes
+returns-clause-pushes g c =
     let old = c.self.inside in let batch = c.args.batch in let here : Totals = c.counts.result.now in
     let before : Flow = flow old.input old.offset old.outlets.items old.counts in
     let after : Flow = flow old.input (old.offset + c.records.result)
@@ -68,3 +68,16 @@ returns g c =
     c.in_ok-add_all.ensures.counts in
     subst (λ (f : Flow). Pushes c.args.program.now batch f c.put_each.result after) c.self.view_is
     (pushed c.args.program.now batch before after all c.put_each.result rows put' refl (omega (arith, more)) counted)
+
+pub returns-clause-counted : goal.returns-clause-counted
+returns-clause-counted g c =
+    let old = c.self.inside in let batch = c.args.batch in let here : Totals = c.counts.result.now in
+    let outputs = length old.outlets.items in
+    let counts : AreItemCounts old.input outputs (Some c.args.program.now) old.offset (Records batch) here =
+    search rules in
+    let counted = batch_counted old.input outputs (Some c.args.program.now) old.offset batch here counts in
+    let before : old.counts.records ≡ c.args.self.now.counts.records =
+    ap (λ (f : Flow). f.counts.records) c.self.view_is in
+    let sum : c.add_all.new.self.records ≡ c.args.self.now.counts.records + length batch.records =
+    omega (arith, c.in_ok-add_all.ensures.records, counted, before) in
+    where_ok c.put_each.result sum
