@@ -1,31 +1,43 @@
 -- A deployment's receipt is that of a mark.
-use Rattle.std.proofs.Common.{◌≡◌, List, ℕ, ◌<◌, ◌≤◌, Result, Ok, Err, IfErr, IsErrAnd, sym, subst, inr}
+use Rattle.std.proofs.Common.{◌≡◌, List, ℕ, ◌<◌, Option, Some, Result, Ok, Err, IfErr, IsErrAnd, subst, ◌∙◌, inl, inr}
 use Rattle.part_log.specs.Parts.{Received}
 use Rattle.catalogue.specs.{Finders.Seen, Versions.Version}
 use Rattle.broker.specs.{Deployments.IsNoReader, Deployments.DeployIs, declared.fault.BrokerFault.BrokerFault}
-use Rattle.broker.specs.declared.fault.BrokerFault.TheVariants.{Partition}
-use Rattle.commands.specs.{declared.stop.Stop.Stop, Stops.stop_of_broker, Stops.HasNoFinder}
-use Rattle.commands.specs.Sessions.{IsMark, Refuses, MarkFails}
-use Rattle.commands.proofs.StopLaws.{refuses}
+use Rattle.commands.specs.{declared.stop.Stop.Stop, Stops.stop_of_broker, Stops.EndsFor}
+use Rattle.commands.specs.Sessions.{IsMark, IsMarkFault}
 
--- A broker with `number` input partitions deploys; a session has as many.
-pub deployed : (number inputs input : ℕ) (name : List ℕ) (known : Version) (old new : Seen) (marked : Received × ℕ) →
-    DeployIs number input name known old (Ok marked) new → number ≡ inputs →
-    (input < inputs) × IsMark input name marked.1 marked.0
-deployed number inputs input name known old new marked is same =
-    (subst (λ (n : ℕ). input < n) same is.0, (is.1.program, (is.1.partition_is, is.1.item_is)))
+-- A broker with `number` input partitions deploys a version by its own name; a session has as many.
+pub deployed : (number input : ℕ) (given name : List ℕ) (known : Version) (old new : Seen) (marked : Received × ℕ) →
+    DeployIs number input given known old (Ok marked) new → given ≡ name → IsMark input name marked.1 marked.0
+deployed number input given name known old new marked is same =
+    subst (λ (n : List ℕ). IsMark input n marked.1 marked.0) same
+    (is.1.program, (is.1.partition_is, is.1.item_is))
 
-pub not_deployed : {A : Type 0} (number inputs input : ℕ) (name : List ℕ) (known : Version) (old new : Seen)
-    (fault : BrokerFault) (result : Result A Stop) → DeployIs number input name known old (Err fault) new →
-    number ≡ inputs → IsErrAnd result (λ reason. reason ≡ stop_of_broker fault) → IfErr result (MarkFails inputs input)
-not_deployed number inputs input name known old new fault (Ok x) is same stops = absurd stops
-not_deployed number inputs input name known old new fault (Err reason) is same stops =
-    let absent : fault ≡ Partition → number ≤ input =
-    λ e. (subst (λ (f : BrokerFault). DeployIs number input name known old (Err f) new) e is).0 in
-    inr (subst (Refuses inputs input) (sym stops) (subst (λ (n : ℕ). Refuses n input (stop_of_broker fault)) same
-    (refuses number input fault absent)))
+pub not_deployed : {A : Type 0} (number inputs input : ℕ) (given name : List ℕ) (version : Version)
+    (known : Option Version) (old new : Seen) (fault : BrokerFault) (result : Result A Stop) →
+    DeployIs number input given version old (Err fault) new → given ≡ name → version.name ≡ name → number ≡ inputs →
+    known ≡ Some version → IsErrAnd result (λ reason. reason ≡ stop_of_broker fault) →
+    IfErr result (EndsFor (IsMarkFault inputs input name known))
+not_deployed number inputs input given name version known old new fault (Ok x) is same own numbers found stops =
+    absurd stops
+not_deployed number inputs input given name version known old new fault (Err reason) is same own numbers found stops = (
+  fault,
+  inr (inr (record {
+    version = version;
+    version_is = found;
+    name_is = own;
+    before = old;
+    after = new;
+    fails = subst (λ (n : List ℕ). DeployIs inputs input n version old (Err fault) new) same
+        (subst (λ (n : ℕ). DeployIs n input given version old (Err fault) new) numbers is);
+  })),
+  stops,
+)
 
-pub no_finder : (inputs input : ℕ) (reason : Stop) → HasNoFinder reason → MarkFails inputs input reason
-no_finder inputs input reason (fault, none, same) =
-    inr (subst (Refuses inputs input) (sym same) (refuses inputs input fault
-    (λ absent. absurd (subst IsNoReader absent none))))
+-- the catalogue gives no finder
+pub no_finder : {A : Type 0} (inputs input : ℕ) (name : List ℕ) (known : Option Version) (reason : Stop)
+    (result : Result A Stop) → input < inputs → EndsFor IsNoReader reason → IsErrAnd result (λ r. r ≡ reason) →
+    IfErr result (EndsFor (IsMarkFault inputs input name known))
+no_finder inputs input name known reason (Ok x) there ends is = absurd is
+no_finder inputs input name known reason (Err given) there (fault, none, same) is =
+    (fault, inr (inl (there, none)), is ∙ same)

@@ -1,23 +1,28 @@
 -- What the lines of a script do to its broker.
-use Rattle.std.specs.Prelude.{◌≡◌, ℕ, ◌<◌, ◌≤◌, ◌⊎◌, List, [], ◌∷◌, ◌++◌, length, All, Option, Some, None, Result, Ok}
-use Rattle.std.specs.Prelude.{Err, Bool, true, OnOk, IfErr, ⊤}
-use Rattle.std.specs.Io.KnownBytes.{Appends}
+use Rattle.std.specs.Prelude.{◌≡◌, ℕ, ◌<◌, ◌≤◌, ◌⊎◌, List, [], ◌∷◌, ◌++◌, length, All, Option, Some, None, is_some}
+use Rattle.std.specs.Prelude.{Result, Ok, Err, Bool, true, if◌then◌else◌, IfSome, IfErr, IsErrAnd, ⊤, map}
+use Rattle.std.specs.Prelude.{string_bytes}
+use Rattle.std.specs.declared.string.String.{String}
+use Rattle.std.specs.{Io.KnownBytes.Appends, Str.bytes_eq}
 use Rattle.wire_spec.specs.declared.record.Batch.{Batch}
 use Rattle.machine_spec.specs.{Image.Program, Image.program_of, declared.helper.Table.Table}
 use Rattle.log_spec.specs.Logs.{Records, Marked, Closed}
 use Rattle.part_log.specs.Parts.{Received}
-use Rattle.catalogue.specs.Versions.{Version}
-use Rattle.broker.specs.{Layouts.Layout, Deployments.LoadIs, Fetches.IsFetch, Streams.IsReceiptOf}
+use Rattle.catalogue.specs.{Finders.Seen, Versions.Version}
+use Rattle.broker.specs.{Answers.AppendsTo, Layouts.Layout, Fetches.IsFetch, Fetches.IsFetchFault, Streams.IsReceiptOf}
+use Rattle.broker.specs.Deployments.{LoadIs, DeployIs, IsNoReader}
+use Rattle.broker.specs.declared.{ended.Ended.Ended, fault.BrokerFault.BrokerFault}
 use Rattle.broker.specs.declared.fault.BrokerFault.TheVariants.{Partition as Absent}
 use Rattle.script.specs.{declared.command.Command.Command, declared.command.Source.Source}
 use Rattle.script.specs.{declared.fault.ScriptFault.ScriptFault, Faults.fault_of}
 use Rattle.script.specs.declared.command.Command.TheVariants.{Partitions, Load, Deploy, Put, Append, Close, Fetch, Go}
 use Rattle.script.specs.declared.command.Source.TheVariants.{Line, File}
-use Rattle.script.specs.declared.fault.ScriptFault.TheVariants.{Syntax, Order}
+use Rattle.script.specs.declared.fault.ScriptFault.TheVariants.{Syntax}
 use Rattle.script.specs.Texts.{load_line, deploy_line, close_line, fetch_line}
-use Rattle.report.specs.{Snapshots.Gathered, Snapshots.IsGathered, Texts.report_text}
-use Rattle.commands.specs.{declared.stop.Stop.Stop, Appends.line_of, Appends.AppendDoes, Images.first_bytes}
-use Rattle.commands.specs.{Puts.put_batch, Stops.IsNoLine, Stops.IsUnwritten}
+use Rattle.report.specs.Snapshots.{Gathered, IsGathered, IsGatherFault}
+use Rattle.report.specs.{Texts.report_text, Writes.Writes}
+use Rattle.commands.specs.{declared.stop.Stop.Stop, Appends.line_of, Appends.unread_of, Appends.AppendDoes}
+use Rattle.commands.specs.{Images.first_bytes, Puts.put_batch, Stops.EndsFor, Stops.end_of_all, Stops.IsUnwritten}
 use Rattle.commands.specs.declared.stop.Stop.TheVariants as stop
 
 -- a broker has `inputs` input partitions, with `cells` cells each, and `outputs` output partitions
@@ -47,144 +52,242 @@ abbrev pub IsImageIn : (List ℕ → Option (List ℕ)) → Source → List ℕ 
 IsImageIn files (Line bytes) image = image ≡ bytes
 IsImageIn files (File name) image = (bytes : List ℕ) → files name ≡ Some bytes → image ≡ first_bytes bytes
 
--- An image was loaded under a name as a program of a helper table, as the core's event of a load does it, and its line
--- was printed between these contents of standard output.
-pub record Loads (name image : List ℕ) (table : Table) (before after : Option (List ℕ)) : Type 0 where
-  pub version : ℕ
-  pub known : Version
-  pub loaded : LoadIs name (program_of image table) (Ok (version, known))
-  pub printed : Appends before after (load_line name version)
+-- ---- What contracts see of a session, and what lines change
 
--- A mark of the name was appended to the log of the input partition, and its line was printed between these contents of
--- standard output.
-abbrev pub Deploys : ℕ → List ℕ → Received → Option (List ℕ) → Option (List ℕ) → Type 0
-Deploys input name receipt before after =
-    (version : ℕ) × IsMark input name version receipt
-    × Appends before after (deploy_line input (length receipt.before.items) name version)
+-- what contracts see of a session: how many input partitions its broker has, and each name that the script loaded, with
+-- what is known of it
+pub record Scripted : Type 0 where
+  pub inputs : ℕ
+  pub loaded : List (List ℕ × Version)
 
--- A batch was appended to the log of the input partition, and its line was printed between these contents of standard
--- output.
-abbrev pub Puts : ℕ → Batch → Received → Option (List ℕ) → Option (List ℕ) → Type 0
-Puts input batch receipt before after = IsReceiptOf input (Records batch) receipt
-    × Appends before after (line_of input receipt)
+-- a session of these parts
+abbrev pub session_of : ℕ → List (List ℕ × Version) → Scripted
+session_of inputs loaded = record { inputs = inputs; loaded = loaded }
 
--- The end of the log of the input partition was appended, and its line was printed between these contents of standard
--- output.
-abbrev pub Closes : ℕ → Received → Option (List ℕ) → Option (List ℕ) → Type 0
-Closes input receipt before after = IsReceiptOf input Closed receipt
-    × Appends before after (close_line input (length receipt.before.items))
+-- these entries of a map, by their texts
+abbrev pub by_text : {Y : Type 0} → List (String Y × Version) → List (List ℕ × Version)
+by_text entries = map (λ entry. (string_bytes entry.0, entry.1)) entries
 
--- What an output partition has from a place on, at most `max` rows, was printed as one batch.
-pub record Fetches (cells : ℕ → List ℕ) (inputs outputs output place max : ℕ) (before after : Option (List ℕ)) : Type 0
-  where
-    pub found : Option (List ℕ)
-    pub fetched : IsFetch cells inputs outputs output place max found
-    pub printed : Appends before after (fetch_line found)
+-- what is known of a name
+abbrev pub known_of : List (List ℕ × Version) → List ℕ → Option Version
+known_of [] name = None
+known_of (entry ∷ loaded) name = if bytes_eq name entry.0 then Some entry.1 else known_of loaded name
 
--- The report of a snapshot of `inputs` input and `outputs` output partitions was printed.
-pub record Reports (inputs outputs : ℕ) (before after : Option (List ℕ)) : Type 0 where
-  pub snapshot : Gathered
-  pub gathered : IsGathered inputs outputs snapshot
-  pub printed : Appends before after (report_text snapshot)
+-- what is known of a name is a version of that name
+abbrev pub AreOfNames : List (List ℕ × Version) → Type 0
+AreOfNames loaded = (name : List ℕ) → IfSome (known_of loaded name) (λ known. known.name ≡ name)
+
+-- a version is known of its name, and of other names what was known before
+pub record Learns (known : Version) (old new : Scripted) : Type 0 where
+  pub inputs_are : new.inputs ≡ old.inputs
+  pub known_are : (name : List ℕ) → known_of new.loaded name
+      ≡ (if bytes_eq known.name name then Some known else known_of old.loaded name)
+
+-- what stays while lines are done: the cells of the broker's input partitions, how many output partitions it has, and
+-- what is known of files
+pub record Setting : Type 0 where
+  pub cells : ℕ → List ℕ
+  pub outputs : ℕ
+  pub files : List ℕ → Option (List ℕ)
+
+-- a setting of these parts
+abbrev pub setting : (ℕ → List ℕ) → ℕ → (List ℕ → Option (List ℕ)) → Setting
+setting cells outputs files = record { cells = cells; outputs = outputs; files = files }
+
+-- what lines change: the session, the receipts of what was appended, and what standard output holds, if that is known
+pub record State : Type 0 where
+  pub session : Scripted
+  pub receipts : List Received
+  pub printed : Option (List ℕ)
+
+-- a state of these parts
+abbrev pub state : Scripted → List Received → Option (List ℕ) → State
+state session receipts printed = record { session = session; receipts = receipts; printed = printed }
+
+-- ---- How a line ends
+
+-- Nothing was printed, and a line is refused for a reason of which `Why` holds, or because memory ran out.
+abbrev pub Refused : (Why : Stop → Type 0) → Option (List ℕ) → Option (List ℕ) → Result ⊤ Stop → Type 0
+Refused Why before after result = (after ≡ before) × IsErrAnd result (λ reason. (reason ≡ stop.Memory) ⊎ Why reason)
+
+-- A text was printed, or it couldn't be; then nothing is said of standard output.
+abbrev pub IsPrinted : Option (List ℕ) → Option (List ℕ) → List ℕ → Result ⊤ Stop → Type 0
+IsPrinted before after text (Ok done) = Appends before after text
+IsPrinted before after text (Err reason) = IsUnwritten reason
 
 -- one receipt was added to a list, and this holds of it
 abbrev pub AddsOne : (Received → Type 0) → List Received → List Received → Type 0
 AddsOne Holds old new = (receipt : Received) × Holds receipt × (new ≡ old ++ receipt ∷ [])
 
--- nothing was appended, and nothing printed
-abbrev pub IsUntouched : List Received → List Received → Option (List ℕ) → Option (List ℕ) → Type 0
-IsUntouched old new before after = (new ≡ old) × (after ≡ before)
+-- A line appends one item to the log of an input partition, and this holds of its receipt; or it appends nothing and is
+-- refused for a reason of which `Why` holds.
+abbrev pub DoesOne : ℕ → ℕ → (Why : Stop → Type 0) → (Holds : Received → Type 0) → List Received → List Received →
+    Option (List ℕ) → Option (List ℕ) → Result ⊤ Stop → Type 0
+DoesOne inputs input Why Holds old new before after result =
+    ((new ≡ old) × Refused Why before after result) ⊎ ((input < inputs) × AddsOne Holds old new)
 
--- Why a command that appends one item is refused before anything is done. There is no such input partition only where
--- the broker says so.
-abbrev pub Refuses : ℕ → ℕ → Stop → Type 0
-Refuses inputs input (stop.Line fault) = ⊥
-Refuses inputs input (stop.Broker fault) = fault ≡ Absent → inputs ≤ input
-Refuses inputs input stop.Memory = ⊤
-Refuses inputs input (stop.Batch fault) = ⊥
-Refuses inputs input (stop.File name) = ⊥
-Refuses inputs input stop.Output = ⊥
-Refuses inputs input stop.Thread = ⊥
+-- ---- Load
 
--- why no mark of a name is appended: the script did not load it, or the broker refuses it
-abbrev pub MarkFails : ℕ → ℕ → Stop → Type 0
-MarkFails inputs input reason = (reason ≡ stop.Line Order) ⊎ Refuses inputs input reason
+-- An image was loaded under a name as a program of a helper table, as the core's event of a load does it; what was
+-- loaded is known from then on, and this is its line.
+pub record Loads (name image : List ℕ) (table : Table) (old new : Scripted) (line : List ℕ) : Type 0 where
+  pub known : Version
+  pub loaded : LoadIs name (program_of image table) (Ok (known.number, known))
+  pub learned : Learns known old new
+  pub line_is : line ≡ load_line name known.number
 
--- What a command does that appends one item to the log of an input partition, of whose receipt `Is` holds, and prints
--- its line, which `Says`. It ends early before anything is done, or where the item's line can't be printed.
-abbrev pub DoesOne : ℕ → ℕ → (Is Says : Received → Type 0) → List Received → List Received → Option (List ℕ) →
+-- why no image is loaded under a name: it can't be read, or the broker refuses to load it
+abbrev pub LoadFails : (List ℕ → Option (List ℕ)) → List ℕ → Source → Table → Stop → Type 0
+LoadFails files name source table reason = (reason ≡ unread_of source)
+    ⊎ ((image : List ℕ) × IsImageIn files source image
+    × EndsFor (λ fault. LoadIs name (program_of image table) (Err fault)) reason)
+
+-- What `load` does: it loads the image that it names, and prints its line.
+abbrev pub LoadDoes : (List ℕ → Option (List ℕ)) → List ℕ → Source → Table → Scripted → Scripted → Option (List ℕ) →
     Option (List ℕ) → Result ⊤ Stop → Type 0
-DoesOne inputs input Is Says old new before after (Ok done) = (input < inputs) × AddsOne Says old new
-DoesOne inputs input Is Says old new before after (Err reason) =
-    (IsUntouched old new before after × Refuses inputs input reason) ⊎ (AddsOne Is old new × IsUnwritten reason)
+LoadDoes files name source table old new before after result =
+    ((new ≡ old) × Refused (LoadFails files name source table) before after result)
+    ⊎ ((image : List ℕ) × (line : List ℕ) × IsImageIn files source image × Loads name image table old new line
+    × IsPrinted before after line result)
 
--- what `deploy` does with a name: it appends a mark of a version of the name, and prints its line
-abbrev pub DeployDoes : ℕ → ℕ → List ℕ → List Received → List Received → Option (List ℕ) → Option (List ℕ) →
-    Result ⊤ Stop → Type 0
-DeployDoes inputs input name old new before after result =
-    DoesOne inputs input (λ receipt. (version : ℕ) × IsMark input name version receipt)
-    (λ receipt. Deploys input name receipt before after) old new before after result
+-- ---- Deploy, put and close
 
--- what `put` does with a batch: it appends the batch, and prints its line
+-- a mark of the name was appended to the log of the input partition, and its line printed
+abbrev pub Deploys : ℕ → List ℕ → Option (List ℕ) → Option (List ℕ) → Result ⊤ Stop → Received → Type 0
+Deploys input name before after result receipt =
+    (version : ℕ) × IsMark input name version receipt
+    × IsPrinted before after (deploy_line input (length receipt.before.items) name version) result
+
+-- A name of which this is known is not deployed, by a finder that is seen so before and after.
+pub record IsUndeployed (inputs input : ℕ) (name : List ℕ) (known : Option Version) (fault : BrokerFault) : Type 0 where
+  pub version : Version
+  pub version_is : known ≡ Some version
+  pub name_is : version.name ≡ name
+  pub before : Seen
+  pub after : Seen
+  pub fails : DeployIs inputs input name version before (Err fault) after
+
+-- Why no mark is appended of a name of which this is known: there is no such input partition, or the catalogue gives no
+-- finder, or the broker deploys no version of the name.
+abbrev pub IsMarkFault : ℕ → ℕ → List ℕ → Option Version → BrokerFault → Type 0
+IsMarkFault inputs input name known fault = ((fault ≡ Absent) × (inputs ≤ input))
+    ⊎ (((input < inputs) × IsNoReader fault) ⊎ IsUndeployed inputs input name known fault)
+
+-- What `deploy` does with a name of which this is known: it appends a mark of the name, and prints its line.
+abbrev pub DeployDoes : ℕ → ℕ → List ℕ → Option Version → List Received → List Received → Option (List ℕ) →
+    Option (List ℕ) → Result ⊤ Stop → Type 0
+DeployDoes inputs input name known old new before after result =
+    DoesOne inputs input (EndsFor (IsMarkFault inputs input name known)) (Deploys input name before after result)
+    old new before after result
+
+-- a batch was appended to the log of the input partition, and its line printed
+abbrev pub Puts : ℕ → Batch → Option (List ℕ) → Option (List ℕ) → Result ⊤ Stop → Received → Type 0
+Puts input batch before after result receipt = IsReceiptOf input (Records batch) receipt
+    × IsPrinted before after (line_of input receipt) result
+
+-- What `put` does with a batch: it appends the batch, and prints its line.
 abbrev pub PutDoes : ℕ → ℕ → Batch → List Received → List Received → Option (List ℕ) → Option (List ℕ) → Result ⊤ Stop →
     Type 0
 PutDoes inputs input batch old new before after result =
-    DoesOne inputs input (IsReceiptOf input (Records batch)) (λ receipt. Puts input batch receipt before after) old new
-    before after result
+    DoesOne inputs input (EndsFor (λ fault. AppendsTo inputs input (Records batch) (Err fault)))
+    (Puts input batch before after result) old new before after result
 
--- what `close` does: it appends the end of the log, and prints its line
+-- the end of the log of the input partition was appended, and its line printed
+abbrev pub Closes : ℕ → Option (List ℕ) → Option (List ℕ) → Result ⊤ Stop → Received → Type 0
+Closes input before after result receipt = IsReceiptOf input Closed receipt
+    × IsPrinted before after (close_line input (length receipt.before.items)) result
+
+-- What `close` does: it appends the end of the log, and prints its line.
 abbrev pub CloseDoes : ℕ → ℕ → List Received → List Received → Option (List ℕ) → Option (List ℕ) → Result ⊤ Stop →
     Type 0
 CloseDoes inputs input old new before after result =
-    DoesOne inputs input (IsReceiptOf input Closed) (λ receipt. Closes input receipt before after) old new before after
-    result
+    DoesOne inputs input (EndsFor (λ fault. AppendsTo inputs input Closed (Err fault)))
+    (Closes input before after result) old new before after result
 
--- What a command does, by the cells of the broker's input partitions, the numbers of its input and output partitions
--- and what is known of files: what it appends, of which the receipts are added to a list, and what it prints.
-abbrev pub Does : (ℕ → List ℕ) → ℕ → ℕ → (List ℕ → Option (List ℕ)) → Command → List Received → List Received →
-    Option (List ℕ) → Option (List ℕ) → Result ⊤ Stop → Type 0
-Does cells inputs outputs files (Deploy input name) old new before after result =
-    DeployDoes inputs input name old new before after result
-Does cells inputs outputs files (Put input timestamp key value) old new before after result =
-    PutDoes inputs input (put_batch timestamp key value) old new before after result
-Does cells inputs outputs files (Close input) old new before after result =
-    CloseDoes inputs input old new before after result
-Does cells inputs outputs files (Append input source) old new before after result =
-    AppendDoes inputs files input source old new before after result
-Does cells inputs outputs files (Load name source table) old new before after result = (new ≡ old)
-    × OnOk result ((image : List ℕ) × IsImageIn files source image × Loads name image table before after)
-    × IfErr result IsNoLine
-Does cells inputs outputs files (Fetch output place max) old new before after result = (new ≡ old)
-    × OnOk result (Fetches cells inputs outputs output place max before after) × IfErr result IsNoLine
-Does cells inputs outputs files Go old new before after result = (new ≡ old)
-    × OnOk result (Reports inputs outputs before after) × IfErr result IsNoLine
-Does cells inputs outputs files (Partitions _ _ _) old new before after result = IsUntouched old new before after
-    × OnOk result ⊥ × IfErr result IsNoLine
+-- ---- Fetch and go
 
--- Why a line of a script that has begun is refused before anything of it is done: it is no command, or the command has
--- this fault. Whether the script loaded the program of a `deploy` is left open.
-abbrev pub IsLineFault : Option Command → ScriptFault → Type 0
-IsLineFault None fault = fault ≡ Syntax
-IsLineFault (Some command) fault = (is_loaded : Bool) × (fault_of command true is_loaded ≡ Some fault)
-
--- A line is refused with its fault, and nothing else is done.
-pub record RefusesLine (said : Option Command) (old new : List Received) (before after : Option (List ℕ))
+-- What an output partition has from a place on, at most `max` rows, is one batch, which was printed.
+pub record Fetches (cells : ℕ → List ℕ) (inputs outputs output place max : ℕ) (before after : Option (List ℕ))
     (result : Result ⊤ Stop) : Type 0 where
-  pub fault : ScriptFault
-  pub is_fault : IsLineFault said fault
-  pub result_is : result ≡ Err (stop.Line fault)
-  pub untouched : IsUntouched old new before after
+  pub found : Option (List ℕ)
+  pub fetched : IsFetch cells inputs outputs output place max found
+  pub printed : IsPrinted before after (fetch_line found) result
 
--- What is done of a line that is not refused so; for one that is no command that is nothing, since memory ran out.
-abbrev pub CommandDoes : (ℕ → List ℕ) → ℕ → ℕ → (List ℕ → Option (List ℕ)) → Option Command → List Received →
-    List Received → Option (List ℕ) → Option (List ℕ) → Result ⊤ Stop → Type 0
-CommandDoes cells inputs outputs files (Some command) old new before after result =
-    Does cells inputs outputs files command old new before after result
-CommandDoes cells inputs outputs files None old new before after result = IsUntouched old new before after
-    × (result ≡ Err stop.Memory)
+-- What `fetch` does: it prints rows of an output partition.
+abbrev pub FetchDoes : (ℕ → List ℕ) → ℕ → ℕ → ℕ → ℕ → ℕ → Option (List ℕ) → Option (List ℕ) → Result ⊤ Stop → Type 0
+FetchDoes cells inputs outputs output place max before after result =
+    Refused (EndsFor (IsFetchFault outputs output)) before after result
+    ⊎ Fetches cells inputs outputs output place max before after result
 
--- What a line does: it is refused, or it does what its command does, which then reports no fault of a line.
-abbrev pub LineDoes : (ℕ → List ℕ) → ℕ → ℕ → (List ℕ → Option (List ℕ)) → Option Command → List Received →
-    List Received → Option (List ℕ) → Option (List ℕ) → Result ⊤ Stop → Type 0
-LineDoes cells inputs outputs files said old new before after result = RefusesLine said old new before after result
-    ⊎ CommandDoes cells inputs outputs files said old new before after result
+-- The report of a snapshot of `inputs` input and `outputs` output partitions was printed, or a beginning of it, where
+-- it can't be printed to its end.
+pub record Reports (inputs outputs : ℕ) (before after : Option (List ℕ)) (result : Result ⊤ Stop) : Type 0 where
+  pub snapshot : Gathered
+  pub gathered : IsGathered inputs outputs snapshot
+  pub printed : Writes before after (report_text snapshot) result
+  pub ends : IfErr result IsUnwritten
+
+-- why there is no report: a worker did not end its work, or no snapshot can be taken
+abbrev pub RunFails : ℕ → Stop → Type 0
+RunFails inputs reason = ((ends : List Ended) × (length ends ≡ inputs) × (end_of_all ends ≡ Err reason))
+    ⊎ EndsFor IsGatherFault reason
+
+-- What `go` does: it runs the programs, and prints the report.
+abbrev pub GoDoes : ℕ → ℕ → Option (List ℕ) → Option (List ℕ) → Result ⊤ Stop → Type 0
+GoDoes inputs outputs before after result =
+    Refused (RunFails inputs) before after result ⊎ Reports inputs outputs before after result
+
+-- ---- A line
+
+-- What a command does that is no fault of its line.
+abbrev pub Does : Setting → Command → State → State → Result ⊤ Stop → Type 0
+Does place (Load name source table) old new result = (new.receipts ≡ old.receipts)
+    × LoadDoes place.files name source table old.session new.session old.printed new.printed result
+Does place (Deploy input name) old new result = (new.session ≡ old.session)
+    × DeployDoes old.session.inputs input name (known_of old.session.loaded name) old.receipts new.receipts
+    old.printed new.printed result
+Does place (Put input timestamp key value) old new result = (new.session ≡ old.session)
+    × PutDoes old.session.inputs input (put_batch timestamp key value) old.receipts new.receipts old.printed new.printed
+    result
+Does place (Append input source) old new result = (new.session ≡ old.session)
+    × AppendDoes old.session.inputs place.files input source old.receipts new.receipts old.printed new.printed result
+Does place (Close input) old new result = (new.session ≡ old.session)
+    × CloseDoes old.session.inputs input old.receipts new.receipts old.printed new.printed result
+Does place (Fetch output from max) old new result = (new.session ≡ old.session) × (new.receipts ≡ old.receipts)
+    × FetchDoes place.cells old.session.inputs place.outputs output from max old.printed new.printed result
+Does place Go old new result = (new.session ≡ old.session) × (new.receipts ≡ old.receipts)
+    × GoDoes old.session.inputs place.outputs old.printed new.printed result
+Does place (Partitions inputs outputs cells) old new result = ⊥
+
+-- whether a program is known of the name that a command deploys, if it deploys one
+abbrev pub is_loaded : List (List ℕ × Version) → Command → Bool
+is_loaded loaded (Deploy input name) = is_some (known_of loaded name)
+is_loaded loaded (Load name source table) = true
+is_loaded loaded (Put input timestamp key value) = true
+is_loaded loaded (Append input source) = true
+is_loaded loaded (Close input) = true
+is_loaded loaded (Fetch output from max) = true
+is_loaded loaded Go = true
+is_loaded loaded (Partitions inputs outputs cells) = true
+
+-- the fault of a line of a script that has begun: it is no command, or its command has this fault
+abbrev pub line_fault : List (List ℕ × Version) → Option Command → Option ScriptFault
+line_fault loaded None = Some Syntax
+line_fault loaded (Some command) = fault_of command true (is_loaded loaded command)
+
+-- A line is refused with its fault, or because memory ran out, and nothing is done.
+pub record RefusesLine (said : Option Command) (old new : State) (result : Result ⊤ Stop) : Type 0 where
+  pub session_same : new.session ≡ old.session
+  pub receipts_same : new.receipts ≡ old.receipts
+  pub refused : Refused (λ reason. (fault : ScriptFault) × (line_fault old.session.loaded said ≡ Some fault)
+      × (reason ≡ stop.Line fault)) old.printed new.printed result
+
+-- A line has no fault, and does what its command does.
+abbrev pub CommandDoes : Setting → Option Command → State → State → Result ⊤ Stop → Type 0
+CommandDoes place (Some command) old new result = (fault_of command true (is_loaded old.session.loaded command) ≡ None)
+    × Does place command old new result
+CommandDoes place None old new result = ⊥
+
+-- What a line does: it is refused with its fault, or it has none and does what its command does.
+abbrev pub LineDoes : Setting → Option Command → State → State → Result ⊤ Stop → Type 0
+LineDoes place said old new result = RefusesLine said old new result ⊎ CommandDoes place said old new result

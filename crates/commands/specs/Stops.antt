@@ -5,8 +5,7 @@ use Rattle.wire_spec.specs.declared.fault.BatchFault.TheVariants as fault
 use Rattle.part_log.specs.declared.fault.LogFault.TheVariants as log
 use Rattle.catalogue.specs.declared.fault.CatFault.TheVariants as catalogue
 use Rattle.out_book.specs.declared.fault.BookFault.TheVariants as book
-use Rattle.broker.specs.{Deployments.IsNoReader, declared.fault.BrokerFault.BrokerFault}
-use Rattle.broker.specs.{declared.stream.StreamFault.StreamFault, declared.ended.Ended.Ended}
+use Rattle.broker.specs.declared.{fault.BrokerFault.BrokerFault, stream.StreamFault.StreamFault, ended.Ended.Ended}
 use Rattle.broker.specs.declared.fault.BrokerFault.TheVariants as broker
 use Rattle.broker.specs.declared.stream.StreamFault.TheVariants as stream
 use Rattle.broker.specs.declared.ended.Ended.TheVariants as ended
@@ -37,9 +36,9 @@ stop_of_broker (broker.Book (book.Gap expected)) = stop.Broker (broker.Book (boo
 stop_of_broker (broker.Book book.Partition) = stop.Broker (broker.Book book.Partition)
 stop_of_broker (broker.Book book.Memory) = stop.Memory
 
--- a script ends because the broker gives no finder
-abbrev pub HasNoFinder : Stop → Type 0
-HasNoFinder reason = (fault : BrokerFault) × IsNoReader fault × (reason ≡ stop_of_broker fault)
+-- a script ends because the broker refuses a call with a fault of which this holds
+abbrev pub EndsFor : (BrokerFault → Type 0) → Stop → Type 0
+EndsFor Holds reason = (fault : BrokerFault) × Holds fault × (reason ≡ stop_of_broker fault)
 
 -- why a script ends whose report is not written to its end
 abbrev pub stop_of_report : ReportFault → Stop
@@ -111,16 +110,6 @@ IsUnwritten (stop.Broker fault) = ⊥
 IsUnwritten (stop.Batch fault) = ⊥
 IsUnwritten (stop.File name) = ⊥
 IsUnwritten stop.Thread = ⊥
-
--- a command ends early, but not because its line is refused before anything of it is done
-abbrev pub IsNoLine : Stop → Type 0
-IsNoLine (stop.Line fault) = ⊥
-IsNoLine (stop.Broker fault) = ⊤
-IsNoLine (stop.Batch fault) = ⊤
-IsNoLine (stop.File name) = ⊤
-IsNoLine stop.Output = ⊤
-IsNoLine stop.Thread = ⊤
-IsNoLine stop.Memory = ⊤
 
 -- the status of a script that ends so: the line is refused, or a file, standard output, a thread or memory fails
 abbrev pub status_of : Stop → Status

@@ -1,27 +1,28 @@
 //! The commands of a script after its first, one after the other.
 
-ghost use Rattle.std.specs.Prelude.{◌≡◌, ◌<◌, ◌≤◌, ◌⊎◌, ℕ, List, length, true, Some, OnOk, IfOk, IfErr, option_map};
+ghost use Rattle.std.specs.Prelude.{◌≡◌, ◌<◌, ◌≤◌, ◌⊎◌, [], None, Some, Err, OnOk, OnErr, IfOk, IfErr, IsSome, is_some, length, true, string_bytes};
+ghost use Rattle.machine_spec.specs.Image.{program_of};
 ghost use Rattle.script.specs.Commands.{command_of};
-ghost use Rattle.script.specs.Faults.{text_size, is_in_range};
-ghost use Rattle.script.specs.declared.command.Command.TheVariants as asked;
+ghost use Rattle.script.specs.Faults.{fault_of, text_size, is_in_range};
+ghost use Rattle.broker.specs.Deployments.{LoadIs, IsNoReader};
 ghost use Rattle.broker.specs.Layouts.{IsNamed};
 ghost use Rattle.broker.specs.declared.fault.BrokerFault.TheVariants.{Partition};
 ghost use Rattle.commands.specs.declared.stop.Stop.TheVariants as stop;
-ghost use Rattle.commands.specs.Appends.{AppendDoes};
+ghost use Rattle.commands.specs.Appends.{unread_of, AppendDoes};
 ghost use Rattle.commands.specs.Puts.{put_batch};
-ghost use Rattle.commands.specs.Sessions.{IsMark, IsImageIn, Loads, Fetches, Reports, MarkFails, RefusesLine, DeployDoes, PutDoes, CloseDoes, LineDoes};
-ghost use Rattle.commands.specs.Stops.{HasNoFinder, IsNoLine};
+ghost use Rattle.commands.specs.Sessions.{IsImageIn, IsMark, IsMarkFault, Learns, Loads, LoadDoes, DeployDoes, PutDoes, CloseDoes, FetchDoes, GoDoes, Does, LineDoes, is_loaded, known_of, setting, state};
+ghost use Rattle.commands.specs.Stops.{EndsFor};
 
 use crate::appending::{add, append_source, make_room, print_appended};
 use crate::batches::batch_of;
 use crate::files::Files;
 use crate::image::read_image;
-use crate::printing::print_line;
+use crate::printing::{print, print_line};
 use crate::stop::{Stop, end_of_all, stop_of_unread};
 use broker::{Broker, BrokerFault, Parts, Until};
 use bytes::Bytes;
 use catalogue::{Catalogue, Finder, Known};
-use log_spec::{Name, RawName};
+use log_spec::RawName;
 use machine_spec::Table;
 use part_log::{Names, Receipt};
 use report::gather;
@@ -40,7 +41,7 @@ use worker::Open;
 
 /// What a script works on once `partitions` made it: its broker, the finder that its first `deploy`
 /// made, and what is known of each name that it loaded. Contracts see how many input partitions it
-/// has.
+/// has, and what it knows of each name, which is a version of that name.
 #[derive(Drop)]
 pub struct Session<'a, Id: Names, R: Wait> {
     rt: &'a R,
@@ -51,13 +52,14 @@ pub struct Session<'a, Id: Names, R: Wait> {
 }
 
 impl<'a, Id: Names, R: Wait> Model for Session<'a, Id, R> {
-    ghost use Rattle.std.specs.Prelude.{◌≡◌, ℕ};
+    ghost use Rattle.std.specs.Prelude.{◌≡◌};
+    ghost use Rattle.commands.specs.Sessions.{Scripted, session_of, by_text, AreOfNames};
 
-    ghost Value = { ℕ };
+    ghost Value = { Scripted };
 
-    ghost view = { λ s. s.broker };
+    ghost view = { λ s. session_of s.broker (by_text s.loaded.entries) };
 
-    ghost invariant = { λ s. s.broker ≡ Id.inputs };
+    ghost invariant = { λ s. (s.broker ≡ Id.inputs) × AreOfNames (by_text s.loaded.entries) };
 }
 
 fn shared(bytes: Vec<u8>) -> Result<Bytes, AllocError>
@@ -74,7 +76,8 @@ impl<'a, Id: Names + Send + Sync, R: Threads + Wait + Sync> Session<'a, Id, R> {
         parts: Parts<Catalogue<&'a R>>,
     ) -> Result<Session<'a, Id, R>, AllocError>
         requires { IsNamed Id.cells Id.inputs Id.outputs parts }
-        ensures { IfOk result (λ session. session ≡ length parts.entry.cells) }
+        ensures inputs { IfOk result (λ session. session.inputs ≡ length parts.entry.cells) }
+        ensures none { IfOk result (λ session. session.loaded ≡ []) }
     {
         Ok(Session {
             rt,
@@ -85,18 +88,45 @@ impl<'a, Id: Names + Send + Sync, R: Threads + Wait + Sync> Session<'a, Id, R> {
         })
     }
 
+    /// Whether anything is known of a name.
+    fn has(&self, name: &RawName) -> bool
+        ensures { result ≡ is_some (known_of self.now.loaded name.now) }
+    {
+        self.loaded.contains_key(name.text.as_str())
+    }
+
+    /// What is known of a name.
+    fn known(&self, name: &RawName) -> &Known
+        requires { IsSome (known_of self.now.loaded name.now) }
+        ensures found { known_of self.now.loaded name.now ≡ Some result.now }
+        ensures named { result.now.name ≡ name.now }
+    {
+        let Some(known) = self.loaded.get(name.text.as_str()) else {
+            unreachable!()
+        };
+        known
+    }
+
     /// Whether the script loaded the program that the command deploys, if it deploys one.
-    fn is_loaded(&self, command: &Command) -> bool {
+    fn is_loaded(&self, command: &Command) -> bool
+        ensures { result ≡ is_loaded self.now.loaded command.now }
+    {
         match command {
-            Command::Deploy(_, name) => self.loaded.contains_key(name.text.as_str()),
-            _ => true,
+            Command::Deploy(_, name) => self.has(name),
+            Command::Partitions(..)
+            | Command::Load(..)
+            | Command::Put(..)
+            | Command::Append(..)
+            | Command::Close(_)
+            | Command::Fetch(..)
+            | Command::Go => true,
         }
     }
 
     /// Whether there is such an input partition is asked before anything is read for it.
     fn known_input(&self, input: u64) -> Result<(), Stop>
-        ensures ok { OnOk result (input < self.now) }
-        ensures err { IfErr result (λ reported. (self.now ≤ input) × (reported ≡ stop.Broker Partition)) }
+        ensures ok { OnOk result (input < self.now.inputs) }
+        ensures err { IfErr result (λ reported. (self.now.inputs ≤ input) × (reported ≡ stop.Broker Partition)) }
     {
         if input < self.broker.inputs() as u64 {
             Ok(())
@@ -106,10 +136,10 @@ impl<'a, Id: Names + Send + Sync, R: Threads + Wait + Sync> Session<'a, Id, R> {
     }
 
     /// The image that a command names.
-    #[tactic(auto, using(crate::proofs::StopLaws::unread_no_line))]
+    #[tactic(auto, using(crate::proofs::StopLaws::unread_is))]
     fn image<F: Files>(&self, files: &mut F, source: Source) -> Result<Bytes, Stop>
         ensures read { IfOk result (IsImageIn (F.bytes files.old) source) }
-        ensures failed { IfErr result IsNoLine }
+        ensures failed { IfErr result (λ reason. (reason ≡ stop.Memory) ⊎ (reason ≡ unread_of source)) }
     {
         match source {
             Source::Line(image) => Ok(image),
@@ -120,26 +150,34 @@ impl<'a, Id: Names + Send + Sync, R: Threads + Wait + Sync> Session<'a, Id, R> {
         }
     }
 
-    /// Loads an image under a name, as a program of a helper table, and prints its version; answers what
-    /// is known of the name then.
-    #[tactic(auto, using(crate::proofs::StopLaws::broker_no_line, crate::proofs::StopLaws::unwritten_no_line))]
-    fn load<O: Write>(
-        &self,
-        stdout: &mut O,
-        name: &RawName,
-        image: &Bytes,
-        table: Table,
-    ) -> Result<Known, Stop>
-        ensures loaded { IfOk result (λ _. Loads name.now image.now table (O.contents stdout.old) (O.contents stdout.new)) }
-        ensures failed { IfErr result IsNoLine }
+    /// Keeps what is known of a name.
+    fn keep(&mut self, name: RawName, known: Known) -> Result<(), Stop>
+        requires { known.name ≡ name }
+        ensures kept { OnOk result (Learns known self.old self.new) }
+        ensures failed { IfErr result (λ reason. (reason ≡ stop.Memory) × (self.new ≡ self.old)) }
+    {
+        match self.loaded.insert(name.text, known) {
+            Ok(_) => Ok(()),
+            Err(_) => Err(Stop::Memory),
+        }
+    }
+
+    /// Loads an image under a name, as a program of a helper table, and keeps what is known of the name
+    /// then. Returns the line that says its version.
+    #[tactic(auto, using(crate::proofs::Loaded::of_load, crate::proofs::Loaded::loads))]
+    fn load(&mut self, name: RawName, image: &Bytes, table: Table) -> Result<String, Stop>
+        ensures loaded { IfOk result (λ line. Loads name image.now table self.old self.new (string_bytes line)) }
+        ensures failed { IfErr result (λ reason. (self.new ≡ self.old)
+            × ((reason ≡ stop.Memory) ⊎ EndsFor (λ fault. LoadIs name (program_of image.now table) (Err fault)) reason)) }
     {
         let text = name.text.as_str();
         let (version, known) = self.broker.load(self.rt, self.alloc, text, image, table)?;
-        print_line(stdout, load_text(self.alloc, text, version))?;
-        Ok(known)
+        let line = load_text(self.alloc, text, version)?;
+        self.keep(name, known)?;
+        Ok(line)
     }
 
-    /// Loads the image that a command names.
+    /// Loads the image that a command names, and prints its line once what is known of it is kept.
     fn load_source<F: Files, O: Write>(
         &mut self,
         files: &mut F,
@@ -148,29 +186,17 @@ impl<'a, Id: Names + Send + Sync, R: Threads + Wait + Sync> Session<'a, Id, R> {
         source: Source,
         table: Table,
     ) -> Result<(), Stop>
-        ensures loaded { OnOk result ((image : List ℕ) × IsImageIn (F.bytes files.old) source image
-            × Loads name image table (O.contents stdout.old) (O.contents stdout.new)) }
-        ensures failed { IfErr result IsNoLine }
+        ensures { LoadDoes (F.bytes files.old) name source table self.old self.new (O.contents stdout.old) (O.contents stdout.new) result }
     {
         let image = self.image(files, source)?;
-        let known = self.load(stdout, &name, &image, table)?;
-        self.keep(name, known)
-    }
-
-    /// Keeps what is known of a name.
-    fn keep(&mut self, name: RawName, known: Known) -> Result<(), Stop>
-        ensures { IfErr result IsNoLine }
-    {
-        match self.loaded.insert(name.text, known) {
-            Ok(_) => Ok(()),
-            Err(_) => Err(Stop::Memory),
-        }
+        let line = self.load(name, &image, table)?;
+        print(stdout, line.as_str())
     }
 
     /// The finder of the session, for whoever takes it to give it back. The first call makes it.
     fn taken_finder(&mut self) -> Result<Finder, Stop>
         ensures same { self.new ≡ self.old }
-        ensures err { IfErr result HasNoFinder }
+        ensures err { IfErr result (EndsFor IsNoReader) }
     {
         match self.finder.take() {
             Some(finder) => Ok(finder),
@@ -179,20 +205,21 @@ impl<'a, Id: Names + Send + Sync, R: Threads + Wait + Sync> Session<'a, Id, R> {
     }
 
     /// Appends the mark of a loaded name.
-    #[tactic(auto, using(crate::proofs::Marks::no_finder))]
-    fn mark(&mut self, input: u64, name: &Name) -> Result<(Receipt<Id>, u32), Stop>
-        ensures ok { IfOk result (λ marked. (input < self.old) × IsMark input name.now marked.1 marked.0) }
-        ensures err { IfErr result (MarkFails self.old input) }
+    #[tactic(auto, using(crate::proofs::Marks::deployed, crate::proofs::Marks::not_deployed, crate::proofs::Marks::no_finder))]
+    fn mark(&mut self, input: u64, name: &RawName) -> Result<(Receipt<Id>, u32), Stop>
+        requires there { input < self.old.inputs }
+        requires known { IsSome (known_of self.old.loaded name.now) }
+        ensures same { self.new ≡ self.old }
+        ensures ok { IfOk result (λ marked. IsMark input name.now marked.1 marked.0) }
+        ensures err { IfErr result (EndsFor (IsMarkFault self.old.inputs input name.now (known_of self.old.loaded name.now))) }
     {
         let mut finder = self.taken_finder()?;
-        let Some(known) = self.loaded.get(name.text.as_str()) else {
-            return Err(Stop::Line(ScriptFault::Order));
-        };
+        let known = self.known(name);
         let marked = self.broker.deploy(
             self.rt,
             self.alloc,
             input as usize,
-            name,
+            known.name(),
             &mut finder,
             known,
         );
@@ -200,9 +227,7 @@ impl<'a, Id: Names + Send + Sync, R: Threads + Wait + Sync> Session<'a, Id, R> {
         Ok(marked?)
     }
 
-    /// Deploys a loaded name, and prints where its mark is. No text that is too long for a name is
-    /// loaded.
-    #[tactic(auto, using(crate::proofs::Said::unloaded))]
+    /// Deploys a loaded name, and prints where its mark is.
     fn deploy<O: Write>(
         &mut self,
         stdout: &mut O,
@@ -210,29 +235,13 @@ impl<'a, Id: Names + Send + Sync, R: Threads + Wait + Sync> Session<'a, Id, R> {
         name: RawName,
         receipts: &mut Vec<Receipt<Id>>,
     ) -> Result<(), Stop>
-        ensures { RefusesLine (Some (asked.Deploy input name)) receipts.old.items receipts.new.items (O.contents stdout.old) (O.contents stdout.new) result
-            ⊎ DeployDoes self.old input name receipts.old.items receipts.new.items (O.contents stdout.old) (O.contents stdout.new) result }
-    {
-        match Name::new(name.text.as_str()) {
-            None => Err(Stop::Line(ScriptFault::Order)),
-            Some(name) => self.deploy_named(stdout, input, &name, receipts),
-        }
-    }
-
-    #[tactic(auto, using(crate::proofs::Said::not_marked))]
-    fn deploy_named<O: Write>(
-        &mut self,
-        stdout: &mut O,
-        input: u64,
-        name: &Name,
-        receipts: &mut Vec<Receipt<Id>>,
-    ) -> Result<(), Stop>
-        ensures { RefusesLine (Some (asked.Deploy input name.now)) receipts.old.items receipts.new.items (O.contents stdout.old) (O.contents stdout.new) result
-            ⊎ DeployDoes self.old input name.now receipts.old.items receipts.new.items (O.contents stdout.old) (O.contents stdout.new) result }
+        requires { IsSome (known_of self.old.loaded name) }
+        ensures same { self.new ≡ self.old }
+        ensures does { DeployDoes self.old.inputs input name (known_of self.old.loaded name) receipts.old.items receipts.new.items (O.contents stdout.old) (O.contents stdout.new) result }
     {
         self.known_input(input)?;
         make_room(receipts)?;
-        let (receipt, version) = self.mark(input, name)?;
+        let (receipt, version) = self.mark(input, &name)?;
         let text = name.text.as_str();
         let line = deploy_text(self.alloc, input, receipt.index(), text, version);
         add(receipts, receipt);
@@ -252,7 +261,7 @@ impl<'a, Id: Names + Send + Sync, R: Threads + Wait + Sync> Session<'a, Id, R> {
         requires timestamp { timestamp < TIMESTAMP_END }
         requires key { text_size key ≤ MAX_KEY }
         requires value { text_size value ≤ MAX_VALUE }
-        ensures { PutDoes self.now input (put_batch timestamp key value) receipts.old.items receipts.new.items (O.contents stdout.old) (O.contents stdout.new) result }
+        ensures { PutDoes self.now.inputs input (put_batch timestamp key value) receipts.old.items receipts.new.items (O.contents stdout.old) (O.contents stdout.new) result }
     {
         make_room(receipts)?;
         let batch = batch_of(self.alloc, timestamp, key, value)?;
@@ -271,7 +280,7 @@ impl<'a, Id: Names + Send + Sync, R: Threads + Wait + Sync> Session<'a, Id, R> {
         input: u64,
         receipts: &mut Vec<Receipt<Id>>,
     ) -> Result<(), Stop>
-        ensures { CloseDoes self.now input receipts.old.items receipts.new.items (O.contents stdout.old) (O.contents stdout.new) result }
+        ensures { CloseDoes self.now.inputs input receipts.old.items receipts.new.items (O.contents stdout.old) (O.contents stdout.new) result }
     {
         make_room(receipts)?;
         let receipt = self.broker.close(self.rt, self.alloc, input as usize)?;
@@ -290,7 +299,7 @@ impl<'a, Id: Names + Send + Sync, R: Threads + Wait + Sync> Session<'a, Id, R> {
         source: Source,
         receipts: &mut Vec<Receipt<Id>>,
     ) -> Result<(), Stop>
-        ensures { AppendDoes self.now (F.bytes files.old) input source receipts.old.items receipts.new.items (O.contents stdout.old) (O.contents stdout.new) result }
+        ensures { AppendDoes self.now.inputs (F.bytes files.old) input source receipts.old.items receipts.new.items (O.contents stdout.old) (O.contents stdout.new) result }
     {
         let before = receipts.len();
         let appended = append_source(
@@ -307,10 +316,9 @@ impl<'a, Id: Names + Send + Sync, R: Threads + Wait + Sync> Session<'a, Id, R> {
     }
 
     /// Prints the rows of an output partition from a place on as one record batch, or `none`.
-    #[tactic(auto, using(crate::proofs::Loaded::fetches, crate::proofs::Written::line_printed, crate::proofs::StopLaws::broker_no_line, crate::proofs::StopLaws::unwritten_no_line))]
+    #[tactic(auto, using(crate::proofs::Loaded::fetches, crate::proofs::Written::is_printed))]
     fn fetch<O: Write>(&self, stdout: &mut O, output: u64, place: u64, max: u64) -> Result<(), Stop>
-        ensures fetched { OnOk result (Fetches Id.cells self.now Id.outputs output place max (O.contents stdout.old) (O.contents stdout.new)) }
-        ensures failed { IfErr result IsNoLine }
+        ensures { FetchDoes Id.cells self.now.inputs Id.outputs output place max (O.contents stdout.old) (O.contents stdout.new) result }
     {
         let found = self
             .broker
@@ -319,10 +327,9 @@ impl<'a, Id: Names + Send + Sync, R: Threads + Wait + Sync> Session<'a, Id, R> {
     }
 
     /// Runs the programs on every item that the logs have, then prints the report.
-    #[tactic(auto, using(crate::proofs::StopLaws::broker_no_line, crate::proofs::StopLaws::report_no_line, crate::proofs::StopLaws::end_no_line))]
+    #[tactic(auto, using(crate::proofs::Loaded::reports, crate::proofs::Written::has_begun, crate::proofs::StopLaws::unwritten_report))]
     fn go<O: Write>(&self, stdout: &mut O) -> Result<(), Stop>
-        ensures reported { OnOk result (Reports self.now Id.outputs (O.contents stdout.old) (O.contents stdout.new)) }
-        ensures failed { IfErr result IsNoLine }
+        ensures { GoDoes self.now.inputs Id.outputs (O.contents stdout.old) (O.contents stdout.new) result }
     {
         let ended = self
             .broker
@@ -335,7 +342,6 @@ impl<'a, Id: Names + Send + Sync, R: Threads + Wait + Sync> Session<'a, Id, R> {
 
     /// What a line asks for. The receipts of all that it appends are put at the end of the list, also
     /// before a fault.
-    #[tactic(auto, using(crate::proofs::Said::no_command, crate::proofs::Said::has_fault))]
     pub fn line<F: Files, O: Write>(
         &mut self,
         files: &mut F,
@@ -343,7 +349,8 @@ impl<'a, Id: Names + Send + Sync, R: Threads + Wait + Sync> Session<'a, Id, R> {
         line: &str,
         receipts: &mut Vec<Receipt<Id>>,
     ) -> Result<(), Stop>
-        ensures { LineDoes Id.cells self.old Id.outputs (F.bytes files.old) (command_of line.now) receipts.old.items receipts.new.items (O.contents stdout.old) (O.contents stdout.new) result }
+        ensures { LineDoes (setting Id.cells Id.outputs (F.bytes files.old)) (command_of line.now)
+            (state self.old receipts.old.items (O.contents stdout.old)) (state self.new receipts.new.items (O.contents stdout.new)) result }
     {
         let Some(command) = parse(self.alloc, line)? else {
             return Err(Stop::Line(ScriptFault::Syntax));
@@ -355,8 +362,8 @@ impl<'a, Id: Names + Send + Sync, R: Threads + Wait + Sync> Session<'a, Id, R> {
         self.act(files, stdout, command, receipts)
     }
 
-    /// What a command asks for.
-    #[tactic(auto, using(crate::proofs::Said::begun_twice))]
+    /// What a command asks for that has no fault of its line.
+    #[tactic(auto, using(crate::proofs::Said::is_known))]
     fn act<F: Files, O: Write>(
         &mut self,
         files: &mut F,
@@ -364,11 +371,13 @@ impl<'a, Id: Names + Send + Sync, R: Threads + Wait + Sync> Session<'a, Id, R> {
         command: Command,
         receipts: &mut Vec<Receipt<Id>>,
     ) -> Result<(), Stop>
-        requires { is_in_range command ≡ true }
-        ensures { LineDoes Id.cells self.old Id.outputs (F.bytes files.old) (Some command) receipts.old.items receipts.new.items (O.contents stdout.old) (O.contents stdout.new) result }
+        requires range { is_in_range command ≡ true }
+        requires no_fault { fault_of command true (is_loaded self.old.loaded command) ≡ None }
+        ensures { Does (setting Id.cells Id.outputs (F.bytes files.old)) command
+            (state self.old receipts.old.items (O.contents stdout.old)) (state self.new receipts.new.items (O.contents stdout.new)) result }
     {
         match command {
-            Command::Partitions(..) => Err(Stop::Line(ScriptFault::Order)),
+            Command::Partitions(..) => unreachable!(),
             Command::Load(name, source, table) => {
                 self.load_source(files, stdout, name, source, table)
             }
