@@ -333,10 +333,13 @@ def little_memory():
     resource.setrlimit(resource.RLIMIT_AS, (64 << 20, 64 << 20))
 
 
-def usage():
-    """What is said where words are no call: the calls of the first table of docs/commands.md."""
+USAGE = "usage: klog COMMAND FILE ..."
+
+
+def calls():
+    """What `klog commands` prints: the calls of the first table of docs/commands.md."""
     with open(os.path.join(os.path.dirname(os.path.abspath(__file__)), "..", "..", "docs", "commands.md")) as text:
-        return "\n".join(["usage:"] + re.findall(r"^\| `(klog [^`]*)` \|", text.read(), re.M))
+        return "".join(call + "\n" for call in re.findall(r"^\| `(klog [^`]*)` \|", text.read(), re.M))
 
 
 def fixed_calls(folder):
@@ -344,8 +347,8 @@ def fixed_calls(folder):
     place = lambda name: os.path.join(folder, name)
     good, image = written(place("good"), b"mov64 r0, 0\nexit\n"), written(place("zero.bin"), slot(0xB7) + slot(0x95))
     long, none, inside = written(place("long"), b"#" * (100 << 20)), place("none"), place("none/image")
-    for words in ((), ("frob", good), ("asm", good), ("asm", good, none, none), ("dis",), ("dis", image, image), ("check",), ("check", image, image), ("check", image, "3"), ("check", image, "01"), ("check", image, "2", "2"), ("explain", image, "refused", "2"), ("check", "--help"), ("--help",), ("--version",), ("dis", "-x"), ("asm", "--", none)):
-        yield words, {}, 2, usage()
+    for words in ((), ("frob", good), ("asm", good), ("asm", good, none, none), ("dis",), ("dis", image, image), ("check",), ("check", image, image), ("check", image, "3"), ("check", image, "01"), ("check", image, "2", "2"), ("explain", image, "refused", "2"), ("check", "--help"), ("--help",), ("--version",), ("dis", "-x"), ("asm", "--", none), ("help",), ("commands", good), ("transform", image, good, none, none)):
+        yield words, {}, 2, USAGE
     for name in (none, folder, "-"):
         yield ("check", name), {}, 3, "file " + name
         yield ("dis", name), {}, 3, "file " + name
@@ -366,17 +369,20 @@ def fixed_calls(folder):
 
 
 def compare_fixed(program, folder):
-    calls = 0
+    got, want = called(program, "commands"), (0, calls().encode(), b"")
+    if got != want:
+        sys.exit("commands\nexpected %r\nbut      %r" % (want, got))
+    count = 1
     for words, more, status, reported in fixed_calls(folder):
         got = called(program, *words, cwd=folder, **more)
         if (got[0], got[1] or b"", got[2]) != (status, b"", reported.encode() + b"\n"):
             sys.exit("%r\nexpected %r\nbut      %r" % (words, (status, reported), got))
-        calls += 1
+        count += 1
     if os.path.exists(os.path.join(folder, "none")):
         sys.exit("a file was written")
     if os.path.getsize(os.path.join(folder, "in")) == 0 or os.path.getsize(os.path.join(folder, "zero.bin")) == 0:
         sys.exit("a transform has emptied its own input")
-    return calls
+    return count
 
 
 def main():

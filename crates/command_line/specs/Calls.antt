@@ -23,6 +23,7 @@ pub record AreFiles {A : Type 0} (words : List (String A)) : Type 0 where
 -- what is known of an accepted call: the words of a transform are its files
 abbrev pub IsAccepted : Call → Type 0
 IsAccepted (call.Transform table words) = AreFiles words.now
+IsAccepted call.Commands = ⊤
 IsAccepted (call.Image asked) = ⊤
 IsAccepted (call.List listing file) = ⊤
 IsAccepted (call.Recheck list) = ⊤

@@ -25,6 +25,8 @@ pub enum ImageCall<'a> {
 /// A call of the program, with the names of its files.
 #[derive(Clone, Copy)]
 pub enum Call<'a> {
+    /// Lists the calls of the program.
+    Commands,
     /// Makes, verifies or prints an image.
     Image(ImageCall<'a>),
     /// Lists the batches or the records of a file.

@@ -11,7 +11,7 @@ struct Form {
 }
 
 /// All commands but `transform`.
-static FORMS: [Form; 8] = [
+static FORMS: [Form; 9] = [
     Form {
         name: "asm",
         least: 2,
@@ -26,6 +26,11 @@ static FORMS: [Form; 8] = [
         name: "check",
         least: 1,
         most: 2,
+    },
+    Form {
+        name: "commands",
+        least: 0,
+        most: 0,
     },
     Form {
         name: "dis",

@@ -64,7 +64,17 @@ fn call_named<'a>(name: &str, words: Operands<'a>) -> Option<Call<'a>>
     }
 }
 
-/// The words that follow a command's name.
+/// The call of a command's name that no word follows.
+fn call_alone<'a>(name: &str) -> Option<Call<'a>>
+    ensures { IfSome result IsAccepted }
+{
+    match name {
+        "commands" => Some(Call::Commands),
+        _ => None,
+    }
+}
+
+/// The words that follow a command's name, if a word does.
 fn read_words<'a>(words: &ArgMatches<'a>) -> Option<Operands<'a>> {
     let first = words.get_str("first")?;
     Some(Operands {
@@ -79,7 +89,10 @@ fn asked<'a>(matches: &ArgMatches<'a>) -> Option<Call<'a>>
     ensures { IfSome result IsAccepted }
 {
     let (name, words) = matches.subcommand()?;
-    call_named(name, read_words(words)?)
+    match read_words(words) {
+        Some(words) => call_named(name, words),
+        None => call_alone(name),
+    }
 }
 
 fn misuse_of(error: &clap::Error) -> Misuse {

@@ -7,6 +7,7 @@ use Rattle.std.proofs.{lemmas.Bool.cases_lt, lemmas.List.Elements.All-push}
 use Rattle.std.proofs.lemmas.List.{get_or_append_left, get_or_push, length_push, length-map}
 use Rattle.wire_spec.specs.declared.record.Batch.{Batch}
 use Rattle.machine_spec.specs.{Image.Program, Image.program_of, declared.helper.Table.Table}
+use Rattle.verifier_spec.specs.Loading.{IsAccepted}
 use Rattle.log_spec.specs.declared.row.Row.{Row}
 use Rattle.batch.specs.Streams.{Open}
 use Rattle.batch_reader.specs.declared.reader.ReadFault.TheVariants as read
@@ -25,7 +26,8 @@ use Rattle.commands.specs.declared.{halts.Halt.Halt, status.Status.Status, statu
 use Rattle.commands.specs.declared.halts.Halt.TheVariants as halt
 use Rattle.command_line.specs.Calls.{names_of, AreDistinct}
 use Rattle.commands.specs.FileTransforms.{KeepsOthers, HasRows, IsFresh, HasWritten, HaveWritten, StreamsAs, Overfills}
-use Rattle.commands.specs.FileTransforms.{TransformsAs, CallTransforms, IsUnloaded, status_of, status_of_halt}
+use Rattle.commands.specs.FileTransforms.{KeepsIfRefused, TransformsAs, CallTransforms, IsUnloaded, status_of}
+use Rattle.commands.specs.FileTransforms.{status_of_halt}
 use Rattle.commands.specs.{Images.first_bytes, Listings.source_of}
 
 -- ---- All other files
@@ -326,7 +328,8 @@ ended_as program bytes count status ended files (inr (same, held)) streams =
 pub called : (table : Table) (names : List (List ℕ)) (stdin : Option (List ℕ))
     (before mid after : List ℕ → Option (List ℕ)) (status : Status) (program : Program) (first : List ℕ) →
     first ≡ word_at names 0 →
-    ((image : List ℕ) → before first ≡ Some image → program ≡ program_of (first_bytes image) table) →
+    ((image : List ℕ) → before first ≡ Some image →
+    (program ≡ program_of (first_bytes image) table) × IsAccepted (program_of (first_bytes image) table)) →
     ((other : List ℕ) → mid other ≡ before other) →
     (AreDistinct names → (bytes : List ℕ) → source_of (word_at names 1) stdin (mid (word_at names 1)) ≡ Some bytes →
     StreamsAs program bytes (length names - 2) status (λ output. after (word_at names (output + 2)))) →
@@ -340,7 +343,17 @@ called table names stdin before mid after status program first is loaded kept st
     source in
     inr (subst
     (λ (p : Program). StreamsAs p bytes (length names - 2) status (λ output. after (word_at names (output + 2))))
-    (loaded image image_is) (streams distinct bytes source_is))
+    (loaded image image_is).0 (streams distinct bytes source_is))
+
+-- the image has a program, so it is not refused
+pub not_refused : (table : Table) (names : List (List ℕ)) (before after : List ℕ → Option (List ℕ)) (program : Program)
+    (first : List ℕ) → first ≡ word_at names 0 →
+    ((image : List ℕ) → before first ≡ Some image →
+    (program ≡ program_of (first_bytes image) table) × IsAccepted (program_of (first_bytes image) table)) →
+    KeepsIfRefused table names before after
+not_refused table names before after program first is loaded image fault known refused =
+    absurd (refused.not_accepted
+    (loaded image (subst (λ (n : List ℕ). before n ≡ Some image) (sym is) known)).1)
 
 -- the image has none
 unloaded_as : (program : Program) (bytes : List ℕ) (outputs : ℕ) (halted : Halt) (files : ℕ → Option (List ℕ)) →

@@ -1,11 +1,11 @@
 -- What `transform` writes to the files of output partitions.
 use Rattle.std.specs.Prelude.{◌≡◌, ◌≢◌, ◌⊎◌, ℕ, ◌+◌, ◌-◌, ◌<◌, ◌^◌, Bool, false, List, [], length, Option, Some, Result}
-use Rattle.std.specs.Prelude.{Ok, Err, ⊤, IfSome}
+use Rattle.std.specs.Prelude.{Ok, Err, ⊤, IfSome, true, nat_lt}
 use Rattle.std.specs.List.{concat}
 use Rattle.wire_spec.specs.{declared.record.Batch.Batch, declared.fault.BatchFault.BatchFault, BatchReading.batch_at}
 use Rattle.wire_spec.specs.declared.limits.TheConstants.{TIMESTAMP_END, MAX_RECORDS}
 use Rattle.machine_spec.specs.{Image.Program, Image.program_of, declared.helper.Table.Table}
-use Rattle.verifier_spec.specs.{Loading.IsRefusedWith, declared.fault.LoadFault.LoadFault}
+use Rattle.verifier_spec.specs.{Loading.IsAccepted, Loading.IsRefusedWith, declared.fault.LoadFault.LoadFault}
 use Rattle.log_spec.specs.{declared.row.Row.Row, Logs.IsRowsOf}
 use Rattle.batch.specs.Batches.{AreBatches}
 use Rattle.batch_reader.specs.declared.reader.ReadFault.TheVariants as read
@@ -52,6 +52,10 @@ IsNoOutput names other = (output : ℕ) → output + 2 < length names → other 
 -- all files but those of the output partitions have the bytes that they had
 abbrev pub KeepsOthers : List (List ℕ) → (before after : List ℕ → Option (List ℕ)) → Type 0
 KeepsOthers names before after = (other : List ℕ) → IsNoOutput names other → after other ≡ before other
+
+-- all files have the bytes that they had
+abbrev pub KeepsAll : (before after : List ℕ → Option (List ℕ)) → Type 0
+KeepsAll before after = (other : List ℕ) → after other ≡ before other
 
 -- one batch more might reach the offset 2^62, and the bytes begin with one
 abbrev pub IsAtLimit : List Batch → List ℕ → Type 0
@@ -147,7 +151,22 @@ abbrev pub CallTransforms : Table → List (List ℕ) → Option (List ℕ) → 
 CallTransforms table names stdin before after status = AreDistinct names →
     CallWrites table names stdin before after status
 
+-- where the image that the first word names has a program that is refused, all files have the bytes that they had
+abbrev pub KeepsIfRefused : Table → List (List ℕ) → (before after : List ℕ → Option (List ℕ)) → Type 0
+KeepsIfRefused table names before after = (image : List ℕ) (fault : LoadFault) →
+    before (word_at names 0) ≡ Some image → IsRefusedWith (program_of (first_bytes image) table) fault →
+    KeepsAll before after
+
 -- ---- on the way
+
+-- whether a transform ends after its image was read, or since memory ran out; else its image is refused or can't be
+-- read, whose word is the first
+abbrev pub is_after_image : Halt → Bool
+is_after_image (halt.Image fault) = false
+is_after_image (halt.Batch position fault) = true
+is_after_image halt.Full = true
+is_after_image (halt.File word) = nat_lt 0 word
+is_after_image halt.Memory = true
 
 -- why an image has no program: it is refused, or it couldn't be read
 abbrev pub IsUnloaded : Program → Halt → Type 0
@@ -157,9 +176,9 @@ IsUnloaded program halt.Memory = ⊤
 IsUnloaded program (halt.Batch position fault) = ⊥
 IsUnloaded program halt.Full = ⊥
 
--- the program that was asked for, or why there is none
+-- the program that was asked for, which is accepted, or why there is none
 abbrev pub IsLoaded : Program → Result Program Halt → Type 0
-IsLoaded asked (Ok program) = program ≡ asked
+IsLoaded asked (Ok program) = (program ≡ asked) × IsAccepted asked
 IsLoaded asked (Err halted) = IsUnloaded asked halted
 
 -- an output partition before its first row, whose writer tells that it has nothing

@@ -9,3 +9,4 @@ pub mod Sessions
 pub mod Statuses
 pub mod Stops
 pub mod Texts
+pub mod Usages

@@ -18,12 +18,12 @@ use crate::explaining::{no_code_text, refusal_text, status_of_explained};
 use crate::files::Files;
 use crate::image::{Refused, check, read_image};
 use crate::listing::list;
-use crate::misuse::tell_misuse;
 use crate::reading::{Unread, read_file, read_whole};
 use crate::rechecking::recheck;
 use crate::run::run_script;
 use crate::status::Status;
 use crate::telling::{print_text, tell, tell_memory, tell_refused, tell_text, tell_unread};
+use crate::usage::{list_calls, tell_usage};
 use bpf_asm::{AsmFault, assemble};
 use command_line::{Call, ImageCall, Misuse, call_of};
 use explain::{Explanation, Extent, explain_image};
@@ -326,6 +326,7 @@ pub fn command<R: Threads + Wait + Sync, F: Files, I: Read, O: Write, E: Write>(
     stderr: &mut E,
 ) -> Status {
     match call_of(alloc, words) {
+        Ok(Call::Commands) => list_calls(alloc, stdout, stderr),
         Ok(Call::Image(asked)) => image_command(alloc, files, stdout, stderr, asked),
         Ok(Call::List(listing, file)) => {
             list(alloc, listing, files, stdin, stdout, stderr, file)
@@ -335,7 +336,7 @@ pub fn command<R: Threads + Wait + Sync, F: Files, I: Read, O: Write, E: Write>(
         Ok(Call::Transform(table, words)) => {
             transform_distinct(alloc, files, stdin, stderr, table, words)
         }
-        Err(Misuse::Usage) => tell_misuse(stderr, words),
+        Err(Misuse::Usage) => tell_usage(stderr).status,
         Err(Misuse::Memory) => tell_memory(stderr),
     }
 }

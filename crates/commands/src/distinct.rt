@@ -3,7 +3,7 @@
 ghost use Rattle.std.specs.Prelude.{◌≡◌, ◌<◌, ℕ, true};
 ghost use Rattle.script.specs.Words.{word_at};
 ghost use Rattle.command_line.specs.Calls.{names_of, AreFiles};
-ghost use Rattle.commands.specs.FileTransforms.{CallWrites, KeepsOthers};
+ghost use Rattle.commands.specs.FileTransforms.{CallWrites, KeepsIfRefused, KeepsOthers};
 
 use crate::files::Files;
 use crate::status::Status;
@@ -14,7 +14,7 @@ use std::io::{Read, Write};
 
 /// Runs a program of a helper table on record batches by the words of an accepted call, no two of
 /// which are the same; answers the status. The image and the file of the batches stay, and all other
-/// files but those of the output partitions.
+/// files but those of the output partitions; these too where the image is refused.
 pub(crate) fn transform_distinct<F: Files, I: Read, E: Write>(
     alloc: Global,
     files: &mut F,
@@ -26,6 +26,7 @@ pub(crate) fn transform_distinct<F: Files, I: Read, E: Write>(
     requires { AreFiles words.now }
     ensures written { F.tells ≡ true → CallWrites table (names_of words.now) (I.remaining stdin.old) (F.bytes files.old) (F.bytes files.new) result }
     ensures kept { KeepsOthers (names_of words.now) (F.bytes files.old) (F.bytes files.new) }
+    ensures refused { KeepsIfRefused table (names_of words.now) (F.bytes files.old) (F.bytes files.new) }
     ensures sources { (word : ℕ) → word < 2 → F.bytes files.new (word_at (names_of words.now) word) ≡ F.bytes files.old (word_at (names_of words.now) word) }
 {
     transform(alloc, files, stdin, stderr, table, words)

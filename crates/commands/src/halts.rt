@@ -1,8 +1,9 @@
 //! Why a transform ends early.
 
-ghost use Rattle.std.specs.Prelude.{◌≡◌, ◌⊎◌, Err};
+ghost use Rattle.std.specs.Prelude.{◌≡◌, ◌<◌, ◌⊎◌, true, Err, IfErr};
 ghost use Rattle.commands.specs.declared.status.Status.TheVariants.{Failed};
-ghost use Rattle.commands.specs.FileTransforms.{status_of, status_of_batch, status_of_halt, status_of_ended};
+ghost use Rattle.commands.specs.FileTransforms.{is_after_image, status_of, status_of_batch, status_of_halt};
+ghost use Rattle.commands.specs.FileTransforms.{status_of_ended};
 
 use crate::reading::{Unread, cause_of};
 use crate::status::Status;
@@ -48,7 +49,8 @@ impl From<AllocError> for Halt {
 
 /// Why a transform ends whose file can't be used.
 pub(crate) fn unused(word: usize, error: &io::Error) -> Halt
-    ensures { status_of_halt result ≡ Failed }
+    ensures failed { status_of_halt result ≡ Failed }
+    ensures after { 0 < word → is_after_image result ≡ true }
 {
     match cause_of(error) {
         Unread::File => Halt::File(word),
@@ -58,7 +60,8 @@ pub(crate) fn unused(word: usize, error: &io::Error) -> Halt
 
 /// Why a transform ends at a fault of its stream, after these batches.
 fn halt_of(fault: StreamFault, position: Position) -> Halt
-    ensures { status_of_halt result ≡ status_of (Err fault) }
+    ensures status { status_of_halt result ≡ status_of (Err fault) }
+    ensures after { is_after_image result ≡ true }
 {
     match fault {
         StreamFault::Read(ReadFault::Read) => Halt::File(INPUT),
@@ -76,7 +79,8 @@ fn halt_of(fault: StreamFault, position: Position) -> Halt
 
 /// Why a transform ends at bytes that begin with no batch, after these batches.
 fn halt_of_batch(fault: BatchFault, position: Position) -> Halt
-    ensures { status_of_halt result ≡ status_of_batch fault }
+    ensures status { status_of_halt result ≡ status_of_batch fault }
+    ensures after { is_after_image result ≡ true }
 {
     match fault {
         BatchFault::Memory => Halt::Memory,
@@ -86,7 +90,8 @@ fn halt_of_batch(fault: BatchFault, position: Position) -> Halt
 
 /// How a transform ends whose stream ended so, after these batches.
 pub(crate) fn halted(ended: Result<(), StreamFault>, position: Position) -> Result<(), Halt>
-    ensures { status_of_ended result ≡ status_of ended }
+    ensures status { status_of_ended result ≡ status_of ended }
+    ensures after { IfErr result (λ halt. is_after_image halt ≡ true) }
 {
     match ended {
         Ok(()) => Ok(()),

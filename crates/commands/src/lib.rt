@@ -2,8 +2,8 @@
 //! input, output and error that it is given. `run` does the commands of a script, `check` verifies
 //! a program, `explain` prints what the verifier knows of one, `asm` makes the image of a program's
 //! text, `dis` prints that text, `recheck` verifies the programs of a list anew, `transform` runs a
-//! program on record batches, and `batches` and `records` list those of a file. A `Session` does a
-//! script line by line.
+//! program on record batches, `batches` and `records` list those of a file, and `commands` lists the
+//! calls. A `Session` does a script line by line.
 #![tactic(auto)]
 
 mod appending;
@@ -18,7 +18,6 @@ mod files;
 mod halts;
 mod image;
 mod listing;
-mod misuse;
 mod output_files;
 mod printing;
 mod progress;
@@ -30,6 +29,7 @@ mod status;
 mod stop;
 mod telling;
 mod transforming;
+mod usage;
 
 pub use crate::call::command;
 pub use crate::files::Files;
@@ -38,5 +38,5 @@ pub use crate::rechecking::recheck;
 pub use crate::session::Session;
 pub use crate::status::Status;
 pub use crate::stop::Stop;
-pub use crate::telling::tell_no_words;
 pub use crate::transforming::transform;
+pub use crate::usage::{Told, tell_no_words};

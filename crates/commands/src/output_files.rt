@@ -5,6 +5,7 @@ ghost use Rattle.script.specs.Words.{word_at};
 ghost use Rattle.command_line.specs.Calls.{names_of, AreDistinct};
 ghost use Rattle.commands.specs.declared.status.Status.TheVariants.{Failed};
 ghost use Rattle.commands.specs.FileTransforms.{KeepsOthers, IsFresh, HasWritten, HaveWritten, status_of_halt};
+ghost use Rattle.commands.specs.FileTransforms.{is_after_image};
 
 use crate::files::Files;
 use crate::halts::{FIRST_OUTPUT, Halt, unused};
@@ -26,6 +27,7 @@ fn create_one<F: Files>(files: &mut F, words: &[String], output: usize) -> Resul
     ensures fresh { F.tells ≡ true → IfOk result (λ writer. F.Writer.contents writer ≡ Some []) }
     ensures kept { KeepsOthers (names_of words.now) (F.bytes files.old) (F.bytes files.new) }
     ensures err { IfErr result (λ halt. status_of_halt halt ≡ Failed) }
+    ensures after { IfErr result (λ halt. is_after_image halt ≡ true) }
 {
     let place = output + FIRST_OUTPUT;
     match files.create(name_at(words, place)) {
@@ -45,6 +47,7 @@ pub(crate) fn create_all<F: Files>(
     ensures fresh { F.tells ≡ true → IfOk result (λ outlets. All IsFresh outlets.items) }
     ensures kept { KeepsOthers (names_of words.now) (F.bytes files.old) (F.bytes files.new) }
     ensures err { IfErr result (λ halt. status_of_halt halt ≡ Failed) }
+    ensures after { IfErr result (λ halt. is_after_image halt ≡ true) }
 {
     let count = words.len() - FIRST_OUTPUT;
     let mut outlets = Vec::with_capacity(alloc, count)?;
@@ -67,6 +70,7 @@ fn close_one<F: Files>(
     ensures held { OnOk result (output + 2 < length words.now → HasWritten outlet (F.bytes files.new (word_at (names_of words.now) (output + 2)))) }
     ensures kept { (other : List ℕ) → (output + 2 < length words.now → other ≢ word_at (names_of words.now) (output + 2)) → F.bytes files.new other ≡ F.bytes files.old other }
     ensures err { IfErr result (λ halt. status_of_halt halt ≡ Failed) }
+    ensures after { IfErr result (λ halt. is_after_image halt ≡ true) }
 {
     if words.len() < FIRST_OUTPUT || output >= words.len() - FIRST_OUTPUT {
         return Ok(());
@@ -87,6 +91,7 @@ pub(crate) fn close_all<F: Files>(
     ensures held { AreDistinct (names_of words.now) → OnOk result (HaveWritten (names_of words.now) outlets.items (F.bytes files.new)) }
     ensures kept { KeepsOthers (names_of words.now) (F.bytes files.old) (F.bytes files.new) }
     ensures err { IfErr result (λ halt. status_of_halt halt ≡ Failed) }
+    ensures after { IfErr result (λ halt. is_after_image halt ≡ true) }
 {
     let mut output = 0;
     for outlet in outlets {

@@ -1,10 +1,9 @@
 //! What calls report: a status, a text on standard error, or one on standard output.
 
-ghost use Rattle.std.specs.Prelude.{◌≡◌, ◌≢◌, ◌⊎◌, OnOk, IfErr};
-ghost use Rattle.std.specs.IoError.{error_kind};
+ghost use Rattle.std.specs.Prelude.{◌≡◌, ◌⊎◌, OnOk, IfErr};
+ghost use Rattle.std.specs.Bool.{OnTrue};
 ghost use Rattle.std.specs.Io.KnownBytes.{Appends};
-ghost use Rattle.std.specs.declared.io.ErrorKind.TheVariants.{OutOfMemory};
-ghost use Rattle.commands.specs.declared.status.Status.TheVariants.{Done, Usage, Failed};
+ghost use Rattle.commands.specs.declared.status.Status.TheVariants.{Done, Failed};
 ghost use Rattle.commands.specs.Stops.{status_of, status_of_refused, IsUnwritten};
 
 use crate::image::Refused;
@@ -14,7 +13,6 @@ use crate::status::Status;
 use crate::stop::{Stop, status_of, unwritten};
 use std::alloc::{AllocError, Global};
 use std::fmt::Display;
-use std::io;
 use std::io::Write;
 
 /// What is reported where memory ran out.
@@ -23,22 +21,11 @@ pub(crate) const MEMORY: &str = "memory\n";
 /// What is reported where there is no thread for a worker.
 const THREAD: &str = "thread\n";
 
-/// What is reported where the words are no call: all calls.
-const CALLS: &str = "usage:\nklog asm TEXT IMAGE\nklog batches FILE\nklog check IMAGE [1 or 2]\n\
-    klog explain IMAGE [1 or 2] [refused]\nklog dis IMAGE\nklog recheck LIST\nklog records FILE\n\
-    klog run SCRIPT\nklog transform [table2] IMAGE IN OUT ..\n";
-
-/// A text on standard error, as far as it can be written.
-pub(crate) fn say<E: Write>(stderr: &mut E, text: &str) {
-    let _ = stderr.write_all(text.as_bytes());
-}
-
-/// Says which calls there are, and answers the status.
-pub(crate) fn tell_usage<E: Write>(stderr: &mut E) -> Status
-    ensures { result ≡ Usage }
+/// Writes a text to standard error, as far as it can be written, and answers whether all of it was.
+pub(crate) fn say<E: Write>(stderr: &mut E, text: &str) -> bool
+    ensures { OnTrue result (Appends (E.contents stderr.old) (E.contents stderr.new) text.now) }
 {
-    say(stderr, CALLS);
-    Status::Usage
+    stderr.write_all(text.as_bytes()).is_ok()
 }
 
 /// Says that memory ran out, and answers the status.
@@ -47,18 +34,6 @@ pub(crate) fn tell_memory<E: Write>(stderr: &mut E) -> Status
 {
     say(stderr, MEMORY);
     Status::Failed
-}
-
-/// Reports why the words of a call could not be had, and answers the status: memory ran out, or a
-/// word is not UTF-8, which no call has.
-pub fn tell_no_words<E: Write>(stderr: &mut E, error: &io::Error) -> Status
-    ensures memory { error_kind error.now ≡ OutOfMemory → result ≡ Failed }
-    ensures no_text { error_kind error.now ≢ OutOfMemory → result ≡ Usage }
-{
-    match error.kind() {
-        io::ErrorKind::OutOfMemory => tell_memory(stderr),
-        _ => tell_usage(stderr),
-    }
 }
 
 /// Says a text and answers the status. Where there is no memory for the text, it says that.

@@ -1,6 +1,6 @@
 //! Record batches of a file through a program, into files.
 
-ghost use Rattle.std.specs.Prelude.{◌≡◌, ◌≤◌, ◌+◌, ◌-◌, ◌⊎◌, ℕ, List, [], Some, true, length};
+ghost use Rattle.std.specs.Prelude.{◌≡◌, ◌≤◌, ◌+◌, ◌-◌, ◌⊎◌, ℕ, List, [], Some, true, length, IfErr};
 ghost use Rattle.machine_spec.specs.Image as images;
 ghost use Rattle.annotate.specs.Loads.{FaultIs};
 ghost use Rattle.batch.specs.Streams.{Open};
@@ -9,7 +9,9 @@ ghost use Rattle.transform.specs.Streams.{TransformsAll};
 ghost use Rattle.script.specs.Words.{word_at};
 ghost use Rattle.command_line.specs.Calls.{names_of, AreDistinct};
 ghost use Rattle.commands.specs.declared.status.Status.TheVariants.{Failed};
-ghost use Rattle.commands.specs.FileTransforms.{KeepsOthers, StreamsAs, CallTransforms, IsLoaded, IsUnloaded, HaveWritten, status_of, status_of_ended};
+ghost use Rattle.commands.specs.FileTransforms.{KeepsOthers, KeepsAll, KeepsIfRefused, is_after_image};
+ghost use Rattle.commands.specs.FileTransforms.{StreamsAs, CallTransforms, IsLoaded, IsUnloaded, HaveWritten};
+ghost use Rattle.commands.specs.FileTransforms.{status_of, status_of_ended};
 ghost use Rattle.commands.specs.Images.{first_bytes};
 ghost use Rattle.commands.specs.Listings.{source_of};
 
@@ -21,7 +23,7 @@ use crate::output_files::{close_all, create_all, name_at};
 use crate::progress::Progress;
 use crate::reading::Unread;
 use crate::status::Status;
-use crate::telling::tell_usage;
+use crate::usage::tell_usage;
 use batch_reader::{BatchReader, Position};
 use bytes::Bytes;
 use log_item::Program;
@@ -103,6 +105,7 @@ fn finish<F: Files, E: Write>(
     ensures held { (status_of_ended result ≡ Failed) ⊎ ((status_of_ended result ≡ status_of ended)
         × (AreDistinct (names_of words.now) → HaveWritten (names_of words.now) stream.outputs (F.bytes files.new))) }
     ensures kept { KeepsOthers (names_of words.now) (F.bytes files.old) (F.bytes files.new) }
+    ensures after { IfErr result (λ halt. is_after_image halt ≡ true) }
 {
     let counts = counts_text(alloc, &stream, position.batches);
     close_all(files, words, stream.into_outlets())?;
@@ -126,6 +129,7 @@ fn write_batches<F: Files, R: Read, E: Write>(
     ensures written { F.tells ≡ true → AreDistinct (names_of words.now) → (bytes : List ℕ) → batches.old ≡ inlet (Open []) (Some bytes) none_given
         → StreamsAs program.now bytes (length (names_of words.now) - 2) (status_of_ended result) (λ output. F.bytes files.new (word_at (names_of words.now) (output + 2))) }
     ensures kept { KeepsOthers (names_of words.now) (F.bytes files.old) (F.bytes files.new) }
+    ensures after { IfErr result (λ halt. is_after_image halt ≡ true) }
 {
     rows_of_a_log();
     let outlets = create_all(alloc, files, words)?;
@@ -156,6 +160,7 @@ fn write_files<F: Files, R: Read + Drop, E: Write>(
     ensures written { F.tells ≡ true → AreDistinct (names_of words.now) → (bytes : List ℕ) → R.remaining reader ≡ Some bytes
         → StreamsAs program.now bytes (length (names_of words.now) - 2) (status_of_ended result) (λ output. F.bytes files.new (word_at (names_of words.now) (output + 2))) }
     ensures kept { KeepsOthers (names_of words.now) (F.bytes files.old) (F.bytes files.new) }
+    ensures after { IfErr result (λ halt. is_after_image halt ≡ true) }
 {
     match BatchReader::new(alloc, reader, MAX_PIECE) {
         Ok(mut batches) => write_batches(alloc, files, stderr, program, words, &mut batches),
@@ -179,6 +184,7 @@ fn write_stdin<F: Files, I: Read, E: Write>(
         → StreamsAs program.now bytes (length (names_of words.now) - 2) (status_of_ended result)
         (λ output. F.bytes files.new (word_at (names_of words.now) (output + 2))) }
     ensures kept { KeepsOthers (names_of words.now) (F.bytes files.old) (F.bytes files.new) }
+    ensures after { IfErr result (λ halt. is_after_image halt ≡ true) }
 {
     match files.take_stdin() {
         Ok(()) => write_files(alloc, files, stdin, stderr, program, words),
@@ -201,6 +207,7 @@ fn write_source<F: Files, I: Read, E: Write>(
         → source_of (word_at (names_of words.now) 1) (I.remaining stdin.old) (F.bytes files.old (word_at (names_of words.now) 1)) ≡ Some bytes
         → StreamsAs program.now bytes (length (names_of words.now) - 2) (status_of_ended result) (λ output. F.bytes files.new (word_at (names_of words.now) (output + 2))) }
     ensures kept { KeepsOthers (names_of words.now) (F.bytes files.old) (F.bytes files.new) }
+    ensures after { IfErr result (λ halt. is_after_image halt ≡ true) }
 {
     let input = name_at(words, INPUT);
     if input == "stdin" {
@@ -212,7 +219,8 @@ fn write_source<F: Files, I: Read, E: Write>(
     }
 }
 
-/// The same by the image of the first word and a helper table.
+/// The same by the image of the first word and a helper table. Where the image is refused or can't be read, all files
+/// stay.
 fn transform_files<F: Files, I: Read, E: Write>(
     alloc: Global,
     files: &mut F,
@@ -225,6 +233,9 @@ fn transform_files<F: Files, I: Read, E: Write>(
     requires few { length words.now ≤ MAX_PARTITIONS + 2 }
     ensures transformed { F.tells ≡ true → CallTransforms table (names_of words.now) (I.remaining stdin.old) (F.bytes files.old) (F.bytes files.new) (status_of_ended result) }
     ensures kept { KeepsOthers (names_of words.now) (F.bytes files.old) (F.bytes files.new) }
+    ensures refused { KeepsIfRefused table (names_of words.now) (F.bytes files.old) (F.bytes files.new) }
+    ensures unread { IfErr result (λ halt. (is_after_image halt ≡ true)
+        ⊎ KeepsAll (F.bytes files.old) (F.bytes files.new)) }
 {
     match load_file(alloc, files, name_at(words, 0), table) {
         Ok(program) => write_source(alloc, files, stdin, stderr, &program, words),
@@ -236,7 +247,7 @@ fn transform_files<F: Files, I: Read, E: Write>(
 /// batches to a file of its own; answers the status. The words are the image, the file of the batches and one file for
 /// each output partition. The input partition is 0, and its offsets begin at 0. Where it ends since offsets are used
 /// up, one batch more might reach the offset 2^62, or an output partition would have more than 2^63 rows. All files but
-/// those of the output partitions stay.
+/// those of the output partitions stay, and these too where the image is refused.
 pub fn transform<F: Files, I: Read, E: Write>(
     alloc: Global,
     files: &mut F,
@@ -248,9 +259,10 @@ pub fn transform<F: Files, I: Read, E: Write>(
     ensures transformed { F.tells ≡ true → 3 ≤ length words.now → length words.now ≤ MAX_PARTITIONS + 2
         → CallTransforms table (names_of words.now) (I.remaining stdin.old) (F.bytes files.old) (F.bytes files.new) result }
     ensures kept { KeepsOthers (names_of words.now) (F.bytes files.old) (F.bytes files.new) }
+    ensures refused { KeepsIfRefused table (names_of words.now) (F.bytes files.old) (F.bytes files.new) }
 {
     if words.len() < 3 || words.len() > MAX_PARTITIONS + 2 {
-        return tell_usage(stderr);
+        return tell_usage(stderr).status;
     }
     match transform_files(alloc, files, stdin, stderr, table, words) {
         Ok(()) => Status::Done,

@@ -1,6 +1,6 @@
 //! What calls answer where a reader or a writer fails.
 
-use crate::torn::{ALL, Torn, answers};
+use crate::torn::{ALL, Torn, answers, whole};
 use crate::verdicts::all_hold;
 use std::alloc::Global;
 use std::sync::Wait;
@@ -20,7 +20,7 @@ const LISTED: &str = "position: 0 baseOffset: 0 count: 1 size: 70 baseTimestamp:
     baseSequence: 12\n";
 
 /// What calls with files that don't fail write to standard output; standard input has the batches.
-static TEXTS: [(&[&str], &str); 6] = [
+static TEXTS: [(&[&str], &str); 7] = [
     (
         &["run", "script"],
         "load f version 1\ndeploy 0 index 0 f version 1\nappend 0 index 1 base 0\n\
@@ -31,6 +31,12 @@ static TEXTS: [(&[&str], &str); 6] = [
         none\n",
     ),
     (&["check", "image"], "accepted 3 instructions\n"),
+    (
+        &["commands"],
+        "klog asm TEXT IMAGE\nklog batches FILE\nklog check IMAGE [1 or 2]\nklog commands\n\
+        klog explain IMAGE [1 or 2] [refused]\nklog dis IMAGE\nklog recheck LIST\n\
+        klog records FILE\nklog run SCRIPT\nklog transform [table2] IMAGE IN OUT ..\n",
+    ),
     (&["dis", "image"], "mov64 r1, 0\ncall 3\nexit\n"),
     (
         &["recheck", "list"],
@@ -45,15 +51,6 @@ static TEXTS: [(&[&str], &str); 6] = [
     ),
     (&["batches", "stdin"], LISTED),
 ];
-
-/// Files of which no reader fails.
-fn whole(alloc: Global) -> Torn {
-    Torn {
-        alloc,
-        fails: 0,
-        room: ALL,
-    }
-}
 
 /// Whether a call whose standard output takes so many bytes writes those of the text, and fails where
 /// they are not all.

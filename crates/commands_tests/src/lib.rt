@@ -9,10 +9,12 @@ mod known;
 #[cfg(test)]
 mod receipts;
 #[cfg(test)]
+mod refused_images;
+#[cfg(test)]
 mod shelf;
 #[cfg(test)]
 mod torn;
 #[cfg(test)]
-mod unread_words;
+mod usage_line;
 #[cfg(test)]
 mod verdicts;

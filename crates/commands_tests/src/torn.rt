@@ -47,6 +47,15 @@ pub(crate) struct Torn {
     pub(crate) room: usize,
 }
 
+/// Files of which no reader fails.
+pub(crate) fn whole(alloc: Global) -> Torn {
+    Torn {
+        alloc,
+        fails: 0,
+        room: ALL,
+    }
+}
+
 impl Files for Torn {
     type Reader = Breaking;
 

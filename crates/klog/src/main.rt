@@ -2,8 +2,8 @@
 //! run SCRIPT` does the commands of a script, `klog check IMAGE` verifies a program, `klog explain
 //! IMAGE` prints what the verifier knows of it, `klog asm TEXT IMAGE` makes the image of a program's
 //! text, `klog dis IMAGE` prints that text, `klog recheck LIST` verifies the programs of a list anew,
-//! `klog transform IMAGE IN OUT ..` runs a program on record batches, and `klog batches FILE` and `klog
-//! records FILE` list those of a file.
+//! `klog transform IMAGE IN OUT ..` runs a program on record batches, `klog batches FILE` and `klog
+//! records FILE` list those of a file, and `klog commands` lists the calls.
 #![tactic(auto)]
 
 use commands::{Files, Status, command, tell_no_words};
@@ -199,7 +199,7 @@ fn called<T: Threads + Wait + Sync>(threads: &T, rt: &HostRuntime) -> io::Result
 fn main(rt: HostRuntime) -> ExitCode {
     let status = match called(&rt, &rt) {
         Ok(status) => status,
-        Err(error) => tell_no_words(&mut rt.stderr(), &error),
+        Err(error) => tell_no_words(&mut rt.stderr(), &error).status,
     };
     ExitCode::from(status.code())
 }

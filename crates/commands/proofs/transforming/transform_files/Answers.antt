@@ -1,6 +1,6 @@
 use Rattle.std.proofs.Common.{◌∙◌}
 use Rattle.command_line.specs.Calls.{names_of}
-use Rattle.commands.proofs.FileLaws.{called, uncalled}
+use Rattle.commands.proofs.FileLaws.{called, uncalled, not_refused}
 use Rattle.commands.proofs.transforming.transform_files.Goals as goal
 
 pub returns-in-Ok-clause-transformed : goal.returns-in-Ok-clause-transformed
@@ -21,3 +21,12 @@ returns-in-Ok-clause-kept g c = λ other none. c.write_source.ensures.kept other
 
 pub returns-in-Err-clause-kept : goal.returns-in-Err-clause-kept
 returns-in-Err-clause-kept g c = λ other none. c.in-Err.ensures.kept other
+
+pub returns-in-Ok-clause-refused : goal.returns-in-Ok-clause-refused
+returns-in-Ok-clause-refused g c =
+    not_refused c.args.table (names_of c.args.words.now) (g.F.Files.bytes c.args.files.now)
+    (g.F.Files.bytes c.write_source.new.files) c.in-Ok.program c.name_at.result.now c.name_at.ensures
+    c.in-Ok.ensures.loaded
+
+pub returns-in-Err-clause-refused : goal.returns-in-Err-clause-refused
+returns-in-Err-clause-refused g c = λ image fault known refused. c.in-Err.ensures.kept

@@ -1,0 +1,90 @@
+//! What the files of a transform have whose image is refused, or can't be read.
+
+use crate::shelf::{BATCHES, FORWARD, Shelf, input_of, shelf_of, words_of};
+use crate::verdicts::all_hold;
+use commands::{Files, command};
+use std::alloc::Global;
+use std::io::Cursor;
+use std::sync::Wait;
+use std::test::*;
+use std::thread::Threads;
+
+/// exit, with no number in r0.
+const REFUSED: [u8; 8] = [0x95, 0, 0, 0, 0, 0, 0, 0];
+
+/// What the files of the output partitions have before.
+const BEFORE: &[u8] = b"before";
+
+/// Images, each with the status of its transform, and whether the files have then what they had before.
+static IMAGES: [(&str, u8, bool); 4] = [
+    ("forward", 0, false),
+    ("refused", 1, true),
+    ("cut", 1, true),
+    ("none", 3, true),
+];
+
+/// A shelf with images and with the files of two output partitions, if there is memory for it.
+fn full_shelf(alloc: Global) -> Option<Shelf> {
+    let mut shelf = shelf_of(alloc, "forward", &FORWARD)?;
+    shelf.write("refused", &REFUSED).ok()?;
+    shelf.write("cut", &FORWARD[..7]).ok()?;
+    shelf.write("one", BEFORE).ok()?;
+    shelf.write("other", BEFORE).ok()?;
+    Some(shelf)
+}
+
+/// Whether a file has what it had before.
+fn is_kept(files: &Shelf, name: &str) -> bool {
+    match files.files.get(name) {
+        Some(bytes) => bytes.as_slice() == BEFORE,
+        None => false,
+    }
+}
+
+/// Whether a transform ends with this status, and both files are kept, or both are not.
+fn ends_so<R: Threads + Wait + Sync>(
+    rt: &R,
+    alloc: Global,
+    files: &mut Shelf,
+    stdin: &mut Cursor<Vec<u8>>,
+    words: &[String],
+    want: (u8, bool),
+) -> bool {
+    let mut stdout = Vec::new(alloc);
+    let mut stderr = Vec::new(alloc);
+    let status = command(rt, alloc, words, files, stdin, &mut stdout, &mut stderr);
+    status.code() == want.0 && is_kept(files, "one") == want.1 && is_kept(files, "other") == want.1
+}
+
+/// The same of the transform with this image.
+fn leaves<R: Threads + Wait + Sync>(rt: &R, alloc: Global, image: &str, want: (u8, bool)) -> bool {
+    match (
+        words_of(alloc, &["transform", image, "stdin", "one", "other"]),
+        full_shelf(alloc),
+        input_of(alloc, &BATCHES),
+    ) {
+        (Some(words), Some(mut files), Some(mut stdin)) => {
+            ends_so(rt, alloc, &mut files, &mut stdin, &words, want)
+        }
+        _ => false,
+    }
+}
+
+/// The number of the first image that leaves other files.
+fn first_wrong<R: Threads + Wait + Sync>(
+    rt: &R,
+    alloc: Global,
+    rows: &[(&str, u8, bool)],
+) -> Option<usize> {
+    for (k, row) in rows.iter().enumerate() {
+        if !leaves(rt, alloc, row.0, (row.1, row.2)) {
+            return Some(k);
+        }
+    }
+    None
+}
+
+#[test]
+fn a_refused_image_leaves_the_files(rt: HostRuntime) {
+    all_hold(&rt, first_wrong(&rt, rt.alloc(), &IMAGES));
+}
