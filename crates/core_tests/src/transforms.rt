@@ -4,3 +4,4 @@ mod batches;
 mod in_memory;
 mod making;
 mod streams;
+mod watched;
