@@ -16,6 +16,9 @@
 
 enum { HANDLES = 10, IMAGES = 64, LONGEST = 200000, MOST_THREADS = 16 };
 
+/* What `*place` is before a load; no refusal has this place. */
+enum { MARK = 77777 };
+
 struct image {
 	uint8_t *bytes;
 	size_t length;
@@ -126,7 +129,7 @@ static bool is_image_fault(uint32_t fault)
 static void load(struct worker *w)
 {
 	const struct image *from = &images[below(w, image_count)];
-	size_t length = one_in(w, 4) ? length_below(w, LONGEST) : from->length, place = 7;
+	size_t length = one_in(w, 4) ? length_below(w, LONGEST) : from->length, place = MARK;
 	uint8_t *bytes = block(w, length);
 	if (!one_in(w, 8))
 		memcpy(bytes, from->bytes, length < from->length ? length : from->length);
@@ -138,7 +141,7 @@ static void load(struct worker *w)
 	look("load", fault, &before, to);
 	if (fault == KLOG_RANGE ? is_table(of) : fault > KLOG_KIND && fault != KLOG_NULL && !is_image_fault(fault))
 		fail("load", fault);
-	if (is_image_fault(fault) && place > 16384)
+	if (is_image_fault(fault) ? place > 16384 : place != MARK)
 		fail("load's place", fault);
 	free(bytes);
 }

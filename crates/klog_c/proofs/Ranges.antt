@@ -1,6 +1,6 @@
 -- What a run is given is in the ranges of the machine's, and what comes of it.
 use Rattle.std.proofs.Common.{◌≡◌, ℕ, zero, suc, Bool, true, false, not, nat_le, if◌then◌else◌, List, length, ◌≤◌}
-use Rattle.std.proofs.Common.{Option, Some, None, Result, Ok, Err, IfOk, IfSome, arith}
+use Rattle.std.proofs.Common.{Option, Some, None, Result, Ok, Err, IfOk, IfSome, inr, arith}
 use mathlib.Core.Path.{refl, sym, subst, ◌∙◌}
 use Rattle.std.specs.Str.{is_utf8}
 use Rattle.std.proofs.lemmas.Str.{IsUtf8-from_is_utf8}
@@ -8,11 +8,11 @@ use Rattle.std.proofs.lemmas.Bool.{and_parts, leb-true, ltb-true}
 use Rattle.wire_spec.specs.declared.limits.TheConstants.{MAX_KEY, MAX_VALUE, MAX_HEADERS, MAX_HEADER_VALUE}
 use Rattle.wire_spec.specs.{declared.record.Header.Header, declared.record.Record.Record, RecordSpelling.HeaderFits}
 use Rattle.wire_spec.specs.RecordSpelling.{RecordFits}
-use Rattle.machine_spec.specs.{Image.Program, Meaning.IsPlace}
-use Rattle.klog_c.specs.{RecordParts.part_of, RecordParts.is_part_fitting, declared.faults.TheConstants.KIND}
+use Rattle.machine_spec.specs.{Image.Program, Meaning.IsPlace, declared.outcome.Place.Place}
+use Rattle.klog_c.specs.{RecordParts.part_of, RecordParts.is_part_fitting}
 use Rattle.klog_c.specs.{declared.object.Object.Object, declared.running.Asked.Asked}
 use Rattle.klog_c.specs.Calls.{run_fault, record_of, place_of, is_in_range, is_key_null, is_value_null}
-use Rattle.klog_c.specs.Calls.{are_parts_fitting, GivesRecord, RunsTo, RunsGiven, Runs}
+use Rattle.klog_c.specs.Calls.{RecordUnless, GivesRecord, RunsTo, RunsUnless, RunsGiven, Runs}
 use Rattle.klog_c.specs.Headers.{AreHeaders, header_of, are_parts_short, header_fault}
 
 both : (a b : Bool) → ◌≡◌ {A = ℕ} (if not a then 3 else if not b then 4 else 0) 0 → (a ≡ true) × (b ≡ true)
@@ -78,41 +78,39 @@ record_fits asked key value headers none are =
 pub place_is : (asked : Asked) (key value : List ℕ) → run_fault asked key value ≡ 0 → IsPlace (place_of asked)
 place_is asked key value none = in_range asked (both _ _ none).0
 
+-- what is known of a record that is given
+given_parts : (fault : ℕ) (wanted given : Record) → RecordUnless fault wanted (Ok given) →
+    (fault ≡ 0) × RecordFits given
+given_parts zero wanted given is = (refl, is.1)
+given_parts (suc fault) wanted given is = absurd (cc (is))
+
 -- what is asked of a run's record
 pub given_is : (held : Option (List Header)) (asked : Asked) (key value : List ℕ) (given : Result Record ℕ) →
     GivesRecord held asked key value given → IfOk given (λ x. RecordFits x × IsPlace (place_of asked))
 given_is None asked key value (Ok given) is = absurd (cc (is))
 given_is None asked key value (Err number) is = tt
-given_is (Some headers) asked key value (Ok given) is = (is.2, place_is asked key value is.1)
+given_is (Some headers) asked key value (Ok given) is =
+    let parts = given_parts (run_fault asked key value) (record_of asked key value headers) given is in
+    (parts.1, place_is asked key value parts.0)
 given_is (Some headers) asked key value (Err number) is = tt
 
--- no fault of what a run is given is that of a handle
-not_kind : (asked : Asked) (key value : List ℕ) → run_fault asked key value ≡ KIND → ⊥
-not_kind asked key value e = which (is_in_range asked) (are_parts_fitting asked key value) e
-  where
-    which : (a b : Bool) → ◌≡◌ {A = ℕ} (if not a then 3 else if not b then 4 else 0) 2 → ⊥
-    which true true e = absurd (cc (e))
-    which true false e = absurd (cc (e))
-    which false b e = absurd (cc (e))
-
 -- a run on the record of what C gives
+ran_unless : (fault : ℕ) (program : Program) (place : Place) (wanted : Record) (given : Result Record ℕ)
+    (before after : Option Object) (number : ℕ) → RecordUnless fault wanted given →
+    RunsGiven (Some program) place given before after number →
+    RunsUnless fault program (record { given = wanted; place = place }) before after number
+ran_unless zero program place wanted (Ok given) before after number is runs =
+    subst (λ (x : Record). RunsTo program (record { given = x; place = place }) before after number) is.0 runs
+ran_unless zero program place wanted (Err fault) before after number is runs = inr (runs.0, runs.1 ∙ is)
+ran_unless (suc fault) program place wanted given before after number is runs =
+    subst (λ (x : Result Record ℕ). RunsGiven (Some program) place x before after number) is runs
+
 pub ran : (program : Option Program) (held : Option (List Header)) (asked : Asked) (key value : List ℕ)
     (given : Result Record ℕ) (before after : Option Object) (number : ℕ) → GivesRecord held asked key value given →
     RunsGiven program (place_of asked) given before after number → Runs program held asked key value before after number
 ran None held asked key value given before after number gives runs = runs
-ran (Some program) None asked key value (Ok given) before after number gives runs = absurd (cc (gives))
-ran (Some program) None asked key value (Err fault) before after number gives runs = (runs.0, cc (gives, runs.1))
-ran (Some program) (Some headers) asked key value (Ok given) before after zero gives runs =
-    subst (λ (x : Record). RunsTo program (record { given = x; place = place_of asked }) after) gives.0 runs
-ran (Some program) (Some headers) asked key value (Ok given) before after (suc number) gives runs = (
-  runs.0,
-  λ memory kind. absurd (kind (runs.1 memory).0),
-  λ kind. (runs.1 (λ e. omega (arith, e, kind))).1,
-)
-ran (Some program) (Some headers) asked key value (Err fault) before after zero gives
-    runs = absurd (gives.0 (sym runs.1))
-ran (Some program) (Some headers) asked key value (Err fault) before after (suc number) gives runs = (
-  runs.0,
-  λ memory kind. runs.1 ∙ gives.1 (λ e. memory (runs.1 ∙ e)),
-  λ kind. absurd (not_kind asked key value (sym (gives.1 (λ e. omega (arith, e, runs.1, kind))) ∙ (sym runs.1 ∙ kind))),
-)
+ran (Some program) None asked key value given before after number gives runs =
+    subst (λ (x : Result Record ℕ). RunsGiven (Some program) (place_of asked) x before after number) gives runs
+ran (Some program) (Some headers) asked key value given before after number gives runs =
+    ran_unless (run_fault asked key value) program (place_of asked) (record_of asked key value headers) given before
+    after number gives runs

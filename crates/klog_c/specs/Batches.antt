@@ -1,5 +1,5 @@
 -- What the calls for record batches answer.
-use Rattle.std.specs.Prelude.{◌≡◌, ◌≢◌, ℕ, zero, suc, Bool, true, false, ◌&&◌, nat_le, nat_lt, List, length, slice_get}
+use Rattle.std.specs.Prelude.{◌≡◌, ◌⊎◌, ℕ, Bool, true, false, ◌&&◌, nat_le, nat_lt, List, length, slice_get}
 use Rattle.std.specs.Prelude.{Option, Some, None}
 use Rattle.wire_spec.specs.declared.{record.Batch.Batch, limits.TheConstants.TIMESTAMP_END}
 use Rattle.machine_spec.specs.Image.{Program}
@@ -7,7 +7,7 @@ use Rattle.item_rows.specs.declared.origin.Origin.{Origin}
 use Rattle.batch_transform.specs.declared.{fault.Stop.Stop, fault.BatchPlace.BatchPlace, pass.Transformed.Transformed}
 use Rattle.batch_transform.specs.declared.ending.OutputBatches.{OutputBatches}
 use Rattle.batch_transform.specs.Transformed.{IsTransformed, EndsAt, StopsAt}
-use Rattle.klog_c.specs.{Numbers.stop_number, Numbers.stop_record, Calls.takes_kind}
+use Rattle.klog_c.specs.{Numbers.stop_number, Numbers.stop_record, Calls.Fails, Calls.Fills}
 use Rattle.klog_c.specs.declared.faults.TheConstants.{MEMORY, KIND}
 use Rattle.c_outcomes.specs.{declared.numbers.TheConstants.RANGE, Outcomes.Copies}
 use Rattle.klog_c.specs.declared.{object.Object.Object, transforming.Source.Source, transforming.Stopped.Stopped}
@@ -53,23 +53,23 @@ pub record IsStop (source : Source) (bytes : List ℕ) (stopped : Stopped) (numb
   pub number_is : number ≡ stop_number why
   pub place_is : stopped.place ≡ stop_record why
 
--- The handle holds what the program makes of the batches; or it is as it was.
+-- The bytes are all batches, and the handle is filled with what the program makes of them; or memory ran out, or the
+-- next batch is not transformed.
 abbrev pub TransformsSource : Program → Source → List ℕ → Option Object → Option Object → Stopped → ℕ → Type 0
-TransformsSource program source bytes before after stopped zero =
-    (made : Transformed) × (after ≡ Some (object.Batches made)) × IsTransformed program (origin_of source) bytes made
-TransformsSource program source bytes before after stopped (suc number) =
-    (after ≡ before) × (suc number ≢ MEMORY → suc number ≢ KIND → IsStop source bytes stopped (suc number))
-    × (suc number ≡ KIND → takes_kind before 3 ≡ false)
+TransformsSource program source bytes before after stopped number =
+    ((made : Transformed) × IsTransformed program (origin_of source) bytes made
+    × Fills (object.Batches made) before after number)
+    ⊎ Fails MEMORY before after number ⊎ ((after ≡ before) × IsStop source bytes stopped number)
 
--- The same where the numbers of the source are in range; else RANGE is returned, and the handle is as it was.
+-- the same where the numbers of the source are in range
 abbrev pub TransformsIf : Bool → Program → Source → List ℕ → Option Object → Option Object → Stopped → ℕ → Type 0
-TransformsIf false program source bytes before after stopped number = (after ≡ before) × (number ≡ RANGE)
+TransformsIf false program source bytes before after stopped number = Fails RANGE before after number
 TransformsIf true program source bytes before after stopped number =
     TransformsSource program source bytes before after stopped number
 
--- The same, also where there is no program, or a number of the source is out of its range.
+-- the same, where there may be no program, or a number of the source is out of its range
 abbrev pub Transforms : Option Program → Source → List ℕ → Option Object → Option Object → Stopped → ℕ → Type 0
-Transforms None source bytes before after stopped number = (after ≡ before) × (number ≡ KIND)
+Transforms None source bytes before after stopped number = Fails KIND before after number
 Transforms (Some program) source bytes before after stopped number =
     TransformsIf (is_source source) program source bytes before after stopped number
 

@@ -1,13 +1,12 @@
 -- What the calls of C's answer. A number is 0 where the call did its work.
-use Rattle.std.specs.Prelude.{◌≡◌, ◌≢◌, ℕ, zero, suc, ◌%◌, pos, Bool, true, false, not, ◌&&◌, ◌==◌, nat_le, nat_lt}
-use Rattle.std.specs.Prelude.{if◌then◌else◌, List, [], ◌∷◌, ◌++◌, length, Option, Some, None, option_map, is_none}
+use Rattle.std.specs.Prelude.{◌≡◌, ◌≢◌, ◌⊎◌, ℕ, zero, suc, ◌%◌, pos, Bool, true, false, not, ◌&&◌, ◌==◌, nat_le, nat_lt}
+use Rattle.std.specs.Prelude.{if◌then◌else◌, List, [], ◌∷◌, ◌++◌, length, Option, Some, None, option_map}
 use Rattle.std.specs.Prelude.{Result, Ok, Err, string_bytes}
 use Rattle.wire_spec.specs.{declared.record.Header.Header, declared.record.Record.Record, RecordSpelling.RecordFits}
 use Rattle.wire_spec.specs.declared.limits.TheConstants.{MAX_KEY, MAX_VALUE, TIMESTAMP_END}
 use Rattle.machine_spec.specs.declared.{outcome.Outcome.Outcome, outcome.Place.Place, helper.Table.Table}
 use Rattle.machine_spec.specs.{Image.Program, Image.program_of, Machine.Input, Meaning.Means}
-use Rattle.verifier_spec.specs.{declared.fault.LoadFault.LoadFault, Loading.IsAccepted}
-use Rattle.log_item.specs.Programs.{ProgramIs}
+use Rattle.verifier_spec.specs.{declared.fault.LoadFault.LoadFault, Loading.IsAccepted, Loading.IsRefusedWith}
 use Rattle.klog_c.specs.{Numbers.fault_number, Numbers.fault_place, RecordParts.part_of, RecordParts.is_part_fitting}
 use Rattle.klog_c.specs.{Headers.header_of, Headers.header_fault}
 use Rattle.klog_c.specs.declared.faults.TheConstants.{MEMORY, KIND, LENGTH}
@@ -70,7 +69,11 @@ takes_kind (Some held) kind = kind_of held == kind
 abbrev pub takes : Option Object → Object → Bool
 takes before object = takes_kind before (kind_of object)
 
--- the handle holds the object; or it is as it was
+-- a fault is returned, and the handle is as it was
+abbrev pub Fails : ℕ → Option Object → Option Object → ℕ → Type 0
+Fails fault before after number = (after ≡ before) × (number ≡ fault)
+
+-- the handle holds the object, whose kind it takes; or it is as it was
 abbrev pub Fills : Object → Option Object → Option Object → ℕ → Type 0
 Fills object before after zero = (after ≡ Some object) × (takes before object ≡ true)
 Fills object before after (suc number) =
@@ -86,29 +89,38 @@ table_with_number number = if number == 1 then Some Table.One else if number == 
 abbrev pub program_with : List ℕ → ℕ → Option Program
 program_with image number = option_map (program_of image) (table_with_number number)
 
--- the number and the place are those of the program's refusal
-abbrev pub Refuses : Program → ℕ → ℕ → Type 0
-Refuses program place number =
-    (fault : LoadFault) × ProgramIs program (Err fault) × (number ≡ fault_number fault) × (place ≡ fault_place fault)
+-- the place of a refusal, by its number; where memory ran out the place is as it was
+abbrev pub TellsPlace : LoadFault → ℕ → ℕ → ℕ → Type 0
+TellsPlace fault before after number =
+    ((number ≡ MEMORY) × (after ≡ before)) ⊎ ((number ≢ MEMORY) × (after ≡ fault_place fault))
 
--- the handle holds the program, which is accepted; or it is as it was, also where there is no program
-abbrev pub Loads : Option Program → Option Object → Option Object → ℕ → ℕ → Type 0
-Loads None before after place number = (after ≡ before) × (number ≡ RANGE)
-Loads (Some program) before after place zero = (after ≡ Some (object.Program program)) × IsAccepted program
-Loads (Some program) before after place (suc number) =
-    (after ≡ before) × (suc number ≢ MEMORY → suc number ≢ KIND → Refuses program place (suc number))
-    × (suc number ≡ KIND → takes_kind before 0 ≡ false)
+-- A program is refused: the number, which is not that of memory, and the place are those of its fault.
+pub record Refuses (program : Program) (place number : ℕ) : Type 0 where
+  pub fault : LoadFault
+  pub is_refused : IsRefusedWith program fault
+  pub not_memory : number ≢ MEMORY
+  pub number_is : number ≡ fault_number fault
+  pub place_is : place ≡ fault_place fault
 
--- the other handle holds the same program; or it is as it was
-abbrev pub Shares : Option Object → Option Object → Option Object → ℕ → Type 0
-Shares held before after zero = (program_in held ≡ program_in after) × (is_none (program_in after) ≡ false)
-Shares held before after (suc number) = (after ≡ before) × (suc number ≢ MEMORY → suc number ≡ KIND)
+-- The program is accepted, and the handle is filled with it; or memory ran out, or the program is refused. There may be
+-- no program. A refusal alone has a place; else that is as it was.
+abbrev pub Loads : Option Program → Option Object → Option Object → ℕ → ℕ → ℕ → Type 0
+Loads None before after place_before place number = Fails RANGE before after number × (place ≡ place_before)
+Loads (Some program) before after place_before place number =
+    (IsAccepted program × Fills (object.Program program) before after number × (place ≡ place_before))
+    ⊎ (Fails MEMORY before after number × (place ≡ place_before))
+    ⊎ ((after ≡ before) × Refuses program place number)
+
+-- the other handle is filled with the same program, if there is one
+abbrev pub Shares : Option Program → Option Object → Option Object → ℕ → Type 0
+Shares None before after number = Fails KIND before after number
+Shares (Some program) before after number = Fills (object.Program program) before after number
 
 -- ---- headers
 
 -- the handle holds one header more; or it is as it was, also where it holds something else
 abbrev pub AddsHeader : Option (List Header) → List ℕ → Bool → List ℕ → Option Object → Option Object → ℕ → Type 0
-AddsHeader None key is_null value before after number = (after ≡ before) × (number ≡ KIND)
+AddsHeader None key is_null value before after number = Fails KIND before after number
 AddsHeader (Some held) key is_null value before after zero =
     (after ≡ Some (object.Headers (held ++ header_of key is_null value ∷ [])))
     × (header_fault (length held) key is_null value ≡ 0)
@@ -163,37 +175,42 @@ abbrev pub run_fault : Asked → List ℕ → List ℕ → ℕ
 run_fault asked key value =
     if not (is_in_range asked) then RANGE else if not (are_parts_fitting asked key value) then LENGTH else 0
 
--- the handle holds what the program means on the record; or it is as it was
-abbrev pub RunsTo : Program → Input → Option Object → Type 0
-RunsTo program input after =
-    (outcome : Outcome) × (n : ℕ) × (after ≡ Some (object.Outcome outcome)) × Means program input outcome n
+-- the handle is filled with what the program means on a record; or memory ran out
+abbrev pub RunsTo : Program → Input → Option Object → Option Object → ℕ → Type 0
+RunsTo program input before after number =
+    ((outcome : Outcome) × (n : ℕ) × Means program input outcome n × Fills (object.Outcome outcome) before after number)
+    ⊎ Fails MEMORY before after number
 
--- there is a program; `None` for the headers is a handle of something else
+-- the same where a run is given nothing that has a fault; else the first fault is returned
+abbrev pub RunsUnless : ℕ → Program → Input → Option Object → Option Object → ℕ → Type 0
+RunsUnless zero program input before after number = RunsTo program input before after number
+RunsUnless (suc fault) program input before after number = Fails (suc fault) before after number
+
+-- the same, where there may be no program; `None` for the headers is a handle of something else
 abbrev pub Runs :
     Option Program → Option (List Header) → Asked → List ℕ → List ℕ → Option Object → Option Object → ℕ → Type 0
-Runs None headers asked key value before after number = (after ≡ before) × (number ≡ KIND)
-Runs (Some program) None asked key value before after number = (after ≡ before) × (number ≡ KIND)
-Runs (Some program) (Some headers) asked key value before after zero =
-    RunsTo program (input_of asked key value headers) after
-Runs (Some program) (Some headers) asked key value before after (suc number) =
-    (after ≡ before) × (suc number ≢ MEMORY → suc number ≢ KIND → suc number ≡ run_fault asked key value)
-    × (suc number ≡ KIND → takes_kind before 1 ≡ false)
+Runs None headers asked key value before after number = Fails KIND before after number
+Runs (Some program) None asked key value before after number = Fails KIND before after number
+Runs (Some program) (Some headers) asked key value before after number =
+    RunsUnless (run_fault asked key value) program (input_of asked key value headers) before after number
 
 -- ---- between the two
 
--- the record of a run that has no fault, and else the first fault
+-- this record, where a run is given nothing that has a fault, or memory ran out; else the first fault
+abbrev pub RecordUnless : ℕ → Record → Result Record ℕ → Type 0
+RecordUnless zero wanted (Ok given) = (given ≡ wanted) × RecordFits given
+RecordUnless zero wanted (Err number) = number ≡ MEMORY
+RecordUnless (suc fault) wanted given = given ≡ Err (suc fault)
+
+-- the same of the record of a run
 abbrev pub GivesRecord : Option (List Header) → Asked → List ℕ → List ℕ → Result Record ℕ → Type 0
 GivesRecord None asked key value given = given ≡ Err KIND
-GivesRecord (Some headers) asked key value (Ok given) =
-    (given ≡ record_of asked key value headers) × (run_fault asked key value ≡ 0) × RecordFits given
-GivesRecord (Some headers) asked key value (Err number) =
-    (number ≢ 0) × (number ≢ MEMORY → number ≡ run_fault asked key value)
+GivesRecord (Some headers) asked key value given =
+    RecordUnless (run_fault asked key value) (record_of asked key value headers) given
 
--- the handle holds what the program means on a record; or it is as it was, also where there is no record
+-- a run on a record, or on none, whose fault is then returned; there may be no program
 abbrev pub RunsGiven : Option Program → Place → Result Record ℕ → Option Object → Option Object → ℕ → Type 0
-RunsGiven None place given before after number = (after ≡ before) × (number ≡ KIND)
-RunsGiven (Some program) place (Err fault) before after number = (after ≡ before) × (number ≡ fault)
-RunsGiven (Some program) place (Ok given) before after zero =
-    RunsTo program (record { given = given; place = place }) after
-RunsGiven (Some program) place (Ok given) before after (suc number) =
-    (after ≡ before) × (suc number ≢ MEMORY → (suc number ≡ KIND) × (takes_kind before 1 ≡ false))
+RunsGiven None place given before after number = Fails KIND before after number
+RunsGiven (Some program) place (Err fault) before after number = Fails fault before after number
+RunsGiven (Some program) place (Ok given) before after number =
+    RunsTo program (record { given = given; place = place }) before after number

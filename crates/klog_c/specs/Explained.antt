@@ -1,6 +1,6 @@
 -- What is explained of a program, as a text.
-use Rattle.std.specs.Prelude.{◌≡◌, ◌≢◌, ℕ, zero, suc, Bool, List, ◌++◌, length, Option, Some, None, Result, Ok, Err}
-use Rattle.std.specs.Prelude.{string_bytes, if◌then◌else◌}
+use Rattle.std.specs.Prelude.{◌≡◌, ◌≢◌, ◌⊎◌, ℕ, Bool, List, ◌++◌, length, Option, Some, None, Result, Ok, Err}
+use Rattle.std.specs.{Global.Global, Prelude.String, Prelude.string_bytes, Prelude.if◌then◌else◌}
 use Rattle.machine_spec.specs.{Image.Program, declared.instruction.IsaFault.IsaFault}
 use Rattle.machine_spec.specs.declared.instruction.IsaFault.TheVariants as isa
 use Rattle.explain.specs.declared.{explanation.Explanation.Explanation, explanation.Refusal.Refusal, way.Extent.Extent}
@@ -8,7 +8,8 @@ use Rattle.explain.specs.declared.way.Extent.TheVariants as extent
 use Rattle.explain.specs.{Explanations.ExplainsAs, ImageFaults.image_fault_text}
 use Rattle.klog_c.specs.declared.faults.TheConstants.{MEMORY, KIND}
 use Rattle.c_outcomes.specs.{declared.numbers.TheConstants.RANGE, Outcomes.Copies}
-use Rattle.klog_c.specs.{declared.object.Object.Object, Calls.text_in}
+use Rattle.klog_c.specs.{declared.object.Object.Object, Calls.Fails, Calls.Fills}
+use Rattle.klog_c.specs.declared.object.Object.TheVariants as object
 
 -- the listed lines are the whole text where the program is accepted; else they begin it, and its refusal follows
 abbrev pub Continues : List ℕ → Option Refusal → List ℕ → Type 0
@@ -33,13 +34,13 @@ IsExplained extent program text =
 abbrev pub extent_of : Bool → Extent
 extent_of is_refused_alone = if is_refused_alone then extent.Refused else extent.All
 
--- the handle holds the text; or it is as it was, also where there is no program
+-- the handle is filled with what is explained of the program, if there is one; or memory ran out
 abbrev pub Explained : Option Program → Bool → Option Object → Option Object → ℕ → Type 0
-Explained None is_refused_alone before after number = (after ≡ before) × (number ≡ RANGE)
-Explained (Some program) is_refused_alone before after zero = (text : List ℕ) × (text_in after ≡ Some text)
-    × IsExplained (extent_of is_refused_alone) program text
-Explained (Some program) is_refused_alone before after (suc number) =
-    (after ≡ before) × (suc number ≢ MEMORY → suc number ≡ KIND)
+Explained None is_refused_alone before after number = Fails RANGE before after number
+Explained (Some program) is_refused_alone before after number =
+    ((text : String Global) × IsExplained (extent_of is_refused_alone) program (string_bytes text)
+    × Fills (object.Text text) before after number)
+    ⊎ Fails MEMORY before after number
 
 -- the text is at the front of the buffer, where it fits, and its length is told
 abbrev pub CopiesText : Option (List ℕ) → List ℕ → List ℕ → ℕ → ℕ → Type 0

@@ -1,7 +1,7 @@
 //! Exports on programs: loads, texts of faults, explanations.
 
 ghost use Rattle.std.specs.Prelude.{◌≡◌};
-ghost use Rattle.klog_c.specs.Calls.{Loads, Shares, program_with, text_in};
+ghost use Rattle.klog_c.specs.Calls.{Loads, Shares, program_in, program_with, text_in};
 ghost use Rattle.klog_c.specs.Explained.{Explained, CopiesText};
 ghost use Rattle.klog_c.specs.Texts.{Writes, fault_text};
 
@@ -23,7 +23,7 @@ pub extern "C" fn klog_c_load(
     program: &mut Handle,
     place: &mut usize,
 ) -> u32
-    ensures { Loads (program_with image.now table) program.old.place.object program.new.place.object place.new result }
+    ensures { Loads (program_with image.now table) program.old.place.object program.new.place.object place.old place.new result }
 {
     load_into(alloc, image, table, program, place)
 }
@@ -48,7 +48,7 @@ pub extern "C" fn klog_c_fault_text(
 #[unsafe(no_mangle)]
 pub extern "C" fn klog_c_share(alloc: Global, program: &mut Handle, other: &mut Handle) -> u32
     ensures program { program.new.place.object ≡ program.old.place.object }
-    ensures other { Shares program.old.place.object other.old.place.object other.new.place.object result }
+    ensures other { Shares (program_in program.old.place.object) other.old.place.object other.new.place.object result }
 {
     let Some(object) = program.take(alloc) else {
         return KIND;

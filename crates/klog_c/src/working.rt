@@ -1,10 +1,11 @@
 //! What the calls do with what handles hold.
 
-ghost use Rattle.std.specs.Prelude.{◌≡◌, ◌≢◌, Some, None, Ok, IfOk, zero, suc};
+ghost use Rattle.std.specs.Prelude.{◌≡◌, Some, Ok, IfOk};
 ghost use Rattle.wire_spec.specs.RecordSpelling.{RecordFits};
 ghost use Rattle.machine_spec.specs.Image.{program_of};
 ghost use Rattle.machine_spec.specs.Meaning.{IsPlace};
 ghost use Rattle.klog_c.specs.Calls as definitions;
+ghost use Rattle.klog_c.specs.Numbers as numbers;
 ghost use Rattle.log_item.specs.Programs.{ProgramIs};
 
 use crate::faults::{KIND, MEMORY, RANGE, fault_number, fault_place};
@@ -44,6 +45,18 @@ fn loaded(alloc: Global, image: &[u8], table: Table) -> Result<Shared, LoadFault
     }
 }
 
+/// Tells the number of a refusal, and writes its place. Where memory ran out there is none.
+fn tell_refusal(fault: LoadFault, place: &mut usize) -> u32
+    ensures number { result ≡ numbers.fault_number fault }
+    ensures place { definitions.TellsPlace fault place.old place.new result }
+{
+    let number = fault_number(fault);
+    if number != MEMORY {
+        *place = fault_place(fault);
+    }
+    number
+}
+
 /// Puts the program of an image and a helper table into a handle.
 fn load_program(
     alloc: Global,
@@ -52,14 +65,11 @@ fn load_program(
     program: &mut Handle,
     place: &mut usize,
 ) -> u32
-    ensures { definitions.Loads (Some (program_of image.now table)) program.old.place.object program.new.place.object place.new result }
+    ensures { definitions.Loads (Some (program_of image.now table)) program.old.place.object program.new.place.object place.old place.new result }
 {
     match loaded(alloc, image, table) {
         Ok(shared) => fill(alloc, program, Object::Program(shared)),
-        Err(fault) => {
-            *place = fault_place(fault);
-            fault_number(fault)
-        }
+        Err(fault) => tell_refusal(fault, place),
     }
 }
 
@@ -71,7 +81,7 @@ pub(crate) fn load_into(
     program: &mut Handle,
     place: &mut usize,
 ) -> u32
-    ensures { definitions.Loads (definitions.program_with image.now table) program.old.place.object program.new.place.object place.new result }
+    ensures { definitions.Loads (definitions.program_with image.now table) program.old.place.object program.new.place.object place.old place.new result }
 {
     match table_with_number(table) {
         None => RANGE,
@@ -81,7 +91,7 @@ pub(crate) fn load_into(
 
 /// Puts another owner of an object's program into a handle.
 pub(crate) fn share_into(alloc: Global, object: &Object, other: &mut Handle) -> u32
-    ensures { definitions.Shares (Some object.now) other.old.place.object other.new.place.object result }
+    ensures { definitions.Shares (definitions.program_in (Some object.now)) other.old.place.object other.new.place.object result }
 {
     match object {
         Object::Outcome(_) | Object::Text(_) | Object::Batches(_) | Object::Headers(_) => KIND,

@@ -1,16 +1,15 @@
-use Rattle.std.proofs.Common.{ℕ, Err, sym, subst, rules}
+use Rattle.std.proofs.Common.{ℕ, Err, inl, sym, subst, rules}
 use Rattle.batch_transform.specs.Transformed.{IsTransformed, TransformsBatches}
 use Rattle.klog_c.specs.{Batches.origin_of, Batches.TransformsSource, Numbers.stop_number}
 use Rattle.klog_c.specs.declared.transforming.Stopped.{Stopped}
-use Rattle.klog_c.proofs.Sources.{filled, stopped}
+use Rattle.klog_c.proofs.Sources.{stopped}
 use Rattle.klog_c.proofs.transforming.transform_source.Goals as goal
 
 pub returns-in-Ok : goal.returns-in-Ok
 returns-in-Ok c =
     let made = c.in-Ok.made in
     let is : IsTransformed c.args.program.now (origin_of c.args.source.now) c.args.bytes.now made = search rules in
-    filled c.args.program.now c.args.source.now c.args.bytes.now c.args.batches.now.place.object
-    c.fill.new.handle.place.object c.args.stopped.now made c.fill.result is c.fill.ensures
+    inl (made, is, c.fill.ensures)
 
 pub returns-in-Err : goal.returns-in-Err
 returns-in-Err c =
