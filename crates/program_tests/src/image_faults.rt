@@ -1,9 +1,9 @@
 //! Images that are refused.
 
-use crate::images::{MOVE, image_of};
-use crate::verdicts::all_hold;
+use crate::programs::image_of;
+use crate::tables::all_hold;
 use bpf_isa::{IsaFault, decode};
-use std::alloc::Global;
+use std::alloc::{AllocError, Global};
 use std::test::*;
 
 /// Why an image is refused, if it is.
@@ -11,94 +11,73 @@ pub(crate) fn fault_of(alloc: Global, image: &[u8]) -> Option<IsaFault> {
     decode(alloc, image).err()
 }
 
-/// Slots that are no instruction, each with the refusal of the image that is this slot.
-static REFUSED: [([u8; 8], IsaFault); 29] = [
-    ([0xdb, 0, 0, 0, 0, 0, 0, 0], IsaFault::NotInProfile(0)),
-    ([0x85, 0x10, 0, 0, 1, 0, 0, 0], IsaFault::NotInProfile(0)),
-    ([0x18, 0x10, 0, 0, 0, 0, 0, 0], IsaFault::NotInProfile(0)),
-    ([0x20, 0, 0, 0, 0, 0, 0, 0], IsaFault::NotInProfile(0)),
-    ([0x50, 0, 0, 0, 0, 0, 0, 0], IsaFault::NotInProfile(0)),
-    ([0xc3, 0, 0, 0, 0, 0, 0, 0], IsaFault::NotInProfile(0)),
-    ([0xff, 0, 0, 0, 0, 0, 0, 0], IsaFault::Opcode(0)),
-    ([0x99, 0, 0, 0, 0, 0, 0, 0], IsaFault::Opcode(0)),
-    ([0x00, 0, 0, 0, 0, 0, 0, 0], IsaFault::Opcode(0)),
-    ([0x8f, 0, 0, 0, 0, 0, 0, 0], IsaFault::Opcode(0)),
-    ([0xb7, 0x0b, 0, 0, 0, 0, 0, 0], IsaFault::Register(0)),
-    ([0xbf, 0xb0, 0, 0, 0, 0, 0, 0], IsaFault::Register(0)),
-    ([0x79, 0xbb, 0, 0, 1, 0, 0, 0], IsaFault::Register(0)),
-    ([0x62, 0x0b, 0, 0, 0, 0, 0, 0], IsaFault::Register(0)),
-    ([0x7b, 0xb0, 0, 0, 0, 0, 0, 0], IsaFault::Register(0)),
-    // a wide instruction without its second slot, whose register or offset is refused first
-    ([0x18, 0x0b, 1, 0, 0, 0, 0, 0], IsaFault::Register(0)),
-    ([0x18, 0x01, 1, 0, 0, 0, 0, 0], IsaFault::Unused(0)),
-    ([0x18, 0, 0, 0, 0, 0, 0, 0], IsaFault::Wide(0)),
-    // jumps whose distance is in the other field
-    ([0x05, 0, 0, 0, 1, 0, 0, 0], IsaFault::Unused(0)),
-    ([0x06, 0, 1, 0, 0, 0, 0, 0], IsaFault::Unused(0)),
-    ([0x72, 0x1a, 0, 0, 0, 0, 0, 0], IsaFault::Unused(0)),
-    ([0x73, 0x1a, 0, 0, 1, 0, 0, 0], IsaFault::Unused(0)),
-    ([0xb7, 0xb0, 0, 0, 0, 0, 0, 0], IsaFault::Unused(0)),
-    ([0x95, 0, 0, 0, 1, 0, 0, 0], IsaFault::Unused(0)),
-    ([0x71, 0x10, 0, 0, 0, 0, 0, 1], IsaFault::Unused(0)),
-    // an offset that selects no quotient and no extension, a byte order of 8 bits
-    ([0x37, 0x01, 2, 0, 5, 0, 0, 0], IsaFault::Unused(0)),
-    ([0xbc, 0x21, 32, 0, 0, 0, 0, 0], IsaFault::Unused(0)),
-    ([0xb7, 0x01, 8, 0, 5, 0, 0, 0], IsaFault::Unused(0)),
-    ([0xd4, 0x01, 0, 0, 8, 0, 0, 0], IsaFault::Unused(0)),
-];
-
-/// The number of the first slot that is not refused so.
-fn first_other_fault(alloc: Global, rows: &[([u8; 8], IsaFault)]) -> Option<usize> {
-    for (k, row) in rows.iter().enumerate() {
-        if fault_of(alloc, &row.0) != Some(row.1) {
-            return Some(k);
-        }
-    }
-    None
+fn fault_text(alloc: Global, fault: IsaFault) -> Result<String, AllocError> {
+    format!(in alloc; "{fault}")
 }
 
-#[test]
-fn refused_slots(rt: HostRuntime) {
-    all_hold(&rt, first_other_fault(rt.alloc(), &REFUSED));
-}
-
-/// Whether the image of these slots is refused so.
-fn are_refused(alloc: Global, slots: &[[u8; 8]], fault: IsaFault) -> bool {
-    match image_of(alloc, slots) {
-        Ok(image) => fault_of(alloc, &image) == Some(fault),
+fn is_shown_as(alloc: Global, fault: IsaFault, text: &str) -> bool {
+    match fault_text(alloc, fault) {
+        Ok(shown) => shown.as_str() == text,
         Err(_) => false,
     }
 }
 
-static SECOND_SLOTS: [[u8; 8]; 4] = [
-    [0x95, 0, 0, 0, 0, 0, 0, 0],
-    [0, 0x10, 0, 0, 0, 0, 0, 0],
-    [0, 0, 1, 0, 0, 0, 0, 0],
-    [0, 0, 0, 0x80, 0, 0, 0, 0],
-];
+/// Images, and why they are refused.
+static REFUSED: &str = "\
+# no whole number of slots, or none
+ | I1 Size
+000000000000000000000000 | I1 Size
+00000000000000 | I1 Size
+db00000000000000 | I6 NotInProfile slot 0
+8510000001000000 | I6 NotInProfile slot 0
+1810000000000000 | I6 NotInProfile slot 0
+2000000000000000 | I6 NotInProfile slot 0
+5000000000000000 | I6 NotInProfile slot 0
+c300000000000000 | I6 NotInProfile slot 0
+ff00000000000000 | I2 Opcode slot 0
+9900000000000000 | I2 Opcode slot 0
+0000000000000000 | I2 Opcode slot 0
+8f00000000000000 | I2 Opcode slot 0
+b70b000000000000 | I3 Register slot 0
+bfb0000000000000 | I3 Register slot 0
+79bb000001000000 | I3 Register slot 0
+620b000000000000 | I3 Register slot 0
+7bb0000000000000 | I3 Register slot 0
+# a wide instruction without its second slot, whose register or offset is refused first
+180b010000000000 | I3 Register slot 0
+1801010000000000 | I4 Unused slot 0
+1800000000000000 | I5 Wide slot 0
+# jumps whose distance is in the other field
+0500000001000000 | I4 Unused slot 0
+0600010000000000 | I4 Unused slot 0
+721a000000000000 | I4 Unused slot 0
+731a000001000000 | I4 Unused slot 0
+b7b0000000000000 | I4 Unused slot 0
+9500000001000000 | I4 Unused slot 0
+7110000000000001 | I4 Unused slot 0
+# an offset that selects no quotient and no extension, a byte order of 8 bits
+3701020005000000 | I4 Unused slot 0
+bc21200000000000 | I4 Unused slot 0
+b701080005000000 | I4 Unused slot 0
+d401000008000000 | I4 Unused slot 0
+# second slots of a wide instruction; the second of three is refused before the third
+b700000000000000; 1800000000000000; 9500000000000000 | I5 Wide slot 1
+b700000000000000; 1800000000000000; 0010000000000000 | I5 Wide slot 1
+b700000000000000; 1800000000000000; 0000010000000000 | I5 Wide slot 1
+b700000000000000; 1800000000000000; 0000008000000000 | I5 Wide slot 1
+b700000000000000; 9500000001000000; ffffffffffffffff | I4 Unused slot 1
+";
 
-/// The number of the first of these slots that is taken as the second one of a wide instruction.
-fn first_second_slot(alloc: Global, slots: &[[u8; 8]]) -> Option<usize> {
-    for (k, second) in slots.iter().enumerate() {
-        let image = [MOVE, [0x18, 0, 0, 0, 0, 0, 0, 0], *second];
-        if !are_refused(alloc, &image, IsaFault::Wide(1)) {
-            return Some(k);
-        }
-    }
-    None
+/// Whether a row's image is refused as the row says.
+fn is_refused(alloc: Global, row: &str) -> Option<bool> {
+    let (slots, want) = row.split_once(" | ")?;
+    let fault = fault_of(alloc, &image_of(alloc, slots)?)?;
+    Some(is_shown_as(alloc, fault, want))
 }
 
 #[test]
-fn refused_second_slots(rt: HostRuntime) {
-    all_hold(&rt, first_second_slot(rt.alloc(), &SECOND_SLOTS));
-}
-
-/// The second slot is refused before the third.
-static TWO_FAULTS: [[u8; 8]; 3] = [MOVE, [0x95, 0, 0, 0, 1, 0, 0, 0], [0xff; 8]];
-
-#[test]
-fn first_refusal(rt: HostRuntime) {
-    assert!(rt; are_refused(rt.alloc(), &TWO_FAULTS, IsaFault::Unused(1)));
+fn refused_images(rt: HostRuntime) {
+    all_hold(&rt, REFUSED, |row| is_refused(rt.alloc(), row));
 }
 
 static TEXTS: [(IsaFault, &str); 7] = [
@@ -110,13 +89,6 @@ static TEXTS: [(IsaFault, &str); 7] = [
     (IsaFault::NotInProfile(0), "I6 NotInProfile slot 0"),
     (IsaFault::Memory, "I7 Memory"),
 ];
-
-fn is_shown_as(alloc: Global, fault: IsaFault, text: &str) -> bool {
-    match format!(in alloc; "{fault}") {
-        Ok(shown) => shown.as_str() == text,
-        Err(_) => false,
-    }
-}
 
 /// The number of the first row whose fault is not shown so.
 fn first_other_text(alloc: Global, rows: &[(IsaFault, &str)]) -> Option<usize> {
@@ -130,5 +102,6 @@ fn first_other_text(alloc: Global, rows: &[(IsaFault, &str)]) -> Option<usize> {
 
 #[test]
 fn texts(rt: HostRuntime) {
-    all_hold(&rt, first_other_text(rt.alloc(), &TEXTS));
+    let other = first_other_text(rt.alloc(), &TEXTS);
+    assert!(rt; other.is_none(), "{other:?}");
 }

@@ -1,7 +1,7 @@
 //! Tests of programs by public calls. In `texts` those of their texts and images, of explanations and of a script's
-//! lines, in `verifier` those of the verifier. The others are of programs on the interpreter and on the plain machine:
-//! arithmetic, images, runs; in `helper_calls` calls of helpers, in `plain_machine` the plain machine alone, and in
-//! `damage` images that are damaged and memory that is refused.
+//! lines, in `verifier` those of the verifier, in `machines` those of programs on the interpreter and on the plain
+//! machine, and in `damage` those of images that are damaged and of memory that is refused. The others are of
+//! arithmetic, images and runs on many records.
 #![tactic(auto)]
 
 #[cfg(test)]
@@ -11,11 +11,13 @@ mod changes;
 #[cfg(test)]
 mod damage;
 #[cfg(test)]
-mod helper_calls;
+mod helper_table;
 #[cfg(test)]
 mod image_faults;
 #[cfg(test)]
 mod images;
+#[cfg(test)]
+mod machines;
 #[cfg(test)]
 mod operations;
 #[cfg(test)]
@@ -23,14 +25,10 @@ mod outcomes;
 #[cfg(test)]
 mod parts;
 #[cfg(test)]
-mod plain_machine;
+mod programs;
 #[cfg(test)]
-mod runs;
-#[cfg(test)]
-mod slots;
+mod tables;
 #[cfg(test)]
 mod texts;
-#[cfg(test)]
-mod verdicts;
 #[cfg(test)]
 mod verifier;

@@ -6,6 +6,7 @@ mod calls;
 mod checks;
 mod forms;
 mod images;
+mod kinds;
 mod loads;
 mod results;
 mod sparse;

@@ -1,10 +1,9 @@
 //! Calls that memory is refused to. The test passes as it is, and in a run in which one request for
-//! memory is refused: `tools/refuse_each.py program_tests refused::` runs it once for each of its requests.
+//! memory is refused: `tools/dev/refuse_each.py program_tests refused::` runs it once for each of its requests.
 //! A call that was refused answers in its own form for that, and right when it is made again.
 
 use crate::damage::images::{CLASSES, FIRST_BYTE};
-use crate::runs::{image_of, place_of, program_of, record_of};
-use crate::verdicts::all_hold;
+use crate::programs::{image_of, place_of, program_of, record_of};
 use annotate::{LoadFault, load};
 use bpf_asm::{AsmFault, assemble, disassemble};
 use bpf_machine::{End, trace};
@@ -82,14 +81,14 @@ fn of_load(loaded: &Result<Verified, LoadFault>, want: Option<LoadFault>) -> Ans
 }
 
 fn loaded(alloc: Global) -> Answer {
-    match image_of(alloc, &CLASSES) {
-        Ok(image) => of_load(&load(alloc, &image, Table::One), None),
-        Err(_) => Answer::Memory,
+    match image_of(alloc, CLASSES) {
+        Some(image) => of_load(&load(alloc, &image, Table::One), None),
+        None => Answer::Memory,
     }
 }
 
-/// The value of the record that `CLASSES` runs on.
-static VALUE: [u8; 2] = [2, 0];
+/// The record that `CLASSES` runs on.
+const RECORD: &str = "6b6579 0200";
 
 /// What `CLASSES` emits as the value then.
 const EMITTED: &[u8] = &[7, 0, 0, 0, 0, 0, 0, 0, 5, 0, 0, 0, 1, 0, 0, 0];
@@ -113,7 +112,8 @@ fn is_right(outcome: &Outcome) -> bool {
 
 /// What a program makes of the record.
 fn outcome_of(alloc: Global, program: &Verified) -> Result<bool, AllocError> {
-    let (record, place) = (record_of(alloc, Some(b"key"), Some(&VALUE)), place_of(2));
+    let record = record_of(alloc, RECORD).ok_or(AllocError)?;
+    let place = place_of(2);
     if !is_within_limits(&record) || !is_place(&place) {
         return Ok(false);
     }
@@ -122,15 +122,15 @@ fn outcome_of(alloc: Global, program: &Verified) -> Result<bool, AllocError> {
 
 /// What `CLASSES` makes of it, where memory is not refused before.
 fn outcome_of_classes(alloc: Global) -> Result<bool, AllocError> {
-    match program_of(alloc, &CLASSES, Table::One) {
+    match program_of(alloc, CLASSES, Table::One) {
         Some(program) => outcome_of(alloc, &program),
         None => Err(AllocError),
     }
 }
 
 fn end_of(alloc: Global) -> Result<bool, AllocError> {
-    let record = record_of(alloc, Some(b"key"), Some(&VALUE));
-    let image = image_of(alloc, &CLASSES)?;
+    let record = record_of(alloc, RECORD).ok_or(AllocError)?;
+    let image = image_of(alloc, CLASSES).ok_or(AllocError)?;
     let (end, count) = trace(alloc, &image, &record, &place_of(2), Table::One)?;
     match end {
         End::Out(outcome) => Ok(count == 17 && is_right(&outcome)),
@@ -226,5 +226,6 @@ fn first_wrong<R: Print>(rt: &R, alloc: Global, calls: &[(&str, Call)]) -> Optio
 
 #[test]
 fn a_refused_call_can_be_made_again(rt: HostRuntime) {
-    all_hold(&rt, first_wrong(&rt, rt.alloc(), &CALLS));
+    let wrong = first_wrong(&rt, rt.alloc(), &CALLS);
+    assert!(rt; wrong.is_none(), "call {wrong:?}");
 }

@@ -1,6 +1,6 @@
 //! Texts and images of programs. All words, and all that is refused, are in `transcripts`.
 
-use crate::verdicts::all_hold;
+use crate::tables::all_hold;
 use bpf_asm::{AsmFault, assemble, disassemble};
 use bpf_isa::{Code, decode, encode};
 use std::alloc::Global;
@@ -41,37 +41,23 @@ fn is_same(alloc: Global, text: &str, image: &[u8]) -> bool {
 }
 
 /// One line each, and its image.
-static EXAMPLES: [(&str, &[u8]); 3] = [
-    (
-        "jlt64 r2, 16, +1\n",
-        &[0xa5, 0x02, 0x01, 0x00, 0x10, 0x00, 0x00, 0x00],
-    ),
-    (
-        "st32 [r10-8], 0\n",
-        &[0x62, 0x0a, 0xf8, 0xff, 0x00, 0x00, 0x00, 0x00],
-    ),
-    (
-        "imm64 r1, 8589934591\n",
-        &[
-            0x18, 0x01, 0x00, 0x00, 0xff, 0xff, 0xff, 0xff, 0x00, 0x00, 0x00, 0x00, 0x01, 0x00,
-            0x00, 0x00,
-        ],
-    ),
-];
+static EXAMPLES: &str = "\
+jlt64 r2, 16, +1 | a502010010000000
+st32 [r10-8], 0 | 620af8ff00000000
+imm64 r1, 8589934591 | 18010000ffffffff0000000001000000
+";
 
-/// The number of the first row whose text and image are not the same.
-fn first_other(alloc: Global, rows: &[(&str, &[u8])]) -> Option<usize> {
-    for (k, row) in rows.iter().enumerate() {
-        if !is_same(alloc, row.0, row.1) {
-            return Some(k);
-        }
-    }
-    None
+/// Whether a row's line and image are the same.
+fn row_is_same(alloc: Global, row: &str) -> Option<bool> {
+    let (line, image) = row.split_once(" | ")?;
+    let text = format!(in alloc; "{line}\n").ok()?;
+    let image = hex::decode(alloc, image).ok()?;
+    Some(is_same(alloc, text.as_str(), &image))
 }
 
 #[test]
 fn single_lines(rt: HostRuntime) {
-    all_hold(&rt, first_other(rt.alloc(), &EXAMPLES));
+    all_hold(&rt, EXAMPLES, |row| row_is_same(rt.alloc(), row));
 }
 
 /// Texts that are refused, and why.
@@ -103,7 +89,8 @@ fn first_other_fault(alloc: Global, rows: &[(&str, AsmFault, &str)]) -> Option<u
 
 #[test]
 fn refused_texts(rt: HostRuntime) {
-    all_hold(&rt, first_other_fault(rt.alloc(), &REFUSED));
+    let other = first_other_fault(rt.alloc(), &REFUSED);
+    assert!(rt; other.is_none(), "{other:?}");
     assert!(rt; AsmFault::Word(2).line() == Some(2));
     assert!(rt; AsmFault::Memory.line().is_none());
 }

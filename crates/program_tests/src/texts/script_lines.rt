@@ -1,4 +1,4 @@
-use crate::verdicts::all_hold;
+use crate::tables::all_hold;
 use bytes::Bytes;
 use log_spec::Row;
 use machine_spec::Table;
@@ -76,145 +76,120 @@ fn shown(alloc: Global, line: &str) -> Result<String, AllocError> {
     }
 }
 
-static LINES: [(&str, &str); 46] = [
-    ("partitions 1 1 8", "partitions 1 1 8"),
-    ("partitions 1 1 08", "none"),
-    ("partitions 1 1 +8", "none"),
-    ("partitions 1 1 0", "partitions 1 1 0"),
-    ("partitions 1 1", "none"),
-    ("load fwd f.bin", "load fwd f.bin One"),
-    ("load fwd hex:", "load fwd hex [] One"),
-    ("load fwd hex:00ff", "load fwd hex [0, 255] One"),
-    ("load fwd hex:00f", "load fwd hex:00f One"),
-    ("load fwd hex:00FF", "load fwd hex:00FF One"),
-    ("load fwd f.bin 2", "load fwd f.bin Two"),
-    ("load fwd hex:00ff 2", "load fwd hex [0, 255] Two"),
-    ("load fwd f 1", "none"),
-    ("load fwd f 3", "none"),
-    ("load fwd f 02", "none"),
-    ("load fwd f 2 2", "none"),
-    ("load fwd f 2 ", "none"),
-    ("load  f", "none"),
-    ("load fwd ", "none"),
-    (" go", "none"),
-    ("go", "go"),
-    ("go\r", "none"),
-    ("go now", "none"),
-    ("deploy 0 fwd", "deploy 0 fwd"),
-    (
-        "deploy 1180591620717411303424 fwd",
-        "deploy 18446744073709551615 fwd",
-    ),
-    ("put 0 1000 6b 76", "put 0 1000 true 1"),
-    ("put 0 1000 - .", "put 0 1000 false 0"),
-    ("put 0 1000 6b 7", "none"),
-    ("put 0 1000 6b 7G", "none"),
-    ("put 0 1000 6b .76", "none"),
-    ("append 0 batches.bin", "append 0 batches.bin"),
-    ("append 3 hex:00ff", "append 3 hex [0, 255]"),
-    ("append 0 hex:", "append 0 hex []"),
-    ("append 0 hex:FF", "append 0 hex:FF"),
-    ("append 00 batches.bin", "none"),
-    ("append batches.bin", "none"),
-    ("append 0 batches.bin 2", "none"),
-    ("close 3", "close 3"),
-    ("close", "none"),
-    ("close 0 0", "none"),
-    ("fetch 0 1 2", "fetch 0 1 2"),
-    (
-        "fetch 3 18446744073709551616 0",
-        "fetch 3 18446744073709551615 0",
-    ),
-    ("fetch 0 1", "none"),
-    ("fetch 0 01 2", "none"),
-    ("Go", "none"),
-    (" ", "none"),
-];
-
-fn is_shown(alloc: Global, line: &str, want: &str) -> bool {
-    match shown(alloc, line) {
-        Ok(text) => text.as_str() == want,
-        Err(_) => false,
-    }
-}
-
-/// The number of the first line that is read in another way.
-fn first_other(alloc: Global, rows: &[(&str, &str)]) -> Option<usize> {
-    for (k, row) in rows.iter().enumerate() {
-        if !is_shown(alloc, row.0, row.1) {
-            return Some(k);
-        }
-    }
-    None
-}
-
-#[test]
-fn reads_lines(rt: HostRuntime) {
-    all_hold(&rt, first_other(rt.alloc(), &LINES));
-}
-
-/// A line, whether the script has begun and whether its program is loaded, and the first fault.
-type Faulty = (&'static str, bool, bool, Option<ScriptFault>);
-
-static FAULTS: [Faulty; 20] = [
-    ("go", false, true, Some(ScriptFault::Order)),
-    ("go", true, true, None),
-    ("append 0 f", false, true, Some(ScriptFault::Order)),
-    ("append 9 f", true, true, None),
-    ("partitions 1 1 8", true, true, Some(ScriptFault::Order)),
-    ("partitions 1 1 65536", false, true, None),
-    (
-        "partitions 1 1 65537",
-        false,
-        true,
-        Some(ScriptFault::Range),
-    ),
-    ("partitions 1 1 0", false, true, Some(ScriptFault::Range)),
-    ("partitions 64 64 8", false, true, None),
-    ("partitions 65 1 8", false, true, Some(ScriptFault::Range)),
-    ("partitions 1 65 8", false, true, Some(ScriptFault::Range)),
-    ("partitions 0 1 8", false, true, Some(ScriptFault::Range)),
-    ("partitions 1 0 8", true, true, Some(ScriptFault::Order)),
-    ("close 9", true, true, None),
-    ("fetch 99 1180591620717411303424 0", true, true, None),
-    ("fetch 0 0 1", false, true, Some(ScriptFault::Order)),
-    ("close 0", false, true, Some(ScriptFault::Order)),
-    ("deploy 0 fwd", true, false, Some(ScriptFault::Order)),
-    ("put 9 4611686018427387903 - -", true, true, None),
-    (
-        "put 0 4611686018427387904 - -",
-        true,
-        true,
-        Some(ScriptFault::Range),
-    ),
-];
-
-/// The first fault of a line's command, if it has one. None where there is no command or memory ran out.
-fn fault_of(alloc: Global, row: &Faulty) -> Option<Option<ScriptFault>> {
-    let command = parse(alloc, row.0).ok()??;
-    Some(first_fault(&command, row.1, row.2))
-}
-
-/// The number of the first row with another fault.
-fn first_other_fault(alloc: Global, rows: &[Faulty]) -> Option<usize> {
-    for (k, row) in rows.iter().enumerate() {
-        if fault_of(alloc, row) != Some(row.3) {
-            return Some(k);
-        }
-    }
-    None
-}
-
-#[test]
-fn reports_faults(rt: HostRuntime) {
-    all_hold(&rt, first_other_fault(rt.alloc(), &FAULTS));
-}
+/// Lines, and what they are read as.
+static LINES: &str = "\
+partitions 1 1 8 => partitions 1 1 8
+partitions 1 1 08 => none
+partitions 1 1 +8 => none
+partitions 1 1 0 => partitions 1 1 0
+partitions 1 1 => none
+load fwd f.bin => load fwd f.bin One
+load fwd hex: => load fwd hex [] One
+load fwd hex:00ff => load fwd hex [0, 255] One
+load fwd hex:00f => load fwd hex:00f One
+load fwd hex:00FF => load fwd hex:00FF One
+load fwd f.bin 2 => load fwd f.bin Two
+load fwd hex:00ff 2 => load fwd hex [0, 255] Two
+load fwd f 1 => none
+load fwd f 3 => none
+load fwd f 02 => none
+load fwd f 2 2 => none
+load fwd f 2  => none
+load  f => none
+load fwd  => none
+ go => none
+go => go
+go\r => none
+go now => none
+deploy 0 fwd => deploy 0 fwd
+deploy 1180591620717411303424 fwd => deploy 18446744073709551615 fwd
+put 0 1000 6b 76 => put 0 1000 true 1
+put 0 1000 - . => put 0 1000 false 0
+put 0 1000 6b 7 => none
+put 0 1000 6b 7G => none
+put 0 1000 6b .76 => none
+append 0 batches.bin => append 0 batches.bin
+append 3 hex:00ff => append 3 hex [0, 255]
+append 0 hex: => append 0 hex []
+append 0 hex:FF => append 0 hex:FF
+append 00 batches.bin => none
+append batches.bin => none
+append 0 batches.bin 2 => none
+close 3 => close 3
+close => none
+close 0 0 => none
+fetch 0 1 2 => fetch 0 1 2
+fetch 3 18446744073709551616 0 => fetch 3 18446744073709551615 0
+fetch 0 1 => none
+fetch 0 01 2 => none
+Go => none
+  => none
+";
 
 fn is_text(text: Result<String, AllocError>, want: &str) -> bool {
     match text {
         Ok(text) => text.as_str() == want,
         Err(_) => false,
     }
+}
+
+/// Whether a row's line is read as the row says.
+fn is_shown(alloc: Global, row: &str) -> Option<bool> {
+    let (line, want) = row.split_once(" => ")?;
+    Some(is_text(shown(alloc, line), want))
+}
+
+#[test]
+fn reads_lines(rt: HostRuntime) {
+    all_hold(&rt, LINES, |row| is_shown(rt.alloc(), row));
+}
+
+/// Lines, whether the script has begun and whether its program is loaded, and the first fault.
+static FAULTS: &str = "\
+go => false true Some(Order)
+go => true true None
+append 0 f => false true Some(Order)
+append 9 f => true true None
+partitions 1 1 8 => true true Some(Order)
+partitions 1 1 65536 => false true None
+partitions 1 1 65537 => false true Some(Range)
+partitions 1 1 0 => false true Some(Range)
+partitions 64 64 8 => false true None
+partitions 65 1 8 => false true Some(Range)
+partitions 1 65 8 => false true Some(Range)
+partitions 0 1 8 => false true Some(Range)
+partitions 1 0 8 => true true Some(Order)
+close 9 => true true None
+fetch 99 1180591620717411303424 0 => true true None
+fetch 0 0 1 => false true Some(Order)
+close 0 => false true Some(Order)
+deploy 0 fwd => true false Some(Order)
+put 9 4611686018427387903 - - => true true None
+put 0 4611686018427387904 - - => true true Some(Range)
+";
+
+fn flag_of(word: &str) -> Option<bool> {
+    match word {
+        "true" => Some(true),
+        "false" => Some(false),
+        _ => None,
+    }
+}
+
+/// Whether the command of a row's line has the fault that the row says.
+fn has_fault(alloc: Global, row: &str) -> Option<bool> {
+    let (line, rest) = row.split_once(" => ")?;
+    let (begun, rest) = rest.split_once(' ')?;
+    let (loaded, want) = rest.split_once(' ')?;
+    let command = parse(alloc, line).ok()??;
+    let fault = first_fault(&command, flag_of(begun)?, flag_of(loaded)?);
+    let text = format!(in alloc; "{fault:?}").ok()?;
+    Some(text.as_str() == want)
+}
+
+#[test]
+fn reports_faults(rt: HostRuntime) {
+    all_hold(&rt, FAULTS, |row| has_fault(rt.alloc(), row));
 }
 
 /// Whether this is the text of a fetch of these bytes.

@@ -1,105 +1,68 @@
 //! Which check of an instruction fails first.
 
-use crate::verdicts::all_hold;
-use crate::verifier::results::SUM;
+use crate::programs::instruction_of;
+use crate::tables::{all_hold, three};
+use crate::verifier::kinds::kind_of_text;
 use crate::verifier::states::{edges, with_bytes, with_lengths, with_two};
 use abstract_regs::{Abs, Check, State};
-use machine_spec::{Extension, Instruction, Operation, Region, Size, Source, Table, Test, Width};
+use machine_spec::{Instruction, Source, Table, Width};
+use std::alloc::{AllocError, Global};
 use std::test::*;
 
-/// An instruction, and the check that it fails first.
-type Checked = (Instruction, Option<Check>);
-
-/// The number of the first row that fails another check under table one.
-fn first_other_check(state: &State, rows: &[Checked]) -> Option<usize> {
-    for (k, row) in rows.iter().enumerate() {
-        if state.check(row.0, Table::One) != row.1 {
-            return Some(k);
-        }
+fn check_text(alloc: Global, check: Option<Check>) -> Result<String, AllocError> {
+    match check {
+        Some(check) => format!(in alloc; "{check}"),
+        None => String::from_str(alloc, "none"),
     }
-    None
 }
 
-/// The same of a state that there may not be; 0 where there is none.
-fn first_other_check_of(state: Option<State>, rows: &[Checked]) -> Option<usize> {
+fn is_check(alloc: Global, check: Option<Check>, want: &str) -> bool {
+    match check_text(alloc, check) {
+        Ok(text) => text.as_str() == want,
+        Err(_) => false,
+    }
+}
+
+/// Whether a row's instruction fails its check first in a state under table one.
+fn fails(alloc: Global, state: &State, row: &str) -> Option<bool> {
+    let (line, want) = row.split_once(" | ")?;
+    let instruction = instruction_of(alloc, line)?;
+    Some(is_check(alloc, state.check(instruction, Table::One), want))
+}
+
+/// The same of a state that there may not be.
+fn fails_in(alloc: Global, state: &Option<State>, row: &str) -> Option<bool> {
     match state {
-        Some(state) => first_other_check(&state, rows),
-        None => Some(0),
+        Some(state) => fails(alloc, state, row),
+        None => None,
     }
 }
 
 /// Checks at the start.
-static CHECKED: [Checked; 18] = [
-    (
-        Instruction::Move(Width::Bits64, 10, Source::Register(0)),
-        Some(Check::Frame),
-    ),
-    (Instruction::Call(99), Some(Check::Helper)),
-    (Instruction::Call(-3), Some(Check::Helper)),
-    (
-        Instruction::Move(Width::Bits64, 6, Source::Register(0)),
-        Some(Check::Unset),
-    ),
-    (
-        Instruction::Move(Width::Bits64, 6, Source::Register(11)),
-        Some(Check::Unset),
-    ),
-    (Instruction::Exit, Some(Check::Unset)),
-    (
-        Instruction::Compute(Width::Bits64, Operation::Add, 1, Source::Register(3)),
-        Some(Check::WrongType),
-    ),
-    (
-        Instruction::Compute(Width::Bits64, Operation::Add, 2, Source::Register(1)),
-        Some(Check::WrongType),
-    ),
-    (
-        Instruction::Load(Size::Byte, Extension::Zero, 0, 2, 0),
-        Some(Check::WrongType),
-    ),
-    (
-        Instruction::JumpIf(Width::Bits64, Test::Equal, 1, Source::Immediate(0), 1),
-        Some(Check::WrongType),
-    ),
-    (
-        Instruction::Load(Size::Byte, Extension::Zero, 0, 1, 0),
-        Some(Check::RecordBounds),
-    ),
-    (
-        Instruction::Load(Size::Byte, Extension::Zero, 0, 3, -1),
-        Some(Check::RecordBounds),
-    ),
-    (
-        Instruction::Load(Size::Byte, Extension::Zero, 0, 10, 0),
-        Some(Check::StackBounds),
-    ),
-    (
-        Instruction::Load(Size::Byte, Extension::Zero, 0, 10, -513),
-        Some(Check::StackBounds),
-    ),
-    (
-        Instruction::Load(Size::Byte, Extension::Zero, 0, 10, -1),
-        Some(Check::StackUnset),
-    ),
-    (Instruction::Call(3), Some(Check::HelperArg)),
-    (
-        Instruction::Move(Width::Bits64, 6, Source::Register(5)),
-        None,
-    ),
-    (
-        Instruction::Compute(Width::Bits64, Operation::Add, 1, Source::Register(2)),
-        None,
-    ),
-];
+static CHECKED: &str = "\
+mov64 r10, r0 | V6 Frame
+call 99 | V11 Helper
+call -3 | V11 Helper
+mov64 r6, r0 | V4 Unset
+exit | V4 Unset
+add64 r1, r3 | V5 Type
+add64 r2, r1 | V5 Type
+ld8 r0, [r2+0] | V5 Type
+jeq64 r1, 0, +1 | V5 Type
+ld8 r0, [r1+0] | V7 RecordBounds
+ld8 r0, [r3-1] | V7 RecordBounds
+ld8 r0, [r10+0] | V8 StackBounds
+ld8 r0, [r10-513] | V8 StackBounds
+ld8 r0, [r10-1] | V9 StackUnset
+call 3 | V12 HelperArg
+mov64 r6, r5 | none
+add64 r1, r2 | none
+# a comparison of a number is allowed
+jeq64 r5, 0, +1 | none
+";
 
-/// A comparison of a number is allowed.
-static COMPARED: [Checked; 1] = [(
-    Instruction::JumpIf(Width::Bits64, Test::Equal, 5, Source::Immediate(0), 1),
-    None,
-)];
-
-/// An address is in r0.
-static RETURNED: [Checked; 1] = [(Instruction::Exit, Some(Check::Exit))];
+/// No text names r11.
+const NO_REGISTER: Instruction = Instruction::Move(Width::Bits64, 6, Source::Register(11));
 
 /// The state after r0 = r1 at the start.
 fn with_address() -> Option<State> {
@@ -109,196 +72,119 @@ fn with_address() -> Option<State> {
 
 #[test]
 fn checks_in_order(rt: HostRuntime) {
-    all_hold(&rt, first_other_check(&State::entry(), &CHECKED));
-    all_hold(&rt, first_other_check(&State::entry(), &COMPARED));
-    all_hold(&rt, first_other_check_of(with_address(), &RETURNED));
+    let start = State::entry();
+    all_hold(&rt, CHECKED, |row| fails(rt.alloc(), &start, row));
+    assert!(rt; start.check(NO_REGISTER, Table::One) == Some(Check::Unset));
+    assert!(rt; fails_in(rt.alloc(), &with_address(), "exit | V13 Exit") == Some(true));
 }
 
 /// Instructions that fail two checks at the start.
-static TWO_FAULTS: [Checked; 13] = [
-    // V6 and V4, V5, V7, V8, V9
-    (
-        Instruction::Move(Width::Bits64, 10, Source::Register(0)),
-        Some(Check::Frame),
-    ),
-    (
-        Instruction::Compute(Width::Bits64, Operation::Add, 10, Source::Register(1)),
-        Some(Check::Frame),
-    ),
-    (
-        Instruction::Load(Size::Byte, Extension::Zero, 10, 1, 0),
-        Some(Check::Frame),
-    ),
-    (
-        Instruction::Load(Size::Byte, Extension::Zero, 10, 10, 0),
-        Some(Check::Frame),
-    ),
-    (
-        Instruction::Load(Size::Byte, Extension::Zero, 10, 10, -1),
-        Some(Check::Frame),
-    ),
-    // V4 and V5, V10, V7
-    (
-        Instruction::Compute(Width::Bits64, Operation::Add, 1, Source::Register(0)),
-        Some(Check::Unset),
-    ),
-    (
-        Instruction::Store(Size::Byte, 0, 0, Source::Immediate(0)),
-        Some(Check::Unset),
-    ),
-    (
-        Instruction::Store(Size::Byte, 1, 0, Source::Register(0)),
-        Some(Check::Unset),
-    ),
-    // V5 and V10, V7, V8
-    (
-        Instruction::Store(Size::Byte, 1, 0, Source::Register(3)),
-        Some(Check::WrongType),
-    ),
-    (
-        Instruction::Store(Size::Byte, 10, 0, Source::Register(3)),
-        Some(Check::WrongType),
-    ),
-    // V10 and V7
-    (
-        Instruction::Store(Size::Byte, 1, 0, Source::Immediate(0)),
-        Some(Check::ReadOnly),
-    ),
-    (
-        Instruction::Store(Size::Byte, 3, 0, Source::Register(2)),
-        Some(Check::ReadOnly),
-    ),
-    // V8 and V9
-    (
-        Instruction::Load(Size::Byte, Extension::Zero, 0, 10, 0),
-        Some(Check::StackBounds),
-    ),
-];
+static TWO_FAULTS: &str = "\
+# V6 and V4, V5, V7, V8, V9
+mov64 r10, r0 | V6 Frame
+add64 r10, r1 | V6 Frame
+ld8 r10, [r1+0] | V6 Frame
+ld8 r10, [r10+0] | V6 Frame
+ld8 r10, [r10-1] | V6 Frame
+# V4 and V5, V10, V7
+add64 r1, r0 | V4 Unset
+st8 [r0+0], 0 | V4 Unset
+stx8 [r1+0], r0 | V4 Unset
+# V5 and V10, V7, V8
+stx8 [r1+0], r3 | V5 Type
+stx8 [r10+0], r3 | V5 Type
+# V10 and V7
+st8 [r1+0], 0 | V10 ReadOnly
+stx8 [r3+0], r2 | V10 ReadOnly
+# V8 and V9
+ld8 r0, [r10+0] | V8 StackBounds
+# V4 and V13
+exit | V4 Unset
+";
 
-/// V4 and V13 at the start, and V4 and V12 where no register but r10 is set.
-static UNSET: [Checked; 2] = [
-    (Instruction::Exit, Some(Check::Unset)),
-    (Instruction::Call(3), Some(Check::Unset)),
-];
+/// V4 and V13, and V4 and V12, where no register but r10 is set.
+static UNSET: &str = "\
+exit | V4 Unset
+call 3 | V4 Unset
+";
 
 /// Of two checks that an instruction fails the one before the other is reported.
 #[test]
 fn reports_the_first_of_two_faults(rt: HostRuntime) {
-    all_hold(&rt, first_other_check(&State::entry(), &TWO_FAULTS));
-    all_hold(&rt, first_other_check(&State::entry(), &UNSET[..1]));
+    let start = State::entry();
+    all_hold(&rt, TWO_FAULTS, |row| fails(rt.alloc(), &start, row));
     let bare = with_two(Abs::None, Abs::None);
-    all_hold(&rt, first_other_check_of(bare, &UNSET));
+    all_hold(&rt, UNSET, |row| fails_in(rt.alloc(), &bare, row));
 }
 
 /// An address in r1, a number in r2, and the check that their sum fails.
-type Near = (Abs, Abs, Option<Check>);
+static NEAR: &str = "\
+Value 0 to 0 | 0 to 4294967296 | none
+Value 0 to 0 | 0 to 4294967297 | V5 Type
+Value -4294967296 to 0 | 18446744073709551615 to 18446744073709551615 | V5 Type
+Value 0 to 0 | 9223372036854775807 to 9223372036854775808 | V5 Type
+Value 0 to 0 | 0 to 18446744073709551615 | V5 Type
+";
 
-const EDGE: Abs = Abs::Addr(Region::Value, -4_294_967_296, 0);
-
-const START: Abs = Abs::Addr(Region::Value, 0, 0);
-
-const REFUSED: Option<Check> = Some(Check::WrongType);
-
-static NEAR: [Near; 5] = [
-    (START, Abs::Num(0, 4_294_967_296), None),
-    (START, Abs::Num(0, 4_294_967_297), REFUSED),
-    (EDGE, Abs::Num(u64::MAX, u64::MAX), REFUSED),
-    (
-        START,
-        Abs::Num(9_223_372_036_854_775_807, 9_223_372_036_854_775_808),
-        REFUSED,
-    ),
-    (START, Abs::Num(0, u64::MAX), REFUSED),
-];
-
-/// The number of the first row whose sum fails another check.
-fn first_other_distance(rows: &[Near]) -> Option<usize> {
-    for (k, row) in rows.iter().enumerate() {
-        match with_two(row.0, row.1) {
-            Some(state) if state.check(SUM, Table::One) == row.2 => {}
-            _ => return Some(k),
-        }
-    }
-    None
+/// Whether the sum of a row's kinds fails its check.
+fn sum_fails(alloc: Global, row: &str) -> Option<bool> {
+    let (first, second, want) = three(row)?;
+    let state = with_two(kind_of_text(first)?, kind_of_text(second)?)?;
+    let sum = instruction_of(alloc, "add64 r1, r2")?;
+    Some(is_check(alloc, state.check(sum, Table::One), want))
 }
 
 #[test]
 fn keeps_addresses_near(rt: HostRuntime) {
-    all_hold(&rt, first_other_distance(&NEAR));
+    all_hold(&rt, NEAR, |row| sum_fails(rt.alloc(), row));
 }
 
-/// Eight bytes of the value at its byte 8, with at least sixteen bytes, and with fifteen.
-const EIGHT: Instruction = Instruction::Load(Size::Double, Extension::Zero, 0, 1, 8);
-
-static SIXTEEN: [Checked; 3] = [
-    (EIGHT, None),
-    (
-        Instruction::Load(Size::Word, Extension::Zero, 0, 3, 0),
-        None,
-    ),
-    (
-        Instruction::Load(Size::Word, Extension::Zero, 0, 3, 1),
-        Some(Check::RecordBounds),
-    ),
-];
-
-static FIFTEEN: [Checked; 1] = [(EIGHT, Some(Check::RecordBounds))];
+/// Eight bytes of the value at its byte 8, with at least sixteen bytes, and four of the key with at least four.
+static SIXTEEN: &str = "\
+ld64 r0, [r1+8] | none
+ld32 r0, [r3+0] | none
+ld32 r0, [r3+1] | V7 RecordBounds
+";
 
 /// Where the last eight bytes of the stack are set.
-static LAST: [Checked; 3] = [
-    (
-        Instruction::Load(Size::Double, Extension::Zero, 0, 10, -8),
-        None,
-    ),
-    (
-        Instruction::Load(Size::Double, Extension::Zero, 0, 10, -9),
-        Some(Check::StackUnset),
-    ),
-    (
-        Instruction::Load(Size::Double, Extension::Zero, 0, 10, -7),
-        Some(Check::StackBounds),
-    ),
-];
+static LAST: &str = "\
+ld64 r0, [r10-8] | none
+ld64 r0, [r10-9] | V9 StackUnset
+ld64 r0, [r10-7] | V8 StackBounds
+";
 
 #[test]
 fn reads_what_is_known_to_be_there(rt: HostRuntime) {
     let sixteen = with_lengths(4, 4096, 16, 1_048_576);
-    all_hold(&rt, first_other_check_of(sixteen, &SIXTEEN));
+    all_hold(&rt, SIXTEEN, |row| fails_in(rt.alloc(), &sixteen, row));
     let fifteen = with_lengths(4, 4096, 15, 1_048_576);
-    all_hold(&rt, first_other_check_of(fifteen, &FIFTEEN));
+    assert!(rt; fails_in(rt.alloc(), &fifteen, "ld64 r0, [r1+8] | V7 RecordBounds") == Some(true));
     let bytes = with_bytes(0xff00_0000_0000_0000);
-    all_hold(&rt, first_other_check_of(bytes, &LAST));
+    all_hold(&rt, LAST, |row| fails_in(rt.alloc(), &bytes, row));
 }
 
-/// A helper's number, and the check that its call fails at the start under table one and under table two.
-static NUMBERS: [(i32, Option<Check>, Option<Check>); 5] = [
-    (9, None, None),
-    (10, Some(Check::Helper), None),
-    (11, Some(Check::Helper), Some(Check::HelperArg)),
-    (12, Some(Check::Helper), Some(Check::HelperArg)),
-    (13, Some(Check::Helper), Some(Check::Helper)),
-];
+/// Calls at the start, and the checks that they fail under table one and under table two.
+static CALLS: &str = "\
+call 9 | none | none
+call 10 | V11 Helper | none
+call 11 | V11 Helper | V12 HelperArg
+call 12 | V11 Helper | V12 HelperArg
+call 13 | V11 Helper | V11 Helper
+";
 
-fn call_checks(number: i32) -> (Option<Check>, Option<Check>) {
-    let call = Instruction::Call(number);
-    (
-        State::entry().check(call, Table::One),
-        State::entry().check(call, Table::Two),
+/// Whether a row's call fails these checks.
+fn call_fails(alloc: Global, row: &str) -> Option<bool> {
+    let (line, first, second) = three(row)?;
+    let call = instruction_of(alloc, line)?;
+    let start = State::entry();
+    Some(
+        is_check(alloc, start.check(call, Table::One), first)
+            && is_check(alloc, start.check(call, Table::Two), second),
     )
-}
-
-/// The number of the first row whose call fails other checks.
-fn first_other_call(rows: &[(i32, Option<Check>, Option<Check>)]) -> Option<usize> {
-    for (k, row) in rows.iter().enumerate() {
-        if call_checks(row.0) != (row.1, row.2) {
-            return Some(k);
-        }
-    }
-    None
 }
 
 /// Which helper a number names is the table's.
 #[test]
 fn checks_calls_under_a_table(rt: HostRuntime) {
-    all_hold(&rt, first_other_call(&NUMBERS));
+    all_hold(&rt, CALLS, |row| call_fails(rt.alloc(), row));
 }

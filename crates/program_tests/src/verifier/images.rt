@@ -1,26 +1,12 @@
 //! Programs of the tests, and what loads answer of them.
 
-use crate::verifier::states::kind_of;
 use abstract_regs::State;
 use annotate::{joined_states, load};
 use bpf_isa::{Code, decode};
 use machine_spec::{Region, Table};
 use notes::{Verified, claim_at};
 use std::alloc::{AllocError, Global};
-use verifier_spec::{Abs, LoadFault};
-
-pub const ZERO: u64 = 0xb700_0000_0000_0000; // mov64 r0, 0
-
-pub const EXIT: u64 = 0x9500_0000_0000_0000;
-
-/// The bytes of these slots, each written as its eight bytes read from left to right.
-pub(crate) fn image_of(alloc: Global, slots: &[u64]) -> Result<Vec<u8>, AllocError> {
-    let mut image = Vec::new(alloc);
-    for slot in slots {
-        image.extend_from_slice(&slot.to_be_bytes())?;
-    }
-    Ok(image)
-}
+use verifier_spec::LoadFault;
 
 fn state_at(states: &[Option<State>], k: usize) -> Option<State> {
     match claim_at(states, k) {
@@ -78,76 +64,10 @@ pub(crate) fn is_text(
 }
 
 /// How many instructions a load under a helper table accepts.
-fn accepted(alloc: Global, table: Table, image: &[u8]) -> Result<usize, LoadFault> {
+pub(crate) fn accepted(alloc: Global, table: Table, image: &[u8]) -> Result<usize, LoadFault> {
     match load(alloc, image, table) {
         Ok(verified) => Ok(verified.code().len()),
         Err(fault) => Err(fault),
-    }
-}
-
-/// Whether the load of an image under a helper table answers this.
-pub(crate) fn has_answer(alloc: Global, table: Table, image: &[u8], want: &str) -> bool {
-    is_text(alloc, "accepted", accepted(alloc, table, image), want)
-}
-
-/// The same of an image of these slots.
-pub(crate) fn have_answer(alloc: Global, table: Table, slots: &[u64], want: &str) -> bool {
-    match image_of(alloc, slots) {
-        Ok(image) => has_answer(alloc, table, &image, want),
-        Err(_) => false,
-    }
-}
-
-/// The number of the first row of whose slots a load under a helper table answers something else.
-pub(crate) fn first_wrong(alloc: Global, table: Table, rows: &[(&[u64], &str)]) -> Option<usize> {
-    for (k, row) in rows.iter().enumerate() {
-        if !have_answer(alloc, table, row.0, row.1) {
-            return Some(k);
-        }
-    }
-    None
-}
-
-/// What is known of a register before an instruction of an image of these slots. None where it is not
-/// reached or memory ran out.
-pub(crate) fn known_of(
-    alloc: Global,
-    table: Table,
-    slots: &[u64],
-    k: usize,
-    register: usize,
-) -> Option<Abs> {
-    match image_of(alloc, slots) {
-        Ok(image) => kind_of(joined(alloc, table, &image, k), register),
-        Err(_) => None,
-    }
-}
-
-/// How many instructions a program has, how many states it keeps, whether it needs a stack, and its table.
-pub(crate) type Seen = (usize, usize, bool, Table);
-
-fn seen_of(verified: &Verified) -> Seen {
-    (
-        verified.code().len(),
-        verified.kept(),
-        verified.needs_stack(),
-        verified.table(),
-    )
-}
-
-/// The same of the program of an image. None where it is refused or memory ran out.
-pub(crate) fn seen(alloc: Global, table: Table, image: &[u8]) -> Option<Seen> {
-    match load(alloc, image, table) {
-        Ok(verified) => Some(seen_of(&verified)),
-        Err(_) => None,
-    }
-}
-
-/// The same of an image of these slots.
-pub(crate) fn seen_in(alloc: Global, table: Table, slots: &[u64]) -> Option<Seen> {
-    match image_of(alloc, slots) {
-        Ok(image) => seen(alloc, table, &image),
-        Err(_) => None,
     }
 }
 
@@ -162,21 +82,4 @@ pub(crate) fn regions_in(verified: &Verified, k: usize) -> Option<Regions> {
     }
     let (first, second) = verified.regions(k);
     Some((count, first, second))
-}
-
-/// The regions of an instruction of the program of an image. None where there is no such instruction, it is
-/// refused or memory ran out.
-pub(crate) fn regions(alloc: Global, table: Table, image: &[u8], k: usize) -> Option<Regions> {
-    match load(alloc, image, table) {
-        Ok(verified) => regions_in(&verified, k),
-        Err(_) => None,
-    }
-}
-
-/// The same of an image of these slots.
-pub(crate) fn regions_of(alloc: Global, table: Table, slots: &[u64], k: usize) -> Option<Regions> {
-    match image_of(alloc, slots) {
-        Ok(image) => regions(alloc, table, &image, k),
-        Err(_) => None,
-    }
 }

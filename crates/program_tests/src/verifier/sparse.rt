@@ -1,7 +1,8 @@
 //! Programs by the states of some instructions: what is kept, what follows, and what is refused.
 
-use crate::verdicts::all_hold;
-use crate::verifier::images::{is_text, joined, regions, seen};
+use crate::programs::{image_of, program_of};
+use crate::tables::{all_hold, three};
+use crate::verifier::images::{is_text, joined, regions_in};
 use abstract_regs::State;
 use bpf_isa::{Code, decode};
 use machine_spec::{Region, Table};
@@ -10,29 +11,34 @@ use std::alloc::Global;
 use std::test::*;
 use verifier_spec::LoadFault;
 
-/// r0 = 0 and EXIT.
-const ZERO: [u8; 16] = [0xb7, 0, 0, 0, 0, 0, 0, 0, 0x95, 0, 0, 0, 0, 0, 0, 0];
+static FIRST_BYTE: &str = "mov64 r0, 0; jlt64 r2, 1, +1; ld8 r0, [r1+0]; exit";
 
-/// r0 = 0, a jump over the load if r2 < 1, the value's first byte, EXIT.
-const FIRST_BYTE: [u8; 32] = [
-    0xb7, 0, 0, 0, 0, 0, 0, 0, 0xa5, 2, 1, 0, 1, 0, 0, 0, 0x71, 0x10, 0, 0, 0, 0, 0, 0, 0x95, 0, 0,
-    0, 0, 0, 0, 0,
-];
+static UNREACHED: &str = "mov64 r0, 0; ja +1; ld8 r0, [r1+0]; exit";
 
-/// r0 = 0, a jump over the load, the value's first byte, EXIT.
-const UNREACHED: [u8; 32] = [
-    0xb7, 0, 0, 0, 0, 0, 0, 0, 0x05, 0, 1, 0, 0, 0, 0, 0, 0x71, 0x10, 0, 0, 0, 0, 0, 0, 0x95, 0, 0,
-    0, 0, 0, 0, 0,
-];
+/// Whether a load keeps so many states, and the third instruction has this region.
+fn keeps(alloc: Global, program: &str, kept: usize, region: Option<Region>) -> bool {
+    match program_of(alloc, program, Table::One) {
+        Some(verified) => verified.kept() == kept
+            && regions_in(&verified, 2) == Some((4, region, None)),
+        None => false,
+    }
+}
 
-/// r0 = 0, a jump over the next instruction if r2 < r4, a jump out of the image if r2 < r4, EXIT.
-const OUTSIDE: [u8; 32] = [
-    0xb7, 0, 0, 0, 0, 0, 0, 0, 0xad, 0x42, 1, 0, 0, 0, 0, 0, 0xad, 0x42, 100, 0, 0, 0, 0, 0, 0x95,
-    0, 0, 0, 0, 0, 0, 0,
-];
+fn keeps_none(alloc: Global, program: &str) -> bool {
+    match program_of(alloc, program, Table::One) {
+        Some(verified) => verified.kept() == 0,
+        None => false,
+    }
+}
 
-/// call 10 and EXIT.
-const HEADER_COUNT: [u8; 16] = [0x85, 0, 0, 0, 10, 0, 0, 0, 0x95, 0, 0, 0, 0, 0, 0, 0];
+/// An instruction that no jump and no other instruction leads to has no region.
+#[test]
+fn loads_keep_the_states_of_jump_targets(rt: HostRuntime) {
+    let alloc = rt.alloc();
+    assert!(rt; keeps_none(alloc, "mov64 r0, 0; exit"));
+    assert!(rt; keeps(alloc, FIRST_BYTE, 1, Some(Region::Value)));
+    assert!(rt; keeps(alloc, UNREACHED, 1, None));
+}
 
 /// How many states the check under a helper table keeps of code and states with numbers.
 fn kept_of(
@@ -47,169 +53,76 @@ fn kept_of(
     }
 }
 
-/// The same of an image. None where it has no code or memory ran out.
-fn kept_by(
-    alloc: Global,
-    table: Table,
-    image: &[u8],
-    pairs: Vec<(usize, State)>,
-) -> Option<Result<usize, LoadFault>> {
-    match decode(alloc, image) {
-        Ok(code) => Some(kept_of(alloc, code, table, pairs)),
-        Err(_) => None,
-    }
-}
-
-/// Whether the check of an image and states with numbers answers this.
-fn reports(
-    alloc: Global,
-    table: Table,
-    image: &[u8],
-    pairs: Vec<(usize, State)>,
-    want: &str,
-) -> bool {
-    match kept_by(alloc, table, image, pairs) {
-        Some(answer) => is_text(alloc, "kept", answer, want),
-        None => false,
-    }
-}
-
-/// Whether a load of an image keeps so many states.
-fn keeps(alloc: Global, image: &[u8], want: usize) -> bool {
-    match seen(alloc, Table::One, image) {
-        Some((_, kept, _, _)) => kept == want,
-        None => false,
-    }
-}
-
-fn keep_targets(alloc: Global) -> bool {
-    keeps(alloc, &ZERO, 0) && keeps(alloc, &FIRST_BYTE, 1) && keeps(alloc, &UNREACHED, 1)
-}
-
-#[test]
-fn loads_keep_the_states_of_jump_targets(rt: HostRuntime) {
-    assert!(rt; keep_targets(rt.alloc()));
-}
-
-/// Whether the third of four instructions has a region or none.
-fn have_third_regions(alloc: Global) -> bool {
-    regions(alloc, Table::One, &FIRST_BYTE, 2) == Some((4, Some(Region::Value), None))
-        && regions(alloc, Table::One, &UNREACHED, 2) == Some((4, None, None))
-}
-
-/// An instruction that no jump and no other instruction leads to has no region.
-#[test]
-fn unreached_has_no_region(rt: HostRuntime) {
-    assert!(rt; have_third_regions(rt.alloc()));
-}
-
-/// Numbers, each with the joined state of an instruction, or with that of the start where there is none;
-/// and what a check answers of them.
-type Row = (&'static [(usize, Option<usize>)], &'static str);
-
-/// The state of the start, or the joined state of an instruction.
-fn state_of(alloc: Global, image: &[u8], which: Option<usize>) -> Option<State> {
+/// A number with a state: that of the start, or the joined one of an instruction.
+fn pair_of(alloc: Global, image: &[u8], word: &str) -> Option<(usize, State)> {
+    let (number, which) = word.split_once(':')?;
+    let number = number.parse().ok()?;
     match which {
-        Some(k) => joined(alloc, Table::One, image, k),
-        None => Some(State::entry()),
+        "entry" => Some((number, State::entry())),
+        _ => Some((
+            number,
+            joined(alloc, Table::One, image, which.parse().ok()?)?,
+        )),
     }
 }
 
-/// These states with their numbers.
-fn pairs_of(
-    alloc: Global,
-    image: &[u8],
-    given: &[(usize, Option<usize>)],
-) -> Option<Vec<(usize, State)>> {
+fn pairs_of(alloc: Global, image: &[u8], words: &str) -> Option<Vec<(usize, State)>> {
     let mut pairs = Vec::new(alloc);
-    for (number, which) in given {
-        let state = state_of(alloc, image, *which)?;
-        let Ok(()) = pairs.push((*number, state)) else {
-            return None;
-        };
+    for word in words.split_whitespace() {
+        pairs.push(pair_of(alloc, image, word)?).ok()?;
     }
     Some(pairs)
 }
 
-fn is_answered(alloc: Global, table: Table, image: &[u8], row: &Row) -> bool {
-    match pairs_of(alloc, image, row.0) {
-        Some(pairs) => reports(alloc, table, image, pairs, row.1),
-        None => false,
+/// What the check answers of a program and states with numbers. None where it has no code or memory ran out.
+fn kept_by(
+    alloc: Global,
+    table: Table,
+    image: &[u8],
+    words: &str,
+) -> Option<Result<usize, LoadFault>> {
+    match (decode(alloc, image), pairs_of(alloc, image, words)) {
+        (Ok(code), Some(pairs)) => Some(kept_of(alloc, code, table, pairs)),
+        _ => None,
     }
 }
 
-/// The number of the first row of which a check under a helper table answers something else.
-fn first_wrong(alloc: Global, table: Table, image: &[u8], rows: &[Row]) -> Option<usize> {
-    for (k, row) in rows.iter().enumerate() {
-        if !is_answered(alloc, table, image, row) {
-            return Some(k);
-        }
-    }
-    None
+/// Whether a row's answer is the check's.
+fn is_answered(alloc: Global, table: Table, row: &str) -> Option<bool> {
+    let (program, words, want) = three(row)?;
+    let image = image_of(alloc, program)?;
+    let answer = kept_by(alloc, table, &image, words)?;
+    Some(is_text(alloc, "kept", answer, want))
 }
 
-/// No state is given, and none is kept.
-static NONE: [Row; 1] = [(&[], "kept 0")];
+/// Programs, numbers with their states, and the answer under table one.
+static ONE: &str = "\
+mov64 r0, 0; exit |  | kept 0
+# the states follow from those of jump targets
+mov64 r0, 0; jlt64 r2, 1, +1; ld8 r0, [r1+0]; exit | 3:3 | kept 1
+mov64 r0, 0; jlt64 r2, 1, +1; ld8 r0, [r1+0]; exit |  | V15 Notes at 1
+# nothing follows on an instruction that fails a check: no state covers the first jump's edge; the second jumps out
+mov64 r0, 0; jlt64 r2, r4, +1; jlt64 r2, r4, +100; exit |  | V15 Notes at 1
+mov64 r0, 0; jlt64 r2, r4, +1; jlt64 r2, r4, +100; exit | 3:1 | V1 JumpTarget at 2
+# states elsewhere are taken where they are given, and not kept
+mov64 r0, 0; exit | 0:entry 1:1 | kept 0
+mov64 r0, 0; exit | 0:1 | V15 Notes at 0
+mov64 r0, 0; exit | 1:entry | V4 Unset at 1
+# the numbers rise and are those of instructions
+mov64 r0, 0; exit | 2:1 | V15 Notes at 0
+mov64 r0, 0; exit | 1:1 0:entry | V15 Notes at 0
+mov64 r0, 0; exit | 1:1 1:1 | V15 Notes at 0
+# the states follow under the table that the check is given
+call 10; exit |  | V11 Helper at 0
+";
 
-/// Of `FIRST_BYTE`.
-static TARGETS: [Row; 2] = [(&[(3, Some(3))], "kept 1"), (&[], "V15 Notes at 1")];
+static TWO: &str = "\
+call 10; exit |  | kept 0
+";
 
 #[test]
-fn states_follow_from_those_of_jump_targets(rt: HostRuntime) {
-    all_hold(
-        &rt,
-        first_wrong(rt.alloc(), Table::One, &FIRST_BYTE, &TARGETS),
-    );
-    all_hold(&rt, first_wrong(rt.alloc(), Table::One, &ZERO, &NONE));
-}
-
-/// Of `OUTSIDE`.
-static REFUSED: [Row; 2] = [
-    (&[], "V15 Notes at 1"),
-    (&[(3, Some(1))], "V1 JumpTarget at 2"),
-];
-
-/// Nothing follows on an instruction that fails a check: no state covers the first jump's edge.
-#[test]
-fn nothing_follows_on_a_refused_instruction(rt: HostRuntime) {
-    all_hold(&rt, first_wrong(rt.alloc(), Table::One, &OUTSIDE, &REFUSED));
-}
-
-/// Of `ZERO`.
-static ANYWHERE: [Row; 3] = [
-    (&[(0, None), (1, Some(1))], "kept 0"),
-    (&[(0, Some(1))], "V15 Notes at 0"),
-    (&[(1, None)], "V4 Unset at 1"),
-];
-
-/// States elsewhere are taken where they are given, and not kept.
-#[test]
-fn states_are_taken_anywhere(rt: HostRuntime) {
-    all_hold(&rt, first_wrong(rt.alloc(), Table::One, &ZERO, &ANYWHERE));
-}
-
-/// Of `ZERO`.
-static NUMBERS: [Row; 3] = [
-    (&[(2, Some(1))], "V15 Notes at 0"),
-    (&[(1, Some(1)), (0, None)], "V15 Notes at 0"),
-    (&[(1, Some(1)), (1, Some(1))], "V15 Notes at 0"),
-];
-
-/// The numbers rise and are those of instructions.
-#[test]
-fn numbers_rise(rt: HostRuntime) {
-    all_hold(&rt, first_wrong(rt.alloc(), Table::One, &ZERO, &NUMBERS));
-}
-
-static NO_HELPER: [Row; 1] = [(&[], "V11 Helper at 0")];
-
-/// The states follow under the table that the check is given.
-#[test]
-fn states_follow_under_a_table(rt: HostRuntime) {
+fn states_with_numbers(rt: HostRuntime) {
     let alloc = rt.alloc();
-    all_hold(&rt, first_wrong(alloc, Table::Two, &HEADER_COUNT, &NONE));
-    all_hold(
-        &rt,
-        first_wrong(alloc, Table::One, &HEADER_COUNT, &NO_HELPER),
-    );
+    all_hold(&rt, ONE, |row| is_answered(alloc, Table::One, row));
+    all_hold(&rt, TWO, |row| is_answered(alloc, Table::Two, row));
 }

@@ -1,6 +1,7 @@
 //! Abstract states: their ranges and their order.
 
-use crate::verdicts::all_hold;
+use crate::tables::{all_hold, three};
+use crate::verifier::kinds::kind_of_text;
 use abstract_regs::{Abs, StackSet, State};
 use machine_spec::{Instruction, Region, Table};
 use std::test::*;
@@ -28,19 +29,10 @@ pub(crate) fn no_bytes() -> StackSet {
 
 /// A state with the lengths of the start, two kinds in r1 and r2, and no others but r10's.
 pub(crate) fn with_two(first: Abs, second: Abs) -> Option<State> {
-    let kinds = [
-        Abs::None,
-        first,
-        second,
-        Abs::None,
-        Abs::None,
-        Abs::None,
-        Abs::None,
-        Abs::None,
-        Abs::None,
-        Abs::None,
-        Abs::Addr(Region::Stack, 512, 512),
-    ];
+    let mut kinds = [Abs::None; 11];
+    kinds[1] = first;
+    kinds[2] = second;
+    kinds[10] = Abs::Addr(Region::Stack, 512, 512);
     State::new(kinds, 0, 4096, 0, 1_048_576, no_bytes())
 }
 
@@ -76,13 +68,6 @@ pub(crate) fn edges(state: &State, instruction: Instruction) -> (Option<State>, 
     }
 }
 
-pub(crate) fn kind_of(state: Option<State>, register: usize) -> Option<Abs> {
-    match state {
-        Some(state) => Some(state.kind(register)),
-        None => None,
-    }
-}
-
 /// The state of the start with these last 64 bytes of the stack set.
 pub(crate) fn with_bytes(last: u64) -> Option<State> {
     let set = StackSet {
@@ -114,29 +99,32 @@ fn begins_with_the_arguments(rt: HostRuntime) {
     assert!(rt; is_entry(with_lengths(0, 4096, 0, 1_048_576)));
 }
 
-/// One more than the greatest distance of an address.
-const PAST: i64 = 4_294_967_297;
-
 /// Kinds, and whether a state has them.
-static KINDS: [(Abs, bool); 9] = [
-    (Abs::Num(3, 2), false),
-    (Abs::Len(Region::Stack), false),
-    (Abs::Addr(Region::Value, 5, 4), false),
-    (Abs::Addr(Region::Value, 0, PAST), false),
-    (Abs::Addr(Region::Key, -4_294_967_297, 0), false),
-    (Abs::Num(3, 3), true),
-    (Abs::Num(0, u64::MAX), true),
-    (Abs::Len(Region::Key), true),
-    (Abs::Addr(Region::Key, -4_294_967_296, 4_294_967_296), true),
-];
+static KINDS: &str = "\
+3 to 2 | false
+length of Stack | false
+Value 5 to 4 | false
+Value 0 to 4294967297 | false
+Key -4294967297 to 0 | false
+3 to 3 | true
+0 to 18446744073709551615 | true
+length of Key | true
+Key -4294967296 to 4294967296 | true
+";
 
-fn first_other_kind(rows: &[(Abs, bool)]) -> Option<usize> {
-    for (k, row) in rows.iter().enumerate() {
-        if with_two(row.0, Abs::None).is_some() != row.1 {
-            return Some(k);
-        }
+/// Whether an answer is the one that a text says.
+fn is_answer(answer: bool, want: &str) -> bool {
+    match want {
+        "true" => answer,
+        "false" => !answer,
+        _ => false,
     }
-    None
+}
+
+/// Whether a row says if a state has its kind.
+fn is_kind_of_states(row: &str) -> Option<bool> {
+    let (kind, want) = row.split_once(" | ")?;
+    Some(is_answer(with_two(kind_of_text(kind)?, Abs::None).is_some(), want))
 }
 
 /// Least and greatest length of the key and of the value.
@@ -166,63 +154,46 @@ fn first_other_lengths(rows: &[(Lengths, bool)]) -> Option<usize> {
 
 #[test]
 fn refuses_what_is_out_of_range(rt: HostRuntime) {
-    all_hold(&rt, first_other_kind(&KINDS));
-    all_hold(&rt, first_other_lengths(&LENGTHS));
+    all_hold(&rt, KINDS, |row| is_kind_of_states(row));
+    let other = first_other_lengths(&LENGTHS);
+    assert!(rt; other.is_none(), "{other:?}");
 }
 
 /// Two kinds, and whether a state with the first in r1 is within one with the second.
-static ORDERED: [(Abs, Abs, bool); 15] = [
-    (Abs::Num(3, 7), Abs::None, true),
-    (Abs::None, Abs::Num(0, u64::MAX), false),
-    (Abs::Num(3, 7), Abs::Num(3, 7), true),
-    (Abs::Num(3, 7), Abs::Num(4, 7), false),
-    (Abs::Num(3, 7), Abs::Num(3, 6), false),
-    (Abs::Len(Region::Key), Abs::Num(0, 4096), true),
-    (Abs::Len(Region::Key), Abs::Num(0, 4095), false),
-    (Abs::Len(Region::Value), Abs::Num(0, 1_048_576), true),
-    (Abs::Len(Region::Key), Abs::Len(Region::Value), false),
-    (Abs::Num(0, 0), Abs::Len(Region::Value), false),
-    (
-        Abs::Addr(Region::Value, 1, 2),
-        Abs::Addr(Region::Value, 0, 2),
-        true,
-    ),
-    (
-        Abs::Addr(Region::Value, 1, 2),
-        Abs::Addr(Region::Value, 2, 2),
-        false,
-    ),
-    (
-        Abs::Addr(Region::Value, 1, 2),
-        Abs::Addr(Region::Value, 1, 1),
-        false,
-    ),
-    (
-        Abs::Addr(Region::Value, 1, 2),
-        Abs::Addr(Region::Key, 1, 2),
-        false,
-    ),
-    (Abs::Addr(Region::Value, 1, 2), Abs::Num(0, u64::MAX), false),
-];
+static ORDERED: &str = "\
+3 to 7 | none | true
+none | 0 to 18446744073709551615 | false
+3 to 7 | 3 to 7 | true
+3 to 7 | 4 to 7 | false
+3 to 7 | 3 to 6 | false
+length of Key | 0 to 4096 | true
+length of Key | 0 to 4095 | false
+length of Value | 0 to 1048576 | true
+length of Key | length of Value | false
+0 to 0 | length of Value | false
+Value 1 to 2 | Value 0 to 2 | true
+Value 1 to 2 | Value 2 to 2 | false
+Value 1 to 2 | Value 1 to 1 | false
+Value 1 to 2 | Key 1 to 2 | false
+Value 1 to 2 | 0 to 18446744073709551615 | false
+";
 
 /// Whether the first state is within the second. None where one of them is not.
 fn is_within(inner: Option<State>, outer: Option<State>) -> Option<bool> {
     Some(inner?.within(&outer?))
 }
 
-/// The number of the first row of which that is not so.
-fn first_disordered(rows: &[(Abs, Abs, bool)]) -> Option<usize> {
-    for (k, row) in rows.iter().enumerate() {
-        if is_within(with_two(row.0, Abs::None), with_two(row.1, Abs::None)) != Some(row.2) {
-            return Some(k);
-        }
-    }
-    None
+/// Whether a row's order is that of the states.
+fn is_ordered(row: &str) -> Option<bool> {
+    let (inner, outer, want) = three(row)?;
+    let (inner, outer) = (kind_of_text(inner)?, kind_of_text(outer)?);
+    let answer = is_within(with_two(inner, Abs::None), with_two(outer, Abs::None))?;
+    Some(is_answer(answer, want))
 }
 
 #[test]
 fn orders_states(rt: HostRuntime) {
-    all_hold(&rt, first_disordered(&ORDERED));
+    all_hold(&rt, ORDERED, |row| is_ordered(row));
 }
 
 /// Lengths, and whether they are within 2 to 9 for both.
@@ -258,6 +229,6 @@ fn first_other_set(rows: &[(u64, u64, bool)]) -> Option<usize> {
 
 #[test]
 fn orders_lengths_and_bytes(rt: HostRuntime) {
-    all_hold(&rt, first_other_within(&WITHIN));
-    all_hold(&rt, first_other_set(&SETS));
+    let (lengths, set) = (first_other_within(&WITHIN), first_other_set(&SETS));
+    assert!(rt; lengths.is_none() && set.is_none(), "{lengths:?} {set:?}");
 }

@@ -1,6 +1,5 @@
 //! What is asked of the helper that a program calls.
 
-use crate::verdicts::all_hold;
 use machine_spec::{Argument, Helper, Instruction, Summary, Table};
 use std::test::*;
 
@@ -137,5 +136,6 @@ fn first_other(rows: &[Called]) -> Option<usize> {
 
 #[test]
 fn helpers_of_calls(rt: HostRuntime) {
-    all_hold(&rt, first_other(&CALLED));
+    let other = first_other(&CALLED);
+    assert!(rt; other.is_none(), "{other:?}");
 }
