@@ -7,6 +7,7 @@ pub mod Loaded
 pub mod Marks
 pub mod RecheckLaws
 pub mod Said
+pub mod ShownLaws
 pub mod StopLaws
 pub mod Written
 pub mod ListLaws

@@ -6,13 +6,14 @@ use Rattle.std.specs.declared.string.String.{String}
 use Rattle.std.specs.{Io.KnownBytes.Appends, Str.bytes_eq}
 use Rattle.wire_spec.specs.declared.record.Batch.{Batch}
 use Rattle.machine_spec.specs.{Image.Program, Image.program_of, declared.helper.Table.Table}
-use Rattle.log_spec.specs.Logs.{Records, Marked, Closed}
-use Rattle.part_log.specs.Parts.{Received}
+use Rattle.log_spec.specs.Logs.{Records, Marked, Closed, is_closed}
+use Rattle.part_log.specs.{Parts.Log, Parts.Received, declared.fault.LogFault.LogFault}
+use Rattle.part_log.specs.declared.fault.LogFault.TheVariants.{Full, Clash, Memory, Closed as Shut}
 use Rattle.catalogue.specs.{Finders.Seen, Versions.Version}
 use Rattle.broker.specs.{Answers.AppendsTo, Layouts.Layout, Fetches.IsFetch, Fetches.IsFetchFault, Streams.IsReceiptOf}
 use Rattle.broker.specs.Deployments.{LoadIs, DeployIs, IsNoReader}
 use Rattle.broker.specs.declared.{ended.Ended.Ended, fault.BrokerFault.BrokerFault}
-use Rattle.broker.specs.declared.fault.BrokerFault.TheVariants.{Partition as Absent}
+use Rattle.broker.specs.declared.fault.BrokerFault.TheVariants.{Partition as Absent, Log as LogRefuses}
 use Rattle.script.specs.{declared.command.Command.Command, declared.command.Source.Source}
 use Rattle.script.specs.{declared.fault.ScriptFault.ScriptFault, Faults.fault_of}
 use Rattle.script.specs.declared.command.Command.TheVariants.{Partitions, Load, Deploy, Put, Append, Close, Fetch, Go}
@@ -54,15 +55,24 @@ IsImageIn files (File name) image = (bytes : List ℕ) → files name ≡ Some b
 
 -- ---- What contracts see of a session, and what lines change
 
--- what contracts see of a session: how many input partitions its broker has, and each name that the script loaded, with
--- what is known of it
+-- what lines do to a session: how many input partitions its broker has, and each name that the script loaded, with what
+-- is known of it
 pub record Scripted : Type 0 where
   pub inputs : ℕ
   pub loaded : List (List ℕ × Version)
 
+-- what contracts see of a session: what lines do to it, and the log that refused an item, as far as it shows why
+pub record Running : Type 0 where
+  pub script : Scripted
+  pub refusing : Option Log
+
+-- what lines do to a session, of these parts
+abbrev pub scripted : ℕ → List (List ℕ × Version) → Scripted
+scripted inputs loaded = record { inputs = inputs; loaded = loaded }
+
 -- a session of these parts
-abbrev pub session_of : ℕ → List (List ℕ × Version) → Scripted
-session_of inputs loaded = record { inputs = inputs; loaded = loaded }
+abbrev pub session_of : ℕ → List (List ℕ × Version) → Option Log → Running
+session_of inputs loaded refusing = record { script = scripted inputs loaded; refusing = refusing }
 
 -- these entries of a map, by their texts
 abbrev pub by_text : {Y : Type 0} → List (String Y × Version) → List (List ℕ × Version)
@@ -291,3 +301,44 @@ CommandDoes place None old new result = ⊥
 -- What a line does: it is refused with its fault, or it has none and does what its command does.
 abbrev pub LineDoes : Setting → Option Command → State → State → Result ⊤ Stop → Type 0
 LineDoes place said old new result = RefusesLine said old new result ⊎ CommandDoes place said old new result
+
+-- ---- Why a log refuses an item
+
+-- the input partition to whose log a command appends, if it appends to one
+abbrev pub input_of : Command → Option ℕ
+input_of (Deploy input name) = Some input
+input_of (Put input timestamp key value) = Some input
+input_of (Append input source) = Some input
+input_of (Close input) = Some input
+input_of (Load name source table) = None
+input_of (Fetch output from max) = None
+input_of Go = None
+input_of (Partitions inputs outputs cells) = None
+
+-- A log shows why it refuses an item: it has as many items as cells, or its end is one of them.
+abbrev pub Shows : (ℕ → List ℕ) → Log → LogFault → Type 0
+Shows cells log Full = length log.items ≡ length (cells log.partition)
+Shows cells log Clash = ⊥
+Shows cells log Memory = ⊥
+Shows cells log Shut = is_closed log.items ≡ true
+
+-- The log of an input partition is known that shows why it refuses an item; of a clash nothing is.
+abbrev pub IsShown : (ℕ → List ℕ) → Option Log → ℕ → LogFault → Type 0
+IsShown cells known input fault = (fault ≡ Clash)
+    ⊎ ((log : Log) × (known ≡ Some log) × (log.partition ≡ input) × Shows cells log fault)
+
+-- Where a line ends because the log of this input partition refuses an item, a log is known that shows why.
+abbrev pub ShowsWhy : (ℕ → List ℕ) → Option Log → Option ℕ → Result ⊤ Stop → Type 0
+ShowsWhy cells known input result = (at : ℕ) (fault : LogFault) → input ≡ Some at →
+    result ≡ Err (stop.Broker (LogRefuses fault)) → IsShown cells known at fault
+
+-- the input partition to whose log a line appends, if it appends to one
+abbrev pub target_of : Option Command → Option ℕ
+target_of None = None
+target_of (Some command) = input_of command
+
+-- A line ends as its command did, or with a clash where the log refused the item that it appends.
+abbrev pub EndsAs : Option ℕ → Result ⊤ Stop → Result ⊤ Stop → Type 0
+EndsAs input done result = (result ≡ done)
+    ⊎ ((at : ℕ) × (fault : LogFault) × (input ≡ Some at) × (done ≡ Err (stop.Broker (LogRefuses fault)))
+    × (result ≡ Err (stop.Broker (LogRefuses Clash))))

@@ -1,18 +1,20 @@
 //! The batches that `append` appends, and the receipts of what lines append.
 
-ghost use Rattle.std.specs.Prelude.{◌≡◌, ◌<◌, ◌++◌, [], ◌∷◌, vec_len, vec_capacity, Some, OnOk, IfErr};
+ghost use Rattle.std.specs.Prelude.{◌≡◌, ◌<◌, ◌++◌, [], ◌∷◌, vec_len, vec_capacity, Some, IfSome, OnOk, IfErr, true};
 ghost use Rattle.std.specs.Io.KnownBytes.{Appends};
+ghost use Rattle.log_spec.specs.Logs.{is_closed};
 ghost use Rattle.commands.specs.declared.stop.Stop.TheVariants as stop;
 ghost use Rattle.commands.specs.Appends.{append_lines, bytes_of, unread_of, AppendsOf};
+ghost use Rattle.commands.specs.Sessions.{EndsAs, Shows, ShowsWhy, input_of};
 ghost use Rattle.commands.specs.Stops.{IsUnread, IsUnwritten};
 
 use crate::files::Files;
 use crate::printing::print_line;
 use crate::reading::cause_of;
 use crate::stop::{Stop, end_of_stream, stop_of_unread};
-use broker::Broker;
-use part_log::{Names, Receipt};
-use script::{FileName, Source, append_text};
+use broker::{Broker, BrokerFault};
+use part_log::{LogFault, Names, Receipt, Trail};
+use script::{Command, FileName, Source, append_text};
 use std::alloc::Global;
 use std::io::{Read, Write};
 use std::sync::Wait;
@@ -133,5 +135,95 @@ pub fn add<Id: Names>(receipts: &mut Vec<Receipt<Id>>, receipt: Receipt<Id>)
     match receipts.push(receipt) {
         Ok(()) => {}
         Err(_) => unreachable!(),
+    }
+}
+
+/// The input partition to whose log a command appends, if it appends to one.
+pub fn input_of(command: &Command) -> Option<u64>
+    ensures { result ≡ input_of command.now }
+{
+    match command {
+        Command::Deploy(input, _) => Some(*input),
+        Command::Put(input, ..) => Some(*input),
+        Command::Append(input, _) => Some(*input),
+        Command::Close(input) => Some(*input),
+        Command::Partitions(..) | Command::Load(..) | Command::Fetch(..) | Command::Go => None,
+    }
+}
+
+/// How a line ends whose command ended so. Where a log refuses the item that it appends, the trail that
+/// shows why is kept; were there none, the refusal would clash with the log.
+pub fn shown<Id: Names, C, W: Wait>(
+    rt: &W,
+    broker: &Broker<Id, C>,
+    input: Option<u64>,
+    done: Result<(), Stop>,
+    refusing: &mut Option<Trail<Id>>,
+) -> Result<(), Stop>
+    ensures ends { EndsAs input done result }
+    ensures why { ShowsWhy Id.cells refusing.new input result }
+{
+    match (input, done) {
+        (Some(input), Err(Stop::Broker(BrokerFault::Log(fault)))) => {
+            let fault = match shown_by(rt, broker, input, fault) {
+                None => LogFault::Clash,
+                Some(trail) => {
+                    *refusing = Some(trail);
+                    fault
+                }
+            };
+            Err(Stop::Broker(BrokerFault::Log(fault)))
+        }
+        (_, done) => done,
+    }
+}
+
+/// The trail of a log, if it shows why the log refuses an item.
+fn shown_by<Id: Names, C, W: Wait>(
+    rt: &W,
+    broker: &Broker<Id, C>,
+    input: u64,
+    fault: LogFault,
+) -> Option<Trail<Id>>
+    ensures { IfSome result (λ log. (log.partition ≡ input) × Shows Id.cells log fault) }
+{
+    match broker.trail(rt, input as usize) {
+        Ok(trail) => {
+            if shows(broker, &trail, fault) {
+                Some(trail)
+            } else {
+                None
+            }
+        }
+        Err(_) => None,
+    }
+}
+
+/// Whether the trail of a log shows why it refuses an item: it is full, or ends with the log's end.
+fn shows<Id: Names, C>(broker: &Broker<Id, C>, trail: &Trail<Id>, fault: LogFault) -> bool
+    requires { trail.now.partition < broker.now }
+    ensures { result ≡ true → Shows Id.cells trail.now fault }
+{
+    match fault {
+        LogFault::Full => trail.len() == broker.cells(trail.partition()),
+        LogFault::Closed => has_end(broker, trail),
+        LogFault::Clash | LogFault::Memory => false,
+    }
+}
+
+/// Whether the last item of a trail is the end of its log.
+#[tactic(auto, using(crate::proofs::ShownLaws::closed_by))]
+fn has_end<Id: Names, C>(broker: &Broker<Id, C>, trail: &Trail<Id>) -> bool
+    requires { trail.now.partition < broker.now }
+    ensures { result ≡ true → is_closed trail.now.items ≡ true }
+{
+    if trail.is_empty() {
+        return false;
+    }
+    let last = trail.len() - 1;
+    let mut note = trail.note(last);
+    match broker.read(trail.partition(), last, &mut note) {
+        Some(item) => item.is_end(),
+        None => false,
     }
 }

@@ -4,16 +4,15 @@ ghost use Rattle.std.specs.Prelude.{◌≡◌, ◌<◌, ◌≤◌, ◌⊎◌, []
 ghost use Rattle.machine_spec.specs.Image.{program_of};
 ghost use Rattle.script.specs.Commands.{command_of};
 ghost use Rattle.script.specs.Faults.{fault_of, text_size, is_in_range};
-ghost use Rattle.broker.specs.Deployments.{LoadIs, IsNoReader};
-ghost use Rattle.broker.specs.Layouts.{IsNamed};
+ghost use Rattle.broker.specs.{Deployments.LoadIs, Deployments.IsNoReader, Layouts.IsNamed};
 ghost use Rattle.broker.specs.declared.fault.BrokerFault.TheVariants.{Partition};
 ghost use Rattle.commands.specs.declared.stop.Stop.TheVariants as stop;
 ghost use Rattle.commands.specs.Appends.{unread_of, AppendDoes};
 ghost use Rattle.commands.specs.Puts.{put_batch};
-ghost use Rattle.commands.specs.Sessions.{IsImageIn, IsMark, IsMarkFault, Learns, Loads, LoadDoes, DeployDoes, PutDoes, CloseDoes, FetchDoes, GoDoes, Does, LineDoes, is_loaded, known_of, setting, state};
+ghost use Rattle.commands.specs.Sessions.{IsImageIn, IsMark, IsMarkFault, Learns, Loads, LoadDoes, DeployDoes, PutDoes, CloseDoes, FetchDoes, GoDoes, Does, LineDoes, ShowsWhy, is_loaded, known_of, setting, state, target_of};
 ghost use Rattle.commands.specs.Stops.{EndsFor};
 
-use crate::appending::{add, append_source, make_room, print_appended};
+use crate::appending::{add, append_source, input_of, make_room, print_appended, shown};
 use crate::batches::batch_of;
 use crate::files::Files;
 use crate::image::read_image;
@@ -24,7 +23,7 @@ use bytes::Bytes;
 use catalogue::{Catalogue, Finder, Known};
 use log_spec::RawName;
 use machine_spec::Table;
-use part_log::{Names, Receipt};
+use part_log::{Names, Receipt, Trail};
 use report::gather;
 use script::{
     Command, ScriptFault, Source, append_text, close_text, deploy_text, fetch_text, first_fault,
@@ -40,8 +39,8 @@ use wire_spec::{MAX_KEY, MAX_VALUE, TIMESTAMP_END};
 use worker::Open;
 
 /// What a script works on once `partitions` made it: its broker, the finder that its first `deploy`
-/// made, and what is known of each name that it loaded. Contracts see how many input partitions it
-/// has, and what it knows of each name, which is a version of that name.
+/// made, what is known of each name that it loaded, and the trail of a log that refused an item.
+/// Contracts see its number of input partitions, the known versions by their names, and the trail.
 #[derive(Drop)]
 pub struct Session<'a, Id: Names, R: Wait> {
     rt: &'a R,
@@ -49,15 +48,16 @@ pub struct Session<'a, Id: Names, R: Wait> {
     broker: Broker<Id, Catalogue<&'a R>>,
     finder: Option<Finder>,
     loaded: BTreeMap<String, Known>,
+    refusing: Option<Trail<Id>>,
 }
 
 impl<'a, Id: Names, R: Wait> Model for Session<'a, Id, R> {
     ghost use Rattle.std.specs.Prelude.{◌≡◌};
-    ghost use Rattle.commands.specs.Sessions.{Scripted, session_of, by_text, AreOfNames};
+    ghost use Rattle.commands.specs.Sessions.{Running, session_of, by_text, AreOfNames};
 
-    ghost Value = { Scripted };
+    ghost Value = { Running };
 
-    ghost view = { λ s. session_of s.broker (by_text s.loaded.entries) };
+    ghost view = { λ s. session_of s.broker (by_text s.loaded.entries) s.refusing };
 
     ghost invariant = { λ s. (s.broker ≡ Id.inputs) × AreOfNames (by_text s.loaded.entries) };
 }
@@ -76,8 +76,8 @@ impl<'a, Id: Names + Send + Sync, R: Threads + Wait + Sync> Session<'a, Id, R> {
         parts: Parts<Catalogue<&'a R>>,
     ) -> Result<Session<'a, Id, R>, AllocError>
         requires { IsNamed Id.cells Id.inputs Id.outputs parts }
-        ensures inputs { IfOk result (λ session. session.inputs ≡ length parts.entry.cells) }
-        ensures none { IfOk result (λ session. session.loaded ≡ []) }
+        ensures inputs { IfOk result (λ session. session.script.inputs ≡ length parts.entry.cells) }
+        ensures none { IfOk result (λ session. session.script.loaded ≡ []) }
     {
         Ok(Session {
             rt,
@@ -85,20 +85,21 @@ impl<'a, Id: Names + Send + Sync, R: Threads + Wait + Sync> Session<'a, Id, R> {
             broker: Broker::new(alloc, parts)?,
             finder: None,
             loaded: BTreeMap::new(alloc),
+            refusing: None,
         })
     }
 
     /// Whether anything is known of a name.
     fn has(&self, name: &RawName) -> bool
-        ensures { result ≡ is_some (known_of self.now.loaded name.now) }
+        ensures { result ≡ is_some (known_of self.now.script.loaded name.now) }
     {
         self.loaded.contains_key(name.text.as_str())
     }
 
     /// What is known of a name.
     fn known(&self, name: &RawName) -> &Known
-        requires { IsSome (known_of self.now.loaded name.now) }
-        ensures found { known_of self.now.loaded name.now ≡ Some result.now }
+        requires { IsSome (known_of self.now.script.loaded name.now) }
+        ensures found { known_of self.now.script.loaded name.now ≡ Some result.now }
         ensures named { result.now.name ≡ name.now }
     {
         let Some(known) = self.loaded.get(name.text.as_str()) else {
@@ -109,7 +110,7 @@ impl<'a, Id: Names + Send + Sync, R: Threads + Wait + Sync> Session<'a, Id, R> {
 
     /// Whether the script loaded the program that the command deploys, if it deploys one.
     fn is_loaded(&self, command: &Command) -> bool
-        ensures { result ≡ is_loaded self.now.loaded command.now }
+        ensures { result ≡ is_loaded self.now.script.loaded command.now }
     {
         match command {
             Command::Deploy(_, name) => self.has(name),
@@ -125,8 +126,8 @@ impl<'a, Id: Names + Send + Sync, R: Threads + Wait + Sync> Session<'a, Id, R> {
 
     /// Whether there is such an input partition is asked before anything is read for it.
     fn known_input(&self, input: u64) -> Result<(), Stop>
-        ensures ok { OnOk result (input < self.now.inputs) }
-        ensures err { IfErr result (λ reported. (self.now.inputs ≤ input) × (reported ≡ stop.Broker Partition)) }
+        ensures ok { OnOk result (input < self.now.script.inputs) }
+        ensures err { IfErr result (λ reported. (self.now.script.inputs ≤ input) × (reported ≡ stop.Broker Partition)) }
     {
         if input < self.broker.inputs() as u64 {
             Ok(())
@@ -153,7 +154,7 @@ impl<'a, Id: Names + Send + Sync, R: Threads + Wait + Sync> Session<'a, Id, R> {
     /// Keeps what is known of a name.
     fn keep(&mut self, name: RawName, known: Known) -> Result<(), Stop>
         requires { known.name ≡ name }
-        ensures kept { OnOk result (Learns known self.old self.new) }
+        ensures kept { OnOk result (Learns known self.old.script self.new.script) }
         ensures failed { IfErr result (λ reason. (reason ≡ stop.Memory) × (self.new ≡ self.old)) }
     {
         match self.loaded.insert(name.text, known) {
@@ -166,7 +167,7 @@ impl<'a, Id: Names + Send + Sync, R: Threads + Wait + Sync> Session<'a, Id, R> {
     /// then. Returns the line that says its version.
     #[tactic(auto, using(crate::proofs::Loaded::of_load, crate::proofs::Loaded::loads))]
     fn load(&mut self, name: RawName, image: &Bytes, table: Table) -> Result<String, Stop>
-        ensures loaded { IfOk result (λ line. Loads name image.now table self.old self.new (string_bytes line)) }
+        ensures loaded { IfOk result (λ line. Loads name image.now table self.old.script self.new.script (string_bytes line)) }
         ensures failed { IfErr result (λ reason. (self.new ≡ self.old)
             × ((reason ≡ stop.Memory) ⊎ EndsFor (λ fault. LoadIs name (program_of image.now table) (Err fault)) reason)) }
     {
@@ -186,7 +187,7 @@ impl<'a, Id: Names + Send + Sync, R: Threads + Wait + Sync> Session<'a, Id, R> {
         source: Source,
         table: Table,
     ) -> Result<(), Stop>
-        ensures { LoadDoes (F.bytes files.old) name source table self.old self.new (O.contents stdout.old) (O.contents stdout.new) result }
+        ensures { LoadDoes (F.bytes files.old) name source table self.old.script self.new.script (O.contents stdout.old) (O.contents stdout.new) result }
     {
         let image = self.image(files, source)?;
         let line = self.load(name, &image, table)?;
@@ -207,11 +208,11 @@ impl<'a, Id: Names + Send + Sync, R: Threads + Wait + Sync> Session<'a, Id, R> {
     /// Appends the mark of a loaded name.
     #[tactic(auto, using(crate::proofs::Marks::deployed, crate::proofs::Marks::not_deployed, crate::proofs::Marks::no_finder))]
     fn mark(&mut self, input: u64, name: &RawName) -> Result<(Receipt<Id>, u32), Stop>
-        requires there { input < self.old.inputs }
-        requires known { IsSome (known_of self.old.loaded name.now) }
+        requires there { input < self.old.script.inputs }
+        requires known { IsSome (known_of self.old.script.loaded name.now) }
         ensures same { self.new ≡ self.old }
         ensures ok { IfOk result (λ marked. IsMark input name.now marked.1 marked.0) }
-        ensures err { IfErr result (EndsFor (IsMarkFault self.old.inputs input name.now (known_of self.old.loaded name.now))) }
+        ensures err { IfErr result (EndsFor (IsMarkFault self.old.script.inputs input name.now (known_of self.old.script.loaded name.now))) }
     {
         let mut finder = self.taken_finder()?;
         let known = self.known(name);
@@ -235,9 +236,9 @@ impl<'a, Id: Names + Send + Sync, R: Threads + Wait + Sync> Session<'a, Id, R> {
         name: RawName,
         receipts: &mut Vec<Receipt<Id>>,
     ) -> Result<(), Stop>
-        requires { IsSome (known_of self.old.loaded name) }
+        requires { IsSome (known_of self.old.script.loaded name) }
         ensures same { self.new ≡ self.old }
-        ensures does { DeployDoes self.old.inputs input name (known_of self.old.loaded name) receipts.old.items receipts.new.items (O.contents stdout.old) (O.contents stdout.new) result }
+        ensures does { DeployDoes self.old.script.inputs input name (known_of self.old.script.loaded name) receipts.old.items receipts.new.items (O.contents stdout.old) (O.contents stdout.new) result }
     {
         self.known_input(input)?;
         make_room(receipts)?;
@@ -261,7 +262,7 @@ impl<'a, Id: Names + Send + Sync, R: Threads + Wait + Sync> Session<'a, Id, R> {
         requires timestamp { timestamp < TIMESTAMP_END }
         requires key { text_size key ≤ MAX_KEY }
         requires value { text_size value ≤ MAX_VALUE }
-        ensures { PutDoes self.now.inputs input (put_batch timestamp key value) receipts.old.items receipts.new.items (O.contents stdout.old) (O.contents stdout.new) result }
+        ensures { PutDoes self.now.script.inputs input (put_batch timestamp key value) receipts.old.items receipts.new.items (O.contents stdout.old) (O.contents stdout.new) result }
     {
         make_room(receipts)?;
         let batch = batch_of(self.alloc, timestamp, key, value)?;
@@ -280,7 +281,7 @@ impl<'a, Id: Names + Send + Sync, R: Threads + Wait + Sync> Session<'a, Id, R> {
         input: u64,
         receipts: &mut Vec<Receipt<Id>>,
     ) -> Result<(), Stop>
-        ensures { CloseDoes self.now.inputs input receipts.old.items receipts.new.items (O.contents stdout.old) (O.contents stdout.new) result }
+        ensures { CloseDoes self.now.script.inputs input receipts.old.items receipts.new.items (O.contents stdout.old) (O.contents stdout.new) result }
     {
         make_room(receipts)?;
         let receipt = self.broker.close(self.rt, self.alloc, input as usize)?;
@@ -299,7 +300,7 @@ impl<'a, Id: Names + Send + Sync, R: Threads + Wait + Sync> Session<'a, Id, R> {
         source: Source,
         receipts: &mut Vec<Receipt<Id>>,
     ) -> Result<(), Stop>
-        ensures { AppendDoes self.now.inputs (F.bytes files.old) input source receipts.old.items receipts.new.items (O.contents stdout.old) (O.contents stdout.new) result }
+        ensures { AppendDoes self.now.script.inputs (F.bytes files.old) input source receipts.old.items receipts.new.items (O.contents stdout.old) (O.contents stdout.new) result }
     {
         let before = receipts.len();
         let appended = append_source(
@@ -318,7 +319,7 @@ impl<'a, Id: Names + Send + Sync, R: Threads + Wait + Sync> Session<'a, Id, R> {
     /// Prints the rows of an output partition from a place on as one record batch, or `none`.
     #[tactic(auto, using(crate::proofs::Loaded::fetches, crate::proofs::Written::is_printed))]
     fn fetch<O: Write>(&self, stdout: &mut O, output: u64, place: u64, max: u64) -> Result<(), Stop>
-        ensures { FetchDoes Id.cells self.now.inputs Id.outputs output place max (O.contents stdout.old) (O.contents stdout.new) result }
+        ensures { FetchDoes Id.cells self.now.script.inputs Id.outputs output place max (O.contents stdout.old) (O.contents stdout.new) result }
     {
         let found = self
             .broker
@@ -329,7 +330,7 @@ impl<'a, Id: Names + Send + Sync, R: Threads + Wait + Sync> Session<'a, Id, R> {
     /// Runs the programs on every item that the logs have, then prints the report.
     #[tactic(auto, using(crate::proofs::Loaded::reports, crate::proofs::Written::has_begun, crate::proofs::StopLaws::unwritten_report))]
     fn go<O: Write>(&self, stdout: &mut O) -> Result<(), Stop>
-        ensures { GoDoes self.now.inputs Id.outputs (O.contents stdout.old) (O.contents stdout.new) result }
+        ensures { GoDoes self.now.script.inputs Id.outputs (O.contents stdout.old) (O.contents stdout.new) result }
     {
         let ended = self
             .broker
@@ -341,7 +342,8 @@ impl<'a, Id: Names + Send + Sync, R: Threads + Wait + Sync> Session<'a, Id, R> {
     }
 
     /// What a line asks for. The receipts of all that it appends are put at the end of the list, also
-    /// before a fault.
+    /// before a fault. Where a log refuses an item, the session keeps the trail that shows why.
+    #[tactic(auto, using(crate::proofs::ShownLaws::line_ends, crate::proofs::ShownLaws::shows_why, crate::proofs::ShownLaws::memory_shows, crate::proofs::ShownLaws::line_shows))]
     pub fn line<F: Files, O: Write>(
         &mut self,
         files: &mut F,
@@ -349,8 +351,9 @@ impl<'a, Id: Names + Send + Sync, R: Threads + Wait + Sync> Session<'a, Id, R> {
         line: &str,
         receipts: &mut Vec<Receipt<Id>>,
     ) -> Result<(), Stop>
-        ensures { LineDoes (setting Id.cells Id.outputs (F.bytes files.old)) (command_of line.now)
-            (state self.old receipts.old.items (O.contents stdout.old)) (state self.new receipts.new.items (O.contents stdout.new)) result }
+        ensures why { ShowsWhy Id.cells self.new.refusing (target_of (command_of line.now)) result }
+        ensures does { LineDoes (setting Id.cells Id.outputs (F.bytes files.old)) (command_of line.now)
+            (state self.old.script receipts.old.items (O.contents stdout.old)) (state self.new.script receipts.new.items (O.contents stdout.new)) result }
     {
         let Some(command) = parse(self.alloc, line)? else {
             return Err(Stop::Line(ScriptFault::Syntax));
@@ -359,7 +362,9 @@ impl<'a, Id: Names + Send + Sync, R: Threads + Wait + Sync> Session<'a, Id, R> {
         if let Some(fault) = first_fault(&command, true, is_loaded) {
             return Err(Stop::Line(fault));
         }
-        self.act(files, stdout, command, receipts)
+        let input = input_of(&command);
+        let done = self.act(files, stdout, command, receipts);
+        shown(self.rt, &self.broker, input, done, &mut self.refusing)
     }
 
     /// What a command asks for that has no fault of its line.
@@ -372,9 +377,9 @@ impl<'a, Id: Names + Send + Sync, R: Threads + Wait + Sync> Session<'a, Id, R> {
         receipts: &mut Vec<Receipt<Id>>,
     ) -> Result<(), Stop>
         requires range { is_in_range command ≡ true }
-        requires no_fault { fault_of command true (is_loaded self.old.loaded command) ≡ None }
+        requires no_fault { fault_of command true (is_loaded self.old.script.loaded command) ≡ None }
         ensures { Does (setting Id.cells Id.outputs (F.bytes files.old)) command
-            (state self.old receipts.old.items (O.contents stdout.old)) (state self.new receipts.new.items (O.contents stdout.new)) result }
+            (state self.old.script receipts.old.items (O.contents stdout.old)) (state self.new.script receipts.new.items (O.contents stdout.new)) result }
     {
         match command {
             Command::Partitions(..) => unreachable!(),

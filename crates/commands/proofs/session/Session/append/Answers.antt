@@ -1,5 +1,5 @@
 use Rattle.std.proofs.Common.{ℕ, ◌∙◌, ap, subst}
-use Rattle.commands.specs.{Appends.bytes_of, Appends.unread_of, Appends.AppendsOf, Sessions.Scripted}
+use Rattle.commands.specs.{Appends.bytes_of, Appends.unread_of, Appends.AppendsOf, Sessions.Running}
 use Rattle.commands.proofs.AppendLaws.{all_printed}
 use Rattle.commands.proofs.session.Session.append.Goals as goal
 
@@ -12,8 +12,8 @@ returns g c =
     let after = g.O.Write.contents c.print_appended.new.stdout in
     let appended = c.append_source-appended.result in
     let appends = subst (λ (inputs : ℕ). AppendsOf inputs c.args.input (bytes_of files c.args.source)
-    (unread_of c.args.source) old new appended) (ap (λ (s : Scripted). s.inputs) c.self.view_is)
+    (unread_of c.args.source) old new appended) (ap (λ (s : Running). s.script.inputs) c.self.view_is)
     c.append_source-appended.ensures in
-    all_printed c.args.self.now.inputs files c.args.input c.args.source old new before after appended appends
+    all_printed c.args.self.now.script.inputs files c.args.input c.args.source old new before after appended appends
     c.deref.result.now c.len-before.result c.deref.ensures.value (c.len-before.ensures ∙ c.args.receipts.now.ok.0)
     c.in_ok-print_appended.ensures.ok
